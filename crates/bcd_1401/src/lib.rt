@@ -1,0 +1,18 @@
+//! The characters of the IBM 1401: 64 codes of six bits, each with a zone, a digit and a graphic, and the cell that
+//! holds one of them with its word mark.
+//!
+//! ```text
+//! let five = Char::from_graphic(b'5')?;   // code 5, no zone
+//! five.with_zone(2).graphic()             // b'N', minus five
+//! ```
+#![tactic(auto)]
+
+pub mod cell;
+pub mod character;
+pub mod graphic;
+
+pub use cell::Cell;
+pub use character::{CODES, Char};
+
+#[cfg(test)]
+mod tests;

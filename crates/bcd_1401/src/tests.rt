@@ -1,0 +1,69 @@
+//! The tables as A24-1403 and the profile print them, by hand.
+
+use crate::{CODES, Cell, Char};
+
+#[test]
+fn each_graphic_has_its_code(rt: HostRuntime) {
+    for (graphic, code) in [
+        (b' ', 0),
+        (b'1', 1),
+        (b'0', 10),
+        (b'^', 16),
+        (b'/', 17),
+        (b'\'', 26),
+        (b'-', 32),
+        (b'!', 42),
+        (b'&', 48),
+        (b'A', 49),
+        (b'?', 58),
+        (b')', 60),
+        (b'"', 63),
+    ] {
+        let found = Char::from_graphic(graphic);
+        assert_eq!(rt; found.map(|char| char.code()), Some(code), "{graphic}");
+    }
+    for graphic in [b'a', b'~', 0, 127, 255] {
+        assert_eq!(rt; Char::from_graphic(graphic), None, "{graphic}");
+    }
+}
+
+#[test]
+fn eight_two_counts_as_zero(rt: HostRuntime) {
+    for (graphic, digit) in [
+        (b'0', 0),
+        (b'?', 0),
+        (b'!', 0),
+        (b' ', 0),
+        (b'&', 0),
+        (b'9', 9),
+        (b'#', 3),
+        (b'"', 7),
+    ] {
+        let counts_as = Char::from_graphic(graphic).map(|char| char.digit_value());
+        assert_eq!(rt; counts_as, Some(digit), "{graphic}");
+    }
+}
+
+#[test]
+fn a_zone_goes_over_the_low_bits(rt: HostRuntime) {
+    for (graphic, zone, with) in [
+        (b'5', 2, b'N'),
+        (b'0', 3, b'?'),
+        (b'Z', 0, b'9'),
+        (b'J', 3, b'A'),
+    ] {
+        let zoned = Char::from_graphic(graphic).map(|char| char.with_zone(zone).graphic());
+        assert_eq!(rt; zoned, Some(with), "{graphic}");
+    }
+    assert_eq!(rt; Char::from_graphic(b'S').map(|char| char.zone()), Some(1));
+    assert_eq!(rt; Char::from_code(CODES), None);
+    assert_eq!(rt; Char::from_code(63).map(|char| char.graphic()), Some(b'"'));
+}
+
+#[test]
+fn a_cell_has_a_character_and_a_mark(rt: HostRuntime) {
+    let Some(char) = Char::from_code(5) else {
+        return;
+    };
+    assert_ne!(rt; Cell { char, mark: true }, Cell { char, mark: false });
+}
