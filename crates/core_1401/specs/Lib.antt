@@ -1,0 +1,4 @@
+pub mod Address
+pub mod Cells
+pub mod Field
+pub mod Storage

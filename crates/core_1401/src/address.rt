@@ -1,0 +1,52 @@
+//! Addresses of three characters.
+ghost use Rattle.std.specs.Prelude.{◌≡◌, ◌<◌, ◌∷◌, [], true, slice_index};
+ghost use Rattle.bcd_1401.specs.Character.{zone_of};
+ghost use Rattle.core_1401.specs.Address.{value_of, spelling_of, digit_under, is_spelled};
+
+use bcd_1401::Char;
+
+/// The value of an address before indexing, below 16,000, and the number of its index register, 0 for none.
+pub fn decode(chars: [Char; 3]) -> (u16, u8)
+    ensures value { result.0 ≡ value_of (slice_index chars 0) (slice_index chars 1) (slice_index chars 2) }
+    ensures index { result.1 ≡ zone_of (slice_index chars 1) }
+    ensures range { result.0 < 16000 }
+    ensures registers { result.1 < 4 }
+
+    // An address has one spelling.
+    ensures spelling { is_spelled (slice_index chars 0) (slice_index chars 1) (slice_index chars 2) ≡ true → chars ≡ spelling_of result.0 }
+{
+    let [h, t, u] = chars;
+    let digits = 100 * u16::from(h.digit_value())
+        + 10 * u16::from(t.digit_value())
+        + u16::from(u.digit_value());
+    let zones = 1_000 * u16::from(h.zone()) + 4_000 * u16::from(u.zone());
+    (digits + zones, t.zone())
+}
+
+/// The character of a digit under a zone: zero is 8-2.
+fn digit_char(zone: u16, digit: u16) -> Char
+    requires zone { zone < 4 }
+    requires digit { digit < 10 }
+    ensures { result ≡ digit_under zone digit }
+{
+    let low = if digit == 0 { 10 } else { digit };
+    match Char::from_code((16 * zone + low) as u8) {
+        Some(char) => char,
+        None => unreachable!(),
+    }
+}
+
+/// The one spelling of an address below 16,000 with the digits 0 to 9 and without an index register.
+pub fn encode(address: u16) -> [Char; 3]
+    requires { address < 16000 }
+    ensures spelling { result ≡ spelling_of address }
+
+    // It is read again as the same address.
+    ensures value { value_of (slice_index result 0) (slice_index result 1) (slice_index result 2) ≡ address }
+{
+    [
+        digit_char(address / 1_000 % 4, address / 100 % 10),
+        digit_char(0, address / 10 % 10),
+        digit_char(address / 4_000, address % 10),
+    ]
+}

@@ -1,0 +1,59 @@
+//! A few cells, held in place.
+ghost use Rattle.std.specs.Prelude.{◌≡◌, ◌≤◌, length, ◌&&◌, Some, None, nat_le, if◌then◌else◌};
+
+use bcd_1401::Cell;
+use std::marker::Model;
+
+/// How many cells a line or a segment has at the most.
+pub const MOST_CELLS: usize = 40;
+
+/// From 1 to 40 cells. Contracts see the list of them.
+#[derive(Clone, Copy, Debug, PartialEq, Eq)]
+pub struct Cells {
+    cells: [Cell; 40],
+    len: u8,
+}
+
+impl Model for Cells {
+    ghost use Rattle.std.specs.Prelude.{List};
+    ghost use Rattle.bcd_1401.specs.declared.cell.Cell.{Cell};
+
+    ghost Value = { List Cell };
+
+    ghost use Rattle.core_1401.specs.Cells.{held_cells, IsHeld, holding, holding_again};
+
+    ghost view = { held_cells };
+
+    ghost invariant = { IsHeld };
+
+    ghost inverse = { holding };
+
+    ghost inverse_ok = { holding_again };
+}
+
+impl Cells {
+    /// These cells; none where there is none of them, or more than 40.
+    pub fn from_slice(cells: &[Cell]) -> Option<Cells>
+        ensures { result ≡ (if nat_le 1 (length cells.now) && nat_le (length cells.now) 40 then Some cells.now else None) }
+    {
+        let len = cells.len();
+        if len < 1 || len > MOST_CELLS {
+            return None;
+        }
+        let mut held = [Cell::BLANK; 40];
+        held[..len].copy_from_slice(cells);
+        Some(Cells {
+            cells: held,
+            len: len as u8,
+        })
+    }
+
+    /// The cells, 1 to 40 of them.
+    pub fn as_slice(&self) -> &[Cell]
+        ensures value { result.now ≡ self.now }
+        ensures some { 1 ≤ length self.now }
+        ensures most { length self.now ≤ 40 }
+    {
+        &self.cells[..usize::from(self.len)]
+    }
+}

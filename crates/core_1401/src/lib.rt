@@ -1,0 +1,21 @@
+//! Core storage of the IBM 1401: cells by address, their fields, and the three characters of an address.
+//!
+//! ```text
+//! let mut core = Core::power_on(alloc, 4000)?;
+//! core.put_mark(699, true);
+//! core.field_len(700)                     // Some(2)
+//! decode(encode(3999))                    // (3999, 0): the value, and no index register
+//! ```
+#![tactic(auto)]
+
+pub mod address;
+pub mod cells;
+pub mod fault;
+pub mod indexing;
+pub mod lengths;
+pub mod storage;
+
+pub use address::{decode, encode};
+pub use cells::{Cells, MOST_CELLS};
+pub use fault::CoreFault;
+pub use storage::Core;
