@@ -1,0 +1,23 @@
+//! What an operation on fields leaves beside the core, and why it can't be carried out.
+
+/// What an operation on fields leaves beside the core.
+#[derive(Clone, Copy, Debug, PartialEq, Eq)]
+pub struct Done {
+    /// The A register afterwards, below 16,000.
+    pub a: u16,
+    /// The B register afterwards, below 16,000.
+    pub b: u16,
+    /// Whether a sum was too large for the B field; false where the operation adds nothing.
+    pub overflow: bool,
+    /// Whether the fields compared differ; false where the operation compares nothing.
+    pub unequal: bool,
+}
+
+/// Why an operation on fields can't be carried out, in the order of the refusals. The core is as it was.
+#[derive(Clone, Copy, Debug, PartialEq, Eq)]
+pub enum FieldStop {
+    /// 1: a place that it needs isn't in core, or a field that it needs has no word mark.
+    Address = 1,
+    /// 2: the fields overlap where they may not.
+    Overlap = 2,
+}

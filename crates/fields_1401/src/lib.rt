@@ -1,0 +1,15 @@
+//! The operations of the IBM 1401 on fields of core storage: each is carried out whole, or refused and nothing is
+//! changed.
+//!
+//! ```text
+//! let done = move_chars(&mut core, 510, 509)?;    // the A field to the B field, right to left
+//! done.b                                          // the B register afterwards
+//! ```
+#![tactic(auto)]
+
+pub mod done;
+pub mod marks;
+mod registers;
+
+pub use done::{Done, FieldStop};
+pub use marks::set_marks;

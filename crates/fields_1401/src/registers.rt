@@ -1,0 +1,27 @@
+//! Registers that step down.
+ghost use Rattle.std.specs.Prelude.{◌≡◌, ◌<◌, ◌≤◌};
+ghost use Rattle.fields_1401.specs.Outcome.{below_by, registers_at};
+
+use crate::done::Done;
+
+/// The address so many places below, modulo 16,000.
+pub(crate) fn below(at: u16, by: u16) -> u16
+    requires at { at < 16000 }
+    requires by { by ≤ 16000 }
+    ensures value { result ≡ below_by at by }
+    ensures range { result < 16000 }
+{
+    (at + 16_000 - by) % 16_000
+}
+
+/// The registers afterwards, and no indicator.
+pub(crate) fn registers(a: u16, b: u16) -> Done
+    ensures { result ≡ registers_at a b }
+{
+    Done {
+        a,
+        b,
+        overflow: false,
+        unequal: false,
+    }
+}
