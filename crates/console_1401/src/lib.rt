@@ -1,0 +1,8 @@
+//! The operator's console of the IBM 1401: lines, replies, and sessions over a reader and a writer.
+#![tactic(auto)]
+
+pub mod line;
+pub mod session_end;
+
+pub use line::{Line, LineFault};
+pub use session_end::SessionEnd;

@@ -1,0 +1,15 @@
+//! A line of the journal.
+
+use crate::answer::Answer;
+use crate::command::Command;
+
+/// A command with the seat that gave it and the answer that it got.
+#[derive(Clone, Copy, Debug, PartialEq, Eq)]
+pub struct Entry {
+    /// The seat, numbered from 1; 0 is the console of a machine that isn't shared.
+    pub seat: u8,
+    /// The command.
+    pub command: Command,
+    /// Its answer.
+    pub answer: Answer,
+}
