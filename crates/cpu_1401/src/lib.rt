@@ -19,3 +19,6 @@ pub use machine::Machine;
 pub use regs::Regs;
 pub use running::Ran;
 pub use stop::Stop;
+
+#[cfg(test)]
+mod tests;
