@@ -1,3 +1,4 @@
+mod ExampleCells
 mod LengthLemmas
 mod MoveExamples
 mod MoveLemmas

@@ -10,8 +10,10 @@
 pub mod done;
 pub mod marks;
 pub mod moves;
+mod places;
+mod refusals;
 mod registers;
 
 pub use done::{Done, FieldStop};
 pub use marks::set_marks;
-pub use moves::move_chars;
+pub use moves::{load_chars, move_chars};
