@@ -7,6 +7,8 @@
 //! ```
 #![tactic(auto)]
 
+mod branch_steps;
+mod field_steps;
 pub mod instruction;
 pub mod machine;
 pub mod operation;
