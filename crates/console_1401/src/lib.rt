@@ -1,8 +1,18 @@
 //! The operator's console of the IBM 1401: lines, replies, and sessions over a reader and a writer.
 #![tactic(auto)]
 
+pub mod failure;
+pub mod from_reader;
 pub mod line;
 pub mod session_end;
+pub mod sink;
+pub mod source;
+pub mod to_writer;
 
+pub use failure::Failed;
+pub use from_reader::FromReader;
 pub use line::{Line, LineFault};
 pub use session_end::SessionEnd;
+pub use sink::Sink;
+pub use source::Source;
+pub use to_writer::ToWriter;
