@@ -4,6 +4,7 @@
 pub mod failure;
 pub mod from_reader;
 pub mod line;
+mod line_buffer;
 pub mod session_end;
 pub mod sink;
 pub mod source;
