@@ -1,0 +1,2 @@
+pub mod ConsoleLine
+pub mod Words

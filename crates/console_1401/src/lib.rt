@@ -3,6 +3,7 @@
 
 pub mod line;
 pub mod session_end;
+mod words;
 
 pub use line::{Line, LineFault};
 pub use session_end::SessionEnd;
