@@ -1,1 +1,3 @@
+pub mod ConsoleLine
 pub mod Sink
+pub mod Words

@@ -9,6 +9,7 @@ pub mod session_end;
 pub mod sink;
 pub mod source;
 pub mod to_writer;
+mod words;
 
 pub use failure::Failed;
 pub use from_reader::FromReader;
