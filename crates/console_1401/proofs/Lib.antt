@@ -1,1 +1,2 @@
 mod ConsoleLineExamples
+pub mod TextLemmas

@@ -1,3 +1,4 @@
 pub mod ConsoleLine
 pub mod Sink
+pub mod Text
 pub mod Words
