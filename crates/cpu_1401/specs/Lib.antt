@@ -1,0 +1,5 @@
+pub mod Instruction
+pub mod Operation
+pub mod Run
+pub mod State
+pub mod Step

@@ -1,8 +1,21 @@
 //! The processor of the IBM 1401: one instruction at a time, and a run of them.
+//!
+//! ```text
+//! let mut machine = Machine::power_on(alloc, 4000)?;
+//! machine.put(0, halt);
+//! machine.run(1)                          // Ran { steps: 1, stop: Stop::Halt }
+//! ```
 #![tactic(auto)]
 
+pub mod instruction;
+pub mod machine;
+pub mod operation;
 pub mod regs;
+pub mod running;
+pub mod stepping;
 pub mod stop;
 
+pub use machine::Machine;
 pub use regs::Regs;
+pub use running::Ran;
 pub use stop::Stop;

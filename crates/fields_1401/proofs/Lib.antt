@@ -1,0 +1,4 @@
+mod LengthLemmas
+mod MoveExamples
+mod MoveLemmas
+mod PlaceLemmas

@@ -1,2 +1,4 @@
 pub mod Marks
+pub mod Move
 pub mod Outcome
+pub mod Places

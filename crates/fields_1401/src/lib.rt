@@ -9,7 +9,9 @@
 
 pub mod done;
 pub mod marks;
+pub mod moves;
 mod registers;
 
 pub use done::{Done, FieldStop};
 pub use marks::set_marks;
+pub use moves::move_chars;

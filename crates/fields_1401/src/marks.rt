@@ -1,5 +1,5 @@
 //! Word marks set, cleared, and cleared with the storage below them.
-ghost use Rattle.std.specs.Prelude.{◌≡◌, ◌<◌, Ok, Err, IfOk, IfErr, OnErr};
+ghost use Rattle.std.specs.Prelude.{◌≡◌, ◌<◌, Ok, Err, IfOk, IfErr, OnErr, length};
 ghost use Rattle.fields_1401.specs.Marks.{set_marks_at};
 
 use crate::done::{Done, FieldStop};
@@ -17,6 +17,7 @@ pub fn set_marks(core: &mut Core, a: u16, b: u16) -> Result<Done, FieldStop>
     ensures done { IfOk result (λ done. set_marks_at core.old a b ≡ Ok (core.new, done)) }
     ensures stop { IfErr result (λ stop. set_marks_at core.old a b ≡ Err stop) }
     ensures err { OnErr result (core.new ≡ core.old) }
+    ensures size { length core.new ≡ length core.old }
 {
     if !core.in_core(a) || !core.in_core(b) {
         return Err(FieldStop::Address);

@@ -1,0 +1,4 @@
+pub mod Account
+pub mod CarryOut
+pub mod Journal
+pub mod Replay

@@ -1,4 +1,5 @@
 //! A line of the journal.
+ghost use Rattle.std.specs.Prelude.{◌≡◌};
 
 use crate::answer::Answer;
 use crate::command::Command;
@@ -12,4 +13,19 @@ pub struct Entry {
     pub command: Command,
     /// Its answer.
     pub answer: Answer,
+}
+
+impl Entry {
+    ghost use Rattle.room_1401.specs.Journal.{entry};
+
+    /// The entry of a command with its answer.
+    pub fn new(seat: u8, command: &Command, answer: &Answer) -> Entry
+        ensures { result ≡ entry seat command.now answer.now }
+    {
+        Entry {
+            seat,
+            command: *command,
+            answer: *answer,
+        }
+    }
 }

@@ -1,0 +1,31 @@
+-- Steps until the machine stops (own).
+use Rattle.std.specs.Prelude.{ℕ, ◌+◌, zero, suc, Option, None, Some}
+use Rattle.cpu_1401.specs.declared.stop.Stop.{Stop}
+use Rattle.cpu_1401.specs.declared.stop.Stop.TheVariants as stop
+use Rattle.cpu_1401.specs.State.{State}
+use Rattle.cpu_1401.specs.Step.{step}
+
+-- how a run ends: the machine, how many instructions were carried out, and why it ends
+pub record Finished : Type 0 where
+  pub state : State
+  pub steps : ℕ
+  pub stop : Stop
+
+-- one instruction more was carried out
+abbrev pub one_more : Finished → Finished
+one_more run = record run { steps = run.steps + 1 }
+
+-- how many instructions a step that stops the machine has carried out: a halt is carried out, and nothing else is
+abbrev pub carried_out_at : Stop → ℕ
+carried_out_at stop.Halt = 1
+carried_out_at why = 0
+
+-- a run goes on after a step that doesn't stop the machine
+abbrev pub run_on : Option Stop → State → (State → Finished) → Finished
+run_on None s more = one_more (more s)
+run_on (Some why) s more = record { state = s; steps = carried_out_at why; stop = why }
+
+-- steps until the first stop, but at most so many
+unfoldable pub run_for : ℕ → State → Finished
+run_for zero s = record { state = s; steps = 0; stop = stop.Limit }
+run_for (suc limit) s = run_on (step s).stop (step s).state (run_for limit)

@@ -1,0 +1,50 @@
+-- The machine as plain data, and as it is at power-on (own: all off and empty).
+use Rattle.std.specs.Prelude.{ℕ, Bool, false, List, length, replicate, slice_set}
+use Rattle.bcd_1401.specs.declared.cell.Cell.{Cell}
+use Rattle.core_1401.specs.Storage.{Storage, blanks}
+use Rattle.devices_1401.specs.Devices.{Devices, no_cards, form_of, line_of}
+use Rattle.cpu_1401.specs.declared.regs.Regs.{Regs}
+
+-- storage by address, the I, A and B registers, the indicators, the sense switches A to G, and the devices
+pub record State : Type 0 where
+  pub storage : Storage
+  pub i : ℕ
+  pub a : ℕ
+  pub b : ℕ
+  pub unequal : Bool
+  pub overflow : Bool
+  pub switches : List Bool
+  pub devices : Devices
+
+-- the machine at power-on, with core storage of this size
+abbrev pub power_on : ℕ → State
+power_on size = record {
+  storage = blanks size;
+  i = 0;
+  a = 0;
+  b = 0;
+  unequal = false;
+  overflow = false;
+  switches = replicate 7 false;
+  devices = no_cards;
+}
+
+-- what an operator reads from the machine beside its storage
+abbrev pub regs_of : State → Regs
+regs_of s = record {
+  i = s.i;
+  a = s.a;
+  b = s.b;
+  unequal = s.unequal;
+  overflow = s.overflow;
+  switches = s.switches;
+  hopper = length s.devices.hopper;
+  stacker = length s.devices.stacker;
+  paper = length s.devices.paper;
+  form = form_of s.devices.carriage;
+  line = line_of s.devices.carriage;
+}
+
+-- another cell at a place
+abbrev pub with_cell : State → ℕ → Cell → State
+with_cell s at cell = record s { storage = slice_set s.storage at cell }

@@ -1,0 +1,103 @@
+//! The machine: core storage, registers, indicators and sense switches.
+ghost use Rattle.std.specs.Prelude.{◌≡◌, ◌<◌, ◌↔◌, false, length, IfOk};
+ghost use Rattle.core_1401.specs.Storage.{is_core_size};
+ghost use Rattle.cpu_1401.specs.State.{power_on, regs_of, with_cell};
+
+use crate::regs::Regs;
+use bcd_1401::Cell;
+use core_1401::{Core, CoreFault};
+use std::alloc::Global;
+use std::marker::Model;
+
+/// The machine. Contracts see it as its state: plain data, with storage as the list of its cells by address.
+#[derive(Drop)]
+pub struct Machine {
+    pub(crate) core: Core,
+    pub(crate) i: u16,
+    pub(crate) a: u16,
+    pub(crate) b: u16,
+    pub(crate) unequal: bool,
+    pub(crate) overflow: bool,
+    pub(crate) switches: [bool; 7],
+}
+
+impl Model for Machine {
+    ghost use Rattle.std.specs.Prelude.{◌<◌};
+    ghost use Rattle.devices_1401.specs.Devices.{no_cards};
+    ghost use Rattle.cpu_1401.specs.State.{State};
+
+    ghost Value = { State };
+
+    ghost view = { λ m. record { storage = m.core; i = m.i; a = m.a; b = m.b; unequal = m.unequal; overflow = m.overflow; switches = m.switches; devices = no_cards } };
+
+    ghost invariant = { λ m. (m.i < 16000) × (m.a < 16000) × (m.b < 16000) };
+}
+
+impl Machine {
+    /// The machine as it is at power-on, with core storage of this size.
+    ///
+    /// # Errors
+    ///
+    /// `Size` where no core storage of that size is made, else `Memory` where there is no room for it.
+    pub fn power_on(alloc: Global, size: u16) -> Result<Machine, CoreFault>
+        ensures ok { IfOk result (λ machine. machine ≡ power_on size) }
+        ensures size { (result ≡ Err CoreFault.Size) ↔ (is_core_size size ≡ false) }
+    {
+        let core = Core::power_on(alloc, size)?;
+        Ok(Machine {
+            core,
+            i: 0,
+            a: 0,
+            b: 0,
+            unequal: false,
+            overflow: false,
+            switches: [false; 7],
+        })
+    }
+
+    /// Core storage.
+    pub fn core(&self) -> &Core
+        ensures { result.now ≡ self.now.storage }
+    {
+        &self.core
+    }
+
+    /// The registers and indicators, and how full the devices are.
+    pub fn regs(&self) -> Regs
+        ensures { result ≡ regs_of self.now }
+    {
+        Regs {
+            i: self.i,
+            a: self.a,
+            b: self.b,
+            unequal: self.unequal,
+            overflow: self.overflow,
+            switches: self.switches,
+            hopper: 0,
+            stacker: 0,
+            paper: 0,
+            form: 1,
+            line: 1,
+        }
+    }
+
+    /// Sets the I register to a place, from which the next instruction is taken.
+    pub fn set_i(&mut self, at: u16)
+        requires { at < length self.old.storage }
+        ensures { self.new ≡ record self.old { i = at } }
+    {
+        prove!(at < self.core.size());
+        self.i = at;
+    }
+
+    /// Puts a cell at a place, with its word mark or without one.
+    #[tactic(auto, using(crate::proofs::StorageLemmas::cell_put))]
+    pub fn put(&mut self, at: u16, cell: Cell)
+        requires { at < length self.old.storage }
+        ensures value { self.new ≡ with_cell self.old at cell }
+        ensures size { length self.new.storage ≡ length self.old.storage }
+    {
+        self.core.put_char(at, cell.char);
+        self.core.put_mark(at, cell.mark);
+    }
+}

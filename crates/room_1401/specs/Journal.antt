@@ -1,0 +1,40 @@
+-- The journal: each command with its seat and its answer, oldest first (own).
+use Rattle.std.specs.Prelude.{◌≡◌, ℕ, Bool, List, length, map, nat_le}
+use Rattle.cpu_1401.specs.State.{State}
+use Rattle.room_1401.specs.declared.answer.Answer.{Answer}
+use Rattle.room_1401.specs.declared.command.Command.{Command}
+use Rattle.room_1401.specs.declared.entry.Entry.{Entry}
+use Rattle.room_1401.specs.CarryOut.{carry_out}
+use Rattle.room_1401.specs.Replay.{Pair, replay, answers_of}
+
+-- an entry of the journal
+abbrev pub entry : ℕ → Command → Answer → Entry
+entry seat command answer = record { seat = seat; command = command; answer = answer }
+
+-- what an entry asks, and who asks it
+abbrev pub pair_of : Entry → Pair
+pair_of entry = record { seat = entry.seat; command = entry.command }
+
+-- the answer that an entry records
+abbrev pub answer_in : Entry → Answer
+answer_in entry = entry.answer
+
+-- the commands of a journal, each with its seat
+abbrev pub pairs_of : List Entry → List Pair
+pairs_of journal = map pair_of journal
+
+-- the machine that a journal explains
+abbrev pub state_of : ℕ → List Entry → State
+state_of size journal = replay size (pairs_of journal)
+
+-- each recorded answer is that of the sequential machine
+abbrev pub IsLegal : ℕ → List Entry → Type 0
+IsLegal size journal = map answer_in journal ≡ answers_of size (pairs_of journal)
+
+-- what the sequential machine answers to a command after these entries
+abbrev pub answer_to : ℕ → List Entry → Command → Answer
+answer_to size journal command = (carry_out (state_of size journal) command).answer
+
+-- whether a journal takes no entry more
+abbrev pub is_full : List Entry → Bool
+is_full journal = nat_le 100000 (length journal)

@@ -1,0 +1,103 @@
+//! A command carried out on the machine.
+ghost use Rattle.std.specs.Prelude.{◌≡◌, ◌+◌, ◌≤◌, IsTrue, length};
+ghost use Rattle.room_1401.specs.CarryOut.{are_in_core, carry_out, deposited, examine, examined};
+
+use crate::answer::{Answer, Refusal};
+use crate::command::Command;
+use bcd_1401::Cell;
+use core_1401::{Cells, Core, MOST_CELLS};
+use cpu_1401::Machine;
+
+/// How many instructions a run has at the most.
+const MOST_STEPS: u32 = 1_000_000;
+
+/// Carries a command out. One that is refused leaves the machine as it was.
+#[tactic(auto, unfolding(crate::specs::CarryOut::carry_out))]
+pub(crate) fn carry_on(machine: &mut Machine, command: &Command) -> Answer
+    ensures state { machine.new ≡ (carry_out machine.old command.now).state }
+    ensures answer { result ≡ (carry_out machine.old command.now).answer }
+    ensures size { length machine.new.storage ≡ length machine.old.storage }
+{
+    match *command {
+        Command::Deposit { address, cells } => {
+            let cells = cells.as_slice();
+            if !are_in_core(machine.core(), address, cells.len()) {
+                return Answer::Refused(Refusal::Address);
+            }
+            deposit(machine, address, cells);
+            Answer::Done
+        }
+        Command::Examine { address, count } => examine(machine.core(), address, count),
+        Command::Registers => Answer::Regs(machine.regs()),
+        Command::SetI { address } => {
+            if !machine.core().in_core(address) {
+                return Answer::Refused(Refusal::Address);
+            }
+            machine.set_i(address);
+            Answer::Done
+        }
+        Command::Run { limit } => {
+            if limit < 1 || limit > MOST_STEPS {
+                return Answer::Refused(Refusal::Limit);
+            }
+            let ran = machine.run(limit);
+            Answer::Ran {
+                steps: ran.steps,
+                stop: ran.stop,
+                i: machine.regs().i,
+            }
+        }
+    }
+}
+
+/// Whether so many places from an address on are in core.
+fn are_in_core(core: &Core, address: u16, count: usize) -> bool
+    requires { count ≤ 40 }
+    ensures value { result ≡ are_in_core core.now address count }
+    ensures most { IsTrue result → address + count ≤ 16000 }
+{
+    usize::from(address) + count <= usize::from(core.size())
+}
+
+/// Puts cells at an address and the ones above it.
+fn deposit(machine: &mut Machine, address: u16, cells: &[Cell])
+    requires inside { address + length cells.now ≤ length machine.old.storage }
+    requires most { address + length cells.now ≤ 16000 }
+    ensures { machine.new ≡ record machine.old { storage = deposited machine.old.storage address cells.now } }
+{
+    for (i, cell) in cells.iter().enumerate() {
+        machine.put(address + i as u16, *cell);
+    }
+}
+
+/// The cells from an address on, or why there are none: the count is looked at before the places.
+fn examine(core: &Core, address: u16, count: u32) -> Answer
+    ensures { result ≡ examine core.now address count }
+{
+    let count = count as usize;
+    if count < 1 || count > MOST_CELLS {
+        return Answer::Refused(Refusal::Count);
+    }
+    if !are_in_core(core, address, count) {
+        return Answer::Refused(Refusal::Address);
+    }
+    Answer::Cells(cells_from(core, address, count))
+}
+
+/// So many cells from an address on.
+fn cells_from(core: &Core, address: u16, count: usize) -> Cells
+    requires some { 1 ≤ count }
+    requires few { count ≤ 40 }
+    requires inside { address + count ≤ length core.now }
+    requires most { address + count ≤ 16000 }
+    ensures { result ≡ examined core.now address count }
+{
+    let mut cells = [Cell::BLANK; MOST_CELLS];
+    for i in 0..count {
+        cells[i] = core.get(address + i as u16);
+    }
+    match Cells::from_slice(&cells[..count]) {
+        Some(cells) => cells,
+        None => unreachable!(),
+    }
+}

@@ -1,0 +1,99 @@
+//! A machine with the journal that explains it.
+ghost use Rattle.std.specs.Prelude.{◌≡◌, ◌<◌, ◌≤◌, ◌↔◌, [], ◌∷◌, ◌++◌, true, false, length, IsOk, IfOk, OnErr};
+ghost use Rattle.core_1401.specs.Storage.{is_core_size};
+ghost use Rattle.room_1401.specs.Journal.{IsLegal, answer_to, entry, is_full, state_of};
+
+use crate::answer::Answer;
+use crate::carrying::carry_on;
+use crate::command::Command;
+use crate::entry::Entry;
+use crate::fault::RoomFault;
+use core_1401::CoreFault;
+use cpu_1401::Machine;
+use std::alloc::Global;
+use std::marker::Model;
+
+/// How many entries a journal has at the most.
+const MOST_ENTRIES: usize = 100_000;
+
+/// A machine and its journal. The machine's storage, registers and devices and every recorded answer are those of the
+/// sequential machine that carries out the recorded commands in turn from power-on.
+#[derive(Drop)]
+pub struct Room {
+    machine: Machine,
+    journal: Vec<Entry>,
+}
+
+impl Model for Room {
+    ghost use Rattle.std.specs.Prelude.{◌-◌, length, vec_len, vec_capacity};
+    ghost use Rattle.room_1401.specs.Account.{Account, IsExplained};
+
+    ghost Value = { Account };
+
+    ghost view = { λ r. record { size = length r.machine.storage; journal = r.journal.items; spare = vec_capacity r.journal - vec_len r.journal } };
+
+    ghost invariant = { λ r. IsExplained r.machine r.journal.items };
+}
+
+impl Room {
+    /// A room with a machine of this size at power-on, and an empty journal.
+    ///
+    /// # Errors
+    ///
+    /// `Size` where no core storage of that size is made, else `Memory` where there is no room for it.
+    pub fn power_on(alloc: Global, size: u16) -> Result<Room, CoreFault>
+        ensures size { IfOk result (λ room. room.size ≡ size) }
+        ensures journal { IfOk result (λ room. room.journal ≡ []) }
+        ensures refused { (result ≡ Err CoreFault.Size) ↔ (is_core_size size ≡ false) }
+    {
+        let machine = Machine::power_on(alloc, size)?;
+        Ok(Room {
+            machine,
+            journal: Vec::new(alloc),
+        })
+    }
+
+    /// The machine, which is the one that the journal explains.
+    pub fn machine(&self) -> &Machine
+        ensures { result.now ≡ state_of self.now.size self.now.journal }
+    {
+        &self.machine
+    }
+
+    /// The journal, oldest entry first. It is legal: each recorded answer is the sequential machine's.
+    pub fn journal(&self) -> &[Entry]
+        ensures journal { result.now ≡ self.now.journal }
+        ensures legal { IsLegal self.now.size self.now.journal }
+        ensures bound { length self.now.journal ≤ 100000 }
+    {
+        self.journal.as_slice()
+    }
+
+    /// Carries a command out for a seat, and records it with its answer.
+    ///
+    /// # Errors
+    ///
+    /// `JournalFull` where the journal has its 100,000 entries, else `Memory` where there is no room for one more. The
+    /// machine and the journal are as they were.
+    pub fn carry(&mut self, seat: u8, command: Command) -> Result<Answer, RoomFault>
+        ensures answer { IfOk result (λ answer. answer ≡ answer_to self.old.size self.old.journal command) }
+        ensures recorded { IfOk result (λ answer. self.new.journal ≡ self.old.journal ++ entry seat command answer ∷ []) }
+        ensures size { self.new.size ≡ self.old.size }
+
+        // A refusal changes nothing.
+        ensures full { (result ≡ Err RoomFault.JournalFull) ↔ (is_full self.old.journal ≡ true) }
+        ensures err { OnErr result (self.new.journal ≡ self.old.journal) }
+        ensures reserved { 0 < self.old.spare → is_full self.old.journal ≡ false → IsOk result }
+    {
+        if self.journal.len() >= MOST_ENTRIES {
+            return Err(RoomFault::JournalFull);
+        }
+        if self.journal.reserve(1).is_err() {
+            return Err(RoomFault::Memory);
+        }
+        let answer = carry_on(&mut self.machine, &command);
+        self.journal
+            .push_reserved(Entry::new(seat, &command, &answer));
+        Ok(answer)
+    }
+}
