@@ -1,1 +1,3 @@
 mod ConsoleLineExamples
+pub mod NumberLemmas
+pub mod SpelledLemmas

@@ -5,5 +5,5 @@ pub mod line;
 pub mod session_end;
 mod words;
 
-pub use line::{Line, LineFault};
+pub use line::{LINE_LIMIT, Line, LineFault, parse_line};
 pub use session_end::SessionEnd;
