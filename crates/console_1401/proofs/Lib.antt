@@ -1,2 +1,4 @@
 mod ConsoleLineExamples
+pub mod NumberLemmas
+pub mod SpelledLemmas
 pub mod TextLemmas

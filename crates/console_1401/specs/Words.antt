@@ -1,5 +1,5 @@
 -- The words of a line, and the numbers among them (own).
-use Rattle.std.specs.Prelude.{ℕ, ◌+◌, ◌-◌, ◌*◌, ◌^◌, ◌==◌, nat_le, nat_lt, Bool, ◌&&◌, if◌then◌else◌, List, [], ◌∷◌, length, drop, Option, None, Some, Result, Ok, Err, codes}
+use Rattle.std.specs.Prelude.{ℕ, ◌+◌, ◌-◌, ◌*◌, ◌^◌, ◌==◌, nat_le, nat_lt, Bool, ◌&&◌, if◌then◌else◌, List, [], ◌∷◌, length, drop, find, Option, Result, Ok, Err, codes}
 use Rattle.std.specs.List.{prefix_len, position_or_len, before_first, list_all}
 use Rattle.std.specs.Str.{bytes_eq}
 use Rattle.console_1401.specs.declared.line.LineFault.{LineFault}
@@ -30,15 +30,20 @@ unfoldable pub behind_word : List ℕ → List ℕ
 behind_word text = drop (position_or_len is_blank (without_blanks text)) (without_blanks text)
 
 -- the words that a line may begin with
+abbrev pub name_of : Keyword → List ℕ
+name_of Deposit = codes "DEPOSIT"
+name_of Examine = codes "EXAMINE"
+name_of Regs = codes "REGS"
+name_of Start = codes "START"
+name_of Run = codes "RUN"
+name_of Quit = codes "QUIT"
+
+abbrev pub keywords : List Keyword
+keywords = Deposit ∷ Examine ∷ Regs ∷ Start ∷ Run ∷ Quit ∷ []
+
+-- the one of them that a word is
 unfoldable pub keyword_of : List ℕ → Option Keyword
-keyword_of word =
-    if bytes_eq word (codes "DEPOSIT") then Some Deposit
-    else (if bytes_eq word (codes "EXAMINE") then Some Examine
-    else (if bytes_eq word (codes "REGS") then Some Regs
-    else (if bytes_eq word (codes "START") then Some Start
-    else (if bytes_eq word (codes "RUN") then Some Run
-    else (if bytes_eq word (codes "QUIT") then Some Quit
-    else None)))))
+keyword_of word = find (λ keyword. bytes_eq (name_of keyword) word) keywords
 
 -- the digits 0 to 9 are the bytes 48 to 57
 abbrev pub is_digit : ℕ → Bool

@@ -13,7 +13,7 @@ mod words;
 
 pub use failure::Failed;
 pub use from_reader::FromReader;
-pub use line::{Line, LineFault};
+pub use line::{LINE_LIMIT, Line, LineFault, parse_line};
 pub use session_end::SessionEnd;
 pub use sink::Sink;
 pub use source::Source;
