@@ -1,3 +1,5 @@
 mod ConsoleLineExamples
+pub mod DigitLemmas
 pub mod NumberLemmas
+mod ReplyTextExamples
 pub mod SpelledLemmas

@@ -1,2 +1,3 @@
 pub mod ConsoleLine
+pub mod ReplyText
 pub mod Words

@@ -2,8 +2,10 @@
 #![tactic(auto)]
 
 pub mod line;
+pub mod reply;
 pub mod session_end;
 mod words;
 
 pub use line::{LINE_LIMIT, Line, LineFault, parse_line};
+pub use reply::reply_text;
 pub use session_end::SessionEnd;
