@@ -1,4 +1,6 @@
 mod ConsoleLineExamples
+pub mod DigitLemmas
 pub mod NumberLemmas
+mod ReplyTextExamples
 pub mod SpelledLemmas
 pub mod TextLemmas

@@ -1,4 +1,5 @@
 pub mod ConsoleLine
+pub mod ReplyText
 pub mod Sink
 pub mod Text
 pub mod Words
