@@ -5,10 +5,12 @@ pub mod failure;
 pub mod from_reader;
 pub mod line;
 mod line_buffer;
+mod replies;
 pub mod reply;
 pub mod session_end;
 pub mod sink;
 pub mod source;
+mod taking;
 pub mod to_writer;
 mod words;
 
