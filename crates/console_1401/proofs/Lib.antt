@@ -3,6 +3,8 @@ pub mod DigitLemmas
 pub mod NumberLemmas
 pub mod ReadingLemmas
 mod ReplyTextExamples
+mod SessionExamples
+pub mod SessionLemmas
 pub mod SpelledLemmas
 pub mod TakingLemmas
 pub mod TextLemmas

@@ -8,6 +8,7 @@ mod line_buffer;
 mod replies;
 pub mod reply;
 pub mod session_end;
+pub mod sessions;
 pub mod sink;
 pub mod source;
 mod taking;
@@ -19,6 +20,10 @@ pub use from_reader::FromReader;
 pub use line::{LINE_LIMIT, Line, LineFault, parse_line};
 pub use reply::reply_text;
 pub use session_end::SessionEnd;
+pub use sessions::session;
 pub use sink::Sink;
 pub use source::Source;
 pub use to_writer::ToWriter;
+
+#[cfg(test)]
+mod session_tests;
