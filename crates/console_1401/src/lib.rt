@@ -9,3 +9,6 @@ mod words;
 pub use line::{LINE_LIMIT, Line, LineFault, parse_line};
 pub use reply::reply_text;
 pub use session_end::SessionEnd;
+
+#[cfg(test)]
+mod line_tests;
