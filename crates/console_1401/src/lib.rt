@@ -26,4 +26,6 @@ pub use source::Source;
 pub use to_writer::ToWriter;
 
 #[cfg(test)]
+mod line_tests;
+#[cfg(test)]
 mod session_tests;
