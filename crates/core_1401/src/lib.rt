@@ -19,3 +19,6 @@ pub use address::{decode, encode};
 pub use cells::{Cells, MOST_CELLS};
 pub use fault::CoreFault;
 pub use storage::Core;
+
+#[cfg(test)]
+mod tests;

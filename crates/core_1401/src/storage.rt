@@ -69,7 +69,8 @@ impl Core {
         requires { at < length self.now }
         ensures { result ≡ cell_at self.now at }
     {
-        self.cells[usize::from(at)]
+        let place = usize::from(at);
+        self.cells[place]
     }
 
     /// Puts a character at a place. The word mark there stays.

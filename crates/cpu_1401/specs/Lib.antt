@@ -1,3 +1,4 @@
+pub mod FieldStop
 pub mod Instruction
 pub mod Operation
 pub mod Run

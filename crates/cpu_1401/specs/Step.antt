@@ -2,17 +2,17 @@
 -- afterwards is own).
 use Rattle.std.specs.Prelude.{ℕ, ◌==◌, Option, None, Some, Ok, Err, if◌then◌else◌}
 use Rattle.core_1401.specs.Storage.{cell_at}
-use Rattle.fields_1401.specs.declared.done.FieldStop.{FieldStop}
-use Rattle.fields_1401.specs.declared.done.FieldStop.TheVariants as field
-use Rattle.fields_1401.specs.Marks.{set_marks_at}
-use Rattle.fields_1401.specs.Move.{move_at}
+use Rattle.fields_1401.specs.Marks.{set_marks_at, clear_marks_at, clear_down_at}
+use Rattle.fields_1401.specs.Move.{move_at, load_at}
 use Rattle.fields_1401.specs.Outcome.{Outcome}
+use Rattle.fields_1401.specs.Parts.{digit_moved_at, zone_moved_at}
 use Rattle.cpu_1401.specs.declared.instruction.Instruction.{Instruction}
 use Rattle.cpu_1401.specs.declared.operation.Operation.{Operation}
 use Rattle.cpu_1401.specs.declared.operation.Operation.TheVariants as op
 use Rattle.cpu_1401.specs.declared.stop.Stop.{Stop}
 use Rattle.cpu_1401.specs.declared.stop.Stop.TheVariants as stop
 use Rattle.cpu_1401.specs.Instruction.{begins_at, instruction_of, length_at}
+use Rattle.cpu_1401.specs.FieldStop.{stop_of}
 use Rattle.cpu_1401.specs.Operation.{operation_of, is_fitted, has_length}
 use Rattle.cpu_1401.specs.State.{State}
 
@@ -29,11 +29,6 @@ step_to s = record { state = s; stop = None }
 abbrev pub stop_at : Stop → State → Stepped
 stop_at why s = record { state = s; stop = Some why }
 
--- the stop of an operation on fields
-abbrev pub stop_of : FieldStop → Stop
-stop_of field.Address = stop.Address
-stop_of field.Overlap = stop.Overlap
-
 -- after an operation on fields: its core and its registers, and the next instruction
 abbrev pub after_field : Instruction → State → Outcome → Stepped
 after_field this s (Ok done) = step_to (record s { storage = done.0; i = this.next; a = done.1.a; b = done.1.b })
@@ -47,10 +42,22 @@ branch_to to this s = record s { i = to; a = to; b = this.next }
 abbrev pub after_halt : Instruction → State → State
 after_halt this s = if this.len == 4 then branch_to this.a this s else record s { i = this.next }
 
+-- after storage was cleared: with two addresses a branch is taken, else the A register stays
+abbrev pub after_clear : Instruction → State → Outcome → Stepped
+after_clear this s (Ok done) =
+    if this.len == 7 then step_to (branch_to this.a this (record s { storage = done.0 }))
+    else step_to (record s { storage = done.0; i = this.next; a = this.a; b = done.1.b })
+after_clear this s (Err why) = stop_at (stop_of why) s
+
 -- what an operation does
 abbrev pub perform : Operation → Instruction → State → Stepped
 perform op.Move this s = after_field this s (move_at s.storage this.a this.b)
+perform op.Load this s = after_field this s (load_at s.storage this.a this.b)
+perform op.MoveDigit this s = after_field this s (digit_moved_at s.storage this.a this.b)
+perform op.MoveZone this s = after_field this s (zone_moved_at s.storage this.a this.b)
 perform op.SetWordMark this s = after_field this s (set_marks_at s.storage this.a this.b)
+perform op.ClearWordMark this s = after_field this s (clear_marks_at s.storage this.a this.b)
+perform op.ClearStorage this s = after_clear this s (clear_down_at s.storage this.b)
 perform op.Halt this s = record { state = after_halt this s; stop = Some stop.Halt }
 
 -- an operation at a length: it must be fitted, and the length must be one of its own

@@ -7,6 +7,8 @@
 //! ```
 #![tactic(auto)]
 
+mod branch_steps;
+mod field_steps;
 pub mod instruction;
 pub mod machine;
 pub mod operation;
@@ -19,3 +21,6 @@ pub use machine::Machine;
 pub use regs::Regs;
 pub use running::Ran;
 pub use stop::Stop;
+
+#[cfg(test)]
+mod tests;

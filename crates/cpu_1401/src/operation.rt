@@ -1,6 +1,6 @@
 //! The operations, and the lengths that their instructions may have.
 ghost use Rattle.std.specs.Prelude.{◌≡◌};
-ghost use Rattle.cpu_1401.specs.Operation.{operation_of, most_of, is_fitted, has_length, loads_both};
+ghost use Rattle.cpu_1401.specs.Operation.{operation_of, most_of, loads_both, is_fitted, has_length};
 
 use bcd_1401::Char;
 
@@ -9,8 +9,18 @@ use bcd_1401::Char;
 pub enum Operation {
     /// `M`: moves the characters of the A field to the B field.
     Move,
+    /// `L`: loads the A field, with its word mark, to the B field.
+    Load,
+    /// `D`: moves the low bits of one character.
+    MoveDigit,
+    /// `Y`: moves the zone of one character.
+    MoveZone,
     /// `,`: sets word marks at both addresses.
     SetWordMark,
+    /// `)`: clears word marks at both addresses.
+    ClearWordMark,
+    /// `/`: clears storage down to a hundred, and with two addresses branches.
+    ClearStorage,
     /// `.`: halts, and with an address goes on there.
     Halt,
 }
@@ -22,7 +32,12 @@ impl Operation {
     {
         match char.graphic() {
             b'M' => Some(Operation::Move),
+            b'L' => Some(Operation::Load),
+            b'D' => Some(Operation::MoveDigit),
+            b'Y' => Some(Operation::MoveZone),
             b',' => Some(Operation::SetWordMark),
+            b')' => Some(Operation::ClearWordMark),
+            b'/' => Some(Operation::ClearStorage),
             b'.' => Some(Operation::Halt),
             _ => None,
         }
@@ -33,8 +48,8 @@ impl Operation {
         ensures { result ≡ most_of self }
     {
         match self {
-            Operation::SetWordMark => 7,
-            Operation::Move | Operation::Halt => 8,
+            Operation::SetWordMark | Operation::ClearStorage => 7,
+            _ => 8,
         }
     }
 
@@ -43,18 +58,18 @@ impl Operation {
         ensures { result ≡ loads_both self }
     {
         match self {
-            Operation::Move => false,
-            Operation::SetWordMark | Operation::Halt => true,
+            Operation::Move | Operation::Load => false,
+            _ => true,
         }
     }
 
-    /// Whether this machine has the operation at this length. A move of eight characters is one of tapes.
+    /// Whether this machine has the operation at this length. A move or a load of eight characters is one of tapes.
     pub fn is_fitted(self, len: u16) -> bool
         ensures { result ≡ is_fitted self len }
     {
         match self {
-            Operation::Move => len != 8,
-            Operation::SetWordMark | Operation::Halt => true,
+            Operation::Move | Operation::Load => len != 8,
+            _ => true,
         }
     }
 
@@ -63,8 +78,8 @@ impl Operation {
         ensures { result ≡ has_length self len }
     {
         match self {
-            Operation::Move | Operation::SetWordMark => len == 1 || len == 4 || len == 7,
             Operation::Halt => len == 1 || len == 4,
+            _ => len == 1 || len == 4 || len == 7,
         }
     }
 }

@@ -1,14 +1,13 @@
 //! One step of the machine: the checks in their order, then what the operation does.
-ghost use Rattle.std.specs.Prelude.{◌≡◌, ◌≢◌, ◌+◌, ◌<◌, ◌≤◌, length, Some, None, IfOk, IfErr, IfSome};
-ghost use Rattle.std.specs.Result.{ForOk};
+ghost use Rattle.std.specs.Prelude.{◌≡◌, ◌≢◌, ◌+◌, ◌<◌, ◌≤◌, length, Some, IfSome};
 ghost use Rattle.cpu_1401.specs.Instruction.{begins_at, instruction_of};
-ghost use Rattle.cpu_1401.specs.Step.{stop_of, after_halt, perform, step};
+ghost use Rattle.cpu_1401.specs.Step.{perform, step};
 
 use crate::instruction::{Instruction, distance};
 use crate::machine::Machine;
 use crate::operation::Operation;
 use crate::stop::Stop;
-use fields_1401::{Done, FieldStop, move_chars, set_marks};
+use fields_1401::{clear_marks, load_chars, move_chars, move_digit, move_zone, set_marks};
 
 impl Machine {
     /// Carries out the instruction at the I register, or says why it can't. A halt is carried out; any other stop leaves
@@ -86,52 +85,17 @@ impl Machine {
         ensures limit { result ≢ Some Stop.Limit }
         ensures size { length self.new.storage ≡ length self.old.storage }
     {
-        match operation {
-            Operation::Move => {
-                let outcome = move_chars(&mut self.core, this.a, this.b);
-                self.after_field(this, outcome)
-            }
-            Operation::SetWordMark => {
-                let outcome = set_marks(&mut self.core, this.a, this.b);
-                self.after_field(this, outcome)
-            }
-            Operation::Halt => self.halt(this),
-        }
-    }
-
-    /// Halts, and goes on at the address or at the next instruction.
-    fn halt(&mut self, this: Instruction) -> Option<Stop>
-        requires a { this.a < 16000 }
-        requires next { this.next < 16000 }
-        ensures stop { result ≡ Some Stop.Halt }
-        ensures state { self.new ≡ after_halt this self.old }
-    {
-        if this.len == 4 {
-            self.i = this.a;
-            self.a = this.a;
-            self.b = this.next;
-        } else {
-            self.i = this.next;
-        }
-        Some(Stop::Halt)
-    }
-
-    /// Takes the registers that an operation on fields left, and goes on to the next instruction.
-    fn after_field(&mut self, this: Instruction, outcome: Result<Done, FieldStop>) -> Option<Stop>
-        requires next { this.next < 16000 }
-        requires registers { ForOk outcome (λ done. (done.a < 16000) × (done.b < 16000)) }
-        ensures done { IfOk outcome (λ done. (result ≡ None) × (self.new ≡ record self.old { i = this.next; a = done.a; b = done.b })) }
-        ensures stop { IfErr outcome (λ stop. (result ≡ Some (stop_of stop)) × (self.new ≡ self.old)) }
-    {
-        match outcome {
-            Ok(done) => {
-                self.i = this.next;
-                self.a = done.a;
-                self.b = done.b;
-                None
-            }
-            Err(FieldStop::Address) => Some(Stop::Address),
-            Err(FieldStop::Overlap) => Some(Stop::Overlap),
-        }
+        let Instruction { a, b, .. } = this;
+        let outcome = match operation {
+            Operation::Move => move_chars(&mut self.core, a, b),
+            Operation::Load => load_chars(&mut self.core, a, b),
+            Operation::MoveDigit => move_digit(&mut self.core, a, b),
+            Operation::MoveZone => move_zone(&mut self.core, a, b),
+            Operation::SetWordMark => set_marks(&mut self.core, a, b),
+            Operation::ClearWordMark => clear_marks(&mut self.core, a, b),
+            Operation::ClearStorage => return self.clear_storage(this),
+            Operation::Halt => return self.halt(this),
+        };
+        self.after_field(this, outcome)
     }
 }

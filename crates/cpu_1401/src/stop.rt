@@ -1,5 +1,6 @@
 //! Why the machine stops.
 
+use fields_1401::FieldStop;
 use std::fmt;
 
 /// Why the machine stops, by its number. All but the first two leave the machine as it was before the instruction.
@@ -50,5 +51,19 @@ impl fmt::Display for Stop {
             Stop::NotFitted => "NOTFITTED",
             Stop::DChar => "DCHAR",
         })
+    }
+}
+
+impl From<FieldStop> for Stop {
+    ghost use Rattle.std.specs.Prelude.{◌≡◌};
+    ghost use Rattle.cpu_1401.specs.FieldStop.{stop_of};
+
+    ghost from_gives = { λ stop why. why ≡ stop_of stop };
+
+    fn from(stop: FieldStop) -> Stop {
+        match stop {
+            FieldStop::Address => Stop::Address,
+            FieldStop::Overlap => Stop::Overlap,
+        }
     }
 }

@@ -1,13 +1,13 @@
 -- What a move has moved so far, one character on.
-use Rattle.std.proofs.Common.{◌≡◌, ℕ, ◌+◌, ◌-◌, ◌<◌, ◌≤◌, false, length, refl, ap, sym, ◌∙◌, arith, inl, inr}
+use Rattle.std.proofs.Common.{◌≡◌, ℕ, ◌+◌, ◌-◌, ◌<◌, ◌≤◌, false, length, set, ap, sym, ◌∙◌, arith, inl, inr}
 use Rattle.std.proofs.Math.Nat.{mod-eq_of_lt, add-mod_left}
 use Rattle.std.proofs.lemmas.Bool.{cases_lt}
 use Rattle.std.proofs.lemmas.Bool.Decides.{nat_tests}
 use Rattle.bcd_1401.specs.declared.cell.Cell.{Cell}
 use Rattle.core_1401.specs.Storage.{Storage, cell_at, with_char}
-use Rattle.fields_1401.specs.Places.{is_within}
-use Rattle.fields_1401.proofs.PlaceLemmas.{cell_at-within, cell_at-outside, within, above, below, length-with_field, with_field_none, with_field_more}
-use Rattle.fields_1401.specs.Move.{source_of, moved_cell, moved}
+use Rattle.fields_1401.specs.Places.{is_within, with_chars, rewritten_cell}
+use Rattle.fields_1401.proofs.PlaceLemmas.{cell_at-within, cell_at-outside, within, above, below, with_cells_none, with_cells_more, with_chars_none, with_chars_more}
+use Rattle.fields_1401.specs.Move.{source_of, moved, loaded, is_overwritten}
 
 -- where the B field begins above the A field, or further below it than the i-th place, a character is its own source
 source_far : (a b i : ℕ) → a ≤ b → source_of a b i ≡ a - i
@@ -20,40 +20,49 @@ source_before a b i lt = grind (arith, nat_tests, mod-eq_of_lt)
 source_again : (a b i j : ℕ) → b < a → a - b + j ≡ i → source_of a b j ≡ source_of a b i
 source_again a b i j lt e = let same = add-mod_left (a - b) j in grind (arith, nat_tests)
 
--- before a move nothing is moved
-pub moved_none : (storage : Storage) (a b : ℕ) → storage ≡ moved storage a b 0
-unfolding moved
-moved_none storage a b = with_field_none storage b (moved_cell storage a b)
-
 -- what the A field holds at its i-th place once i characters were moved
 source-moved : (storage : Storage) (a b i : ℕ) → a < length storage → b < length storage → i ≤ a → i ≤ b
     → (cell_at (moved storage a b i) (a - i)).char ≡ (cell_at storage (source_of a b i)).char
-unfolding moved
+unfolding moved with_chars
 source-moved storage a b i a_in b_in in_a in_b =
+    let moved_cell : ℕ → Cell = rewritten_cell storage b (λ k. (cell_at storage (source_of a b k)).char) in
     let unmoved : is_within b i (a - i) ≡ false → source_of a b i ≡ a - i → (cell_at (moved storage a b i) (a - i)).char ≡ (cell_at storage (source_of a b i)).char =
-    λ out e. ap (λ (cell : Cell). cell.char) (cell_at-outside storage b i (moved_cell storage a b) (a - i) (omega arith) out ∙ ap (cell_at storage) (sym e)) in
+    λ out e. ap (λ (cell : Cell). cell.char) (cell_at-outside storage b i moved_cell (a - i) (omega arith) out ∙ ap (cell_at storage) (sym e)) in
     elim (cases_lt b a) [
       | inl lt ↦ elim (cases_lt (b + i) a) [
         | inl far ↦ unmoved (above b i (a - i) (omega arith)) (source_before a b i far)
-        | inr near ↦ ap (λ (cell : Cell). cell.char) (cell_at-within storage b i (moved_cell storage a b) (a - i) (omega arith) (within b i (a - i) (omega arith) (omega arith)))
+        | inr near ↦ ap (λ (cell : Cell). cell.char) (cell_at-within storage b i moved_cell (a - i) (omega arith) (within b i (a - i) (omega arith) (omega arith)))
             ∙ ap (λ q. (cell_at storage q).char) (source_again a b i (b - (a - i)) lt (omega arith))
       ]
       | inr le ↦ unmoved (below b i (a - i) (omega arith)) (source_far a b i le)
     ]
+
+-- before a move nothing is moved
+pub moved_none : (storage : Storage) (a b : ℕ) → storage ≡ moved storage a b 0
+unfolding moved
+moved_none storage a b = with_chars_none storage b (λ i. (cell_at storage (source_of a b i)).char)
 
 -- one character more is moved
 pub moved_more : (storage : Storage) (a b i : ℕ) → a < length storage → b < length storage → i ≤ a → i ≤ b
     → with_char (moved storage a b i) (b - i) (cell_at (moved storage a b i) (a - i)).char ≡ moved storage a b (i + 1)
 unfolding moved
 moved_more storage a b i a_in b_in in_a in_b =
-    let before = moved storage a b i in
-    let cell : Cell = record (cell_at before (b - i)) { char = (cell_at before (a - i)).char } in
-    let mark : cell_at before (b - i) ≡ cell_at storage (b - i) =
-    cell_at-outside storage b i (moved_cell storage a b) (b - i) (omega arith) (below b i (b - i) (omega arith)) in
-    let char = source-moved storage a b i a_in b_in in_a in_b in
-    with_field_more storage b i (moved_cell storage a b) cell b_in in_b (rw (mark, char) refl)
+    ap (with_char (moved storage a b i) (b - i)) (source-moved storage a b i a_in b_in in_a in_b)
+    ∙ with_chars_more storage b i (λ k. (cell_at storage (source_of a b k)).char) b_in in_b
 
--- after a move the core is as large as before
-pub length-moved : (storage : Storage) (a b n : ℕ) → length (moved storage a b n) ≡ length storage
-unfolding moved
-length-moved storage a b n = length-with_field storage b n (moved_cell storage a b)
+-- before a load nothing is loaded
+pub loaded_none : (storage : Storage) (a b : ℕ) → storage ≡ loaded storage a b 0
+unfolding loaded
+loaded_none storage a b = with_cells_none storage b (λ i. cell_at storage (a - i))
+
+-- a place of the A field that is loaded wasn't written before
+source_kept : (a b n i : ℕ) → is_overwritten a b n ≡ false → i < n → i ≤ a → is_within b i (a - i) ≡ false
+source_kept a b n i kept lt in_a = grind (arith, nat_tests)
+
+-- one cell more is loaded
+pub loaded_more : (storage : Storage) (a b n i : ℕ) → a < length storage → b < length storage → is_overwritten a b n ≡ false → i < n → i ≤ a → i ≤ b
+    → set (loaded storage a b i) (b - i) (cell_at (loaded storage a b i) (a - i)) ≡ loaded storage a b (i + 1)
+unfolding loaded
+loaded_more storage a b n i a_in b_in kept lt in_a in_b =
+    with_cells_more storage b i (λ k. cell_at storage (a - k)) (cell_at (loaded storage a b i) (a - i)) b_in in_b
+    (cell_at-outside storage b i (λ k. cell_at storage (a - k)) (a - i) (omega arith) (source_kept a b n i kept lt in_a))

@@ -1,4 +1,5 @@
 pub mod Marks
 pub mod Move
 pub mod Outcome
+pub mod Parts
 pub mod Places

@@ -10,8 +10,15 @@
 pub mod done;
 pub mod marks;
 pub mod moves;
+pub mod parts;
+mod places;
+mod refusals;
 mod registers;
 
 pub use done::{Done, FieldStop};
-pub use marks::set_marks;
-pub use moves::move_chars;
+pub use marks::{clear_down, clear_marks, set_marks};
+pub use moves::{load_chars, move_chars};
+pub use parts::{move_digit, move_zone};
+
+#[cfg(test)]
+mod tests;

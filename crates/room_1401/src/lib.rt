@@ -19,3 +19,6 @@ pub use command::Command;
 pub use entry::Entry;
 pub use fault::RoomFault;
 pub use room::Room;
+
+#[cfg(test)]
+mod tests;

@@ -1,0 +1,94 @@
+//! Core storage, fields and addresses at places worked out by hand.
+
+use crate::{Cells, Core, CoreFault, MOST_CELLS, decode, encode};
+use bcd_1401::{Cell, Char};
+use std::test::Fail;
+
+#[test]
+fn core_is_made_in_its_sizes_alone(rt: HostRuntime) -> Result<(), Fail> {
+    for size in [1_400, 2_000, 4_000] {
+        let core = Core::power_on(rt.alloc(), size)?;
+        assert_eq!(rt; core.size(), size);
+        assert!(rt; core.in_core(size - 1) && !core.in_core(size));
+        assert_eq!(rt; core.get(0), Cell::BLANK);
+    }
+    for size in [0, 1_399, 1_401, 3_999, 4_001, 16_000] {
+        assert_eq!(rt;
+            Core::power_on(rt.alloc(), size).err(),
+            Some(CoreFault::Size),
+            "{size}"
+        );
+    }
+    Ok(())
+}
+
+#[test]
+fn a_field_ends_at_its_first_mark(rt: HostRuntime) -> Result<(), Fail> {
+    let mut core = Core::power_on(rt.alloc(), 4_000)?;
+    assert_eq!(rt; core.size(), 4_000);
+    assert_eq!(rt; core.field_len(3_999), None);
+    core.put_mark(0, true);
+    core.put_mark(100, true);
+    for (at, len) in [(0, 1), (99, 100), (100, 1), (105, 6), (3_999, 3_900)] {
+        assert!(rt; at < 4_000 && core.size() == 4_000);
+        assert_eq!(rt; core.field_len(at), Some(len), "{at}");
+    }
+    for (a, b, len) in [
+        (130, 10, Some(11)),
+        (10, 130, Some(11)),
+        (200, 102, Some(3)),
+        (98, 50, Some(51)),
+    ] {
+        assert!(rt; a < 4_000 && b < 4_000 && core.size() == 4_000);
+        assert_eq!(rt; core.pair_len(a, b), len, "{a} and {b}");
+    }
+    core.put_mark(0, false);
+    assert_eq!(rt; core.pair_len(10, 130), None);
+    Ok(())
+}
+
+#[test]
+fn an_address_is_spelled_in_three_characters(rt: HostRuntime) {
+    for (text, value, index) in [
+        (*b"   ", 0, 0),
+        (*b"000", 0, 0),
+        (*b"'00", 1_000, 0),
+        (*b"I9I", 15_999, 0),
+        (*b"IZI", 15_999, 1),
+        (*b"0R0", 90, 2),
+        (*b"00?", 12_000, 0),
+        (*b"1#(", 137, 0),
+        (*b"0&1", 1, 3),
+    ] {
+        let chars = text.map(|graphic| Char::from_graphic(graphic).unwrap_or(Char::BLANK));
+        assert_eq!(rt; decode(chars), (value, index), "{value}");
+    }
+    for (address, text) in [
+        (0, *b"000"),
+        (1_000, *b"'00"),
+        (3_999, *b"I99"),
+        (4_000, *b"00'"),
+        (15_999, *b"I9I"),
+    ] {
+        assert_eq!(rt;
+            encode(address).map(|char| char.graphic()),
+            text,
+            "{address}"
+        );
+    }
+}
+
+#[test]
+fn cells_are_one_to_forty(rt: HostRuntime) {
+    let many = [Cell::BLANK; 41];
+    assert_eq!(rt; Cells::from_slice(&[]), None);
+    assert_eq!(rt; Cells::from_slice(&many), None);
+    assert_eq!(rt;
+        Cells::from_slice(&many[..1]).map(|cells| cells.as_slice().len()),
+        Some(1)
+    );
+    assert_eq!(rt;
+        Cells::from_slice(&many[..40]).map(|cells| cells.as_slice().len()),
+        Some(MOST_CELLS)
+    );
+}

@@ -1,0 +1,57 @@
+//! Parts of a character moved: its digit or its zone.
+ghost use Rattle.std.specs.Prelude.{◌≡◌, ◌<◌, Ok, Err, IfOk, IfErr, OnErr, length};
+ghost use Rattle.fields_1401.specs.Parts.{digit_moved_at, zone_moved_at};
+ghost use Rattle.fields_1401.specs.Places.{marks_of};
+
+use crate::done::{Done, FieldStop};
+use crate::refusals::are_in_core;
+use crate::registers::{below, registers};
+use core_1401::Core;
+
+/// Moves the four low bits of the character at a to b. The zone and the word mark there stay (A24-1403, "Move Digit").
+///
+/// # Errors
+///
+/// `Address` where one of the places isn't in core.
+#[tactic(auto, using(crate::proofs::PlaceLemmas::marks_stay))]
+pub fn move_digit(core: &mut Core, a: u16, b: u16) -> Result<Done, FieldStop>
+    requires a { a < 16000 }
+    requires b { b < 16000 }
+    ensures done { IfOk result (λ done. digit_moved_at core.old a b ≡ Ok (core.new, done)) }
+    ensures stop { IfErr result (λ stop. digit_moved_at core.old a b ≡ Err stop) }
+    ensures err { OnErr result (core.new ≡ core.old) }
+    ensures marks { marks_of core.new ≡ marks_of core.old }
+    ensures size { length core.new ≡ length core.old }
+{
+    if !are_in_core(core, a, b) {
+        return Err(FieldStop::Address);
+    }
+    let zone = core.get(b).char.zone();
+    let char = core.get(a).char.with_zone(zone);
+    core.put_char(b, char);
+    Ok(registers(below(a, 1), below(b, 1)))
+}
+
+/// Moves the zone of the character at a to b. The four low bits and the word mark there stay (A24-1403, "Move Zone").
+///
+/// # Errors
+///
+/// `Address` where one of the places isn't in core.
+#[tactic(auto, using(crate::proofs::PlaceLemmas::marks_stay))]
+pub fn move_zone(core: &mut Core, a: u16, b: u16) -> Result<Done, FieldStop>
+    requires a { a < 16000 }
+    requires b { b < 16000 }
+    ensures done { IfOk result (λ done. zone_moved_at core.old a b ≡ Ok (core.new, done)) }
+    ensures stop { IfErr result (λ stop. zone_moved_at core.old a b ≡ Err stop) }
+    ensures err { OnErr result (core.new ≡ core.old) }
+    ensures marks { marks_of core.new ≡ marks_of core.old }
+    ensures size { length core.new ≡ length core.old }
+{
+    if !are_in_core(core, a, b) {
+        return Err(FieldStop::Address);
+    }
+    let zone = core.get(a).char.zone();
+    let char = core.get(b).char.with_zone(zone);
+    core.put_char(b, char);
+    Ok(registers(below(a, 1), below(b, 1)))
+}

@@ -1,0 +1,44 @@
+//! The command line.
+
+use clap::{Arg, Command, Error, value_parser};
+use std::alloc::Global;
+
+/// The size of core storage where none is named.
+const DEFAULT_SIZE: u16 = 4_000;
+
+/// What the command line asks for.
+#[derive(Clone, Copy, Debug, PartialEq, Eq)]
+pub enum Call {
+    /// A session of standard input and output.
+    Console {
+        /// How many places core storage has.
+        size: u16,
+    },
+}
+
+/// Reads the command line, the program's own name in front.
+///
+/// # Errors
+///
+/// What is wrong with the command line, the text of the help, or want of memory.
+pub fn read_call(alloc: Global, words: &[String]) -> Result<Call, Error> {
+    let size = Arg::new(alloc, "size")
+        .long("size")
+        .value_name("N")
+        .help("The places of core storage: 1400, 2000 or 4000")
+        .default_value("4000")
+        .value_parser(value_parser!(u16));
+    let console = Command::new(alloc, "console")
+        .about("Carries out the lines of standard input, and writes their replies")
+        .arg(size)?;
+    let program = Command::new(alloc, "ibm1401")
+        .about("An IBM 1401 card system")
+        .subcommand_required(true)
+        .subcommand(console)?;
+    let matches = program.try_get_matches_from(words)?;
+    let size = matches
+        .subcommand_matches("console")
+        .and_then(|console| console.get_one::<u16>("size"))
+        .unwrap_or(DEFAULT_SIZE);
+    Ok(Call::Console { size })
+}

@@ -1,0 +1,17 @@
+//! What a run of the program may fail by.
+
+use thiserror::Error;
+
+/// What a run of the program may fail by. Each is one line on standard error.
+#[derive(Debug, Drop, Error)]
+pub enum Fault {
+    /// No core storage of the size named is made.
+    #[error("size refused")]
+    Size,
+    /// Memory was refused.
+    #[error("memory refused")]
+    Memory,
+    /// The session ended otherwise than with QUIT or the end of input.
+    #[error("session ended: {0}")]
+    Session(&'static str),
+}

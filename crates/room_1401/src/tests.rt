@@ -1,0 +1,65 @@
+//! A room at its limits.
+
+use crate::{Answer, Command, Refusal, Room, RoomFault};
+use core_1401::CoreFault;
+use std::test::Fail;
+
+#[test]
+fn a_size_that_is_none_is_refused(rt: HostRuntime) {
+    assert_eq!(rt;
+        Room::power_on(rt.alloc(), 100).err(),
+        Some(CoreFault::Size)
+    );
+}
+
+#[test]
+fn each_refusal_is_recorded(rt: HostRuntime) -> Result<(), Fail> {
+    let mut room = Room::power_on(rt.alloc(), 4_000)?;
+    for (command, refusal) in [
+        (
+            Command::Examine {
+                address: 3_999,
+                count: 2,
+            },
+            Refusal::Address,
+        ),
+        (
+            Command::Examine {
+                address: 4_000,
+                count: 41,
+            },
+            Refusal::Count,
+        ),
+        (
+            Command::Examine {
+                address: 65_535,
+                count: 40,
+            },
+            Refusal::Address,
+        ),
+        (Command::SetI { address: 4_000 }, Refusal::Address),
+        (Command::Run { limit: 0 }, Refusal::Limit),
+        (Command::Run { limit: 1_000_001 }, Refusal::Limit),
+    ] {
+        let answer = room.carry(3, command).ok();
+        assert_eq!(rt; answer, Some(Answer::Refused(refusal)), "{refusal}");
+    }
+    assert_eq!(rt; room.journal().len(), 6);
+    assert!(rt; room.journal().iter().all(|entry| entry.seat == 3));
+    Ok(())
+}
+
+#[test]
+fn a_full_journal_keeps_its_entries(rt: HostRuntime) -> Result<(), Fail> {
+    let mut room = Room::power_on(rt.alloc(), 1_400)?;
+    for _ in 0..100_000 {
+        assert!(rt; room.carry(0, Command::Registers).is_ok());
+    }
+    for _ in 0..2 {
+        let refused = room.carry(0, Command::SetI { address: 7 }).err();
+        assert_eq!(rt; refused, Some(RoomFault::JournalFull));
+    }
+    assert_eq!(rt; room.journal().len(), 100_000);
+    assert_eq!(rt; room.machine().regs().i, 0);
+    Ok(())
+}
