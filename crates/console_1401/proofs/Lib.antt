@@ -1,0 +1,10 @@
+mod ConsoleLineExamples
+pub mod DigitLemmas
+pub mod NumberLemmas
+pub mod ReadingLemmas
+mod ReplyTextExamples
+mod SessionExamples
+pub mod SessionLemmas
+pub mod SpelledLemmas
+pub mod TakingLemmas
+pub mod TextLemmas

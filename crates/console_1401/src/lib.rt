@@ -1,8 +1,31 @@
 //! The operator's console of the IBM 1401: lines, replies, and sessions over a reader and a writer.
 #![tactic(auto)]
 
+pub mod failure;
+pub mod from_reader;
 pub mod line;
+mod line_buffer;
+mod replies;
+pub mod reply;
 pub mod session_end;
+pub mod sessions;
+pub mod sink;
+pub mod source;
+mod taking;
+pub mod to_writer;
+mod words;
 
-pub use line::{Line, LineFault};
+pub use failure::Failed;
+pub use from_reader::FromReader;
+pub use line::{LINE_LIMIT, Line, LineFault, parse_line};
+pub use reply::reply_text;
 pub use session_end::SessionEnd;
+pub use sessions::session;
+pub use sink::Sink;
+pub use source::Source;
+pub use to_writer::ToWriter;
+
+#[cfg(test)]
+mod line_tests;
+#[cfg(test)]
+mod session_tests;

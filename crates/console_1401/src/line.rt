@@ -1,6 +1,14 @@
 //! What a line at the console says.
+ghost use Rattle.std.specs.Prelude.{◌≡◌, ◌<◌, [], ◌∷◌, length, MatchOption};
+ghost use Rattle.console_1401.specs.ConsoleLine.{cell_of, spelled, cells_of, ended, deposit_of, examine_of, start_of, run_of, said_with, said_in_words, said_by};
 
+use crate::words::{Keyword, address, count, number, split_word};
+use bcd_1401::{Cell, Char};
+use core_1401::{Cells, MOST_CELLS};
 use room_1401::Command;
+
+/// How many bytes a line has at the most.
+pub const LINE_LIMIT: usize = 200;
 
 /// What a line says.
 #[derive(Clone, Copy, Debug, PartialEq, Eq)]
@@ -26,4 +34,146 @@ pub enum LineFault {
     Length = 4,
     /// 5: something follows where the line should end.
     Extra = 5,
+}
+
+/// What a line says: at most 200 bytes, without the line feed that ends it.
+///
+/// # Errors
+///
+/// The first fault from left to right; `Length` before all else where there are more bytes.
+#[tactic(auto, unfolding(crate::specs::ConsoleLine::said_by))]
+pub fn parse_line(line: &[u8]) -> Result<Line, LineFault>
+    ensures { result ≡ said_by line.now }
+{
+    if line.len() > LINE_LIMIT {
+        return Err(LineFault::Length);
+    }
+    words_say(line)
+}
+
+/// What the words of a line say.
+#[tactic(auto, unfolding(crate::specs::ConsoleLine::said_in_words))]
+fn words_say(line: &[u8]) -> Result<Line, LineFault>
+    ensures { result ≡ said_in_words line.now }
+{
+    let (word, operands) = split_word(line);
+    if word.is_empty() {
+        return Ok(Line::Empty);
+    }
+    operands_say(Keyword::from_word(word), operands)
+}
+
+/// What a line says by its first word, which may be none that is known, and what stands behind that.
+#[tactic(auto, unfolding(crate::specs::ConsoleLine::said_with))]
+fn operands_say(keyword: Option<Keyword>, operands: &[u8]) -> Result<Line, LineFault>
+    ensures { result ≡ said_with keyword operands.now }
+{
+    match keyword {
+        Some(Keyword::Deposit) => deposit(operands),
+        Some(Keyword::Examine) => examine(operands),
+        Some(Keyword::Regs) => end(operands, Line::Command(Command::Registers)),
+        Some(Keyword::Start) => start(operands),
+        Some(Keyword::Run) => run(operands),
+        Some(Keyword::Quit) => end(operands, Line::Quit),
+        None => Err(LineFault::Word),
+    }
+}
+
+/// The line, where nothing but blanks stands behind it.
+#[tactic(auto, unfolding(crate::specs::ConsoleLine::ended))]
+fn end(rest: &[u8], line: Line) -> Result<Line, LineFault>
+    ensures { result ≡ ended rest.now line }
+{
+    let (word, _) = split_word(rest);
+    if word.is_empty() {
+        Ok(line)
+    } else {
+        Err(LineFault::Extra)
+    }
+}
+
+/// DEPOSIT a text: behind the address and one blank all bytes are the text.
+#[tactic(auto, unfolding(crate::specs::ConsoleLine::deposit_of))]
+fn deposit(operands: &[u8]) -> Result<Line, LineFault>
+    ensures { result ≡ deposit_of operands.now }
+{
+    let (word, behind) = split_word(operands);
+    let address = address(word)?;
+    let cells = cells(behind.get(1..).unwrap_or(&[]))?;
+    Ok(Line::Command(Command::Deposit { address, cells }))
+}
+
+/// EXAMINE a, or EXAMINE a n.
+#[tactic(auto, unfolding(crate::specs::ConsoleLine::examine_of))]
+fn examine(operands: &[u8]) -> Result<Line, LineFault>
+    ensures { result ≡ examine_of operands.now }
+{
+    let (word, behind) = split_word(operands);
+    let address = address(word)?;
+    let (word, behind) = split_word(behind);
+    let count = count(word)?;
+    end(behind, Line::Command(Command::Examine { address, count }))
+}
+
+/// START a.
+#[tactic(auto, unfolding(crate::specs::ConsoleLine::start_of))]
+fn start(operands: &[u8]) -> Result<Line, LineFault>
+    ensures { result ≡ start_of operands.now }
+{
+    let (word, behind) = split_word(operands);
+    let address = address(word)?;
+    end(behind, Line::Command(Command::SetI { address }))
+}
+
+/// RUN n.
+#[tactic(auto, unfolding(crate::specs::ConsoleLine::run_of))]
+fn run(operands: &[u8]) -> Result<Line, LineFault>
+    ensures { result ≡ run_of operands.now }
+{
+    let (word, behind) = split_word(operands);
+    let limit = number(word)?;
+    end(behind, Line::Command(Command::Run { limit }))
+}
+
+/// The cells that a text spells.
+#[tactic(auto, unfolding(crate::specs::ConsoleLine::cells_of))]
+fn cells(text: &[u8]) -> Result<Cells, LineFault>
+    ensures { result ≡ cells_of (spelled text.now) }
+{
+    let mut cells = [Cell::BLANK; MOST_CELLS];
+    let mut count = 0;
+    let mut rest = text;
+    while let Some((cell, behind)) = split_cell(rest) {
+        if count == MOST_CELLS {
+            return Err(LineFault::Length);
+        }
+        let Some(cell) = cell else {
+            return Err(LineFault::Graphic);
+        };
+        cells[count] = cell;
+        count += 1;
+        rest = behind;
+    }
+    Cells::from_slice(&cells[..count]).ok_or(LineFault::Length)
+}
+
+/// The first cell that a text spells, which is none where a graphic is missed, and what stands behind it; none at the end
+/// of the text.
+#[tactic(auto, unfolding(crate::specs::ConsoleLine::spelled))]
+fn split_cell(text: &[u8]) -> Option<(Option<Cell>, &[u8])>
+    ensures { MatchOption result (text.now ≡ []) (λ first.
+        (spelled text.now ≡ first.0 ∷ spelled first.1.now) × (length first.1.now < length text.now)) }
+{
+    match text {
+        [] => None,
+        [b'~', graphic, rest @ ..] => Some((cell(true, *graphic), rest)),
+        [graphic, rest @ ..] => Some((cell(false, *graphic), rest)),
+    }
+}
+
+/// The cell with this graphic, if it is one.
+fn cell(mark: bool, graphic: u8) -> Option<Cell>
+    ensures { result ≡ cell_of mark graphic }
+{
+    Char::from_graphic(graphic).map(|char| Cell { char, mark })
 }

@@ -1,0 +1,15 @@
+-- What was taken of the rest is added, and what is left of it is the rest.
+use Rattle.std.proofs.Common.{ℕ, List, ◌++◌, take, drop, sym, ◌∙◌, ap, append_assoc, take-append-drop}
+use Rattle.std.proofs.lemmas.List.{take_rest}
+use Rattle.std.proofs.KnownBytes.{Appends-trans}
+use Rattle.console_1401.proofs.sink.put_all.Goals as goal
+
+pub loop-rest-preserved : goal.loop-rest-preserved
+loop-rest-preserved g c =
+    let inv = c.loop-rest.invariant in
+    let rest : List ℕ = c.loop-rest.rest.now in
+    let n = c.in-Ok.n in (
+      inv.0 ++ take n rest,
+      inv.1 ∙ ap (λ (r : List ℕ). inv.0 ++ r) (sym (take-append-drop n rest)) ∙ sym (append_assoc inv.0 (take n rest) (drop n rest)) ∙ ap (λ (r : List ℕ). (inv.0 ++ take n rest) ++ r) (sym (take_rest rest n)),
+      Appends-trans (g.W.Sink.taken c.args.writer.now) (g.W.Sink.taken c.loop-rest.writer) (g.W.Sink.taken c.put.new.self) inv.0 (take n rest) inv.2 c.in-Ok.ensures.taken,
+    )

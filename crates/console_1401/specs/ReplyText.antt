@@ -1,0 +1,115 @@
+-- What the console replies (own), without the line feed behind it.
+use Rattle.std.specs.Prelude.{ℕ, ◌-◌, Bool, if◌then◌else◌, List, [], ◌∷◌, ◌++◌, length, map, replicate, slice_index, codes}
+use Rattle.std.specs.List.{flat_map, zip}
+use Rattle.std.specs.Fmt.{decimal}
+use Rattle.bcd_1401.specs.declared.cell.Cell.{Cell}
+use Rattle.bcd_1401.specs.Graphic.{graphics}
+use Rattle.cpu_1401.specs.declared.regs.Regs.{Regs}
+use Rattle.cpu_1401.specs.declared.stop.Stop.{Stop}
+use Rattle.cpu_1401.specs.declared.stop.Stop.TheVariants as stop
+use Rattle.room_1401.specs.declared.answer.Answer.{Answer}
+use Rattle.room_1401.specs.declared.answer.Answer.TheVariants as answer
+use Rattle.room_1401.specs.declared.answer.Refusal.{Refusal}
+use Rattle.room_1401.specs.declared.answer.Refusal.TheVariants as refusal
+use Rattle.room_1401.specs.declared.fault.RoomFault.{RoomFault}
+use Rattle.room_1401.specs.declared.fault.RoomFault.TheVariants as room_fault
+use Rattle.console_1401.specs.declared.line.LineFault.{LineFault}
+use Rattle.console_1401.specs.declared.line.LineFault.TheVariants as line_fault
+
+-- a number in decimal digits, with zeros in front where it has fewer than the width; one that has more has them all
+abbrev pub digits_in : ℕ → ℕ → List ℕ
+digits_in width number = replicate (width - length (decimal number)) 48 ++ decimal number
+
+-- a cell by its graphic, with a tilde in front where it has a word mark
+abbrev pub cell_text : Cell → List ℕ
+cell_text cell = if cell.mark then 126 ∷ slice_index graphics cell.char ∷ [] else slice_index graphics cell.char ∷ []
+
+-- cells one after another, blanks at the end too
+unfoldable pub cells_text : List Cell → List ℕ
+cells_text cells = flat_map cell_text cells
+
+-- an indicator: 1 where it is on
+abbrev pub flag_text : Bool → List ℕ
+flag_text on = if on then codes "1" else codes "0"
+
+-- a switch by its letter where it is on, and by - where it isn't
+abbrev pub switch_text : Bool → ℕ → ℕ
+switch_text on letter = if on then letter else 45
+
+-- the switches A to G
+unfoldable pub switches_text : List Bool → List ℕ
+switches_text switches = map (λ (switch : Bool × ℕ). switch_text switch.0 switch.1) (zip switches (codes "ABCDEFG"))
+
+-- the registers
+unfoldable pub regs_text : Regs → List ℕ
+regs_text regs =
+    codes "I=" ++ digits_in 5 regs.i ++ codes " A=" ++ digits_in 5 regs.a ++ codes " B=" ++ digits_in 5 regs.b
+    ++ codes " UNEQUAL=" ++ flag_text regs.unequal ++ codes " OVERFLOW=" ++ flag_text regs.overflow
+    ++ codes " SWITCHES=" ++ switches_text regs.switches
+    ++ codes " HOPPER=" ++ digits_in 3 regs.hopper ++ codes " STACKER=" ++ digits_in 3 regs.stacker
+    ++ codes " PAPER=" ++ digits_in 3 regs.paper ++ codes " FORM=" ++ digits_in 4 regs.form ++ codes " LINE=" ++ digits_in 2 regs.line
+
+-- the number of a stop
+abbrev pub stop_number : Stop → ℕ
+stop_number stop.Limit = 1
+stop_number stop.Halt = 2
+stop_number stop.Reader = 3
+stop_number stop.Forms = 4
+stop_number stop.Stacker = 5
+stop_number stop.NoMark = 6
+stop_number stop.OpCode = 7
+stop_number stop.Length = 8
+stop_number stop.Address = 9
+stop_number stop.Overlap = 10
+stop_number stop.Carriage = 11
+stop_number stop.NotFitted = 12
+stop_number stop.DChar = 13
+
+-- the name of a stop
+abbrev pub stop_name : Stop → List ℕ
+stop_name stop.Limit = codes "LIMIT"
+stop_name stop.Halt = codes "HALT"
+stop_name stop.Reader = codes "READER"
+stop_name stop.Forms = codes "FORMS"
+stop_name stop.Stacker = codes "STACKER"
+stop_name stop.NoMark = codes "NOMARK"
+stop_name stop.OpCode = codes "OPCODE"
+stop_name stop.Length = codes "LENGTH"
+stop_name stop.Address = codes "ADDRESS"
+stop_name stop.Overlap = codes "OVERLAP"
+stop_name stop.Carriage = codes "CARRIAGE"
+stop_name stop.NotFitted = codes "NOTFITTED"
+stop_name stop.DChar = codes "DCHAR"
+
+-- a run: the stop by number and name, how many instructions were carried out, and the I register
+unfoldable pub ran_text : ℕ → Stop → ℕ → List ℕ
+ran_text steps stop i =
+    codes "STOP " ++ digits_in 2 (stop_number stop) ++ codes " " ++ stop_name stop
+    ++ codes " STEPS " ++ digits_in 1 steps ++ codes " I " ++ digits_in 5 i
+
+-- a refusal by number and name
+abbrev pub refusal_text : Refusal → List ℕ
+refusal_text refusal.Address = codes "REFUSED 1 ADDRESS"
+refusal_text refusal.Limit = codes "REFUSED 5 LIMIT"
+refusal_text refusal.Count = codes "REFUSED 6 COUNT"
+
+-- an answer
+unfoldable pub answer_text : Answer → List ℕ
+answer_text answer.Done = codes "OK"
+answer_text (answer.Cells cells) = cells_text cells
+answer_text (answer.Regs regs) = regs_text regs
+answer_text (answer.Ran steps why i) = ran_text steps why i
+answer_text (answer.Refused why) = refusal_text why
+
+-- a line that can't be read
+abbrev pub fault_text : LineFault → List ℕ
+fault_text line_fault.Word = codes "ERROR 1 WORD"
+fault_text line_fault.Number = codes "ERROR 2 NUMBER"
+fault_text line_fault.Graphic = codes "ERROR 3 GRAPHIC"
+fault_text line_fault.Length = codes "ERROR 4 LENGTH"
+fault_text line_fault.Extra = codes "ERROR 5 EXTRA"
+
+-- a room that can't take a command
+abbrev pub room_fault_text : RoomFault → List ℕ
+room_fault_text room_fault.Memory = codes "FAULT 1 MEMORY"
+room_fault_text room_fault.JournalFull = codes "FAULT 2 JOURNAL FULL"

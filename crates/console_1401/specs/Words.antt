@@ -1,0 +1,70 @@
+-- The words of a line, and the numbers among them (own).
+use Rattle.std.specs.Prelude.{ℕ, ◌+◌, ◌-◌, ◌*◌, ◌^◌, ◌==◌, nat_le, nat_lt, Bool, ◌&&◌, if◌then◌else◌, List, [], ◌∷◌, length, drop, find, Option, Result, Ok, Err, codes}
+use Rattle.std.specs.List.{prefix_len, position_or_len, before_first, list_all}
+use Rattle.std.specs.Str.{bytes_eq}
+use Rattle.console_1401.specs.declared.line.LineFault.{LineFault}
+use Rattle.console_1401.specs.declared.line.LineFault.TheVariants.{Number}
+use Rattle.console_1401.specs.declared.words.Keyword.{Keyword}
+use Rattle.console_1401.specs.declared.words.Keyword.TheVariants.{Deposit, Examine, Regs, Start, Run, Quit}
+
+infixl 10 ◌>>=◌
+-- what stands on the left, and where it has no fault, what stands behind it
+abbrev pub ◌>>=◌ : {A B : Type 0} → Result A LineFault → (A → Result B LineFault) → Result B LineFault
+Ok value >>= behind = behind value
+Err fault >>= behind = Err fault
+
+-- byte 32 alone parts words
+abbrev pub is_blank : ℕ → Bool
+is_blank byte = byte == 32
+
+-- a text from its first byte on that is no blank
+abbrev pub without_blanks : List ℕ → List ℕ
+without_blanks text = drop (prefix_len is_blank text) text
+
+-- the first word of a text, up to the next blank or the end; of blanks alone the word without a byte
+unfoldable pub word_in : List ℕ → List ℕ
+word_in text = before_first is_blank (without_blanks text)
+
+-- what stands behind the first word: nothing, or a blank and what follows it
+unfoldable pub behind_word : List ℕ → List ℕ
+behind_word text = drop (position_or_len is_blank (without_blanks text)) (without_blanks text)
+
+-- the words that a line may begin with
+abbrev pub name_of : Keyword → List ℕ
+name_of Deposit = codes "DEPOSIT"
+name_of Examine = codes "EXAMINE"
+name_of Regs = codes "REGS"
+name_of Start = codes "START"
+name_of Run = codes "RUN"
+name_of Quit = codes "QUIT"
+
+abbrev pub keywords : List Keyword
+keywords = Deposit ∷ Examine ∷ Regs ∷ Start ∷ Run ∷ Quit ∷ []
+
+-- the one of them that a word is
+unfoldable pub keyword_of : List ℕ → Option Keyword
+keyword_of word = find (λ keyword. bytes_eq (name_of keyword) word) keywords
+
+-- the digits 0 to 9 are the bytes 48 to 57
+abbrev pub is_digit : ℕ → Bool
+is_digit byte = nat_le 48 byte && nat_le byte 57
+
+-- the number that digits stand for: each counts by its place
+abbrev pub value_of : List ℕ → ℕ
+value_of [] = 0
+value_of (digit ∷ digits) = (digit - 48) * 10 ^ length digits + value_of digits
+
+-- a number is a word of one to seven digits
+unfoldable pub number_of : List ℕ → Result ℕ LineFault
+number_of word =
+    if nat_le 1 (length word) && nat_le (length word) 7 && list_all is_digit word then Ok (value_of word) else Err Number
+
+-- an address is a number below 16,000
+unfoldable pub address_of : List ℕ → Result ℕ LineFault
+address_of word = do
+  number ← number_of word
+  if nat_lt number 16000 then Ok number else Err Number
+
+-- a count is a number, and 1 where there is no word
+unfoldable pub count_of : List ℕ → Result ℕ LineFault
+count_of word = if length word == 0 then Ok 1 else number_of word

@@ -1,0 +1,60 @@
+//! The bytes of the line that is being read.
+ghost use Rattle.std.specs.Prelude.{◌≡◌, [], ◌∷◌, ◌++◌, take};
+
+use std::marker::Model;
+
+/// How many bytes of a line are kept: 200, a carriage return, and one more, which says that the line is too long.
+const KEPT_BYTES: usize = 202;
+
+/// The first 202 bytes of a line. Contracts see the list of them.
+#[derive(Drop)]
+pub(crate) struct LineBuffer {
+    bytes: [u8; 202],
+    len: usize,
+}
+
+impl Model for LineBuffer {
+    ghost use Rattle.std.specs.Prelude.{ℕ, ◌≤◌, List, take};
+
+    ghost Value = { List ℕ };
+
+    ghost view = { λ line. take line.len line.bytes };
+
+    ghost invariant = { λ line. line.len ≤ 202 };
+}
+
+impl LineBuffer {
+    /// A line without a byte.
+    pub(crate) fn new() -> LineBuffer
+        ensures { result ≡ [] }
+    {
+        LineBuffer {
+            bytes: [0; 202],
+            len: 0,
+        }
+    }
+
+    /// Begins the next line.
+    pub(crate) fn clear(&mut self)
+        ensures { self.new ≡ [] }
+    {
+        self.len = 0;
+    }
+
+    /// One byte more, which is dropped where 202 are kept.
+    pub(crate) fn push(&mut self, byte: u8)
+        ensures { self.new ≡ take 202 (self.old ++ byte ∷ []) }
+    {
+        if self.len < KEPT_BYTES {
+            self.bytes[self.len] = byte;
+            self.len += 1;
+        }
+    }
+
+    /// The bytes kept.
+    pub(crate) fn as_slice(&self) -> &[u8]
+        ensures { result.now ≡ self.now }
+    {
+        &self.bytes[..self.len]
+    }
+}

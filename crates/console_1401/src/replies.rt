@@ -1,0 +1,36 @@
+//! What a line is answered.
+ghost use Rattle.std.specs.Prelude.{◌≡◌, IfOk, Some};
+ghost use Rattle.console_1401.specs.Replies.{bytes_of};
+
+use crate::line::LineFault;
+use crate::reply::{fault_reply, reply_text, room_fault_reply};
+use room_1401::{Answer, RoomFault};
+use std::alloc::{AllocError, Global};
+
+/// What a line is answered.
+#[derive(Clone, Copy)]
+pub(crate) enum Reply {
+    /// The machine's answer to a command.
+    Gave(Answer),
+    /// Why the room can't take a command.
+    Refused(RoomFault),
+    /// Why the line says nothing that the console knows.
+    Wrong(LineFault),
+    /// The end of the session.
+    Bye,
+}
+
+/// A reply's text and a line feed.
+#[tactic(auto, unfolding(crate::specs::Replies::text_of))]
+pub(crate) fn reply_bytes(alloc: Global, reply: Reply) -> Result<Vec<u8>, AllocError>
+    ensures { IfOk result (λ bytes. bytes.items ≡ bytes_of (Some reply)) }
+{
+    let mut bytes = match reply {
+        Reply::Gave(answer) => reply_text(alloc, &answer)?,
+        Reply::Refused(fault) => Vec::from_slice(alloc, room_fault_reply(fault))?,
+        Reply::Wrong(fault) => Vec::from_slice(alloc, fault_reply(fault))?,
+        Reply::Bye => Vec::from_slice(alloc, b"BYE")?,
+    };
+    bytes.push(b'\n')?;
+    Ok(bytes)
+}

@@ -1,0 +1,21 @@
+//! Where a console's bytes come from.
+ghost use Rattle.std.specs.Prelude.{◌≡◌, ℕ, Bool, IsTrue, List, Ok, None, IfOk, OnErr, Option, option_to_list};
+ghost use Rattle.std.specs.Io.KnownBytes.{Consumes, IsAtEnd, Keeps};
+
+use crate::failure::Failed;
+
+/// Gives bytes, one after the other.
+pub trait Source {
+    // The bytes that it will give from here on, where they are known.
+    ghost left: { Self → Option (List ℕ) };
+
+    // Whether a read has failed.
+    ghost has_failed: { Self → Bool };
+
+    /// The next byte, or none at the end.
+    fn next_byte(&mut self) -> Result<Option<u8>, Failed>
+        ensures byte { IfOk result (λ byte. Consumes (left self.old) (left self.new) (option_to_list byte)) }
+        ensures end { result ≡ Ok None → IsAtEnd (left self.new) }
+        ensures failed { OnErr result (IsTrue (has_failed self.new)) }
+        ensures err { OnErr result (Keeps (left self.old) (left self.new)) };
+}

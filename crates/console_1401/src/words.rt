@@ -1,0 +1,154 @@
+//! The words of a line, and the numbers among them.
+ghost use Rattle.std.specs.Prelude.{◌≡◌, ◌-◌, ◌<◌, ◌≤◌, length, IfSome, if◌then◌else◌};
+ghost use Rattle.std.specs.List.{prefix_len, position_or_len};
+ghost use Rattle.console_1401.specs.Words.{is_blank, is_digit, word_in, behind_word, name_of, keyword_of, number_of, address_of, count_of};
+
+use crate::line::LineFault;
+
+/// How many digits a number has at the most.
+const MOST_DIGITS: usize = 7;
+
+/// How many addresses there are.
+const ADDRESSES: u32 = 16_000;
+
+/// The words that a line may begin with.
+#[derive(Clone, Copy, Debug, PartialEq, Eq)]
+pub(crate) enum Keyword {
+    /// DEPOSIT: cells at an address.
+    Deposit,
+    /// EXAMINE: the cells at an address.
+    Examine,
+    /// REGS: the registers.
+    Regs,
+    /// START: the address of the next instruction.
+    Start,
+    /// RUN: so many instructions.
+    Run,
+    /// QUIT: the end of the session.
+    Quit,
+}
+
+impl Keyword {
+    /// All of them.
+    const ALL: [Keyword; 6] = [
+        Keyword::Deposit,
+        Keyword::Examine,
+        Keyword::Regs,
+        Keyword::Start,
+        Keyword::Run,
+        Keyword::Quit,
+    ];
+
+    /// The word.
+    fn name(self) -> &'static [u8]
+        ensures { result.now ≡ name_of self }
+    {
+        match self {
+            Keyword::Deposit => b"DEPOSIT",
+            Keyword::Examine => b"EXAMINE",
+            Keyword::Regs => b"REGS",
+            Keyword::Start => b"START",
+            Keyword::Run => b"RUN",
+            Keyword::Quit => b"QUIT",
+        }
+    }
+
+    /// The one that a word is, if it is one.
+    #[tactic(auto, unfolding(crate::specs::Words::keyword_of))]
+    pub(crate) fn from_word(word: &[u8]) -> Option<Keyword>
+        ensures { result ≡ keyword_of word.now }
+    {
+        Keyword::ALL
+            .iter()
+            .copied()
+            .find(|keyword| keyword.name() == word)
+    }
+}
+
+/// How many blanks a text begins with.
+fn blanks_in_front(text: &[u8]) -> usize
+    ensures value { result ≡ prefix_len is_blank text.now }
+    ensures bound { result ≤ length text.now }
+{
+    text.iter().take_while(|byte| **byte == b' ').count()
+}
+
+/// How many bytes of a text stand before its first blank.
+fn bytes_before_blank(text: &[u8]) -> usize
+    ensures value { result ≡ position_or_len is_blank text.now }
+    ensures bound { result ≤ length text.now }
+{
+    text.iter().take_while(|byte| **byte != b' ').count()
+}
+
+/// The first word of a text, which has no byte where there are blanks alone, and what stands behind it.
+#[tactic(auto, unfolding(crate::specs::Words::word_in, crate::specs::Words::behind_word))]
+pub(crate) fn split_word(text: &[u8]) -> (&[u8], &[u8])
+    ensures word { result.0.now ≡ word_in text.now }
+    ensures behind { result.1.now ≡ behind_word text.now }
+{
+    let text = &text[blanks_in_front(text)..];
+    text.split_at(bytes_before_blank(text))
+}
+
+/// What a digit stands for, if the byte is one.
+fn digit(byte: u8) -> Option<u8>
+    ensures value { result ≡ (if is_digit byte then Some (byte - 48) else None) }
+    ensures range { IfSome result (λ digit. digit < 10) }
+{
+    match byte {
+        b'0'..=b'9' => Some(byte - b'0'),
+        _ => None,
+    }
+}
+
+/// The number that a word is, one to seven digits.
+///
+/// # Errors
+///
+/// `Number` where the word is no number.
+#[tactic(auto, unfolding(crate::specs::Words::number_of))]
+pub(crate) fn number(word: &[u8]) -> Result<u32, LineFault>
+    ensures { result ≡ number_of word.now }
+{
+    if word.is_empty() || word.len() > MOST_DIGITS {
+        return Err(LineFault::Number);
+    }
+    let mut number = 0;
+    for byte in word {
+        match digit(*byte) {
+            Some(digit) => number = 10 * number + u32::from(digit),
+            None => return Err(LineFault::Number),
+        }
+    }
+    Ok(number)
+}
+
+/// The address that a word is, a number below 16,000.
+///
+/// # Errors
+///
+/// `Number` where the word is no address.
+#[tactic(auto, unfolding(crate::specs::Words::address_of))]
+pub(crate) fn address(word: &[u8]) -> Result<u16, LineFault>
+    ensures { result ≡ address_of word.now }
+{
+    let number = number(word)?;
+    if number < ADDRESSES {
+        Ok(number as u16)
+    } else {
+        Err(LineFault::Number)
+    }
+}
+
+/// The count that a word is, a number, or 1 where there is no word.
+///
+/// # Errors
+///
+/// `Number` where the word is no number.
+#[tactic(auto, unfolding(crate::specs::Words::count_of))]
+pub(crate) fn count(word: &[u8]) -> Result<u32, LineFault>
+    ensures { result ≡ count_of word.now }
+{
+    if word.is_empty() { Ok(1) } else { number(word) }
+}
