@@ -1,8 +1,10 @@
 mod ExampleCells
 mod LengthLemmas
+mod LoadLemmas
 mod MarkExamples
 mod MarkLemmas
 mod MoveExamples
 mod MoveLemmas
 mod PartExamples
+mod PartLemmas
 mod PlaceLemmas

@@ -27,7 +27,7 @@ pub(crate) fn field_len(core: &Core, at: u16) -> Option<u16>
 
 /// How many places two fields have down to the first word mark in either; none where one of them isn't in core, or comes to
 /// address 0 before it.
-#[tactic(auto, using(crate::proofs::LengthLemmas::no_pair_without_a, crate::proofs::LengthLemmas::no_pair_without_b))]
+#[tactic(auto, using(crate::proofs::LengthLemmas::no_pair))]
 pub(crate) fn pair_len(core: &Core, a: u16, b: u16) -> Option<u16>
     ensures value { result ≡ pair_len_of core.now a b }
     ensures a_in { IfSome result (λ n. a < length core.now) }
