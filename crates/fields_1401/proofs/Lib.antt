@@ -7,4 +7,4 @@ mod MoveExamples
 mod MoveLemmas
 mod PartExamples
 mod PartLemmas
-mod PlaceLemmas
+mod PlacesLemmas

@@ -9,7 +9,7 @@ use Rattle.bcd_1401.specs.declared.cell.Cell.{Cell}
 use Rattle.core_1401.specs.Storage.{Storage, blank, cell_at}
 use Rattle.core_1401.specs.Field.{cells_down, field_len_of, field_at}
 use Rattle.fields_1401.specs.Move.{loaded}
-use Rattle.fields_1401.proofs.PlaceLemmas.{within, cell_at-within, length-with_cells}
+use Rattle.fields_1401.proofs.PlacesLemmas.{within, cell_at-within, length-with_cells}
 use Rattle.fields_1401.proofs.MoveLemmas.{length-loaded}
 
 -- there is a cell for each place from an address down

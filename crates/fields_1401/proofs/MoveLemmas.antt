@@ -6,7 +6,7 @@ use Rattle.std.proofs.lemmas.Bool.Decides.{nat_tests}
 use Rattle.bcd_1401.specs.declared.cell.Cell.{Cell}
 use Rattle.core_1401.specs.Storage.{Storage, cell_at, with_char}
 use Rattle.fields_1401.specs.Places.{is_within, with_chars, rewritten_cell}
-use Rattle.fields_1401.proofs.PlaceLemmas.{length-with_cells, cell_at-within, cell_at-outside, within, above, below, with_cells_none, with_cells_more, with_chars_none, with_chars_more}
+use Rattle.fields_1401.proofs.PlacesLemmas.{length-with_cells, cell_at-within, cell_at-outside, within, above, below, with_cells_none, with_cells_more, with_chars_none, with_chars_more}
 use Rattle.fields_1401.specs.Move.{source_of, moved, loaded, is_overwritten}
 
 -- where the B field begins above the A field, or further below it than the i-th place, a character is its own source

@@ -8,11 +8,11 @@
 #![tactic(auto)]
 
 pub mod done;
+mod lengths;
 pub mod marks;
 pub mod moves;
 pub mod parts;
 mod places;
-mod refusals;
 mod registers;
 
 pub use done::{Done, FieldStop};

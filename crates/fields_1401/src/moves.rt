@@ -5,8 +5,8 @@ ghost use Rattle.fields_1401.specs.Move.{moved, move_at, loaded, load_at, is_ove
 ghost use Rattle.fields_1401.specs.Places.{marks_of};
 
 use crate::done::{Done, FieldStop};
+use crate::lengths::{field_len, has_places, is_overwritten, pair_len};
 use crate::places::put_cell;
-use crate::refusals::{field_len, has_places, is_overwritten, pair_len};
 use crate::registers::{below, registers};
 use core_1401::Core;
 

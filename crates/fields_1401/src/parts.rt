@@ -6,7 +6,7 @@ ghost use Rattle.fields_1401.specs.Parts.{digit_moved_at, zone_moved_at};
 ghost use Rattle.fields_1401.specs.Places.{marks_of};
 
 use crate::done::{Done, FieldStop};
-use crate::refusals::are_in_core;
+use crate::lengths::are_in_core;
 use crate::registers::{below, registers};
 use core_1401::Core;
 

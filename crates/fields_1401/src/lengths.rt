@@ -1,4 +1,4 @@
-//! What an operation needs of core before it writes anything.
+//! Lengths of fields at any address, and whether their places are there: what is asked before anything is written.
 ghost use Rattle.std.specs.Prelude.{◌≡◌, ◌+◌, ◌<◌, ◌≤◌, ◌&&◌, IfSome, not, length};
 ghost use Rattle.core_1401.specs.Field.{field_len_of, pair_len_of};
 ghost use Rattle.core_1401.specs.Storage.{is_in_core};
