@@ -10,6 +10,8 @@
 pub mod done;
 pub mod marks;
 mod registers;
+pub mod sign;
 
 pub use done::{Done, FieldStop};
 pub use marks::set_marks;
+pub use sign::Sign;
