@@ -1,1 +1,2 @@
 mod ArithmeticExamples
+pub mod PairLemmas

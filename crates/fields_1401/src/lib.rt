@@ -7,11 +7,13 @@
 //! ```
 #![tactic(auto)]
 
+pub mod comparison;
 pub mod done;
 pub mod marks;
 mod registers;
 pub mod sign;
 
+pub use comparison::compare;
 pub use done::{Done, FieldStop};
 pub use marks::set_marks;
 pub use sign::Sign;
