@@ -1,2 +1,6 @@
 mod ArithmeticExamples
+pub mod DigitLemmas
 pub mod PairLemmas
+pub mod PassLemmas
+pub mod PlaceLemmas
+pub mod WrittenLemmas

@@ -8,12 +8,16 @@
 #![tactic(auto)]
 
 pub mod comparison;
+mod digits;
 pub mod done;
 pub mod marks;
+mod refusals;
 mod registers;
 pub mod sign;
+pub mod zero_sums;
 
 pub use comparison::compare;
 pub use done::{Done, FieldStop};
 pub use marks::set_marks;
 pub use sign::Sign;
+pub use zero_sums::{zero_add, zero_subtract};
