@@ -3,4 +3,5 @@ pub mod DigitLemmas
 pub mod PairLemmas
 pub mod PassLemmas
 pub mod PlaceLemmas
+pub mod SumLemmas
 pub mod WrittenLemmas

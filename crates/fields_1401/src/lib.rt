@@ -10,6 +10,7 @@
 pub mod comparison;
 mod digits;
 pub mod done;
+mod like_signs;
 pub mod marks;
 mod refusals;
 mod registers;

@@ -61,6 +61,15 @@ impl Operands {
     {
         Sign::of_units(core.get(self.a).char)
     }
+
+    /// The sign of the B field.
+    #[tactic(auto, using(crate::proofs::PlaceLemmas::char_down))]
+    pub(crate) fn b_sign(self, core: &Core) -> Sign
+        requires { self.b < length core.now }
+        ensures { result ≡ sign_of (places_down core.now self.b self.len) }
+    {
+        Sign::of_units(core.get(self.b).char)
+    }
 }
 
 /// How many places of A are used, and how many the B field has; none where one of them isn't in core.
