@@ -7,6 +7,7 @@
 //! ```
 #![tactic(auto)]
 
+pub mod arithmetic;
 pub mod comparison;
 mod digits;
 pub mod done;
@@ -15,8 +16,10 @@ pub mod marks;
 mod refusals;
 mod registers;
 pub mod sign;
+mod unlike_signs;
 pub mod zero_sums;
 
+pub use arithmetic::{add, subtract};
 pub use comparison::compare;
 pub use done::{Done, FieldStop};
 pub use marks::set_marks;
