@@ -1,4 +1,5 @@
 mod ArithmeticExamples
+pub mod LawLemmas
 pub mod DigitLemmas
 pub mod PairLemmas
 pub mod PassLemmas

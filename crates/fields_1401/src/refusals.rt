@@ -1,5 +1,5 @@
 //! The places that an operation of arithmetic takes, and its refusals, all of them before anything is written.
-ghost use Rattle.std.specs.Prelude.{◌≡◌, ◌+◌, ◌<◌, ◌≤◌, false, length, Ok, Err, IfOk, IfErr, IfSome};
+ghost use Rattle.std.specs.Prelude.{◌≡◌, ◌+◌, ◌<◌, ◌≤◌, false, length, Some, Ok, Err, IfOk, IfErr, IfSome};
 ghost use Rattle.core_1401.specs.Field.{field_len_of};
 ghost use Rattle.fields_1401.specs.Number.{places_down, sign_of};
 ghost use Rattle.fields_1401.specs.Refusal.{part_len_of, needed_at, is_overlap, lengths_at};
@@ -41,6 +41,8 @@ impl Operands {
         requires b { b < 16000 }
         ensures ok { IfOk result (λ taken. lengths_at core.now a b ≡ Ok (taken.used, taken.len)) }
         ensures err { IfErr result (λ stop. lengths_at core.now a b ≡ Err stop) }
+        ensures needed { IfOk result (λ taken. needed_at core.now a b ≡ Some (taken.used, taken.len)) }
+        ensures field { IfOk result (λ taken. field_len_of core.now b ≡ Some taken.len) }
         ensures at_a { IfOk result (λ taken. (taken.a ≡ a) × (a < length core.now)) }
         ensures at_b { IfOk result (λ taken. (taken.b ≡ b) × (b < length core.now)) }
     {
@@ -78,6 +80,7 @@ fn needed(core: &Core, a: u16, b: u16) -> Option<(u16, u16)>
     ensures value { result ≡ needed_at core.now a b }
     ensures used { IfSome result (λ taken. (0 < taken.0) × (taken.0 ≤ taken.1) × (taken.0 ≤ a + 1)) }
     ensures len { IfSome result (λ taken. taken.1 ≤ b + 1) }
+    ensures field { IfSome result (λ taken. field_len_of core.now b ≡ Some taken.1) }
     ensures in_core { IfSome result (λ taken. (a < length core.now) × (b < length core.now)) }
 {
     let len = whole_len(core, b)?;
