@@ -25,3 +25,6 @@ pub use done::{Done, FieldStop};
 pub use marks::set_marks;
 pub use sign::Sign;
 pub use zero_sums::{zero_add, zero_subtract};
+
+#[cfg(test)]
+mod arithmetic_tests;
