@@ -23,5 +23,5 @@ compared storage a b None = Err Address
 compared storage a b (Some n) = Ok (record (registers_at (below_by a n) (below_by b n)) { unequal = is_unequal storage a b n })
 
 -- the fields at both addresses compared
-abbrev pub comparison_at : Storage → ℕ → ℕ → Result Done FieldStop
+unfoldable pub comparison_at : Storage → ℕ → ℕ → Result Done FieldStop
 comparison_at storage a b = compared storage a b (pair_len_of storage a b)

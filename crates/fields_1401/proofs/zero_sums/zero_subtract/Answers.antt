@@ -1,6 +1,16 @@
--- The digits and the sign that were written are read again.
+-- What is left is the definition's at these lengths, and the digits and the sign that were written are read again.
+use Rattle.std.proofs.Common.{rules}
+use Rattle.fields_1401.specs.Arithmetic.{zero_difference_at}
 use Rattle.fields_1401.proofs.LawLemmas.{IsAt, opposite_law}
 use Rattle.fields_1401.proofs.zero_sums.zero_subtract.Goals as goal
+
+pub returns-in_err-operands-clause-stop : goal.returns-in_err-operands-clause-stop
+unfolding zero_difference_at
+returns-in_err-operands-clause-stop c = search rules
+
+pub returns-clause-done : goal.returns-clause-done
+unfolding zero_difference_at
+returns-clause-done c = search rules
 
 pub returns-clause-number : goal.returns-clause-number
 returns-clause-number c =
