@@ -1,1 +1,3 @@
+mod AddressExamples
 pub mod CellsLemmas
+mod FieldExamples

@@ -1,3 +1,4 @@
 pub mod DistanceLemmas
 pub mod RunLemmas
+mod StepExamples
 pub mod StorageLemmas

@@ -16,3 +16,6 @@ no_pair_without_a storage a b e = rw e refl
 
 pub no_pair_without_b : (storage : Storage) (a b : ℕ) → is_in_core storage b ≡ false → pair_len_of storage a b ≡ None
 no_pair_without_b storage a b e = rw (e, zip_none (cells_down storage a)) refl
+
+-- whichever it is
+pub ruleset no_pair = (no_pair_without_a, no_pair_without_b)

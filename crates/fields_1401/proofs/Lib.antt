@@ -1,8 +1,18 @@
+mod ArithmeticExamples
+pub mod DigitLemmas
 mod ExampleCells
+pub mod LawLemmas
 mod LengthLemmas
+mod LoadLemmas
 mod MarkExamples
 mod MarkLemmas
 mod MoveExamples
 mod MoveLemmas
+pub mod PairLemmas
 mod PartExamples
-mod PlaceLemmas
+mod PartLemmas
+pub mod PassLemmas
+pub mod PlaceLemmas
+mod PlacesLemmas
+pub mod SumLemmas
+pub mod WrittenLemmas

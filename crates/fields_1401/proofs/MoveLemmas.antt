@@ -6,7 +6,7 @@ use Rattle.std.proofs.lemmas.Bool.Decides.{nat_tests}
 use Rattle.bcd_1401.specs.declared.cell.Cell.{Cell}
 use Rattle.core_1401.specs.Storage.{Storage, cell_at, with_char}
 use Rattle.fields_1401.specs.Places.{is_within, with_chars, rewritten_cell}
-use Rattle.fields_1401.proofs.PlaceLemmas.{cell_at-within, cell_at-outside, within, above, below, with_cells_none, with_cells_more, with_chars_none, with_chars_more}
+use Rattle.fields_1401.proofs.PlacesLemmas.{length-with_cells, cell_at-within, cell_at-outside, within, above, below, with_cells_none, with_cells_more, with_chars_none, with_chars_more}
 use Rattle.fields_1401.specs.Move.{source_of, moved, loaded, is_overwritten}
 
 -- where the B field begins above the A field, or further below it than the i-th place, a character is its own source
@@ -66,3 +66,8 @@ unfolding loaded
 loaded_more storage a b n i a_in b_in kept lt in_a in_b =
     with_cells_more storage b i (λ k. cell_at storage (a - k)) (cell_at (loaded storage a b i) (a - i)) b_in in_b
     (cell_at-outside storage b i (λ k. cell_at storage (a - k)) (a - i) (omega arith) (source_kept a b n i kept lt in_a))
+
+-- after a load the core is as large as before
+pub length-loaded : (storage : Storage) (a b n : ℕ) → length (loaded storage a b n) ≡ length storage
+unfolding loaded
+length-loaded storage a b n = length-with_cells storage b n (λ i. cell_at storage (a - i))

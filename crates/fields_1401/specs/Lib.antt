@@ -1,5 +1,9 @@
+pub mod Arithmetic
+pub mod Compare
 pub mod Marks
 pub mod Move
+pub mod Number
 pub mod Outcome
 pub mod Parts
 pub mod Places
+pub mod Refusal

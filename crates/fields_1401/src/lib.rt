@@ -7,18 +7,32 @@
 //! ```
 #![tactic(auto)]
 
+pub mod arithmetic;
+pub mod comparison;
+mod digits;
 pub mod done;
+mod lengths;
+mod like_signs;
 pub mod marks;
 pub mod moves;
 pub mod parts;
 mod places;
 mod refusals;
 mod registers;
+pub mod sign;
+mod unlike_signs;
+pub mod zero_sums;
 
+pub use arithmetic::{add, subtract};
+pub use comparison::compare;
 pub use done::{Done, FieldStop};
 pub use marks::{clear_down, clear_marks, set_marks};
 pub use moves::{load_chars, move_chars};
 pub use parts::{move_digit, move_zone};
+pub use sign::Sign;
+pub use zero_sums::{zero_add, zero_subtract};
 
+#[cfg(test)]
+mod arithmetic_tests;
 #[cfg(test)]
 mod tests;

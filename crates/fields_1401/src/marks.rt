@@ -4,8 +4,8 @@ ghost use Rattle.fields_1401.specs.Marks.{set_marks_at, clear_marks_at, cleared,
 ghost use Rattle.fields_1401.specs.Places.{chars_of};
 
 use crate::done::{Done, FieldStop};
+use crate::lengths::are_in_core;
 use crate::places::put_cell;
-use crate::refusals::are_in_core;
 use crate::registers::{below, registers};
 use bcd_1401::Cell;
 use core_1401::Core;
@@ -15,7 +15,7 @@ use core_1401::Core;
 /// # Errors
 ///
 /// `Address` where one of the places isn't in core.
-#[tactic(auto, using(crate::proofs::PlaceLemmas::chars_stay))]
+#[tactic(auto, using(crate::proofs::PlacesLemmas::chars_stay))]
 pub fn set_marks(core: &mut Core, a: u16, b: u16) -> Result<Done, FieldStop>
     requires a { a < 16000 }
     requires b { b < 16000 }
@@ -38,7 +38,7 @@ pub fn set_marks(core: &mut Core, a: u16, b: u16) -> Result<Done, FieldStop>
 /// # Errors
 ///
 /// `Address` where one of the places isn't in core.
-#[tactic(auto, using(crate::proofs::PlaceLemmas::chars_stay))]
+#[tactic(auto, using(crate::proofs::PlacesLemmas::chars_stay))]
 pub fn clear_marks(core: &mut Core, a: u16, b: u16) -> Result<Done, FieldStop>
     requires a { a < 16000 }
     requires b { b < 16000 }

@@ -1,11 +1,12 @@
 //! Fields moved and loaded.
 ghost use Rattle.std.specs.Prelude.{◌≡◌, ◌+◌, ◌<◌, ◌≤◌, false, Ok, Err, IfOk, IfErr, OnErr, length};
+ghost use Rattle.core_1401.specs.Field.{field_at};
 ghost use Rattle.fields_1401.specs.Move.{moved, move_at, loaded, load_at, is_overwritten};
 ghost use Rattle.fields_1401.specs.Places.{marks_of};
 
 use crate::done::{Done, FieldStop};
+use crate::lengths::{field_len, has_places, is_overwritten, pair_len};
 use crate::places::put_cell;
-use crate::refusals::{field_len, has_places, is_overwritten, pair_len};
 use crate::registers::{below, registers};
 use core_1401::Core;
 
@@ -14,7 +15,8 @@ use core_1401::Core;
 ///
 /// # Errors
 ///
-/// `Address` where one of the places isn't in core, or one of the fields comes to address 0 before a word mark.
+/// `Address` where one of the addresses isn't in core, or one of the fields comes to address 0 before a word mark stands in
+/// either.
 pub fn move_chars(core: &mut Core, a: u16, b: u16) -> Result<Done, FieldStop>
     requires a { a < 16000 }
     requires b { b < 16000 }
@@ -31,19 +33,20 @@ pub fn move_chars(core: &mut Core, a: u16, b: u16) -> Result<Done, FieldStop>
     Ok(registers(below(a, n), below(b, n)))
 }
 
-/// Loads the A field, characters and word marks, to b and the places below it, from right to left (A24-1403, "Load Characters
-/// to A Word Mark").
+/// Loads the A field with its word mark to b and the places below it, from right to left. The word marks that stood there are
+/// gone (A24-1403, "Load Characters to A Word Mark").
 ///
 /// # Errors
 ///
-/// `Address` where the A field isn't in core or comes to address 0 before a word mark, where b and the places below it aren't
-/// as many, or where the word mark would be written over before it is met.
+/// `Address` where a isn't in core or its field comes to address 0 before a word mark, where b isn't in core or has too few
+/// places below it, or where the word mark would be written over before it is met.
 pub fn load_chars(core: &mut Core, a: u16, b: u16) -> Result<Done, FieldStop>
     requires a { a < 16000 }
     requires b { b < 16000 }
     ensures done { IfOk result (λ done. load_at core.old a b ≡ Ok (core.new, done)) }
     ensures stop { IfErr result (λ stop. load_at core.old a b ≡ Err stop) }
     ensures err { OnErr result (core.new ≡ core.old) }
+    ensures field { IfOk result (λ done. field_at core.new b ≡ field_at core.old a) }
     ensures size { length core.new ≡ length core.old }
 {
     let Some(n) = field_len(core, a) else {

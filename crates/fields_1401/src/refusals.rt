@@ -1,57 +1,131 @@
-//! What an operation needs of core before it writes anything.
-ghost use Rattle.std.specs.Prelude.{◌≡◌, ◌+◌, ◌<◌, ◌≤◌, ◌&&◌, IfSome, not, length};
-ghost use Rattle.core_1401.specs.Field.{field_len_of, pair_len_of};
-ghost use Rattle.core_1401.specs.Storage.{is_in_core};
-ghost use Rattle.fields_1401.specs.Move.{has_places, is_overwritten};
+//! The places that an operation of arithmetic takes, and its refusals, all of them before anything is written.
+ghost use Rattle.std.specs.Prelude.{◌≡◌, ◌+◌, ◌<◌, ◌≤◌, false, length, Some, Ok, Err, IfOk, IfErr, IfSome};
+ghost use Rattle.core_1401.specs.Field.{field_len_of};
+ghost use Rattle.fields_1401.specs.Number.{places_down, sign_of};
+ghost use Rattle.fields_1401.specs.Refusal.{part_len_of, needed_at, is_overlap, lengths_at};
 
+use crate::done::FieldStop;
+use crate::sign::Sign;
 use core_1401::Core;
 
-/// Whether two addresses are both those of places.
-pub(crate) fn are_in_core(core: &Core, a: u16, b: u16) -> bool
-    ensures { result ≡ is_in_core core.now a && is_in_core core.now b }
-{
-    core.in_core(a) && core.in_core(b)
+/// The places of an operation that isn't refused.
+#[derive(Clone, Copy)]
+pub(crate) struct Operands {
+    /// The units place of the A field.
+    pub(crate) a: u16,
+    /// How many places of the A field are used: no more than the B field has.
+    pub(crate) used: u16,
+    /// The units place of the B field.
+    pub(crate) b: u16,
+    /// The length of the B field.
+    pub(crate) len: u16,
+    ghost a_range: { a < 16000 },
+    ghost b_range: { b < 16000 },
+    ghost some: { 0 < used },
+    ghost fewer: { used ≤ len },
+    ghost a_above: { used ≤ a + 1 },
+    ghost b_above: { len ≤ b + 1 },
+    ghost apart: { is_overlap a used b len ≡ false },
 }
 
-/// How many places a field has; none where it isn't in core, or comes to address 0 before a word mark.
-pub(crate) fn field_len(core: &Core, at: u16) -> Option<u16>
-    ensures value { result ≡ field_len_of core.now at }
-    ensures in_core { IfSome result (λ n. at < length core.now) }
-    ensures places { IfSome result (λ n. n ≤ at + 1) }
+impl Operands {
+    /// The places that an operation with these addresses takes.
+    ///
+    /// # Errors
+    ///
+    /// `Address` where there is no B field, or a place of A that is needed isn't in core; else `Overlap` where the addresses
+    /// differ and a place of A that is used is one of the B field.
+    #[tactic(auto, unfolding(crate::specs::Refusal::lengths_at))]
+    pub(crate) fn at(core: &Core, a: u16, b: u16) -> Result<Operands, FieldStop>
+        requires a { a < 16000 }
+        requires b { b < 16000 }
+        ensures ok { IfOk result (λ taken. lengths_at core.now a b ≡ Ok (taken.used, taken.len)) }
+        ensures err { IfErr result (λ stop. lengths_at core.now a b ≡ Err stop) }
+        ensures needed { IfOk result (λ taken. needed_at core.now a b ≡ Some (taken.used, taken.len)) }
+        ensures field { IfOk result (λ taken. field_len_of core.now b ≡ Some taken.len) }
+        ensures at_a { IfOk result (λ taken. (taken.a ≡ a) × (a < length core.now)) }
+        ensures at_b { IfOk result (λ taken. (taken.b ≡ b) × (b < length core.now)) }
+    {
+        let Some((used, len)) = needed(core, a, b) else {
+            return Err(FieldStop::Address);
+        };
+        if overlap(a, used, b, len) {
+            return Err(FieldStop::Overlap);
+        }
+        Ok(Operands { a, used, b, len })
+    }
+
+    /// The sign of the used part of A.
+    #[tactic(auto, using(crate::proofs::PlaceLemmas::char_down))]
+    pub(crate) fn a_sign(self, core: &Core) -> Sign
+        requires { self.a < length core.now }
+        ensures { result ≡ sign_of (places_down core.now self.a self.used) }
+    {
+        Sign::of_units(core.get(self.a).char)
+    }
+
+    /// The sign of the B field.
+    #[tactic(auto, using(crate::proofs::PlaceLemmas::char_down))]
+    pub(crate) fn b_sign(self, core: &Core) -> Sign
+        requires { self.b < length core.now }
+        ensures { result ≡ sign_of (places_down core.now self.b self.len) }
+    {
+        Sign::of_units(core.get(self.b).char)
+    }
+}
+
+/// How many places of A are used, and how many the B field has; none where one of them isn't in core.
+fn needed(core: &Core, a: u16, b: u16) -> Option<(u16, u16)>
+    requires { a < 16000 }
+    ensures value { result ≡ needed_at core.now a b }
+    ensures used { IfSome result (λ taken. (0 < taken.0) × (taken.0 ≤ taken.1) × (taken.0 ≤ a + 1)) }
+    ensures len { IfSome result (λ taken. taken.1 ≤ b + 1) }
+    ensures field { IfSome result (λ taken. field_len_of core.now b ≡ Some taken.1) }
+    ensures in_core { IfSome result (λ taken. (a < length core.now) × (b < length core.now)) }
 {
-    if !core.in_core(at) {
+    let len = whole_len(core, b)?;
+    let used = part_len(core, a, len)?;
+    Some((used, len))
+}
+
+/// The length of the B field; none where it doesn't exist.
+fn whole_len(core: &Core, b: u16) -> Option<u16>
+    ensures value { result ≡ field_len_of core.now b }
+    ensures bounds { IfSome result (λ n. (0 < n) × (n ≤ b + 1) × (b < length core.now)) }
+{
+    if core.in_core(b) {
+        core.field_len(b)
+    } else {
+        None
+    }
+}
+
+/// How many places of A are used beside so many of B: down to its first word mark, but no more than those; none where one of
+/// them isn't in core.
+fn part_len(core: &Core, a: u16, len: u16) -> Option<u16>
+    requires a { a < 16000 }
+    requires len { 0 < len }
+    ensures value { result ≡ part_len_of core.now a len }
+    ensures bounds { IfSome result (λ u. (0 < u) × (u ≤ len) × (u ≤ a + 1)) }
+    ensures in_core { IfSome result (λ u. a < length core.now) }
+{
+    if !core.in_core(a) {
         return None;
     }
-    core.field_len(at)
-}
-
-/// How many places two fields have down to the first word mark in either; none where one of them isn't in core, or comes to
-/// address 0 before it.
-#[tactic(auto, using(crate::proofs::LengthLemmas::no_pair_without_a, crate::proofs::LengthLemmas::no_pair_without_b))]
-pub(crate) fn pair_len(core: &Core, a: u16, b: u16) -> Option<u16>
-    ensures value { result ≡ pair_len_of core.now a b }
-    ensures a_in { IfSome result (λ n. a < length core.now) }
-    ensures b_in { IfSome result (λ n. b < length core.now) }
-    ensures a_places { IfSome result (λ n. n ≤ a + 1) }
-    ensures b_places { IfSome result (λ n. n ≤ b + 1) }
-{
-    if !are_in_core(core, a, b) {
-        return None;
+    match core.field_len(a) {
+        Some(n) => Some(n.min(len)),
+        None if len <= a + 1 => Some(len),
+        None => None,
     }
-    core.pair_len(a, b)
 }
 
-/// Whether n places from an address down are all in core.
-pub(crate) fn has_places(core: &Core, at: u16, n: u16) -> bool
-    requires { at < 16000 }
-    ensures { result ≡ has_places core.now at n }
+/// Whether so many places from a down and so many from b down have one in common, though they don't begin at the same one.
+fn overlap(a: u16, used: u16, b: u16, len: u16) -> bool
+    requires a { a < 16000 }
+    requires b { b < 16000 }
+    requires used { used ≤ a + 1 }
+    requires len { len ≤ b + 1 }
+    ensures { result ≡ is_overlap a used b len }
 {
-    core.in_core(at) && n <= at + 1
-}
-
-/// Whether a field of n places at a is written over from b down before its word mark is met.
-pub(crate) fn is_overwritten(a: u16, b: u16, n: u16) -> bool
-    ensures { result ≡ is_overwritten a b n }
-{
-    b < a && a - b < n
+    a != b && a < b + used && b < a + len
 }

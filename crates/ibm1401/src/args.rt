@@ -2,6 +2,7 @@
 
 use clap::{Arg, Command, Error, value_parser};
 use std::alloc::Global;
+use std::convert::AsStr;
 
 /// The size of core storage where none is named.
 const DEFAULT_SIZE: u16 = 4_000;
@@ -21,7 +22,7 @@ pub enum Call {
 /// # Errors
 ///
 /// What is wrong with the command line, the text of the help, or want of memory.
-pub fn read_call(alloc: Global, words: &[String]) -> Result<Call, Error> {
+pub fn read_call(alloc: Global, words: &[impl AsStr]) -> Result<Call, Error> {
     let size = Arg::new(alloc, "size")
         .long("size")
         .value_name("N")

@@ -4,14 +4,15 @@
 mod args;
 mod fault;
 mod subcommands;
+#[cfg(test)]
+mod tests;
 
 use crate::args::{Call, read_call};
 use crate::fault::Fault;
 use crate::subcommands::console;
-use clap::ErrorKind;
-use std::env;
-use std::io;
+use clap::error::ErrorKind;
 use std::process::ExitCode;
+use std::{env, io};
 
 /// The status of a command line that can't be read.
 const MISUSED: u8 = 2;

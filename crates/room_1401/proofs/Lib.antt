@@ -1,2 +1,3 @@
 pub mod ReplayLemmas
+mod CarryOutExamples
 pub mod CellsLemmas

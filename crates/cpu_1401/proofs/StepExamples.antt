@@ -1,0 +1,91 @@
+-- Steps and runs of small machines, computed. The codes are 27 for the comma, 59 for the full stop, 36 for M, 19 for T, 10
+-- for zero.
+use Rattle.std.proofs.Common.{◌≡◌, ℕ, true, false, [], ◌∷◌, None, Some, refl}
+use Rattle.bcd_1401.specs.Graphic.{graphics}
+use Rattle.bcd_1401.specs.declared.cell.Cell.{Cell}
+use Rattle.core_1401.specs.Storage.{Storage}
+use Rattle.fields_1401.specs.Move.{moved}
+use Rattle.fields_1401.specs.Places.{with_cells, with_chars}
+use Rattle.cpu_1401.specs.declared.stop.Stop.TheVariants as stop
+use Rattle.cpu_1401.specs.Run.{run_for}
+use Rattle.cpu_1401.specs.State.{State, power_on}
+use Rattle.cpu_1401.specs.Step.{step}
+
+abbrev plain : ℕ → Cell
+plain char = record { char = char; mark = false }
+
+abbrev marked : ℕ → Cell
+marked char = record { char = char; mark = true }
+
+-- the machine at power-on with this storage, and with I at a place
+abbrev with_program : Storage → ℕ → State
+with_program storage at = record (power_on 0) { storage = storage; i = at }
+
+-- a comma with address 001, and a halt behind it
+abbrev set_mark : Storage
+set_mark = marked 27 ∷ plain 10 ∷ plain 10 ∷ plain 1 ∷ marked 59 ∷ []
+
+one_address_goes_into_both_registers : step (with_program set_mark 0) ≡ record {
+  state = record (with_program (marked 27 ∷ marked 10 ∷ plain 10 ∷ plain 1 ∷ marked 59 ∷ []) 4) { a = 0; b = 0 };
+  stop = None;
+}
+unfolding step graphics
+one_address_goes_into_both_registers = refl
+
+a_halt_goes_on_behind_it : step (with_program set_mark 4) ≡ record { state = with_program set_mark 5; stop = Some stop.Halt }
+unfolding step graphics
+a_halt_goes_on_behind_it = refl
+
+no_mark_no_instruction : step (with_program set_mark 1) ≡ record { state = with_program set_mark 1; stop = Some stop.NoMark }
+unfolding step graphics
+no_mark_no_instruction = refl
+
+out_of_core_no_instruction : step (with_program set_mark 5) ≡ record { state = with_program set_mark 5; stop = Some stop.NoMark }
+unfolding step graphics
+out_of_core_no_instruction = refl
+
+-- a comma with the address 999
+abbrev far_mark : Storage
+far_mark = marked 27 ∷ plain 9 ∷ plain 9 ∷ plain 9 ∷ marked 59 ∷ []
+
+a_place_out_of_core_stops : step (with_program far_mark 0) ≡ record { state = with_program far_mark 0; stop = Some stop.Address }
+unfolding step graphics
+a_place_out_of_core_stops = refl
+
+no_such_operation : (step (with_program (marked 19 ∷ marked 59 ∷ []) 0)).stop ≡ Some stop.OpCode
+unfolding step graphics
+no_such_operation = refl
+
+-- a halt of three characters
+no_such_length : (step (with_program (marked 59 ∷ plain 10 ∷ plain 10 ∷ marked 59 ∷ []) 0)).stop ≡ Some stop.Length
+unfolding step graphics
+no_such_length = refl
+
+-- eight characters of a move
+a_move_of_tapes : (step (with_program (marked 36 ∷ plain 10 ∷ plain 10 ∷ plain 10 ∷ plain 10 ∷ plain 10 ∷ plain 1 ∷ plain 10 ∷ marked 59 ∷ []) 0)).stop ≡ Some stop.NotFitted
+unfolding step graphics
+a_move_of_tapes = refl
+
+-- a chained move takes the registers as they stand
+a_chained_move : step (record (with_program (marked 36 ∷ marked 59 ∷ marked 5 ∷ plain 6 ∷ plain 7 ∷ []) 0) { a = 3; b = 4 }) ≡ record {
+  state = record (with_program (marked 36 ∷ marked 59 ∷ marked 5 ∷ plain 5 ∷ plain 6 ∷ []) 1) { a = 1; b = 2 };
+  stop = None;
+}
+unfolding step graphics moved with_chars with_cells
+a_chained_move = refl
+
+a_run_ends_with_its_halt : run_for 9 (with_program set_mark 0) ≡ record {
+  state = record (with_program (marked 27 ∷ marked 10 ∷ plain 10 ∷ plain 1 ∷ marked 59 ∷ []) 5) { a = 0; b = 0 };
+  steps = 2;
+  stop = stop.Halt;
+}
+unfolding step graphics run_for
+a_run_ends_with_its_halt = refl
+
+a_halt_as_the_last_step_answers_halt : (run_for 1 (with_program set_mark 4)).stop ≡ stop.Halt
+unfolding step graphics run_for
+a_halt_as_the_last_step_answers_halt = refl
+
+the_limit_is_met : (run_for 1 (with_program set_mark 0)).stop ≡ stop.Limit
+unfolding step graphics run_for
+the_limit_is_met = refl

@@ -1,0 +1,87 @@
+-- After a load the field at b is the field that stood at a.
+use Rattle.std.proofs.Common.{◌≡◌, ℕ, ◌+◌, ◌-◌, ◌<◌, ◌≤◌, Bool, List, Option, Some, None, length, get_or, take, position, refl, ap, sym, ◌∙◌, arith}
+use Rattle.std.proofs.lemmas.Bool.{lt-ltb}
+use Rattle.std.proofs.lemmas.List.{ext_get_or, get_or-take, get_or-reverse, length-take-le, length-reverse}
+use Rattle.std.proofs.lemmas.List.Quantifiers.{position-Some}
+use Rattle.std.proofs.lemmas.List.Sums.{position_or_len_is}
+use Rattle.std.specs.Option.{option_map}
+use Rattle.bcd_1401.specs.declared.cell.Cell.{Cell}
+use Rattle.core_1401.specs.Storage.{Storage, blank, cell_at}
+use Rattle.core_1401.specs.Field.{cells_down, field_len_of, field_at}
+use Rattle.fields_1401.specs.Move.{loaded}
+use Rattle.fields_1401.proofs.PlacesLemmas.{within, cell_at-within, length-with_cells}
+use Rattle.fields_1401.proofs.MoveLemmas.{length-loaded}
+
+-- there is a cell for each place from an address down
+length-cells_down : (storage : Storage) (at : ℕ) → at < length storage → length (cells_down storage at) ≡ at + 1
+length-cells_down storage at in_core =
+    rw (lt-ltb at (length storage) in_core) (length-reverse (take (at + 1) storage) ∙ length-take-le (at + 1) storage (omega arith))
+
+-- the i-th of them
+get_or-cells_down : (storage : Storage) (at i : ℕ) → at < length storage → i ≤ at → get_or (cells_down storage at) i blank ≡ cell_at storage (at - i)
+get_or-cells_down storage at i in_core le =
+    let size : length (take (at + 1) storage) ≡ at + 1 = length-take-le (at + 1) storage (omega arith) in
+    let place : length (take (at + 1) storage) - 1 - i ≡ at - i = omega arith in
+    rw (lt-ltb at (length storage) in_core) (get_or-reverse (take (at + 1) storage) i blank (omega arith)
+    ∙ ap (λ q. get_or (take (at + 1) storage) q blank) place ∙ get_or-take (at + 1) storage (at - i) blank (omega arith))
+
+-- the first word mark stands at the same place where the cells up to it are the same
+same_first_mark : (xs ys : List Cell) (k : ℕ) → position (λ (cell : Cell). cell.mark) xs ≡ Some k → k < length ys
+    → ((i : ℕ) → i ≤ k → get_or ys i blank ≡ get_or xs i blank) → position (λ (cell : Cell). cell.mark) ys ≡ Some k
+same_first_mark xs ys k first lt same =
+    let has_mark : Cell → Bool = λ cell. cell.mark in
+    let marks = position-Some has_mark xs k blank first in
+    let index = position_or_len_is has_mark ys k blank (omega arith)
+    (λ i before. ap has_mark (same i (omega arith)) ∙ marks.2 i before) (λ _. ap has_mark (same k (omega arith)) ∙ marks.1) in
+    rw (index, lt-ltb k (length ys) lt) refl
+
+-- lists that begin with the same n cells
+take_same : (xs ys : List Cell) (n : ℕ) → n ≤ length xs → n ≤ length ys → ((i : ℕ) → i < n → get_or xs i blank ≡ get_or ys i blank) → take n xs ≡ take n ys
+take_same xs ys n in_xs in_ys same =
+    let xs_size : length (take n xs) ≡ n = length-take-le n xs in_xs in
+    let ys_size : length (take n ys) ≡ n = length-take-le n ys in_ys in
+    ext_get_or blank (take n xs) (take n ys) (omega arith) (λ i lt.
+    get_or-take n xs i blank (omega arith) ∙ same i (omega arith) ∙ sym (get_or-take n ys i blank (omega arith)))
+
+-- a field by the place of its word mark
+field_at-mark : (storage : Storage) (at k : ℕ) → position (λ (cell : Cell). cell.mark) (cells_down storage at) ≡ Some k
+    → field_at storage at ≡ Some (take (k + 1) (cells_down storage at))
+field_at-mark storage at k first = ap (λ o. option_map (λ n. take n (cells_down storage at)) (option_map (λ i. i + 1) o)) first
+
+-- a place that was loaded
+get_or-loaded : (storage : Storage) (a b n i : ℕ) → a < length storage → b < length storage → i < n → i ≤ a → i ≤ b
+    → get_or (cells_down (loaded storage a b n) b) i blank ≡ get_or (cells_down storage a) i blank
+unfolding loaded
+get_or-loaded storage a b n i a_in b_in lt in_a in_b =
+    let after = loaded storage a b n in
+    let size : length after ≡ length storage = length-with_cells storage b n (λ k. cell_at storage (a - k)) in
+    get_or-cells_down after b i (omega arith) in_b
+    ∙ cell_at-within storage b n (λ k. cell_at storage (a - k)) (b - i) (omega arith) (within b n (b - i) (omega arith) (omega arith))
+    ∙ ap (cell_at storage) (omega arith) ∙ sym (get_or-cells_down storage a i a_in in_a)
+
+-- a load brings the field that it was asked for
+pub field_at-loaded : (storage : Storage) (a b k : ℕ) → a < length storage → b < length storage → k ≤ b
+    → position (λ (cell : Cell). cell.mark) (cells_down storage a) ≡ Some k → field_at (loaded storage a b (k + 1)) b ≡ field_at storage a
+field_at-loaded storage a b k a_in b_in b_places first =
+    let after = loaded storage a b (k + 1) in
+    let xs = cells_down storage a in
+    let ys = cells_down after b in
+    let xs_size : length xs ≡ a + 1 = length-cells_down storage a a_in in
+    let ys_size : length ys ≡ b + 1 = length-cells_down after b (omega (arith, length-loaded storage a b (k + 1))) in
+    let in_xs : k < length xs = (position-Some (λ (cell : Cell). cell.mark) xs k blank first).0 in
+    let same : (i : ℕ) → i ≤ k → get_or ys i blank ≡ get_or xs i blank =
+    λ i le. get_or-loaded storage a b (k + 1) i a_in b_in (omega arith) (omega arith) (omega arith) in
+    field_at-mark after b k (same_first_mark xs ys k first (omega arith) same)
+    ∙ ap (λ cells. Some cells) (take_same ys xs (k + 1) (omega arith) (omega arith) (λ i lt. same i (omega arith)))
+    ∙ sym (field_at-mark storage a k first)
+
+-- the same by its length
+pub load_brings_the_field : (storage : Storage) (a b n : ℕ) → a < length storage → b < length storage → n ≤ b + 1
+    → Some n ≡ field_len_of storage a → field_at (loaded storage a b n) b ≡ field_at storage a
+load_brings_the_field storage a b n a_in b_in b_places len = found (position (λ (cell : Cell). cell.mark) (cells_down storage a)) refl len where
+  found : (o : Option ℕ) → position (λ (cell : Cell). cell.mark) (cells_down storage a) ≡ o → Some n ≡ option_map (λ i. i + 1) o
+      → field_at (loaded storage a b n) b ≡ field_at storage a
+  found None first e = absurd cc
+  found (Some k) first e =
+      let last : n ≡ k + 1 = cc in
+      ap (λ m. field_at (loaded storage a b m) b) last ∙ field_at-loaded storage a b k a_in b_in (omega arith) first

@@ -1,0 +1,61 @@
+//! The command line, and what it is refused for.
+
+use crate::args::{Call, read_call};
+use clap::error::ErrorKind;
+use std::test::Fail;
+
+#[test]
+fn a_console_has_a_size(rt: HostRuntime) -> Result<(), Fail> {
+    for (words, size) in [
+        (["ibm1401", "console", "", ""], 4_000),
+        (["ibm1401", "console", "--size", "1400"], 1_400),
+        (["ibm1401", "console", "--size", "0"], 0),
+        (["ibm1401", "console", "--size", "65535"], 65_535),
+    ] {
+        let count = if words[2].is_empty() { 2 } else { 4 };
+        let call = read_call(rt.alloc(), &words[..count])?;
+        assert_eq!(rt; call, Call::Console { size });
+    }
+    Ok(())
+}
+
+#[test]
+fn a_bad_command_line_is_refused(rt: HostRuntime) {
+    for (words, kind) in [
+        (
+            ["ibm1401", "consol"].as_slice(),
+            ErrorKind::InvalidSubcommand,
+        ),
+        (
+            ["ibm1401", "console", "--size", "65536"].as_slice(),
+            ErrorKind::ValueValidation,
+        ),
+        (
+            ["ibm1401", "console", "--size", "-1"].as_slice(),
+            ErrorKind::UnknownArgument,
+        ),
+        (
+            ["ibm1401", "console", "--size", "x"].as_slice(),
+            ErrorKind::ValueValidation,
+        ),
+        (
+            ["ibm1401", "console", "--size"].as_slice(),
+            ErrorKind::InvalidValue,
+        ),
+        (
+            ["ibm1401", "console", "--list"].as_slice(),
+            ErrorKind::UnknownArgument,
+        ),
+        (
+            ["ibm1401", "console", "extra"].as_slice(),
+            ErrorKind::UnknownArgument,
+        ),
+        (["ibm1401"].as_slice(), ErrorKind::MissingSubcommand),
+        (["ibm1401", "--help"].as_slice(), ErrorKind::DisplayHelp),
+    ] {
+        let refused = read_call(rt.alloc(), words)
+            .map_err(|error| error.kind())
+            .err();
+        assert_eq!(rt; refused, Some(kind));
+    }
+}

@@ -1,0 +1,70 @@
+-- Commands on a small machine, and their replay, computed.
+use Rattle.std.proofs.Common.{◌≡◌, true, List, [], ◌∷◌, refl}
+use Rattle.bcd_1401.specs.Graphic.{graphics}
+use Rattle.bcd_1401.specs.declared.cell.Cell.{Cell}
+use Rattle.core_1401.specs.Storage.{blank}
+use Rattle.cpu_1401.specs.declared.stop.Stop.TheVariants as stop
+use Rattle.cpu_1401.specs.Run.{run_for}
+use Rattle.cpu_1401.specs.State.{State, power_on}
+use Rattle.cpu_1401.specs.Step.{step}
+use Rattle.room_1401.specs.declared.answer.Answer.TheVariants.{Done, Cells, Ran, Refused}
+use Rattle.room_1401.specs.declared.answer.Refusal.TheVariants.{Address, Limit, Count}
+use Rattle.room_1401.specs.declared.command.Command.TheVariants.{Deposit, Examine, SetI, Run}
+use Rattle.room_1401.specs.CarryOut.{carry_out}
+use Rattle.room_1401.specs.Replay.{Pair, answers_of, replay}
+
+-- K with a word mark
+abbrev marked_k : Cell
+marked_k = record { char = 34; mark = true }
+
+-- a halt, 59
+abbrev a_halt : Cell
+a_halt = record { char = 59; mark = true }
+
+-- a machine of three places
+abbrev small : State
+small = power_on 3
+
+cells_go_up_from_their_address : carry_out small (Deposit 1 (marked_k ∷ blank ∷ [])) ≡ record {
+  state = record small { storage = blank ∷ marked_k ∷ blank ∷ [] };
+  answer = Done;
+}
+unfolding carry_out
+cells_go_up_from_their_address = refl
+
+cells_past_the_end_are_refused : carry_out small (Deposit 2 (marked_k ∷ blank ∷ [])) ≡ record { state = small; answer = Refused Address }
+unfolding carry_out
+cells_past_the_end_are_refused = refl
+
+the_count_is_looked_at_first : carry_out small (Examine 4 41) ≡ record { state = small; answer = Refused Count }
+unfolding carry_out
+the_count_is_looked_at_first = refl
+
+no_place_past_the_end : carry_out small (Examine 2 2) ≡ record { state = small; answer = Refused Address }
+unfolding carry_out
+no_place_past_the_end = refl
+
+a_start_out_of_core_is_refused : carry_out small (SetI 3) ≡ record { state = small; answer = Refused Address }
+unfolding carry_out
+a_start_out_of_core_is_refused = refl
+
+a_run_of_none_is_refused : carry_out small (Run 0) ≡ record { state = small; answer = Refused Limit }
+unfolding carry_out
+a_run_of_none_is_refused = refl
+
+-- a halt is put at the last place and run, and then it is shown
+abbrev halt_and_look : List Pair
+halt_and_look =
+    record { seat = 0; command = Deposit 2 (a_halt ∷ []) }
+    ∷ record { seat = 1; command = SetI 2 }
+    ∷ record { seat = 1; command = Run 5 }
+    ∷ record { seat = 0; command = Examine 1 2 }
+    ∷ []
+
+each_answer_follows_from_the_commands_before : answers_of 3 halt_and_look ≡ Done ∷ Done ∷ Ran 1 stop.Halt 3 ∷ Cells (blank ∷ a_halt ∷ []) ∷ []
+unfolding carry_out step run_for graphics
+each_answer_follows_from_the_commands_before = refl
+
+the_last_machine : (replay 3 halt_and_look).i ≡ 3
+unfolding carry_out step run_for graphics
+the_last_machine = refl
