@@ -13,7 +13,7 @@ use Rattle.console_1401.specs.declared.session_end.SessionEnd.TheVariants as end
 use Rattle.console_1401.specs.ConsoleLine.{Said, said_by}
 use Rattle.console_1401.specs.Replies.{text_of, bytes_of}
 use Rattle.console_1401.specs.Session.{NoQuit, IsAllRead, LastLine, SessionDid}
-use Rattle.console_1401.specs.Taking.{AnsweredAll, Answers, AnswersLast, TakesByte, end_after}
+use Rattle.console_1401.specs.Taking.{LineTaking, AnsweredAll, Answers, AnswersLast, TakesByte, end_after}
 use Rattle.console_1401.specs.Text.{cut_of, said_finished, last_said, lines_of}
 use Rattle.console_1401.proofs.TakingLemmas.{answered_one, answered_more}
 use Rattle.console_1401.proofs.TextLemmas.{lines_of-feed, lines_of-byte, rest-feed, rest-byte, kept-byte, said_by-kept, said_finished-kept}
@@ -25,7 +25,7 @@ pub record Moment (S : Type 0) : Type 0 where
   pub state : S
 
 -- So many bytes were read, every finished line among them is answered, and the first 202 bytes of the rest are kept.
-pub record SoFar {S : Type 0} (takes : S → Said → Option Reply → S → Type 0) (before now : Moment S) (count : ℕ) (line : List ℕ) : Type 0 where
+pub record SoFar {S : Type 0} (takes : LineTaking S) (before now : Moment S) (count : ℕ) (line : List ℕ) : Type 0 where
   pub read : List ℕ
   pub written : List ℕ
   pub consumed : Consumes before.left now.left read
@@ -36,11 +36,11 @@ pub record SoFar {S : Type 0} (takes : S → Said → Option Reply → S → Typ
   pub answered : AnsweredAll takes before.state (lines_of false read) written now.state
 
 -- one line was answered between two moments
-abbrev pub AnswersAt : {S : Type 0} → (S → Said → Option Reply → S → Type 0) → Option SessionEnd → Said → Moment S → Moment S → Type 0
+abbrev pub AnswersAt : {S : Type 0} → LineTaking S → Option SessionEnd → Said → Moment S → Moment S → Type 0
 AnswersAt takes next said now after = Answers takes next said now.state after.state now.taken after.taken
 
 -- a session from one moment to another
-abbrev pub DidAt : {S : Type 0} → (S → Said → Option Reply → S → Type 0) → SessionEnd → Moment S → Moment S → Type 0
+abbrev pub DidAt : {S : Type 0} → LineTaking S → SessionEnd → Moment S → Moment S → Type 0
 DidAt takes last before after = SessionDid (AnsweredAll takes) last before.left after.left before.taken after.taken before.state after.state
 
 no_quit_more : (lines : List Said) (said : Said) → NoQuit lines → said ≢ Ok Quit → NoQuit (lines ++ said ∷ [])
@@ -48,7 +48,7 @@ no_quit_more lines said all here =
     let P : Said → Type 0 = λ s. s ≢ Ok Quit in
     All-append P lines (said ∷ []) all (All-cons P said [] here (All-nil P))
 
-pub nothing_yet : {S : Type 0} (takes : S → Said → Option Reply → S → Type 0) (now : Moment S) → SoFar takes now now 0 []
+pub nothing_yet : {S : Type 0} (takes : LineTaking S) (now : Moment S) → SoFar takes now now 0 []
 unfolding cut_of
 nothing_yet takes now = record {
   read = [];
@@ -62,7 +62,7 @@ nothing_yet takes now = record {
 }
 
 -- a byte that is no line feed
-byte_more : {S : Type 0} (takes : S → Said → Option Reply → S → Type 0) (before now after : Moment S) (count byte : ℕ) (line : List ℕ)
+byte_more : {S : Type 0} (takes : LineTaking S) (before now after : Moment S) (count byte : ℕ) (line : List ℕ)
     → SoFar takes before now count line → (byte == 10) ≡ false → Consumes now.left after.left (byte ∷ []) → after.state ≡ now.state → after.taken ≡ now.taken
     → SoFar takes before after (count + 1) (take 202 (line ++ byte ∷ []))
 byte_more {S} takes before now after count byte line s h c same kept = record {
@@ -82,14 +82,14 @@ byte_more {S} takes before now after count byte line s h c same kept = record {
 }
 
 -- with a line feed the kept bytes are one line more
-lines_now : {S : Type 0} (takes : S → Said → Option Reply → S → Type 0) (before now : Moment S) (count : ℕ) (line : List ℕ) (s : SoFar takes before now count line)
+lines_now : {S : Type 0} (takes : LineTaking S) (before now : Moment S) (count : ℕ) (line : List ℕ) (s : SoFar takes before now count line)
     → lines_of false (s.read ++ 10 ∷ []) ≡ lines_of false s.read ++ said_finished line ∷ []
 lines_now takes before now count line s =
     let said : said_finished line ≡ said_finished (cut_of s.read).rest = ap said_finished s.line_is ∙ said_finished-kept (cut_of s.read).rest in
     lines_of-feed s.read ∙ ap (λ (said : Said). lines_of false s.read ++ said ∷ []) (sym said)
 
 -- a line feed, and the line was answered
-line_more : {S : Type 0} (takes : S → Said → Option Reply → S → Type 0) (before now after : Moment S) (count : ℕ) (line : List ℕ)
+line_more : {S : Type 0} (takes : LineTaking S) (before now after : Moment S) (count : ℕ) (line : List ℕ)
     → SoFar takes before now count line → Consumes now.left after.left (10 ∷ []) → AnswersAt takes None (said_finished line) now after
     → SoFar takes before after (count + 1) []
 line_more takes before now after count line s c a =
@@ -109,7 +109,7 @@ line_more takes before now after count line s c a =
     }
 
 -- a byte was read and taken, and the session goes on
-pub goes_on : {S : Type 0} (takes : S → Said → Option Reply → S → Type 0) (is_feed : Bool) (before now after : Moment S) (count byte : ℕ) (line kept : List ℕ)
+pub goes_on : {S : Type 0} (takes : LineTaking S) (is_feed : Bool) (before now after : Moment S) (count byte : ℕ) (line kept : List ℕ)
     → (byte == 10) ≡ is_feed → SoFar takes before now count line → Consumes now.left after.left (byte ∷ []) → TakesByte takes is_feed byte None line kept now.state after.state now.taken after.taken
     → SoFar takes before after (count + 1) kept
 goes_on takes true before now after count byte line kept h s c a =
@@ -125,7 +125,7 @@ some_bytes None h = cc
 some_bytes (Some reply) h = omega (arith, length-append (text_of reply) (10 ∷ []))
 
 -- The session ends with this line, which comes after those in front.
-ended_line : {S : Type 0} (takes : S → Said → Option Reply → S → Type 0) (last : SessionEnd) (ended : Bool) (before now after : Moment S) (read written : List ℕ) (front : List Said) (said : Said)
+ended_line : {S : Type 0} (takes : LineTaking S) (last : SessionEnd) (ended : Bool) (before now after : Moment S) (read written : List ℕ) (front : List Said) (said : Said)
     → Consumes before.left after.left read → Appends before.taken now.taken written → length read ≤ 16777216 → LastLine ended after.left read front said
     → AnsweredAll takes before.state front written now.state → AnswersAt takes (Some last) said now after → DidAt takes last before after
 ended_line takes end.Quit ended before now after read written front said c p n last d a =
@@ -197,7 +197,7 @@ ended_line takes end.Read ended before now after read written front said c p n l
 ended_line takes end.Bound ended before now after read written front said c p n last d a = absurd a.wrote
 
 -- a byte was read and taken, and the session ended
-pub ends_here : {S : Type 0} (takes : S → Said → Option Reply → S → Type 0) (is_feed : Bool) (last : SessionEnd) (before now after : Moment S) (count byte : ℕ) (line kept : List ℕ)
+pub ends_here : {S : Type 0} (takes : LineTaking S) (is_feed : Bool) (last : SessionEnd) (before now after : Moment S) (count byte : ℕ) (line kept : List ℕ)
     → (byte == 10) ≡ is_feed → SoFar takes before now count line → count < 16777216 → Consumes now.left after.left (byte ∷ [])
     → TakesByte takes is_feed byte (Some last) line kept now.state after.state now.taken after.taken → DidAt takes last before after
 ends_here takes true last before now after count byte line kept h s n c a =
@@ -219,7 +219,7 @@ last_said-kept (kept ∷ more) [] h = cc
 last_said-kept (kept ∷ more) (byte ∷ bytes) h = ap (λ (said : Said). said ∷ []) (sym (said_by-kept (byte ∷ bytes)) ∙ ap said_by (sym h))
 
 -- the input ended, and what stood in the last line was answered
-last_by : {S : Type 0} (takes : S → Said → Option Reply → S → Type 0) (next : Option SessionEnd) (before now after : Moment S) (read written : List ℕ) (front : List Said) (said : Said)
+last_by : {S : Type 0} (takes : LineTaking S) (next : Option SessionEnd) (before now after : Moment S) (read written : List ℕ) (front : List Said) (said : Said)
     → Consumes before.left after.left read → Appends before.taken now.taken written → IsAllRead after.left read → lines_of true read ≡ front ++ said ∷ [] → NoQuit front
     → AnsweredAll takes before.state front written now.state → AnswersAt takes next said now after → DidAt takes (end_after next) before after
 last_by takes (Some last) before now after read written front said c p z lines q d a =
@@ -240,7 +240,7 @@ last_by takes None before now after read written front said c p z lines q d a =
     }
 
 -- the input ended, and what stood in the last line, if that was a byte at least, was answered
-pub ended_at_end : {S : Type 0} (takes : S → Said → Option Reply → S → Type 0) (line : List ℕ) (last : SessionEnd) (before now after : Moment S) (count : ℕ)
+pub ended_at_end : {S : Type 0} (takes : LineTaking S) (line : List ℕ) (last : SessionEnd) (before now after : Moment S) (count : ℕ)
     → SoFar takes before now count line → count < 16777216 → Consumes now.left after.left [] → IsAtEnd after.left → AnswersLast takes last line now.state after.state now.taken after.taken
     → DidAt takes last before after
 ended_at_end {S} takes [] last before now after count s n c z a =

@@ -7,14 +7,14 @@ use Rattle.console_1401.specs.declared.session_end.SessionEnd.{SessionEnd}
 use Rattle.console_1401.specs.declared.session_end.SessionEnd.TheVariants as end
 use Rattle.console_1401.specs.ConsoleLine.{Said}
 use Rattle.console_1401.specs.Replies.{Taken, Answered, bytes_of, reply_of, journal_after, replies_to}
-use Rattle.console_1401.specs.Session.{BrokenOff, HasEnded, SessionDid}
+use Rattle.console_1401.specs.Session.{Answering, BrokenOff, HasEnded, SessionDid}
 use Rattle.console_1401.specs.Taking.{AnsweredAll}
 
 -- lines answered in the one way are answered in the other
-abbrev pub Gives : {S : Type 0} → (S → List Said → List ℕ → S → Type 0) → (S → List Said → List ℕ → S → Type 0) → Type 0
+abbrev pub Gives : {S : Type 0} → Answering S → Answering S → Type 0
 Gives {S} one other = (before : S) (lines : List Said) (written : List ℕ) (after : S) → one before lines written after → other before lines written after
 
-broken_off_as : {S : Type 0} (one other : S → List Said → List ℕ → S → Type 0) (gives : Gives one other) (before : S) (front : List Said) (last : Said) (written : List ℕ) (after : S)
+broken_off_as : {S : Type 0} (one other : Answering S) (gives : Gives one other) (before : S) (front : List Said) (last : Said) (written : List ℕ) (after : S)
     → BrokenOff one before front last written after → BrokenOff other before front last written after
 broken_off_as one other gives before front last written after b = record {
   replies = b.replies;
@@ -28,7 +28,7 @@ broken_off_as one other gives before front last written after b = record {
   written_is = b.written_is;
 }
 
-ended_as : {S : Type 0} (one other : S → List Said → List ℕ → S → Type 0) (gives : Gives one other) (last : SessionEnd) (left : Option (List ℕ)) (before : S) (read written : List ℕ) (after : S)
+ended_as : {S : Type 0} (one other : Answering S) (gives : Gives one other) (last : SessionEnd) (left : Option (List ℕ)) (before : S) (read written : List ℕ) (after : S)
     → HasEnded one last left before read written after → HasEnded other last left before read written after
 unfolding broken_off_as
 ended_as one other gives end.Quit left before read written after s = (s.0, s.1, s.2, gives before _ written after s.3)
@@ -39,7 +39,7 @@ ended_as one other gives end.Write left before read written after s = (s.0, s.1,
 ended_as one other gives end.Memory left before read written after s = (s.0, s.1, s.2, s.3, broken_off_as one other gives before s.1 s.2 written after s.4, s.5)
 
 -- a session whose lines were answered in the one way, said in the other
-pub session_as : {S : Type 0} (one other : S → List Said → List ℕ → S → Type 0) → Gives one other → (last : SessionEnd) (l0 l1 t0 t1 : Option (List ℕ)) (before after : S)
+pub session_as : {S : Type 0} (one other : Answering S) → Gives one other → (last : SessionEnd) (l0 l1 t0 t1 : Option (List ℕ)) (before after : S)
     → SessionDid one last l0 l1 t0 t1 before after → SessionDid other last l0 l1 t0 t1 before after
 session_as one other gives last l0 l1 t0 t1 before after did = record {
   read = did.read;

@@ -4,13 +4,13 @@ use Rattle.std.proofs.lemmas.List.{append-nil}
 use Rattle.console_1401.specs.declared.replies.Reply.{Reply}
 use Rattle.console_1401.specs.ConsoleLine.{Said}
 use Rattle.console_1401.specs.Replies.{bytes_of}
-use Rattle.console_1401.specs.Taking.{AnsweredAll}
+use Rattle.console_1401.specs.Taking.{LineTaking, AnsweredAll}
 
-pub answered_one : {S : Type 0} (takes : S → Said → Option Reply → S → Type 0) (before after : S) (said : Said) (reply : Option Reply)
+pub answered_one : {S : Type 0} (takes : LineTaking S) (before after : S) (said : Said) (reply : Option Reply)
     → takes before said reply after → AnsweredAll takes before (said ∷ []) (bytes_of reply) after
 answered_one takes before after said reply t = (after, reply, [], t, sym (append-nil (bytes_of reply)), (refl, refl))
 
-pub AnsweredAll-append : {S : Type 0} (takes : S → Said → Option Reply → S → Type 0) (before middle after : S) (lines more : List Said) (written rest : List ℕ)
+pub AnsweredAll-append : {S : Type 0} (takes : LineTaking S) (before middle after : S) (lines more : List Said) (written rest : List ℕ)
     → AnsweredAll takes before lines written middle → AnsweredAll takes middle more rest after → AnsweredAll takes before (lines ++ more) (written ++ rest) after
 AnsweredAll-append {S} takes before middle after [] more written rest a b =
     subst (λ (front : List ℕ). AnsweredAll takes before more (front ++ rest) after) (sym a.0) (subst (λ (s : S). AnsweredAll takes s more rest after) a.1 b)
@@ -24,7 +24,7 @@ AnsweredAll-append takes before middle after (said ∷ lines) more written rest 
 )
 
 -- one line more
-pub answered_more : {S : Type 0} (takes : S → Said → Option Reply → S → Type 0) (before middle after : S) (lines : List Said) (written : List ℕ) (said : Said) (reply : Option Reply)
+pub answered_more : {S : Type 0} (takes : LineTaking S) (before middle after : S) (lines : List Said) (written : List ℕ) (said : Said) (reply : Option Reply)
     → AnsweredAll takes before lines written middle → takes middle said reply after → AnsweredAll takes before (lines ++ said ∷ []) (written ++ bytes_of reply) after
 answered_more takes before middle after lines written said reply a t =
     AnsweredAll-append takes before middle after lines (said ∷ []) written (bytes_of reply) a (answered_one takes middle after said reply t)

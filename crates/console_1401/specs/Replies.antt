@@ -67,7 +67,8 @@ replies_to size journal [] = []
 replies_to size journal (turn ∷ turns) =
     bytes_of (reply_of size journal turn.said turn.refused) ++ replies_to size (journal_with size journal turn.said turn.refused) turns
 
--- These lines were answered at a room, given those at which growth was refused: what was written, and the room afterwards.
+-- These lines were answered at a room, given those at which its growth was refused: what was written, and the room
+-- afterwards.
 pub record Answered (before : Account) (lines : List Said) (written : List ℕ) (after : Account) : Type 0 where
   pub turns : List Turn
   pub lines_are : map (λ (turn : Turn). turn.said) turns ≡ lines

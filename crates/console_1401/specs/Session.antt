@@ -1,5 +1,4 @@
 -- What a session has read and written, and what it leaves, by how it ended (own).
--- `answered before lines written after` stands for a console: from before, these lines are answered by these bytes, and leave after.
 use Rattle.std.specs.Prelude.{◌≡◌, ◌≢◌, ℕ, ◌<◌, ◌≤◌, Bool, true, false, List, [], ◌∷◌, ◌++◌, length, Option, All, Ok}
 use Rattle.std.specs.Io.KnownBytes.{Appends, Consumes, IsAtEnd}
 use Rattle.console_1401.specs.declared.line.Line.TheVariants.{Quit}
@@ -8,6 +7,11 @@ use Rattle.console_1401.specs.declared.session_end.SessionEnd.TheVariants as end
 use Rattle.console_1401.specs.ConsoleLine.{Said}
 use Rattle.console_1401.specs.Sink.{BeginsWith}
 use Rattle.console_1401.specs.Text.{cut_of, lines_of}
+
+-- how lines are answered at a console: `answered before lines written after` says that from before these lines are answered
+-- by these bytes, and leave after
+abbrev pub Answering : Type 0 → Type 1
+Answering S = S → List Said → List ℕ → S → Type 0
 
 -- none of these lines is QUIT
 abbrev pub NoQuit : List Said → Type 0
@@ -33,7 +37,7 @@ pub record LastLine (ended : Bool) (left : Option (List ℕ)) (read : List ℕ) 
   pub ends : EndsWithLine ended left read
 
 -- The lines in front were answered, then the last one was, which has a reply, and a part of that was written.
-pub record BrokenOff {S : Type 0} (answered : S → List Said → List ℕ → S → Type 0) (before : S) (front : List Said) (last : Said) (written : List ℕ) (after : S) : Type 0 where
+pub record BrokenOff {S : Type 0} (answered : Answering S) (before : S) (front : List Said) (last : Said) (written : List ℕ) (after : S) : Type 0 where
   pub replies : List ℕ
   pub middle : S
   pub front_answered : answered before front replies middle
@@ -45,7 +49,7 @@ pub record BrokenOff {S : Type 0} (answered : S → List Said → List ℕ → S
   pub written_is : written ≡ replies ++ part
 
 -- from the bytes read, what was written and what is left, by how the session ended
-abbrev pub HasEnded : {S : Type 0} → (S → List Said → List ℕ → S → Type 0) → SessionEnd → Option (List ℕ) → S → List ℕ → List ℕ → S → Type 0
+abbrev pub HasEnded : {S : Type 0} → Answering S → SessionEnd → Option (List ℕ) → S → List ℕ → List ℕ → S → Type 0
 HasEnded answered end.Quit left before read written after =
     (ended : Bool) × (front : List Said) × LastLine ended left read front (Ok Quit) × answered before (lines_of ended read) written after
 HasEnded answered end.EndOfInput left before read written after =
@@ -61,7 +65,7 @@ HasEnded answered end.Memory left before read written after =
     × (broken : BrokenOff answered before front last written after) × (broken.part ≡ [])
 
 -- What a session did: the bytes that it read, those that it wrote, and how these go together.
-pub record SessionDid {S : Type 0} (answered : S → List Said → List ℕ → S → Type 0) (last : SessionEnd) (left_before left_after taken_before taken_after : Option (List ℕ)) (before after : S) : Type 0 where
+pub record SessionDid {S : Type 0} (answered : Answering S) (last : SessionEnd) (left_before left_after taken_before taken_after : Option (List ℕ)) (before after : S) : Type 0 where
   pub read : List ℕ
   pub written : List ℕ
   pub consumed : Consumes left_before left_after read

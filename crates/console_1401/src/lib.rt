@@ -1,4 +1,11 @@
 //! The operator's console of the IBM 1401: lines, replies, and sessions over a reader and a writer.
+//!
+//! ```text
+//! let mut reader = FromReader::new(b"EXAMINE 0500\nQUIT\n".as_slice());
+//! let mut writer = ToWriter::new(Vec::new(alloc));
+//! session(alloc, &mut room, &mut reader, &mut writer)     // SessionEnd::Quit
+//! writer.into_inner()                                     // " \nBYE\n": a blank, and the end
+//! ```
 #![tactic(auto)]
 
 pub mod failure;

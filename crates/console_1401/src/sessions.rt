@@ -31,7 +31,8 @@ impl Taker for Room {
     }
 }
 
-/// Answers lines at the console of a room, as seat 0, until QUIT, the end of input, a failure or the bound. A byte is read when the reply to the line before it is written.
+/// Answers lines at the console of a room, as seat 0, until QUIT, the end of input, a failure or the bound. A byte is read
+/// only when the reply to the line before it is written.
 pub fn session<R: Source, W: Sink>(
     alloc: Global,
     room: &mut Room,

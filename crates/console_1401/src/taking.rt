@@ -81,7 +81,8 @@ fn answer_last<T: Taker, W: Sink>(
     }
 }
 
-/// Takes one byte: a line feed ends a line, which is answered; any other byte is kept. Gives the session's end, if that was it.
+/// Takes one byte: a line feed ends a line, which is answered; any other byte is kept. Gives the session's end, if that
+/// was it.
 fn take_byte<T: Taker, W: Sink>(
     alloc: Global,
     taker: &mut T,
@@ -101,7 +102,8 @@ fn take_byte<T: Taker, W: Sink>(
     answer_line(alloc, taker, writer, said)
 }
 
-/// Answers lines until QUIT, the end of input, a failure or the bound. A byte is read when the reply to the line before it is written.
+/// Answers lines until QUIT, the end of input, a failure or the bound. A byte is read only when the reply to the line
+/// before it is written.
 pub(crate) fn answer_lines<R: Source, T: Taker, W: Sink>(
     alloc: Global,
     taker: &mut T,

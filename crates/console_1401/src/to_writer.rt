@@ -5,7 +5,8 @@ use crate::failure::Failed;
 use crate::sink::Sink;
 use std::io::Write;
 
-/// Hands bytes to a writer, with one write each time. The writer must keep none of them back, as one with a buffer would.
+/// Hands bytes to a writer, with one write each time. The writer must keep none of them back, as one with a buffer
+/// would.
 #[derive(Drop)]
 pub struct ToWriter<W> {
     writer: W,
