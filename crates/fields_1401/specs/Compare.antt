@@ -15,7 +15,8 @@ is_unequal_pair storage a b i = not ((cell_at storage (a - i)).char == (cell_at 
 -- whether n pairs are unequal: two characters differ, or the A field ends before the B field
 abbrev pub is_unequal : Storage → ℕ → ℕ → ℕ → Bool
 is_unequal storage a b n =
-    list_any (is_unequal_pair storage a b) (range_with_len 0 n) || ((cell_at storage (a + 1 - n)).mark && not (cell_at storage (b + 1 - n)).mark)
+    list_any (is_unequal_pair storage a b) (range_with_len 0 n)
+    || ((cell_at storage (a + 1 - n)).mark && not (cell_at storage (b + 1 - n)).mark)
 
 -- two fields compared over the pairs up to and including the first word mark in either; refused where there is none
 abbrev pub compared : Storage → ℕ → ℕ → Option ℕ → Result Done FieldStop

@@ -4,6 +4,7 @@
 //! ```text
 //! let done = move_chars(&mut core, 510, 509)?;    // the A field to the B field, right to left
 //! done.b                                          // the B register afterwards
+//! add(&mut core, 709, 720)?.overflow              // whether the B field is too short for the sum
 //! ```
 #![tactic(auto)]
 

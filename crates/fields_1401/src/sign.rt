@@ -8,9 +8,9 @@ use bcd_1401::Char;
 /// The sign of a number.
 #[derive(Clone, Copy, Debug, PartialEq, Eq)]
 pub enum Sign {
-    /// Plus, or zero.
+    /// Zone A, both or none over the units, also of a zero.
     Plus,
-    /// Minus, also of a zero.
+    /// Zone B alone over the units, also of a zero.
     Minus,
 }
 
