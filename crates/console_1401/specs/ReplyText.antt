@@ -40,7 +40,8 @@ switch_text on letter = if on then letter else 45
 unfoldable pub switches_text : List Bool → List ℕ
 switches_text switches = map (λ (switch : Bool × ℕ). switch_text switch.0 switch.1) (zip switches (codes "ABCDEFG"))
 
--- the registers
+-- the registers: five digits for an address, three for cards and lines, of which there are 500 at the most, four for the
+-- form and two for the line
 unfoldable pub regs_text : Regs → List ℕ
 regs_text regs =
     codes "I=" ++ digits_in 5 regs.i ++ codes " A=" ++ digits_in 5 regs.a ++ codes " B=" ++ digits_in 5 regs.b
