@@ -1,5 +1,5 @@
 -- What the console replies (own), without the line feed behind it.
-use Rattle.std.specs.Prelude.{ℕ, ◌-◌, Bool, if◌then◌else◌, List, [], ◌∷◌, ◌++◌, length, map, replicate, slice_index, codes}
+use Rattle.std.specs.Prelude.{◌≡◌, ℕ, ◌-◌, Bool, if◌then◌else◌, List, [], ◌∷◌, ◌++◌, length, map, replicate, slice_index, Ok, codes}
 use Rattle.std.specs.List.{flat_map, zip}
 use Rattle.std.specs.Fmt.{decimal}
 use Rattle.bcd_1401.specs.declared.cell.Cell.{Cell}
@@ -15,6 +15,7 @@ use Rattle.room_1401.specs.declared.fault.RoomFault.{RoomFault}
 use Rattle.room_1401.specs.declared.fault.RoomFault.TheVariants as room_fault
 use Rattle.console_1401.specs.declared.line.LineFault.{LineFault}
 use Rattle.console_1401.specs.declared.line.LineFault.TheVariants as line_fault
+use Rattle.console_1401.specs.ConsoleLine.{spelled, cells_of}
 
 -- a number in decimal digits, with zeros in front where it has fewer than the width; one that has more has them all
 abbrev pub digits_in : ℕ → ℕ → List ℕ
@@ -101,6 +102,14 @@ answer_text (answer.Cells cells) = cells_text cells
 answer_text (answer.Regs regs) = regs_text regs
 answer_text (answer.Ran steps why i) = ran_text steps why i
 answer_text (answer.Refused why) = refusal_text why
+
+-- cells that are shown are read again from their text, as DEPOSIT reads one
+abbrev pub IsReadAgain : Answer → List ℕ → Type 0
+IsReadAgain answer.Done text = Unit {0}
+IsReadAgain (answer.Cells cells) text = cells_of (spelled text) ≡ Ok cells
+IsReadAgain (answer.Regs regs) text = Unit {0}
+IsReadAgain (answer.Ran steps why i) text = Unit {0}
+IsReadAgain (answer.Refused why) text = Unit {0}
 
 -- a line that can't be read
 abbrev pub fault_text : LineFault → List ℕ

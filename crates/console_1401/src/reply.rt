@@ -1,6 +1,7 @@
 //! The texts of replies, without the line feed behind them.
-ghost use Rattle.std.specs.Prelude.{◌≡◌, ◌++◌, IfOk, OnOk};
-ghost use Rattle.console_1401.specs.ReplyText.{answer_text, cell_text, cells_text, regs_text, ran_text, digits_in, flag_text, switch_text, switches_text, stop_name, stop_number, refusal_text, fault_text, room_fault_text};
+ghost use Rattle.std.specs.Prelude.{◌≡◌, [], ◌∷◌, ◌++◌, map, IfOk, OnOk};
+ghost use Rattle.console_1401.specs.ConsoleLine.{spelled};
+ghost use Rattle.console_1401.specs.ReplyText.{answer_text, IsReadAgain, cell_text, cells_text, regs_text, ran_text, digits_in, flag_text, switch_text, switches_text, stop_name, stop_number, refusal_text, fault_text, room_fault_text};
 
 use crate::line::LineFault;
 use bcd_1401::Cell;
@@ -15,7 +16,10 @@ use std::alloc::{AllocError, Global};
 /// Where the memory for the text is refused.
 #[tactic(auto, unfolding(crate::specs::ReplyText::answer_text))]
 pub fn reply_text(alloc: Global, answer: &Answer) -> Result<Vec<u8>, AllocError>
-    ensures { IfOk result (λ text. text.items ≡ answer_text answer.now) }
+    ensures text { IfOk result (λ text. text.items ≡ answer_text answer.now) }
+
+    // Cells that are shown can be deposited as they stand.
+    ensures again { IfOk result (λ text. IsReadAgain answer.now text.items) }
 {
     match answer {
         Answer::Done => Vec::from_slice(alloc, b"OK"),
@@ -29,7 +33,8 @@ pub fn reply_text(alloc: Global, answer: &Answer) -> Result<Vec<u8>, AllocError>
 /// Cells by their graphics, each marked one with a tilde in front of it.
 #[tactic(auto, unfolding(crate::specs::ReplyText::cells_text))]
 fn cells_reply(alloc: Global, cells: &[Cell]) -> Result<Vec<u8>, AllocError>
-    ensures { IfOk result (λ text. text.items ≡ cells_text cells.now) }
+    ensures text { IfOk result (λ text. text.items ≡ cells_text cells.now) }
+    ensures again { IfOk result (λ text. spelled text.items ≡ map Some cells.now) }
 {
     let mut text = Vec::new(alloc);
     for cell in cells {
@@ -40,7 +45,8 @@ fn cells_reply(alloc: Global, cells: &[Cell]) -> Result<Vec<u8>, AllocError>
 
 /// Adds a cell by its graphic, with a tilde in front of it where it has a word mark.
 fn put_cell(text: &mut Vec<u8>, cell: Cell) -> Result<(), AllocError>
-    ensures { OnOk result (text.new.items ≡ text.old.items ++ cell_text cell) }
+    ensures text { OnOk result (text.new.items ≡ text.old.items ++ cell_text cell) }
+    ensures again { OnOk result (spelled (cell_text cell) ≡ Some cell ∷ []) }
 {
     if cell.mark {
         text.push(b'~')?;
