@@ -6,7 +6,7 @@ use Rattle.bcd_1401.specs.declared.cell.Cell.{Cell}
 use Rattle.bcd_1401.specs.Graphic.{graphics}
 use Rattle.cpu_1401.specs.declared.regs.Regs.{Regs}
 use Rattle.cpu_1401.specs.declared.stop.Stop.{Stop}
-use Rattle.cpu_1401.specs.declared.stop.Stop.TheVariants as stop
+use Rattle.cpu_1401.specs.Stop.{stop_number, stop_name}
 use Rattle.room_1401.specs.declared.answer.Answer.{Answer}
 use Rattle.room_1401.specs.declared.answer.Answer.TheVariants as answer
 use Rattle.room_1401.specs.declared.answer.Refusal.{Refusal}
@@ -50,38 +50,6 @@ regs_text regs =
     ++ codes " SWITCHES=" ++ switches_text regs.switches
     ++ codes " HOPPER=" ++ digits_in 3 regs.hopper ++ codes " STACKER=" ++ digits_in 3 regs.stacker
     ++ codes " PAPER=" ++ digits_in 3 regs.paper ++ codes " FORM=" ++ digits_in 4 regs.form ++ codes " LINE=" ++ digits_in 2 regs.line
-
--- the number of a stop
-abbrev pub stop_number : Stop → ℕ
-stop_number stop.Limit = 1
-stop_number stop.Halt = 2
-stop_number stop.Reader = 3
-stop_number stop.Forms = 4
-stop_number stop.Stacker = 5
-stop_number stop.NoMark = 6
-stop_number stop.OpCode = 7
-stop_number stop.Length = 8
-stop_number stop.Address = 9
-stop_number stop.Overlap = 10
-stop_number stop.Carriage = 11
-stop_number stop.NotFitted = 12
-stop_number stop.DChar = 13
-
--- the name of a stop
-abbrev pub stop_name : Stop → List ℕ
-stop_name stop.Limit = codes "LIMIT"
-stop_name stop.Halt = codes "HALT"
-stop_name stop.Reader = codes "READER"
-stop_name stop.Forms = codes "FORMS"
-stop_name stop.Stacker = codes "STACKER"
-stop_name stop.NoMark = codes "NOMARK"
-stop_name stop.OpCode = codes "OPCODE"
-stop_name stop.Length = codes "LENGTH"
-stop_name stop.Address = codes "ADDRESS"
-stop_name stop.Overlap = codes "OVERLAP"
-stop_name stop.Carriage = codes "CARRIAGE"
-stop_name stop.NotFitted = codes "NOTFITTED"
-stop_name stop.DChar = codes "DCHAR"
 
 -- a run: the stop by number and name, how many instructions were carried out, and the I register
 unfoldable pub ran_text : ℕ → Stop → ℕ → List ℕ

@@ -1,7 +1,7 @@
 //! The texts of replies, without the line feed behind them.
 ghost use Rattle.std.specs.Prelude.{◌≡◌, [], ◌∷◌, ◌++◌, map, IfOk, OnOk};
 ghost use Rattle.console_1401.specs.ConsoleLine.{spelled};
-ghost use Rattle.console_1401.specs.ReplyText.{answer_text, IsReadAgain, cell_text, cells_text, regs_text, ran_text, digits_in, flag_text, switch_text, switches_text, stop_name, stop_number, refusal_text, fault_text, room_fault_text};
+ghost use Rattle.console_1401.specs.ReplyText.{answer_text, IsReadAgain, cell_text, cells_text, regs_text, ran_text, digits_in, flag_text, switch_text, switches_text, refusal_text, fault_text, room_fault_text};
 
 use crate::line::LineFault;
 use bcd_1401::Cell;
@@ -81,9 +81,9 @@ fn ran_reply(alloc: Global, steps: u32, stop: Stop, i: u16) -> Result<Vec<u8>, A
     ensures { IfOk result (λ text. text.items ≡ ran_text steps stop i) }
 {
     let mut text = Vec::new(alloc);
-    put_number(&mut text, b"STOP ", 2, number_of_stop(stop))?;
+    put_number(&mut text, b"STOP ", 2, u32::from(stop.number()))?;
     text.extend_from_slice(b" ")?;
-    text.extend_from_slice(name_of_stop(stop))?;
+    text.extend_from_slice(stop.name().as_bytes())?;
     put_number(&mut text, b" STEPS ", 1, steps)?;
     put_number(&mut text, b" I ", 5, u32::from(i))?;
     Ok(text)
@@ -134,34 +134,6 @@ fn switch_letter(on: bool, letter: u8) -> u8
     ensures { result ≡ switch_text on letter }
 {
     if on { letter } else { b'-' }
-}
-
-/// The number of a stop.
-fn number_of_stop(stop: Stop) -> u32
-    ensures { result ≡ stop_number stop }
-{
-    stop as u32
-}
-
-/// The name of a stop.
-fn name_of_stop(stop: Stop) -> &'static [u8]
-    ensures { result.now ≡ stop_name stop }
-{
-    match stop {
-        Stop::Limit => b"LIMIT",
-        Stop::Halt => b"HALT",
-        Stop::Reader => b"READER",
-        Stop::Forms => b"FORMS",
-        Stop::Stacker => b"STACKER",
-        Stop::NoMark => b"NOMARK",
-        Stop::OpCode => b"OPCODE",
-        Stop::Length => b"LENGTH",
-        Stop::Address => b"ADDRESS",
-        Stop::Overlap => b"OVERLAP",
-        Stop::Carriage => b"CARRIAGE",
-        Stop::NotFitted => b"NOTFITTED",
-        Stop::DChar => b"DCHAR",
-    }
 }
 
 /// The text of a refusal.

@@ -4,3 +4,4 @@ pub mod Operation
 pub mod Run
 pub mod State
 pub mod Step
+pub mod Stop

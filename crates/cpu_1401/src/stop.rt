@@ -1,4 +1,6 @@
 //! Why the machine stops.
+ghost use Rattle.std.specs.Prelude.{◌≡◌, Some};
+ghost use Rattle.cpu_1401.specs.Stop.{stop_number, stop_name};
 
 use fields_1401::FieldStop;
 use std::fmt;
@@ -34,9 +36,19 @@ pub enum Stop {
     DChar = 13,
 }
 
-impl fmt::Display for Stop {
-    fn fmt<W: fmt::Write>(&self, f: &mut fmt::Formatter<W>) -> fmt::Result {
-        f.write_str(match self {
+impl Stop {
+    /// The number.
+    pub fn number(self) -> u8
+        ensures { result ≡ stop_number self }
+    {
+        self as u8
+    }
+
+    /// The name.
+    pub fn name(self) -> &'static str
+        ensures { result.now ≡ stop_name self }
+    {
+        match self {
             Stop::Limit => "LIMIT",
             Stop::Halt => "HALT",
             Stop::Reader => "READER",
@@ -50,12 +62,19 @@ impl fmt::Display for Stop {
             Stop::Carriage => "CARRIAGE",
             Stop::NotFitted => "NOTFITTED",
             Stop::DChar => "DCHAR",
-        })
+        }
+    }
+}
+
+impl fmt::Display for Stop {
+    ghost output = { λ stop. Some (stop_name stop) };
+
+    fn fmt<W: fmt::Write>(&self, f: &mut fmt::Formatter<W>) -> fmt::Result {
+        f.write_str(self.name())
     }
 }
 
 impl From<FieldStop> for Stop {
-    ghost use Rattle.std.specs.Prelude.{◌≡◌};
     ghost use Rattle.cpu_1401.specs.FieldStop.{stop_of};
 
     ghost from_gives = { λ stop why. why ≡ stop_of stop };

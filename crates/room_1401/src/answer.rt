@@ -2,7 +2,6 @@
 
 use core_1401::Cells;
 use cpu_1401::{Regs, Stop};
-use std::fmt;
 
 /// What a command is answered.
 #[derive(Clone, Copy, Debug, PartialEq, Eq)]
@@ -35,14 +34,4 @@ pub enum Refusal {
     Limit = 5,
     /// 6: the count isn't from 1 to 40; this is looked at before the places.
     Count = 6,
-}
-
-impl fmt::Display for Refusal {
-    fn fmt<W: fmt::Write>(&self, f: &mut fmt::Formatter<W>) -> fmt::Result {
-        f.write_str(match self {
-            Refusal::Address => "ADDRESS",
-            Refusal::Limit => "LIMIT",
-            Refusal::Count => "COUNT",
-        })
-    }
 }

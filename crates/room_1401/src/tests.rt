@@ -42,7 +42,7 @@ fn each_refusal_is_recorded(rt: HostRuntime) -> Result<(), Fail> {
         (Command::Run { limit: 1_000_001 }, Refusal::Limit),
     ] {
         let answer = room.carry(3, command).ok();
-        assert_eq!(rt; answer, Some(Answer::Refused(refusal)), "{refusal}");
+        assert_eq!(rt; answer, Some(Answer::Refused(refusal)), "{refusal:?}");
     }
     assert_eq!(rt; room.journal().len(), 6);
     assert!(rt; room.journal().iter().all(|entry| entry.seat == 3));
