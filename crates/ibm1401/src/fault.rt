@@ -5,6 +5,9 @@ use thiserror::Error;
 /// What a run of the program may fail by. Each is one line on standard error.
 #[derive(Debug, Drop, Error)]
 pub enum Fault {
+    /// A word of the command line isn't UTF-8.
+    #[error("command line refused: it isn't UTF-8")]
+    Text,
     /// No core storage of the size named is made.
     #[error("size refused")]
     Size,

@@ -12,14 +12,16 @@ use crate::fault::Fault;
 use crate::subcommands::console;
 use clap::error::ErrorKind;
 use std::process::ExitCode;
+use std::rt::Env;
 use std::{env, io};
 
 /// The status of a command line that can't be read.
 const MISUSED: u8 = 2;
 
 fn main(rt: HostRuntime) -> io::Result<ExitCode> {
-    let Ok(words) = env::args(&rt)?.collect::<Vec<String>>(rt.alloc()) else {
-        return end(&rt, Err(Fault::Memory));
+    let words = match command_line(&rt) {
+        Ok(words) => words,
+        Err(fault) => return end(&rt, Err(fault)),
     };
     match read_call(rt.alloc(), words.as_slice()) {
         Ok(Call::Console { size }) => end(&rt, console(&rt, size)),
@@ -32,13 +34,28 @@ fn main(rt: HostRuntime) -> io::Result<ExitCode> {
     }
 }
 
+/// The words of the command line, the program's own name in front.
+///
+/// # Errors
+///
+/// `Text` where one of them isn't UTF-8, or `Memory`.
+fn command_line(rt: &(impl Env + AllocGlobal)) -> Result<Vec<String>, Fault> {
+    let words = match env::args(rt) {
+        Ok(words) => words,
+        Err(error) if error.kind() == io::ErrorKind::InvalidData => return Err(Fault::Text),
+        Err(_) => return Err(Fault::Memory),
+    };
+    words.collect(rt.alloc()).map_err(|_| Fault::Memory)
+}
+
 /// Tells a fault in one line on standard error, and gives the exit status.
 fn end(rt: &impl Eprint, outcome: Result<(), Fault>) -> io::Result<ExitCode> {
-    match outcome {
-        Ok(()) => Ok(ExitCode::SUCCESS),
-        Err(fault) => {
-            eprintln!(rt; "ibm1401: {fault}")?;
-            Ok(ExitCode::FAILURE)
-        }
-    }
+    let Err(fault) = outcome else {
+        return Ok(ExitCode::SUCCESS);
+    };
+    eprintln!(rt; "ibm1401: {fault}")?;
+    Ok(match fault {
+        Fault::Text => ExitCode::from(MISUSED),
+        Fault::Size | Fault::Memory | Fault::Session(_) => ExitCode::FAILURE,
+    })
 }
