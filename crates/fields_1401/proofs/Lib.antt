@@ -13,6 +13,5 @@ mod PartExamples
 mod PartLemmas
 pub mod PassLemmas
 pub mod PlaceLemmas
-mod PlacesLemmas
 pub mod SumLemmas
 pub mod WrittenLemmas

@@ -9,7 +9,7 @@ use Rattle.bcd_1401.specs.declared.cell.Cell.{Cell}
 use Rattle.core_1401.specs.Storage.{Storage, blank, cell_at}
 use Rattle.core_1401.specs.Field.{cells_down, field_len_of, field_at}
 use Rattle.fields_1401.specs.Move.{loaded}
-use Rattle.fields_1401.proofs.PlacesLemmas.{within, cell_at-within, length-with_cells}
+use Rattle.fields_1401.proofs.WrittenLemmas.{is_within-inside, cell_at-within, length-with_cells}
 use Rattle.fields_1401.proofs.MoveLemmas.{length-loaded}
 
 -- there is a cell for each place from an address down
@@ -56,7 +56,7 @@ get_or-loaded storage a b n i a_in b_in lt in_a in_b =
     let after = loaded storage a b n in
     let size : length after ≡ length storage = length-with_cells storage b n (λ k. cell_at storage (a - k)) in
     get_or-cells_down after b i (omega arith) in_b
-    ∙ cell_at-within storage b n (λ k. cell_at storage (a - k)) (b - i) (omega arith) (within b n (b - i) (omega arith) (omega arith))
+    ∙ cell_at-within storage b n (λ k. cell_at storage (a - k)) (b - i) (omega arith) (is_within-inside b n (b - i) (omega arith) (omega arith))
     ∙ ap (cell_at storage) (omega arith) ∙ sym (get_or-cells_down storage a i a_in in_a)
 
 -- a load brings the field that it was asked for

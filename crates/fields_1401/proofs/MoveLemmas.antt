@@ -6,7 +6,7 @@ use Rattle.std.proofs.lemmas.Bool.Decides.{nat_tests}
 use Rattle.bcd_1401.specs.declared.cell.Cell.{Cell}
 use Rattle.core_1401.specs.Storage.{Storage, cell_at, with_char}
 use Rattle.fields_1401.specs.Places.{is_within, with_chars, rewritten_cell}
-use Rattle.fields_1401.proofs.PlacesLemmas.{length-with_cells, cell_at-within, cell_at-outside, within, above, below, with_cells_none, with_cells_more, with_chars_none, with_chars_more}
+use Rattle.fields_1401.proofs.WrittenLemmas.{length-with_cells, cell_at-within, cell_at-outside, is_within-inside, is_within-above, is_within-below, with_cells_none, with_cells_more, with_chars_none, with_chars_more}
 use Rattle.fields_1401.specs.Move.{source_of, moved, loaded, is_overwritten}
 
 -- where the B field begins above the A field, or further below it than the i-th place, a character is its own source
@@ -30,11 +30,11 @@ source-moved storage a b i a_in b_in in_a in_b =
     λ out e. ap (λ (cell : Cell). cell.char) (cell_at-outside storage b i moved_cell (a - i) (omega arith) out ∙ ap (cell_at storage) (sym e)) in
     elim (cases_lt b a) [
       | inl lt ↦ elim (cases_lt (b + i) a) [
-        | inl far ↦ unmoved (above b i (a - i) (omega arith)) (source_before a b i far)
-        | inr near ↦ ap (λ (cell : Cell). cell.char) (cell_at-within storage b i moved_cell (a - i) (omega arith) (within b i (a - i) (omega arith) (omega arith)))
+        | inl far ↦ unmoved (is_within-above b i (a - i) (omega arith)) (source_before a b i far)
+        | inr near ↦ ap (λ (cell : Cell). cell.char) (cell_at-within storage b i moved_cell (a - i) (omega arith) (is_within-inside b i (a - i) (omega arith) (omega arith)))
             ∙ ap (λ q. (cell_at storage q).char) (source_again a b i (b - (a - i)) lt (omega arith))
       ]
-      | inr le ↦ unmoved (below b i (a - i) (omega arith)) (source_far a b i le)
+      | inr le ↦ unmoved (is_within-below b i (a - i) (omega arith)) (source_far a b i le)
     ]
 
 -- before a move nothing is moved

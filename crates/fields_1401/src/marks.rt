@@ -15,7 +15,7 @@ use core_1401::Core;
 /// # Errors
 ///
 /// `Address` where one of the places isn't in core.
-#[tactic(auto, using(crate::proofs::PlacesLemmas::chars_stay))]
+#[tactic(auto, using(crate::proofs::WrittenLemmas::chars_stay))]
 pub fn set_marks(core: &mut Core, a: u16, b: u16) -> Result<Done, FieldStop>
     requires a { a < 16000 }
     requires b { b < 16000 }
@@ -38,7 +38,7 @@ pub fn set_marks(core: &mut Core, a: u16, b: u16) -> Result<Done, FieldStop>
 /// # Errors
 ///
 /// `Address` where one of the places isn't in core.
-#[tactic(auto, using(crate::proofs::PlacesLemmas::chars_stay))]
+#[tactic(auto, using(crate::proofs::WrittenLemmas::chars_stay))]
 pub fn clear_marks(core: &mut Core, a: u16, b: u16) -> Result<Done, FieldStop>
     requires a { a < 16000 }
     requires b { b < 16000 }
