@@ -1,17 +1,17 @@
 mod ArithmeticExamples
-pub mod DigitLemmas
+mod BelowLemmas
+mod CellsDownLemmas
+mod DigitLemmas
 mod ExampleCells
-pub mod LawLemmas
+mod LawLemmas
 mod LengthLemmas
 mod LoadLemmas
 mod MarkExamples
 mod MarkLemmas
 mod MoveExamples
 mod MoveLemmas
-pub mod PairLemmas
 mod PartExamples
 mod PartLemmas
-pub mod PassLemmas
-pub mod PlaceLemmas
-pub mod SumLemmas
-pub mod WrittenLemmas
+mod PassLemmas
+mod SumLemmas
+mod WrittenLemmas

@@ -1,39 +1,15 @@
 -- After a load the field at b is the field that stood at a.
 use Rattle.std.proofs.Common.{◌≡◌, ℕ, ◌+◌, ◌-◌, ◌<◌, ◌≤◌, Bool, List, Option, Some, None, length, get_or, take, position, refl, ap, sym, ◌∙◌, arith}
-use Rattle.std.proofs.lemmas.Bool.{lt-ltb}
-use Rattle.std.proofs.lemmas.List.{ext_get_or, get_or-take, get_or-reverse, length-take-le, length-reverse}
+use Rattle.std.proofs.lemmas.List.{ext_get_or, get_or-take, length-take-le}
 use Rattle.std.proofs.lemmas.List.Quantifiers.{position-Some}
-use Rattle.std.proofs.lemmas.List.Sums.{position_or_len_is}
 use Rattle.std.specs.Option.{option_map}
 use Rattle.bcd_1401.specs.declared.cell.Cell.{Cell}
 use Rattle.core_1401.specs.Storage.{Storage, blank, cell_at}
 use Rattle.core_1401.specs.Field.{cells_down, field_len_of, field_at}
 use Rattle.fields_1401.specs.Move.{loaded}
+use Rattle.fields_1401.proofs.CellsDownLemmas.{length-cells_down, get_or-cells_down, same_first_mark}
 use Rattle.fields_1401.proofs.WrittenLemmas.{is_within-inside, cell_at-within, length-with_cells}
 use Rattle.fields_1401.proofs.MoveLemmas.{length-loaded}
-
--- there is a cell for each place from an address down
-length-cells_down : (storage : Storage) (at : ℕ) → at < length storage → length (cells_down storage at) ≡ at + 1
-length-cells_down storage at in_core =
-    rw (lt-ltb at (length storage) in_core) (length-reverse (take (at + 1) storage) ∙ length-take-le (at + 1) storage (omega arith))
-
--- the i-th of them
-get_or-cells_down : (storage : Storage) (at i : ℕ) → at < length storage → i ≤ at → get_or (cells_down storage at) i blank ≡ cell_at storage (at - i)
-get_or-cells_down storage at i in_core le =
-    let size : length (take (at + 1) storage) ≡ at + 1 = length-take-le (at + 1) storage (omega arith) in
-    let place : length (take (at + 1) storage) - 1 - i ≡ at - i = omega arith in
-    rw (lt-ltb at (length storage) in_core) (get_or-reverse (take (at + 1) storage) i blank (omega arith)
-    ∙ ap (λ q. get_or (take (at + 1) storage) q blank) place ∙ get_or-take (at + 1) storage (at - i) blank (omega arith))
-
--- the first word mark stands at the same place where the cells up to it are the same
-same_first_mark : (xs ys : List Cell) (k : ℕ) → position (λ (cell : Cell). cell.mark) xs ≡ Some k → k < length ys
-    → ((i : ℕ) → i ≤ k → get_or ys i blank ≡ get_or xs i blank) → position (λ (cell : Cell). cell.mark) ys ≡ Some k
-same_first_mark xs ys k first lt same =
-    let has_mark : Cell → Bool = λ cell. cell.mark in
-    let marks = position-Some has_mark xs k blank first in
-    let index = position_or_len_is has_mark ys k blank (omega arith)
-    (λ i before. ap has_mark (same i (omega arith)) ∙ marks.2 i before) (λ _. ap has_mark (same k (omega arith)) ∙ marks.1) in
-    rw (index, lt-ltb k (length ys) lt) refl
 
 -- lists that begin with the same n cells
 take_same : (xs ys : List Cell) (n : ℕ) → n ≤ length xs → n ≤ length ys → ((i : ℕ) → i < n → get_or xs i blank ≡ get_or ys i blank) → take n xs ≡ take n ys
@@ -71,7 +47,7 @@ field_at-loaded storage a b k a_in b_in b_places first =
     let in_xs : k < length xs = (position-Some (λ (cell : Cell). cell.mark) xs k blank first).0 in
     let same : (i : ℕ) → i ≤ k → get_or ys i blank ≡ get_or xs i blank =
     λ i le. get_or-loaded storage a b (k + 1) i a_in b_in (omega arith) (omega arith) (omega arith) in
-    field_at-mark after b k (same_first_mark xs ys k first (omega arith) same)
+    field_at-mark after b k (same_first_mark xs ys k first (omega arith) (λ i le. ap (λ (cell : Cell). cell.mark) (same i le)))
     ∙ ap (λ cells. Some cells) (take_same ys xs (k + 1) (omega arith) (omega arith) (λ i lt. same i (omega arith)))
     ∙ sym (field_at-mark storage a k first)
 

@@ -1,10 +1,10 @@
 //! Fields compared.
-ghost use Rattle.std.specs.Prelude.{◌≡◌, ◌+◌, ◌≤◌, ◌<◌, IfSome, length};
+ghost use Rattle.std.specs.Prelude.{◌≡◌, ◌+◌, ◌≤◌, ◌<◌, length};
 ghost use Rattle.std.specs.List.{list_any, range_with_len};
-ghost use Rattle.core_1401.specs.Field.{pair_len_of};
 ghost use Rattle.fields_1401.specs.Compare.{comparison_at, is_unequal_pair};
 
 use crate::done::{Done, FieldStop};
+use crate::lengths::pair_len;
 use crate::registers::{below, registers};
 use core_1401::Core;
 
@@ -19,7 +19,7 @@ pub fn compare(core: &Core, a: u16, b: u16) -> Result<Done, FieldStop>
     requires b { b < 16000 }
     ensures { result ≡ comparison_at core.now a b }
 {
-    let Some(n) = pairs(core, a, b) else {
+    let Some(n) = pair_len(core, a, b) else {
         return Err(FieldStop::Address);
     };
     let ends_first = core.get(a + 1 - n).mark && !core.get(b + 1 - n).mark;
@@ -27,20 +27,6 @@ pub fn compare(core: &Core, a: u16, b: u16) -> Result<Done, FieldStop>
         unequal: differ(core, a, b, n) || ends_first,
         ..registers(below(a, n), below(b, n))
     })
-}
-
-/// How many pairs of places there are, up to and including the first word mark in either field; none where one of them isn't
-/// in core.
-fn pairs(core: &Core, a: u16, b: u16) -> Option<u16>
-    ensures value { result ≡ pair_len_of core.now a b }
-    ensures a { IfSome result (λ n. (0 < n) × (n ≤ a + 1) × (a < length core.now)) }
-    ensures b { IfSome result (λ n. (n ≤ b + 1) × (b < length core.now)) }
-{
-    if core.in_core(a) && core.in_core(b) {
-        core.pair_len(a, b)
-    } else {
-        None
-    }
 }
 
 /// Whether two characters of so many pairs differ.

@@ -17,6 +17,7 @@ pub(crate) fn are_in_core(core: &Core, a: u16, b: u16) -> bool
 pub(crate) fn field_len(core: &Core, at: u16) -> Option<u16>
     ensures value { result ≡ field_len_of core.now at }
     ensures in_core { IfSome result (λ n. at < length core.now) }
+    ensures some { IfSome result (λ n. 0 < n) }
     ensures places { IfSome result (λ n. n ≤ at + 1) }
 {
     if !core.in_core(at) {
@@ -32,6 +33,7 @@ pub(crate) fn pair_len(core: &Core, a: u16, b: u16) -> Option<u16>
     ensures value { result ≡ pair_len_of core.now a b }
     ensures a_in { IfSome result (λ n. a < length core.now) }
     ensures b_in { IfSome result (λ n. b < length core.now) }
+    ensures some { IfSome result (λ n. 0 < n) }
     ensures a_places { IfSome result (λ n. n ≤ a + 1) }
     ensures b_places { IfSome result (λ n. n ≤ b + 1) }
 {

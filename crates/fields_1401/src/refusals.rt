@@ -5,6 +5,7 @@ ghost use Rattle.fields_1401.specs.Number.{places_down, sign_of};
 ghost use Rattle.fields_1401.specs.Refusal.{part_len_of, needed_at, is_overlap, lengths_at};
 
 use crate::done::FieldStop;
+use crate::lengths::field_len;
 use crate::sign::Sign;
 use core_1401::Core;
 
@@ -56,7 +57,7 @@ impl Operands {
     }
 
     /// The sign of the used part of A.
-    #[tactic(auto, using(crate::proofs::PlaceLemmas::char_down))]
+    #[tactic(auto, using(crate::proofs::CellsDownLemmas::char_down))]
     pub(crate) fn a_sign(self, core: &Core) -> Sign
         requires { self.a < length core.now }
         ensures { result ≡ sign_of (places_down core.now self.a self.used) }
@@ -65,7 +66,7 @@ impl Operands {
     }
 
     /// The sign of the B field.
-    #[tactic(auto, using(crate::proofs::PlaceLemmas::char_down))]
+    #[tactic(auto, using(crate::proofs::CellsDownLemmas::char_down))]
     pub(crate) fn b_sign(self, core: &Core) -> Sign
         requires { self.b < length core.now }
         ensures { result ≡ sign_of (places_down core.now self.b self.len) }
@@ -83,21 +84,9 @@ fn needed(core: &Core, a: u16, b: u16) -> Option<(u16, u16)>
     ensures field { IfSome result (λ taken. field_len_of core.now b ≡ Some taken.1) }
     ensures in_core { IfSome result (λ taken. (a < length core.now) × (b < length core.now)) }
 {
-    let len = whole_len(core, b)?;
+    let len = field_len(core, b)?;
     let used = part_len(core, a, len)?;
     Some((used, len))
-}
-
-/// The length of the B field; none where it doesn't exist.
-fn whole_len(core: &Core, b: u16) -> Option<u16>
-    ensures value { result ≡ field_len_of core.now b }
-    ensures bounds { IfSome result (λ n. (0 < n) × (n ≤ b + 1) × (b < length core.now)) }
-{
-    if core.in_core(b) {
-        core.field_len(b)
-    } else {
-        None
-    }
 }
 
 /// How many places of A are used beside so many of B: down to its first word mark, but no more than those; none where one of
