@@ -16,3 +16,7 @@ digit_of code = digit_by (code % 16)
 -- the same low bits under another zone
 abbrev pub with_zone_of : ℕ → ℕ → ℕ
 with_zone_of code zone = 16 * zone + code % 16
+
+-- the character of a digit under a zone: zero is 8-2
+abbrev pub digit_under : ℕ → ℕ → ℕ
+digit_under zone digit = 16 * zone + (if digit == 0 then 10 else digit)

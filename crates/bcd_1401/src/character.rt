@@ -1,6 +1,6 @@
 //! A character by its code, its zone and its digit.
 ghost use Rattle.std.specs.Prelude.{◌≡◌, ◌<◌, ◌≤◌, nat_lt, if◌then◌else◌};
-ghost use Rattle.bcd_1401.specs.Character.{zone_of, digit_of, with_zone_of};
+ghost use Rattle.bcd_1401.specs.Character.{zone_of, digit_of, with_zone_of, digit_under};
 
 use std::marker::Model;
 
@@ -37,6 +37,20 @@ impl Char {
             Some(Char { code })
         } else {
             None
+        }
+    }
+
+    /// The character of a digit under a zone: zero is 8-2.
+    pub fn of_digit(digit: u8, zone: u8) -> Char
+        requires digit { digit ≤ 9 }
+        requires zone { zone < 4 }
+        ensures value { result ≡ digit_under zone digit }
+        ensures digit { digit_of result ≡ digit }
+        ensures zone { zone_of result ≡ zone }
+    {
+        let low = if digit == 0 { 10 } else { digit };
+        Char {
+            code: 16 * zone + low,
         }
     }
 

@@ -61,6 +61,23 @@ fn a_zone_goes_over_the_low_bits(rt: HostRuntime) {
 }
 
 #[test]
+fn a_digit_stands_under_a_zone(rt: HostRuntime) {
+    for (digit, zone, graphic) in [
+        (5, 0, b'5'),
+        (5, 2, b'N'),
+        (9, 3, b'I'),
+        (1, 1, b'/'),
+        (0, 0, b'0'),
+        (0, 1, b'\''),
+        (0, 2, b'!'),
+        (0, 3, b'?'),
+    ] {
+        let char = Char::of_digit(digit, zone);
+        assert_eq!(rt; char.graphic(), graphic, "{digit} under {zone}");
+    }
+}
+
+#[test]
 fn a_cell_has_a_character_and_a_mark(rt: HostRuntime) {
     let Some(char) = Char::from_code(5) else {
         return;

@@ -1,15 +1,11 @@
 -- Addresses of three characters, and index registers (A24-1403, "Addressing", "Indexing").
 use Rattle.std.specs.Prelude.{ℕ, ◌+◌, ◌*◌, ◌/◌, ◌%◌, ◌==◌, ◌&&◌, nat_le, Bool, List, [], ◌∷◌, if◌then◌else◌}
-use Rattle.bcd_1401.specs.Character.{digit_of, zone_of}
+use Rattle.bcd_1401.specs.Character.{digit_of, digit_under, zone_of}
 use Rattle.core_1401.specs.Storage.{Storage, cell_at}
 
 -- the value of the characters h, t and u, before indexing
 abbrev pub value_of : ℕ → ℕ → ℕ → ℕ
 value_of h t u = 100 * digit_of h + 10 * digit_of t + digit_of u + 1000 * zone_of h + 4000 * zone_of u
-
--- the character of a digit under a zone: zero is 8-2
-abbrev pub digit_under : ℕ → ℕ → ℕ
-digit_under zone digit = 16 * zone + (if digit == 0 then 10 else digit)
 
 -- whether the low bits are those of a digit 0 to 9, with 8-2 for zero
 abbrev pub is_digit : ℕ → Bool

@@ -1,7 +1,7 @@
 //! Addresses of three characters.
 ghost use Rattle.std.specs.Prelude.{◌≡◌, ◌<◌, ◌∷◌, [], true, slice_index};
 ghost use Rattle.bcd_1401.specs.Character.{zone_of};
-ghost use Rattle.core_1401.specs.Address.{value_of, spelling_of, digit_under, is_spelled};
+ghost use Rattle.core_1401.specs.Address.{value_of, spelling_of, is_spelled};
 
 use bcd_1401::Char;
 
@@ -23,19 +23,6 @@ pub fn decode(chars: [Char; 3]) -> (u16, u8)
     (digits + zones, t.zone())
 }
 
-/// The character of a digit under a zone: zero is 8-2.
-fn digit_char(zone: u16, digit: u16) -> Char
-    requires zone { zone < 4 }
-    requires digit { digit < 10 }
-    ensures { result ≡ digit_under zone digit }
-{
-    let low = if digit == 0 { 10 } else { digit };
-    match Char::from_code((16 * zone + low) as u8) {
-        Some(char) => char,
-        None => unreachable!(),
-    }
-}
-
 /// The one spelling of an address below 16,000 with the digits 0 to 9 and without an index register.
 pub fn encode(address: u16) -> [Char; 3]
     requires { address < 16000 }
@@ -45,8 +32,8 @@ pub fn encode(address: u16) -> [Char; 3]
     ensures value { value_of (slice_index result 0) (slice_index result 1) (slice_index result 2) ≡ address }
 {
     [
-        digit_char(address / 1_000 % 4, address / 100 % 10),
-        digit_char(0, address / 10 % 10),
-        digit_char(address / 4_000, address % 10),
+        Char::of_digit((address / 100 % 10) as u8, (address / 1_000 % 4) as u8),
+        Char::of_digit((address / 10 % 10) as u8, 0),
+        Char::of_digit((address % 10) as u8, (address / 4_000) as u8),
     ]
 }
