@@ -5,6 +5,9 @@ ghost use Rattle.core_1401.specs.Address.{value_of, spelling_of, is_spelled};
 
 use bcd_1401::Char;
 
+/// How many addresses there are: they go from 0 to 15,999, whatever the size of core storage.
+pub const ADDRESSES: u16 = 16_000;
+
 /// The value of an address before indexing, below 16,000, and the number of its index register, 0 for none.
 pub fn decode(chars: [Char; 3]) -> (u16, u8)
     ensures value { result.0 ≡ value_of (slice_index chars 0) (slice_index chars 1) (slice_index chars 2) }

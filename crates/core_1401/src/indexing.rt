@@ -4,12 +4,9 @@ ghost use Rattle.bcd_1401.specs.Character.{zone_of};
 ghost use Rattle.core_1401.specs.Address.{value_at, effective_at};
 ghost use Rattle.core_1401.specs.Storage.{cell_at};
 
-use crate::address::decode;
+use crate::address::{ADDRESSES, decode};
 use crate::storage::Core;
 use bcd_1401::Cell;
-
-/// How many addresses there are.
-const ADDRESSES: u16 = 16_000;
 
 impl Core {
     /// The address that the three characters from this place on stand for, below 16,000: their value, and with a zone over

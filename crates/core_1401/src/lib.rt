@@ -15,7 +15,7 @@ pub mod indexing;
 pub mod lengths;
 pub mod storage;
 
-pub use address::{decode, encode};
+pub use address::{ADDRESSES, decode, encode};
 pub use cells::{Cells, MOST_CELLS};
 pub use fault::CoreFault;
 pub use storage::Core;

@@ -3,6 +3,7 @@ ghost use Rattle.std.specs.Prelude.{◌≡◌, ◌<◌, ◌≤◌};
 ghost use Rattle.fields_1401.specs.Outcome.{below_by, registers_at};
 
 use crate::done::Done;
+use core_1401::ADDRESSES;
 
 /// The address so many places below, modulo 16,000.
 pub(crate) fn below(at: u16, by: u16) -> u16
@@ -11,7 +12,7 @@ pub(crate) fn below(at: u16, by: u16) -> u16
     ensures value { result ≡ below_by at by }
     ensures range { result < 16000 }
 {
-    (at + 16_000 - by) % 16_000
+    (at + ADDRESSES - by) % ADDRESSES
 }
 
 /// The registers afterwards, and no indicator.
