@@ -4,12 +4,10 @@ ghost use Rattle.std.specs.List.{prefix_len, position_or_len};
 ghost use Rattle.console_1401.specs.Words.{is_blank, is_digit, word_in, behind_word, name_of, keyword_of, number_of, address_of, count_of};
 
 use crate::line::LineFault;
+use core_1401::ADDRESSES;
 
 /// How many digits a number has at the most.
 const MOST_DIGITS: usize = 7;
-
-/// How many addresses there are.
-const ADDRESSES: u32 = 16_000;
 
 /// The words that a line may begin with.
 #[derive(Clone, Copy, Debug, PartialEq, Eq)]
@@ -134,7 +132,7 @@ pub(crate) fn address(word: &[u8]) -> Result<u16, LineFault>
     ensures { result ≡ address_of word.now }
 {
     let number = number(word)?;
-    if number < ADDRESSES {
+    if number < u32::from(ADDRESSES) {
         Ok(number as u16)
     } else {
         Err(LineFault::Number)

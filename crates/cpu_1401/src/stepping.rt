@@ -7,6 +7,7 @@ use crate::instruction::{Instruction, distance};
 use crate::machine::Machine;
 use crate::operation::Operation;
 use crate::stop::Stop;
+use core_1401::ADDRESSES;
 use fields_1401::{clear_marks, load_chars, move_chars, move_digit, move_zone, set_marks};
 
 impl Machine {
@@ -70,7 +71,7 @@ impl Machine {
         } else {
             self.b
         };
-        let next = (self.i + len) % 16_000;
+        let next = (self.i + len) % ADDRESSES;
         Instruction { len, a, b, next }
     }
 
