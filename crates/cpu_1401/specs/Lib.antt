@@ -1,4 +1,3 @@
-pub mod FieldStop
 pub mod Instruction
 pub mod Operation
 pub mod Run

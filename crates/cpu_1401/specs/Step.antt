@@ -12,7 +12,7 @@ use Rattle.cpu_1401.specs.declared.operation.Operation.TheVariants as op
 use Rattle.cpu_1401.specs.declared.stop.Stop.{Stop}
 use Rattle.cpu_1401.specs.declared.stop.Stop.TheVariants as stop
 use Rattle.cpu_1401.specs.Instruction.{begins_at, instruction_of, length_at}
-use Rattle.cpu_1401.specs.FieldStop.{stop_of}
+use Rattle.cpu_1401.specs.Stop.{stop_of}
 use Rattle.cpu_1401.specs.Operation.{operation_of, is_fitted, has_length}
 use Rattle.cpu_1401.specs.State.{State}
 

@@ -1,7 +1,7 @@
 //! Operations on fields, and clearing storage.
 ghost use Rattle.std.specs.Prelude.{◌≡◌, ◌<◌, Some, None, IfOk, IfErr, length};
 ghost use Rattle.std.specs.Result.{ForOk};
-ghost use Rattle.cpu_1401.specs.FieldStop.{stop_of};
+ghost use Rattle.cpu_1401.specs.Stop.{stop_of};
 ghost use Rattle.cpu_1401.specs.Step.{after_clear};
 ghost use Rattle.fields_1401.specs.Marks.{clear_down_at};
 

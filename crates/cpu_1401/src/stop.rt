@@ -75,7 +75,7 @@ impl fmt::Display for Stop {
 }
 
 impl From<FieldStop> for Stop {
-    ghost use Rattle.cpu_1401.specs.FieldStop.{stop_of};
+    ghost use Rattle.cpu_1401.specs.Stop.{stop_of};
 
     ghost from_gives = { λ stop why. why ≡ stop_of stop };
 
