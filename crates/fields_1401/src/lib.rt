@@ -2,9 +2,10 @@
 //! changed.
 //!
 //! ```text
-//! let done = move_chars(&mut core, 510, 509)?;    // the A field to the B field, right to left
-//! done.b                                          // the B register afterwards
-//! add(&mut core, 709, 720)?.overflow              // whether the B field is too short for the sum
+//! let moved = move_chars(&mut core, 510, 509)?;   // the A field to the B field, right to left
+//! moved.b                                         // the B register afterwards
+//! let sum = add(&mut core, 709, 720)?;            // the B field is then the sum of both
+//! sum.overflow                                    // whether the B field is too short for it
 //! ```
 #![tactic(auto)]
 
@@ -33,7 +34,5 @@ pub use parts::{move_digit, move_zone};
 pub use sign::Sign;
 pub use zero_sums::{zero_add, zero_subtract};
 
-#[cfg(test)]
-mod arithmetic_tests;
 #[cfg(test)]
 mod tests;
