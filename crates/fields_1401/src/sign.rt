@@ -5,12 +5,12 @@ ghost use Rattle.fields_1401.specs.Number.{sign_under, sign_zone, changed};
 
 use bcd_1401::Char;
 
-/// The sign of a number.
+/// The sign of a number, by the zone over its units. A zero has one too.
 #[derive(Clone, Copy, Debug, PartialEq, Eq)]
 pub enum Sign {
-    /// Zone A, both or none over the units, also of a zero.
+    /// No zone, zone A, or both stand over the units.
     Plus,
-    /// Zone B alone over the units, also of a zero.
+    /// Zone B alone stands over the units.
     Minus,
 }
 
