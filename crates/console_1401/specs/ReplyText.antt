@@ -30,8 +30,8 @@ unfoldable pub cells_text : List Cell → List ℕ
 cells_text cells = flat_map cell_text cells
 
 -- an indicator: 1 where it is on
-abbrev pub flag_text : Bool → List ℕ
-flag_text on = if on then codes "1" else codes "0"
+abbrev pub indicator_text : Bool → List ℕ
+indicator_text on = if on then codes "1" else codes "0"
 
 -- a switch by its letter where it is on, and by - where it isn't
 abbrev pub switch_text : Bool → ℕ → ℕ
@@ -46,7 +46,7 @@ switches_text switches = map (λ (switch : Bool × ℕ). switch_text switch.0 sw
 unfoldable pub regs_text : Regs → List ℕ
 regs_text regs =
     codes "I=" ++ digits_in 5 regs.i ++ codes " A=" ++ digits_in 5 regs.a ++ codes " B=" ++ digits_in 5 regs.b
-    ++ codes " UNEQUAL=" ++ flag_text regs.unequal ++ codes " OVERFLOW=" ++ flag_text regs.overflow
+    ++ codes " UNEQUAL=" ++ indicator_text regs.unequal ++ codes " OVERFLOW=" ++ indicator_text regs.overflow
     ++ codes " SWITCHES=" ++ switches_text regs.switches
     ++ codes " HOPPER=" ++ digits_in 3 regs.hopper ++ codes " STACKER=" ++ digits_in 3 regs.stacker
     ++ codes " PAPER=" ++ digits_in 3 regs.paper ++ codes " FORM=" ++ digits_in 4 regs.form ++ codes " LINE=" ++ digits_in 2 regs.line

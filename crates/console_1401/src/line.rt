@@ -25,15 +25,15 @@ pub enum Line {
 #[derive(Clone, Copy, Debug, PartialEq, Eq)]
 pub enum LineFault {
     /// 1: a word that isn't known.
-    Word = 1,
+    Word,
     /// 2: a number or an address is missing, or isn't one.
-    Number = 2,
+    Number,
     /// 3: a byte of a text is no graphic.
-    Graphic = 3,
+    Graphic,
     /// 4: a text is too short or too long, or the line has more than 200 bytes.
-    Length = 4,
+    Length,
     /// 5: something follows where the line should end.
-    Extra = 5,
+    Extra,
 }
 
 /// What a line says: at most 200 bytes, without the line feed that ends it.

@@ -1,7 +1,7 @@
 //! The texts of replies, without the line feed behind them.
 ghost use Rattle.std.specs.Prelude.{◌≡◌, [], ◌∷◌, ◌++◌, map, IfOk, OnOk};
 ghost use Rattle.console_1401.specs.ConsoleLine.{spelled};
-ghost use Rattle.console_1401.specs.ReplyText.{answer_text, IsReadAgain, cell_text, cells_text, regs_text, ran_text, digits_in, flag_text, switch_text, switches_text, refusal_text, fault_text, room_fault_text};
+ghost use Rattle.console_1401.specs.ReplyText.{answer_text, IsReadAgain, cell_text, cells_text, regs_text, ran_text, digits_in, indicator_text, switch_text, switches_text, refusal_text, fault_text, room_fault_text};
 
 use crate::line::LineFault;
 use bcd_1401::Cell;
@@ -64,8 +64,8 @@ fn regs_reply(alloc: Global, regs: &Regs) -> Result<Vec<u8>, AllocError>
     put_number(&mut text, b"I=", 5, u32::from(regs.i))?;
     put_number(&mut text, b" A=", 5, u32::from(regs.a))?;
     put_number(&mut text, b" B=", 5, u32::from(regs.b))?;
-    put_flag(&mut text, b" UNEQUAL=", regs.unequal)?;
-    put_flag(&mut text, b" OVERFLOW=", regs.overflow)?;
+    put_indicator(&mut text, b" UNEQUAL=", regs.unequal)?;
+    put_indicator(&mut text, b" OVERFLOW=", regs.overflow)?;
     put_switches(&mut text, b" SWITCHES=", regs.switches)?;
     put_number(&mut text, b" HOPPER=", 3, u32::from(regs.hopper))?;
     put_number(&mut text, b" STACKER=", 3, u32::from(regs.stacker))?;
@@ -109,8 +109,8 @@ fn put_digits(text: &mut Vec<u8>, width: u8, number: u32) -> Result<(), AllocErr
 }
 
 /// Adds a name, and behind it whether an indicator is on.
-fn put_flag(text: &mut Vec<u8>, name: &[u8], on: bool) -> Result<(), AllocError>
-    ensures { OnOk result (text.new.items ≡ text.old.items ++ name.now ++ flag_text on) }
+fn put_indicator(text: &mut Vec<u8>, name: &[u8], on: bool) -> Result<(), AllocError>
+    ensures { OnOk result (text.new.items ≡ text.old.items ++ name.now ++ indicator_text on) }
 {
     text.extend_from_slice(name)?;
     text.extend_from_slice(if on { b"1" } else { b"0" })

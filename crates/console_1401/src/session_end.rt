@@ -4,15 +4,15 @@
 #[derive(Clone, Copy, Debug, PartialEq, Eq)]
 pub enum SessionEnd {
     /// 1: with the line QUIT.
-    Quit = 1,
+    Quit,
     /// 2: with the end of the input.
-    EndOfInput = 2,
+    EndOfInput,
     /// 3: a read failed.
-    Read = 3,
+    Read,
     /// 4: a write failed, or took nothing; the command stands in the journal.
-    Write = 4,
+    Write,
     /// 5: 16,777,216 bytes were read, and the last didn't end a line QUIT.
-    Bound = 5,
+    Bound,
     /// 6: the memory for a reply was refused; the command stands in the journal.
-    Memory = 6,
+    Memory,
 }

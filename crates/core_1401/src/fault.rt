@@ -4,7 +4,7 @@
 #[derive(Clone, Copy, Debug, PartialEq, Eq)]
 pub enum CoreFault {
     /// 1: the memory for it was refused.
-    Memory = 1,
+    Memory,
     /// 2: no core storage of that size is made.
-    Size = 2,
+    Size,
 }

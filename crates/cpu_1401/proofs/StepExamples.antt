@@ -4,11 +4,12 @@ use Rattle.std.proofs.Common.{◌≡◌, ℕ, true, false, [], ◌∷◌, None, 
 use Rattle.bcd_1401.specs.Graphic.{graphics}
 use Rattle.bcd_1401.specs.declared.cell.Cell.{Cell}
 use Rattle.core_1401.specs.Storage.{Storage}
-use Rattle.fields_1401.specs.Move.{moved}
+use Rattle.fields_1401.specs.Marks.{cleared}
+use Rattle.fields_1401.specs.Move.{moved, loaded}
 use Rattle.fields_1401.specs.Places.{with_cells, with_chars}
 use Rattle.cpu_1401.specs.declared.stop.Stop.TheVariants as stop
 use Rattle.cpu_1401.specs.Run.{run_for}
-use Rattle.cpu_1401.specs.State.{State, power_on}
+use Rattle.cpu_1401.specs.State.{State, power_on, regs_of}
 use Rattle.cpu_1401.specs.Step.{step}
 
 abbrev plain : ℕ → Cell
@@ -73,6 +74,39 @@ a_chained_move : step (record (with_program (marked 36 ∷ marked 59 ∷ marked 
 }
 unfolding step graphics moved with_chars with_cells
 a_chained_move = refl
+
+-- one address of a move goes into the A register alone
+a_move_of_one_address : (step (record (with_program (marked 36 ∷ plain 10 ∷ plain 10 ∷ plain 6 ∷ marked 59 ∷ marked 5 ∷ plain 7 ∷ []) 0) { b = 5 })).state
+    ≡ record (with_program (marked 36 ∷ plain 10 ∷ plain 10 ∷ plain 6 ∷ marked 59 ∷ marked 7 ∷ plain 7 ∷ []) 4) { a = 5; b = 4 }
+unfolding step graphics moved with_chars with_cells
+a_move_of_one_address = refl
+
+-- a load, 35, chained
+a_chained_load : (step (record (with_program (marked 35 ∷ marked 59 ∷ marked 5 ∷ plain 6 ∷ plain 7 ∷ marked 8 ∷ []) 0) { a = 3; b = 5 })).state
+    ≡ record (with_program (marked 35 ∷ marked 59 ∷ marked 5 ∷ plain 6 ∷ marked 5 ∷ plain 6 ∷ []) 1) { a = 1; b = 3 }
+unfolding step graphics loaded with_cells
+a_chained_load = refl
+
+-- a halt with the address 003
+a_halt_goes_on_at_its_address : step (with_program (marked 59 ∷ plain 10 ∷ plain 10 ∷ plain 3 ∷ marked 59 ∷ []) 0)
+    ≡ record { state = record (with_program (marked 59 ∷ plain 10 ∷ plain 10 ∷ plain 3 ∷ marked 59 ∷ []) 3) { a = 3; b = 4 }; stop = Some stop.Halt }
+unfolding step graphics
+a_halt_goes_on_at_its_address = refl
+
+-- a slash, 17, chained: two places are cleared, and the A register stays
+a_chained_clearing : (step (record (with_program (marked 5 ∷ marked 6 ∷ marked 17 ∷ marked 59 ∷ []) 2) { a = 9; b = 1 })).state
+    ≡ record (with_program (plain 0 ∷ plain 0 ∷ marked 17 ∷ marked 59 ∷ []) 3) { a = 9; b = 15999 }
+unfolding step graphics cleared with_cells
+a_chained_clearing = refl
+
+-- a slash with the addresses 009 and 001 at 2: the branch goes to 009
+a_clearing_that_branches : (step (with_program (marked 5 ∷ marked 6 ∷ marked 17 ∷ plain 10 ∷ plain 10 ∷ plain 9 ∷ plain 10 ∷ plain 10 ∷ plain 1 ∷ marked 59 ∷ []) 2)).state
+    ≡ record (with_program (plain 0 ∷ plain 0 ∷ marked 17 ∷ plain 10 ∷ plain 10 ∷ plain 9 ∷ plain 10 ∷ plain 10 ∷ plain 1 ∷ marked 59 ∷ []) 9) { a = 9; b = 9 }
+unfolding step graphics cleared with_cells
+a_clearing_that_branches = refl
+
+the_devices_stand_at_the_first_line : ((regs_of (power_on 0)).form ≡ 1) × ((regs_of (power_on 0)).line ≡ 1)
+the_devices_stand_at_the_first_line = (refl, refl)
 
 a_run_ends_with_its_halt : run_for 9 (with_program set_mark 0) ≡ record {
   state = record (with_program (marked 27 ∷ marked 10 ∷ plain 10 ∷ plain 1 ∷ marked 59 ∷ []) 5) { a = 0; b = 0 };

@@ -1,22 +1,20 @@
 -- The operations by their characters, and the lengths of their instructions (A24-1403, "Instruction Format"; the choice
 -- of lengths is own).
-use Rattle.std.specs.Prelude.{ℕ, ◌==◌, ◌||◌, Bool, true, false, not, Option, None, Some, slice_index, if◌then◌else◌}
+use Rattle.std.specs.Prelude.{ℕ, ◌==◌, ◌||◌, Bool, true, false, not, List, [], ◌∷◌, Option, codes, find, slice_index}
+use Rattle.std.specs.List.{zip}
+use Rattle.std.specs.Option.{option_map}
 use Rattle.bcd_1401.specs.Graphic.{graphics}
 use Rattle.cpu_1401.specs.declared.operation.Operation.{Operation}
 use Rattle.cpu_1401.specs.declared.operation.Operation.TheVariants.{Move, Load, MoveDigit, MoveZone, SetWordMark, ClearWordMark, ClearStorage, Halt}
 
--- the operation with this graphic, an ASCII byte: M, L, D, Y, the comma, the lozenge ), the slash, the full stop
+-- the operations, each with its graphic in front
+abbrev pub operations : List (ℕ × Operation)
+operations =
+    zip (codes "MLDY,)/.") (Move ∷ Load ∷ MoveDigit ∷ MoveZone ∷ SetWordMark ∷ ClearWordMark ∷ ClearStorage ∷ Halt ∷ [])
+
+-- the operation with this graphic, if it is one's
 abbrev pub operation_named : ℕ → Option Operation
-operation_named graphic =
-    if graphic == 77 then Some Move
-    else (if graphic == 76 then Some Load
-    else (if graphic == 68 then Some MoveDigit
-    else (if graphic == 89 then Some MoveZone
-    else (if graphic == 44 then Some SetWordMark
-    else (if graphic == 41 then Some ClearWordMark
-    else (if graphic == 47 then Some ClearStorage
-    else (if graphic == 46 then Some Halt
-    else None)))))))
+operation_named graphic = option_map (λ (entry : ℕ × Operation). entry.1) (find (λ entry. entry.0 == graphic) operations)
 
 -- the operation of a character
 abbrev pub operation_of : ℕ → Option Operation

@@ -1,5 +1,5 @@
--- One step of the machine: the checks in their order, then what the operation does (A24-1403; what the registers hold
--- afterwards is own).
+-- One step of the machine: the checks in their order, then what the operation does (A24-1403, the descriptions of the
+-- instructions; the order of the checks, and what the registers hold afterwards, are own).
 use Rattle.std.specs.Prelude.{ℕ, ◌==◌, Option, None, Some, Ok, Err, if◌then◌else◌}
 use Rattle.core_1401.specs.Storage.{cell_at}
 use Rattle.fields_1401.specs.Marks.{set_marks_at, clear_marks_at, clear_down_at}

@@ -17,7 +17,7 @@ pub struct Done {
 #[derive(Clone, Copy, Debug, PartialEq, Eq)]
 pub enum FieldStop {
     /// 1: a place that it needs isn't in core, or a field that it needs has no word mark.
-    Address = 1,
+    Address,
     /// 2: the fields overlap where they may not.
-    Overlap = 2,
+    Overlap,
 }

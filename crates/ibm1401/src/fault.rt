@@ -1,5 +1,6 @@
 //! What a run of the program may fail by.
 
+use console_1401::SessionEnd;
 use thiserror::Error;
 
 /// What a run of the program may fail by. Each is one line on standard error.
@@ -17,4 +18,19 @@ pub enum Fault {
     /// The session ended otherwise than with QUIT or the end of input.
     #[error("session ended: {0}")]
     Session(&'static str),
+}
+
+/// What a session's end means for the program.
+///
+/// # Errors
+///
+/// Any end but QUIT and the end of the input.
+pub fn ended(end: SessionEnd) -> Result<(), Fault> {
+    match end {
+        SessionEnd::Quit | SessionEnd::EndOfInput => Ok(()),
+        SessionEnd::Read => Err(Fault::Session("READ")),
+        SessionEnd::Write => Err(Fault::Session("WRITE")),
+        SessionEnd::Bound => Err(Fault::Session("BOUND")),
+        SessionEnd::Memory => Err(Fault::Session("MEMORY")),
+    }
 }

@@ -1,7 +1,7 @@
 //! What the program's subcommands do.
 
-use crate::fault::Fault;
-use console_1401::{FromReader, SessionEnd, ToWriter, session};
+use crate::fault::{Fault, ended};
+use console_1401::{FromReader, ToWriter, session};
 use core_1401::CoreFault;
 use room_1401::Room;
 use std::io;
@@ -19,11 +19,6 @@ pub fn console(rt: &(impl Input + Print + AllocGlobal), size: u16) -> Result<(),
     };
     let mut reader = FromReader::new(rt.reader());
     let mut writer = ToWriter::new(io::writer(rt));
-    match session(rt.alloc(), &mut room, &mut reader, &mut writer) {
-        SessionEnd::Quit | SessionEnd::EndOfInput => Ok(()),
-        SessionEnd::Read => Err(Fault::Session("READ")),
-        SessionEnd::Write => Err(Fault::Session("WRITE")),
-        SessionEnd::Bound => Err(Fault::Session("BOUND")),
-        SessionEnd::Memory => Err(Fault::Session("MEMORY")),
-    }
+    let end = session(rt.alloc(), &mut room, &mut reader, &mut writer);
+    ended(end)
 }

@@ -1,6 +1,7 @@
 //! Whole sessions by theme: the lines, then the replies, worked out by hand.
 
 mod command_line;
+mod faults;
 mod moves;
 mod programs;
 mod refusals;

@@ -29,9 +29,9 @@ pub enum Answer {
 #[derive(Clone, Copy, Debug, PartialEq, Eq)]
 pub enum Refusal {
     /// 1: a place isn't in core.
-    Address = 1,
+    Address,
     /// 5: the limit isn't from 1 to 1,000,000.
-    Limit = 5,
+    Limit,
     /// 6: the count isn't from 1 to 40; this is looked at before the places.
-    Count = 6,
+    Count,
 }

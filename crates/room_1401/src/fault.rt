@@ -4,7 +4,7 @@
 #[derive(Clone, Copy, Debug, PartialEq, Eq)]
 pub enum RoomFault {
     /// 1: the memory for the journal's next entry was refused.
-    Memory = 1,
+    Memory,
     /// 2: the journal has its 100,000 entries.
-    JournalFull = 2,
+    JournalFull,
 }
