@@ -2,7 +2,7 @@
 use Rattle.std.specs.Prelude.{◌≡◌, ◌≤◌, ℕ, List, length}
 use Rattle.cpu_1401.specs.State.{State}
 use Rattle.room_1401.specs.declared.entry.Entry.{Entry}
-use Rattle.room_1401.specs.Journal.{IsLegal, state_of}
+use Rattle.room_1401.specs.Journal.{IsLegal, most_entries, state_of}
 
 -- the size of core storage, the journal, and how many entries more fit without growth
 pub record Account : Type 0 where
@@ -14,4 +14,4 @@ pub record Account : Type 0 where
 pub record IsExplained (machine : State) (journal : List Entry) : Type 0 where
   pub machine_is : machine ≡ state_of (length machine.storage) journal
   pub legal : IsLegal (length machine.storage) journal
-  pub bound : length journal ≤ 100000
+  pub bound : length journal ≤ most_entries

@@ -35,6 +35,10 @@ IsLegal size journal = map answer_in journal ≡ answers_of size (pairs_of journ
 abbrev pub answer_to : ℕ → List Entry → Command → Answer
 answer_to size journal command = (carry_out (state_of size journal) command).answer
 
+-- how many entries a journal has at the most
+abbrev pub most_entries : ℕ
+most_entries = 100000
+
 -- whether a journal takes no entry more
 abbrev pub is_full : List Entry → Bool
-is_full journal = nat_le 100000 (length journal)
+is_full journal = nat_le most_entries (length journal)

@@ -1,7 +1,7 @@
 //! A machine with the journal that explains it.
 ghost use Rattle.std.specs.Prelude.{◌≡◌, ◌<◌, ◌≤◌, ◌↔◌, [], ◌∷◌, ◌++◌, true, false, length, IsOk, IfOk, OnErr};
 ghost use Rattle.core_1401.specs.Storage.{is_core_size};
-ghost use Rattle.room_1401.specs.Journal.{IsLegal, answer_to, entry, is_full, state_of};
+ghost use Rattle.room_1401.specs.Journal.{IsLegal, answer_to, entry, is_full, most_entries, state_of};
 
 use crate::answer::Answer;
 use crate::carrying::carry_on;
@@ -64,7 +64,7 @@ impl Room {
     pub fn journal(&self) -> &[Entry]
         ensures journal { result.now ≡ self.now.journal }
         ensures legal { IsLegal self.now.size self.now.journal }
-        ensures bound { length self.now.journal ≤ 100000 }
+        ensures bound { length self.now.journal ≤ most_entries }
     {
         self.journal.as_slice()
     }
