@@ -65,6 +65,57 @@ impl Sink for Narrow {
     }
 }
 
+// Fails once, where so many bytes are left, and would go on.
+#[derive(Drop)]
+struct FailsOnce<'a> {
+    bytes: &'a [u8],
+    left: usize,
+    failed: bool,
+}
+
+impl Source for FailsOnce<'_> {
+    ghost left = { λ s. Some s.bytes.now };
+
+    ghost has_failed = { λ s. s.failed };
+
+    fn next_byte(&mut self) -> Result<Option<u8>, Failed> {
+        let bytes = self.bytes;
+        if bytes.len() == self.left && !self.failed {
+            self.failed = true;
+            return Err(Failed);
+        }
+        if bytes.is_empty() {
+            return Ok(None);
+        }
+        self.bytes = &bytes[1..];
+        Ok(Some(bytes[0]))
+    }
+}
+
+// Fails once, where it has so many bytes, and would take more.
+#[derive(Drop)]
+struct RefusesOnce {
+    taken: Vec<u8>,
+    full: usize,
+    failed: bool,
+}
+
+impl Sink for RefusesOnce {
+    ghost taken = { λ s. Some s.taken.items };
+
+    ghost has_failed = { λ s. s.failed };
+
+    fn put(&mut self, bytes: &[u8]) -> Result<usize, Failed> {
+        if (self.taken.len() == self.full && !self.failed)
+            || self.taken.extend_from_slice(bytes).is_err()
+        {
+            self.failed = true;
+            return Err(Failed);
+        }
+        Ok(bytes.len())
+    }
+}
+
 // How a session of these bytes ends, what it writes, and how many commands it leaves in the journal.
 fn answers(alloc: Global, input: &[u8]) -> Result<(SessionEnd, Vec<u8>, usize), Fail> {
     let mut room = Room::power_on(alloc, 4000)?;
@@ -187,6 +238,45 @@ fn a_failed_write_leaves_the_command(rt: HostRuntime) -> Result<(), Fail> {
             "{width} {limit}"
         );
         assert_eq!(rt; room.journal().len(), commands, "{width} {limit}");
+    }
+    Ok(())
+}
+
+#[test]
+fn the_first_failure_ends_the_session(rt: HostRuntime) -> Result<(), Fail> {
+    for (left, full, end, output, unread, commands, all) in [
+        (
+            14,
+            99,
+            SessionEnd::Read,
+            "OK\n",
+            "INE 0500\nQUIT\n",
+            1,
+            "OK\nERROR 1 WORD\nBYE\n",
+        ),
+        (99, 3, SessionEnd::Write, "OK\n", "QUIT\n", 2, "OK\nBYE\n"),
+    ] {
+        let mut room = Room::power_on(rt.alloc(), 4000)?;
+        let mut reader = FailsOnce {
+            bytes: b"DEPOSIT 0500 K\nEXAMINE 0500\nQUIT\n",
+            left,
+            failed: false,
+        };
+        let mut writer = RefusesOnce {
+            taken: Vec::new(rt.alloc()),
+            full,
+            failed: false,
+        };
+        let first = session(rt.alloc(), &mut room, &mut reader, &mut writer);
+        assert_eq!(rt; first, end, "{left} {full}");
+        assert_eq!(rt; writer.taken.as_slice(), output.as_bytes(), "{left} {full}");
+        assert_eq!(rt; reader.bytes, unread.as_bytes(), "{left} {full}");
+        assert_eq!(rt; room.journal().len(), commands, "{left} {full}");
+
+        let second = session(rt.alloc(), &mut room, &mut reader, &mut writer);
+        assert_eq!(rt; second, SessionEnd::Quit, "{left} {full}");
+        assert_eq!(rt; writer.taken.as_slice(), all.as_bytes(), "{left} {full}");
+        assert_eq!(rt; room.journal().len(), commands, "{left} {full}");
     }
     Ok(())
 }

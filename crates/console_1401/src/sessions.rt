@@ -1,5 +1,5 @@
 //! A session at the console of a room.
-ghost use Rattle.std.specs.Prelude.{◌≡◌, IsTrue};
+ghost use Rattle.std.specs.Prelude.{◌≡◌, ◌≢◌, IsTrue};
 ghost use Rattle.console_1401.specs.Replies.{Answered, Taken};
 ghost use Rattle.console_1401.specs.Session.{SessionDid};
 
@@ -44,6 +44,11 @@ pub fn session<R: Source, W: Sink>(
     // A session says that a read or a write failed only where it did.
     ensures read { result ≡ SessionEnd.Read → IsTrue (R.has_failed reader.new) }
     ensures write { result ≡ SessionEnd.Write → IsTrue (W.has_failed writer.new) }
+
+    // One that ends otherwise has met no failure.
+    ensures good_read { result ≢ SessionEnd.Read → R.has_failed reader.new ≡ R.has_failed reader.old }
+    ensures good_write { result ≢ SessionEnd.Write → W.has_failed writer.new ≡ W.has_failed writer.old }
+
     ensures size { room.new.size ≡ room.old.size }
 {
     answer_lines(alloc, room, reader, writer)

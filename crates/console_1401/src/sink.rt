@@ -18,6 +18,7 @@ pub trait Sink {
         ensures most { IfOk result (λ n. n ≤ length bytes.now) }
         ensures some { IfOk result (λ n. 0 < length bytes.now → 0 < n) }
         ensures taken { IfOk result (λ n. Appends (taken self.old) (taken self.new) (take n bytes.now)) }
+        ensures good { OnOk result (has_failed self.new ≡ has_failed self.old) }
         ensures failed { OnErr result (IsTrue (has_failed self.new)) }
         ensures err { OnErr result (Keeps (taken self.old) (taken self.new)) };
 }
@@ -26,6 +27,7 @@ pub trait Sink {
 pub(crate) fn put_all<W: Sink>(writer: &mut W, bytes: &[u8]) -> Result<(), Failed>
     ensures ok { OnOk result (Appends (W.taken writer.old) (W.taken writer.new) bytes.now) }
     ensures part { OnErr result (AppendsPart (W.taken writer.old) (W.taken writer.new) bytes.now) }
+    ensures good { OnOk result (W.has_failed writer.new ≡ W.has_failed writer.old) }
     ensures failed { OnErr result (IsTrue (W.has_failed writer.new)) }
 {
     let mut rest = bytes;

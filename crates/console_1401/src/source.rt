@@ -1,5 +1,5 @@
 //! Where a console's bytes come from.
-ghost use Rattle.std.specs.Prelude.{◌≡◌, ℕ, Bool, IsTrue, List, Ok, None, IfOk, OnErr, Option, option_to_list};
+ghost use Rattle.std.specs.Prelude.{◌≡◌, ℕ, Bool, IsTrue, List, Ok, None, IfOk, OnOk, OnErr, Option, option_to_list};
 ghost use Rattle.std.specs.Io.KnownBytes.{Consumes, IsAtEnd, Keeps};
 
 use crate::failure::Failed;
@@ -16,6 +16,7 @@ pub trait Source {
     fn next_byte(&mut self) -> Result<Option<u8>, Failed>
         ensures byte { IfOk result (λ byte. Consumes (left self.old) (left self.new) (option_to_list byte)) }
         ensures end { result ≡ Ok None → IsAtEnd (left self.new) }
+        ensures good { OnOk result (has_failed self.new ≡ has_failed self.old) }
         ensures failed { OnErr result (IsTrue (has_failed self.new)) }
         ensures err { OnErr result (Keeps (left self.old) (left self.new)) };
 }

@@ -1,5 +1,5 @@
 //! Lines taken from a source and answered into a sink, one after the other, at any console.
-ghost use Rattle.std.specs.Prelude.{◌≡◌, ◌==◌, IsTrue, Some, Option};
+ghost use Rattle.std.specs.Prelude.{◌≡◌, ◌≢◌, ◌==◌, IsTrue, Some, Option};
 ghost use Rattle.console_1401.specs.declared.replies.Reply.{Reply};
 ghost use Rattle.console_1401.specs.ConsoleLine.{Said};
 ghost use Rattle.console_1401.specs.Session.{SessionDid};
@@ -49,6 +49,7 @@ fn answer_line<T: Taker, W: Sink>(
 ) -> Option<SessionEnd>
     ensures line { Answers T.takes result said taker.old taker.new (W.taken writer.old) (W.taken writer.new) }
     ensures write { result ≡ Some SessionEnd.Write → IsTrue (W.has_failed writer.new) }
+    ensures good { result ≢ Some SessionEnd.Write → W.has_failed writer.new ≡ W.has_failed writer.old }
 {
     let quits = matches!(said, Ok(Line::Quit));
     if let Some(reply) = taker.take(said) {
@@ -71,6 +72,7 @@ fn answer_last<T: Taker, W: Sink>(
 ) -> SessionEnd
     ensures line { AnswersLast T.takes result line.now taker.old taker.new (W.taken writer.old) (W.taken writer.new) }
     ensures write { result ≡ SessionEnd.Write → IsTrue (W.has_failed writer.new) }
+    ensures good { result ≢ SessionEnd.Write → W.has_failed writer.new ≡ W.has_failed writer.old }
 {
     if line.is_empty() {
         return SessionEnd::EndOfInput;
@@ -92,6 +94,7 @@ fn take_byte<T: Taker, W: Sink>(
 ) -> Option<SessionEnd>
     ensures byte { TakesByte T.takes (byte == 10) byte result line.old line.new taker.old taker.new (W.taken writer.old) (W.taken writer.new) }
     ensures write { result ≡ Some SessionEnd.Write → IsTrue (W.has_failed writer.new) }
+    ensures good { result ≢ Some SessionEnd.Write → W.has_failed writer.new ≡ W.has_failed writer.old }
 {
     if byte != b'\n' {
         line.push(byte);
@@ -113,6 +116,10 @@ pub(crate) fn answer_lines<R: Source, T: Taker, W: Sink>(
     ensures session { SessionDid (AnsweredAll T.takes) result (R.left reader.old) (R.left reader.new) (W.taken writer.old) (W.taken writer.new) taker.old taker.new }
     ensures read { result ≡ SessionEnd.Read → IsTrue (R.has_failed reader.new) }
     ensures write { result ≡ SessionEnd.Write → IsTrue (W.has_failed writer.new) }
+
+    // One that ends otherwise has met no failure.
+    ensures good_read { result ≢ SessionEnd.Read → R.has_failed reader.new ≡ R.has_failed reader.old }
+    ensures good_write { result ≢ SessionEnd.Write → W.has_failed writer.new ≡ W.has_failed writer.old }
 {
     let mut line = LineBuffer::new();
     for _read in 0..MOST_BYTES {

@@ -8,8 +8,14 @@ pub loop-rest-preserved : goal.loop-rest-preserved
 loop-rest-preserved g c =
     let inv = c.loop-rest.invariant in
     let rest : List ℕ = c.loop-rest.rest.now in
-    let n = c.in-Ok.n in (
-      inv.0 ++ take n rest,
-      inv.1 ∙ ap (λ (r : List ℕ). inv.0 ++ r) (sym (take-append-drop n rest)) ∙ sym (append_assoc inv.0 (take n rest) (drop n rest)) ∙ ap (λ (r : List ℕ). (inv.0 ++ take n rest) ++ r) (sym (take_rest rest n)),
-      Appends-trans (g.W.Sink.taken c.args.writer.now) (g.W.Sink.taken c.loop-rest.writer) (g.W.Sink.taken c.put.new.self) inv.0 (take n rest) inv.2 c.in-Ok.ensures.taken,
-    )
+    let n = c.in-Ok.n in
+    record {
+      part = inv.part ++ take n rest;
+      whole =
+          inv.whole
+          ∙ ap (λ (r : List ℕ). inv.part ++ r) (sym (take-append-drop n rest))
+          ∙ sym (append_assoc inv.part (take n rest) (drop n rest))
+          ∙ ap (λ (r : List ℕ). (inv.part ++ take n rest) ++ r) (sym (take_rest rest n));
+      appended = Appends-trans (g.W.Sink.taken c.args.writer.now) (g.W.Sink.taken c.loop-rest.writer) (g.W.Sink.taken c.put.new.self) inv.part (take n rest) inv.appended c.in-Ok.ensures.taken;
+      good = c.in-Ok.ensures.good ∙ inv.good;
+    }

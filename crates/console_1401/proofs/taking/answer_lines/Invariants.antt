@@ -1,8 +1,17 @@
--- Before each byte every finished line is answered.
+-- Before each byte every finished line is answered, and nothing has failed since the first.
+use Rattle.std.proofs.Common.{◌≡◌, Bool}
 use Rattle.console_1401.proofs.ReadingLemmas.{SoFar}
 use Rattle.console_1401.proofs.taking.answer_lines.Given as goal
 
+-- what was answered so far, and that neither a read nor a write has failed by it
+pub record NoneFailed (Answered : Type 0) (read_old read_new write_old write_new : Bool) : Type 0 where
+  pub answered : Answered
+  pub good_read : read_new ≡ read_old
+  pub good_write : write_new ≡ write_old
+
 abbrev pub invariant-loop-read : goal.invariant-loop-read
 invariant-loop-read g l =
-    SoFar g.T.Taker.takes (record { left = g.R.Source.left l.initial.reader; taken = g.W.Sink.taken l.initial.writer; state = l.initial.taker })
-    (record { left = g.R.Source.left l.reader; taken = g.W.Sink.taken l.writer; state = l.taker }) l._read l.line
+    NoneFailed
+    (SoFar g.T.Taker.takes (record { left = g.R.Source.left l.initial.reader; taken = g.W.Sink.taken l.initial.writer; state = l.initial.taker })
+    (record { left = g.R.Source.left l.reader; taken = g.W.Sink.taken l.writer; state = l.taker }) l._read l.line)
+    (g.R.Source.has_failed l.initial.reader) (g.R.Source.has_failed l.reader) (g.W.Sink.has_failed l.initial.writer) (g.W.Sink.has_failed l.writer)
