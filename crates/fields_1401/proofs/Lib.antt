@@ -2,7 +2,9 @@ mod ArithmeticExamples
 mod BelowLemmas
 mod CellsDownLemmas
 mod DigitLemmas
+mod EditExamples
 mod ExampleCells
+mod ExampleGraphics
 mod LawLemmas
 mod LengthLemmas
 mod LoadLemmas
@@ -14,4 +16,5 @@ mod PartExamples
 mod PartLemmas
 mod PassLemmas
 mod SumLemmas
+mod SuppressExamples
 mod WrittenLemmas
