@@ -1,3 +1,4 @@
+mod AcrossLemmas
 mod ArithmeticExamples
 mod BelowLemmas
 mod CellsDownLemmas
@@ -17,4 +18,5 @@ mod PartLemmas
 mod PassLemmas
 mod SumLemmas
 mod SuppressExamples
+mod SuppressLemmas
 mod WrittenLemmas

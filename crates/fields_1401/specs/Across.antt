@@ -1,10 +1,10 @@
 -- Fields read and written from left to right (own).
-use Rattle.std.specs.Prelude.{ℕ, ◌+◌, ◌-◌, ◌==◌, false, List, length, map, take, drop, slice_index, if◌then◌else◌}
+use Rattle.std.specs.Prelude.{◌≡◌, ◌<◌, ℕ, ◌+◌, ◌-◌, ◌==◌, false, List, length, map, take, drop, slice_index, if◌then◌else◌}
 use Rattle.std.specs.List.{range_with_len}
 use Rattle.bcd_1401.specs.Character.{with_zone_of}
 use Rattle.bcd_1401.specs.declared.cell.Cell.{Cell}
-use Rattle.core_1401.specs.Storage.{Storage}
-use Rattle.fields_1401.specs.Places.{with_cells}
+use Rattle.core_1401.specs.Storage.{Storage, cell_at}
+use Rattle.fields_1401.specs.Places.{is_within, with_cells}
 
 -- the n characters that end at an address, the units last
 unfoldable pub chars_across : Storage → ℕ → ℕ → List ℕ
@@ -25,3 +25,11 @@ unmarked_cell chars i = record { char = slice_index chars (length chars - 1 - i)
 -- these characters without word marks at the places that end at an address; each other place is as it was
 unfoldable pub with_across : Storage → ℕ → List ℕ → Storage
 with_across storage at chars = with_cells storage at (length chars) (unmarked_cell chars)
+
+-- no word mark stands at the n places that end at an address
+abbrev pub IsUnmarked : Storage → ℕ → ℕ → Type 0
+IsUnmarked storage at n = (i : ℕ) → i < n → (cell_at storage (at - i)).mark ≡ false
+
+-- each place but the n that end at an address is as it was
+abbrev pub IsSameOutside : Storage → Storage → ℕ → ℕ → Type 0
+IsSameOutside old new at n = (place : ℕ) → is_within at n place ≡ false → cell_at new place ≡ cell_at old place

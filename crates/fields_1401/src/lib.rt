@@ -9,6 +9,7 @@
 //! ```
 #![tactic(auto)]
 
+mod across;
 pub mod arithmetic;
 pub mod comparison;
 mod digits;
@@ -22,6 +23,7 @@ mod places;
 mod refusals;
 mod registers;
 pub mod sign;
+pub mod suppression;
 mod unlike_signs;
 pub mod zero_sums;
 
@@ -32,6 +34,7 @@ pub use marks::{clear_down, clear_marks, set_marks};
 pub use moves::{load_chars, move_chars};
 pub use parts::{move_digit, move_zone};
 pub use sign::Sign;
+pub use suppression::suppress;
 pub use zero_sums::{zero_add, zero_subtract};
 
 #[cfg(test)]

@@ -91,7 +91,7 @@ fn needed(core: &Core, a: u16, b: u16) -> Option<(u16, u16)>
 
 /// How many places of A are used beside so many of B: down to its first word mark, but no more than those; none where one of
 /// them isn't in core.
-fn part_len(core: &Core, a: u16, len: u16) -> Option<u16>
+pub(crate) fn part_len(core: &Core, a: u16, len: u16) -> Option<u16>
     requires a { a < 16000 }
     requires len { 0 < len }
     ensures value { result ≡ part_len_of core.now a len }
@@ -109,7 +109,7 @@ fn part_len(core: &Core, a: u16, len: u16) -> Option<u16>
 }
 
 /// Whether so many places from a down and so many from b down have one in common, though they don't begin at the same one.
-fn overlap(a: u16, used: u16, b: u16, len: u16) -> bool
+pub(crate) fn overlap(a: u16, used: u16, b: u16, len: u16) -> bool
     requires a { a < 16000 }
     requires b { b < 16000 }
     requires used { used ≤ a + 1 }
