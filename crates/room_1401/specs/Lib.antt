@@ -2,3 +2,4 @@ pub mod Account
 pub mod CarryOut
 pub mod Journal
 pub mod Replay
+pub mod SwitchName

@@ -37,6 +37,10 @@ pub fn carry_out(machine: &mut Machine, command: &Command) -> Answer
             machine.set_i(address);
             Answer::Done
         }
+        Command::Switch { n, on } => {
+            machine.switch(n.number(), on);
+            Answer::Done
+        }
         Command::Run { limit } => {
             if limit < 1 || limit > MOST_STEPS {
                 return Answer::Refused(Refusal::Limit);
