@@ -8,7 +8,7 @@ use Rattle.bcd_1401.specs.declared.cell.Cell.{Cell}
 use Rattle.core_1401.specs.Storage.{Storage, blank, cell_at}
 use Rattle.fields_1401.specs.Across.{chars_across, unzoned_at, units_unzoned, unmarked_cell, with_across, IsUnmarked, IsSameOutside}
 use Rattle.fields_1401.specs.Places.{with_cells}
-use Rattle.fields_1401.proofs.WrittenLemmas.{with_cells_more, cell_at-within, cell_at-outside, is_within-inside, length-with_cells}
+use Rattle.fields_1401.proofs.PlacesLemmas.{with_cells_more, cell_at-within, cell_at-outside, is_within-inside, length-with_cells}
 
 -- so many characters as places
 pub length-across : (s : Storage) (at n : ℕ) → at < length s → n ≤ at + 1 → length (chars_across s at n) ≡ n

@@ -9,7 +9,7 @@ use Rattle.core_1401.specs.Storage.{Storage, cell_at}
 use Rattle.fields_1401.specs.Across.{chars_across, units_unzoned, with_across}
 use Rattle.fields_1401.specs.Number.{sign_under}
 use Rattle.fields_1401.specs.Outcome.{Outcome, below_by, registers_at}
-use Rattle.fields_1401.specs.Refusal.{part_len_of, on_lengths}
+use Rattle.fields_1401.specs.Refusal.{used_len_of, on_lengths}
 use Rattle.fields_1401.specs.Suppress.{blank_char, zero_char, comma_char}
 use Rattle.fields_1401.specs.declared.done.Done.{Done}
 use Rattle.fields_1401.specs.declared.done.FieldStop.{FieldStop}
@@ -46,30 +46,24 @@ replaceable_in word = count_by is_replaceable word
 abbrev pub replaceable_behind : List ℕ → ℕ → ℕ
 replaceable_behind word i = count_by is_replaceable (drop (i + 1) word)
 
--- a place once the characters of A were taken: it took one of them, or it keeps that of the control word
-pub data Place : Type 0 where
-  Took : ℕ → Place
-  Kept : ℕ → Place
+-- What a place of the control word takes of A, where so many replaceable places stand right of it: of the replaceable places
+-- the last takes the last character, the one before it the one before that, and so on; none takes one that isn't there.
+abbrev pub taken_from : List ℕ → ℕ → ℕ → Option ℕ
+taken_from digits char behind =
+    if is_replaceable char && nat_lt behind (length digits) then Some (slice_index digits (length digits - 1 - behind)) else None
 
--- Of the replaceable places the last takes the last character of A, the one before it the one before that, and so on.
-abbrev pub place_at : List ℕ → List ℕ → ℕ → Place
-place_at word digits i =
-    if is_replaceable (slice_index word i) && nat_lt (replaceable_behind word i) (length digits)
-    then Took (slice_index digits (length digits - 1 - replaceable_behind word i))
-    else Kept (slice_index word i)
+-- what place i takes
+abbrev pub taken_by : List ℕ → List ℕ → ℕ → Option ℕ
+taken_by word digits i = taken_from digits (slice_index word i) (replaceable_behind word i)
 
--- the control word once the characters of A were taken
-abbrev pub places_of : List ℕ → List ℕ → List Place
-places_of word digits = map (place_at word digits) (range_with_len 0 (length word))
-
--- whether a place took a character other than zero and blank
-abbrev pub is_significant : Place → Bool
-is_significant (Took char) = not (char == zero_char || char == blank_char)
-is_significant (Kept char) = false
+-- whether a place is significant: it took a character other than zero and blank
+abbrev pub is_significant : Option ℕ → Bool
+is_significant (Some char) = not (char == zero_char || char == blank_char)
+is_significant None = false
 
 -- how many places stand left of the first significant one: all, where there is none
 unfoldable pub before_significant : List ℕ → List ℕ → ℕ
-before_significant word digits = position_or_len is_significant (places_of word digits)
+before_significant word digits = position_or_len is_significant (map (taken_by word digits) (range_with_len 0 (length word)))
 
 -- how many places there are up to and including the last zero of the control word: none, where it has no zero
 unfoldable pub limit_of : List ℕ → ℕ
@@ -79,54 +73,68 @@ limit_of word = length word - suffix_len (λ char. not (char == zero_char)) word
 abbrev pub is_suppressed : List ℕ → List ℕ → ℕ → Bool
 is_suppressed word digits i = nat_lt i (before_significant word digits) && nat_lt i (limit_of word)
 
--- whether A ran out before the replaceable places, and all that were filled stand right of place i
-abbrev pub is_left_over : List ℕ → ℕ → ℕ → Bool
-is_left_over word t i = nat_lt t (replaceable_in word) && nat_le t (replaceable_behind word i)
+-- a character that was taken: a zero may be suppressed
+abbrev pub taken_char : Bool → ℕ → ℕ
+taken_char suppressed char = if char == zero_char && suppressed then blank_char else char
 
--- whether no replaceable place stands right of place i
-abbrev pub is_behind_all : List ℕ → ℕ → Bool
-is_behind_all word i = replaceable_behind word i == 0
+-- whether t characters of A were too few for so many replaceable places, and all places that took one stand right of one that
+-- has so many of them behind it
+abbrev pub is_left_over : ℕ → ℕ → ℕ → Bool
+is_left_over t replaceable behind = nat_lt t replaceable && nat_le t behind
 
--- a character that was taken: zeros may be suppressed
-abbrev pub took_char : List ℕ → List ℕ → ℕ → ℕ → ℕ
-took_char word digits i char = if char == zero_char && is_suppressed word digits i then blank_char else char
+-- whether no replaceable place stands right of a place
+abbrev pub is_behind_all : ℕ → Bool
+is_behind_all behind = behind == 0
 
 -- a comma goes with what is left over, behind all replaceable places, and where zeros are suppressed
-abbrev pub is_comma_blanked : List ℕ → List ℕ → ℕ → Bool
-is_comma_blanked word digits i =
-    is_left_over word (length digits) i || (is_behind_all word i || is_suppressed word digits i)
+abbrev pub is_comma_blanked : ℕ → ℕ → ℕ → Bool → Bool
+is_comma_blanked t replaceable behind suppressed = is_left_over t replaceable behind || (is_behind_all behind || suppressed)
 
 -- a part of a sign goes behind all replaceable places, unless A is minus
-abbrev pub is_sign_blanked : List ℕ → Sign → ℕ → Bool
-is_sign_blanked word Plus i = is_behind_all word i
-is_sign_blanked word Minus i = false
+abbrev pub is_sign_blanked : Sign → ℕ → Bool
+is_sign_blanked Plus behind = is_behind_all behind
+is_sign_blanked Minus behind = false
 
--- whether a character of the control word becomes blank: a replaceable place that took none, each ampersand, and some commas
--- and signs
-abbrev pub is_blanked : List ℕ → List ℕ → Sign → ℕ → ℕ → Bool
-is_blanked word digits sign i char =
+-- whether a character of the control word becomes blank: what took none though it is replaceable, each ampersand, some commas
+-- and some parts of a sign
+abbrev pub is_blanked : ℕ → ℕ → Sign → ℕ → Bool → ℕ → Bool
+is_blanked t replaceable sign behind suppressed char =
     is_replaceable char || (char == ampersand_char
-    || ((char == comma_char && is_comma_blanked word digits i) || (is_sign_char char && is_sign_blanked word sign i)))
+    || ((char == comma_char && is_comma_blanked t replaceable behind suppressed) || (is_sign_char char && is_sign_blanked sign behind)))
 
--- what a place shows
-abbrev pub shown : List ℕ → List ℕ → Sign → ℕ → Place → ℕ
-shown word digits sign i (Took char) = took_char word digits i char
-shown word digits sign i (Kept char) = if is_blanked word digits sign i char then blank_char else char
+-- a character of the control word that took none of A
+abbrev pub kept_char : ℕ → ℕ → Sign → ℕ → Bool → ℕ → ℕ
+kept_char t replaceable sign behind suppressed char =
+    if is_blanked t replaceable sign behind suppressed char then blank_char else char
+
+-- what a place shows, by what it took and by its own character
+abbrev pub shown : ℕ → ℕ → Sign → ℕ → Bool → Option ℕ → ℕ → ℕ
+shown t replaceable sign behind suppressed (Some char) own = taken_char suppressed char
+shown t replaceable sign behind suppressed None own = kept_char t replaceable sign behind suppressed own
+
+-- what place i shows
+abbrev pub shown_at : List ℕ → List ℕ → Sign → ℕ → ℕ
+shown_at word digits sign i =
+    shown (length digits) (replaceable_in word) sign (replaceable_behind word i) (is_suppressed word digits i) (taken_by word digits i) (slice_index word i)
 
 -- the control word edited with the characters of A that it takes, the units without their zone, under A's sign
 unfoldable pub edited : List ℕ → List ℕ → Sign → List ℕ
-edited word digits sign = map (λ i. shown word digits sign i (place_at word digits i)) (range_with_len 0 (length word))
+edited word digits sign = map (shown_at word digits sign) (range_with_len 0 (length word))
 
 -- how many characters of A are taken, and how many places the control word has; none where a place that is needed isn't in
 -- core
 abbrev pub taken_at : Storage → ℕ → ℕ → Option (ℕ × ℕ)
 taken_at storage a b =
-    option_and_then (λ m. option_map (λ t. (t, m)) (part_len_of storage a (replaceable_in (chars_across storage b m))))
+    option_and_then (λ m. option_map (λ t. (t, m)) (used_len_of storage a (replaceable_in (chars_across storage b m))))
     (field_len_of storage b)
 
--- whether t places from a down, or a alone where none is taken, and m places from b down have one in common
+-- how many places from a down are read: that of the sign alone, where none is taken
+abbrev pub read_of : ℕ → ℕ
+read_of t = max t 1
+
+-- whether one of the places that are read is one of the m from b down
 abbrev pub is_shared : ℕ → ℕ → ℕ → ℕ → Bool
-is_shared a t b m = nat_lt a (b + max t 1) && nat_lt b (a + m)
+is_shared a t b m = nat_lt a (b + read_of t) && nat_lt b (a + m)
 
 -- a missing place is refused before an overlap
 abbrev pub refuse_shared : ℕ → ℕ → Option (ℕ × ℕ) → Result (ℕ × ℕ) FieldStop

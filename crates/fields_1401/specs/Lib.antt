@@ -2,6 +2,7 @@ pub mod Across
 pub mod Arithmetic
 pub mod Compare
 pub mod Edit
+pub mod Load
 pub mod Marks
 pub mod Move
 pub mod Number

@@ -1,10 +1,11 @@
 -- Zeros suppressed (A24-1403, "Move Characters and Suppress Zeros"; what stops the suppression, and the refusals, are own).
 use Rattle.std.specs.Prelude.{ℕ, ◌+◌, ◌%◌, ◌==◌, ◌||◌, not, Bool, List, ◌++◌, replicate, drop, Option, Some, None, Ok, Err, if◌then◌else◌}
 use Rattle.std.specs.List.{position_or_len}
+use Rattle.core_1401.specs.Address.{addresses}
 use Rattle.core_1401.specs.Field.{field_len_of}
 use Rattle.core_1401.specs.Storage.{Storage}
 use Rattle.fields_1401.specs.Across.{chars_across, units_unzoned, with_across}
-use Rattle.fields_1401.specs.Move.{has_places}
+use Rattle.fields_1401.specs.Load.{has_places}
 use Rattle.fields_1401.specs.Outcome.{Outcome, below_by, registers_at}
 use Rattle.fields_1401.specs.Refusal.{is_overlap}
 use Rattle.fields_1401.specs.declared.done.Done.{Done}
@@ -34,7 +35,7 @@ suppressed chars = replicate (before_figures chars) blank_char ++ drop (before_f
 
 -- the address above, modulo 16,000
 abbrev pub above : ℕ → ℕ
-above at = (at + 1) % 16000
+above at = (at + 1) % addresses
 
 -- the storage with the n places of A, without the zone over their units and zeros suppressed, at b; and the registers
 unfoldable pub with_suppressed : Storage → ℕ → ℕ → ℕ → Storage × Done

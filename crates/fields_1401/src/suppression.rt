@@ -1,15 +1,17 @@
 //! A field moved with the zeros on its left suppressed.
-ghost use Rattle.std.specs.Prelude.{◌≡◌, ◌+◌, ◌<◌, ◌≤◌, false, Ok, Err, IfOk, IfErr, IfSome, OnOk, OnErr, length};
+ghost use Rattle.std.specs.Prelude.{◌≡◌, ◌+◌, ◌<◌, ◌≤◌, false, IfSome, OnOk, length};
+ghost use Rattle.core_1401.specs.Address.{addresses};
 ghost use Rattle.core_1401.specs.Field.{field_len_of};
 ghost use Rattle.fields_1401.specs.Across.{chars_across, units_unzoned, with_across, IsUnmarked, IsSameOutside};
+ghost use Rattle.fields_1401.specs.Outcome.{CarriesOut};
 ghost use Rattle.fields_1401.specs.Refusal.{is_overlap};
-ghost use Rattle.fields_1401.specs.Suppress.{is_figure, before_figures, suppressed, above, suppress_at};
+ghost use Rattle.fields_1401.specs.Suppress.{is_figure, before_figures, suppressed, suppress_at};
 
 use crate::across::unzoned_char;
 use crate::done::{Done, FieldStop};
-use crate::lengths::{field_len, has_places};
+use crate::lengths::field_len;
 use crate::places::put_cell;
-use crate::refusals::overlap;
+use crate::refusals::{has_places, is_overlap};
 use crate::registers::{below, registers};
 use bcd_1401::{Cell, Char};
 use core_1401::{ADDRESSES, Core};
@@ -28,13 +30,11 @@ pub(crate) const COMMA: u8 = 27;
 ///
 /// `Address` where a isn't in core or its field comes to address 0 before a word mark, or where b isn't in core or has too
 /// few places below it; else `Overlap` where the addresses differ and the places share one.
+#[tactic(auto, unfolding(crate::specs::Suppress::suppress_at, crate::specs::Suppress::with_suppressed))]
 pub fn suppress(core: &mut Core, a: u16, b: u16) -> Result<Done, FieldStop>
-    requires a { a < 16000 }
-    requires b { b < 16000 }
-    ensures done { IfOk result (λ done. suppress_at core.old a b ≡ Ok (core.new, done)) }
-    ensures stop { IfErr result (λ stop. suppress_at core.old a b ≡ Err stop) }
-    ensures err { OnErr result (core.new ≡ core.old) }
-    ensures size { length core.new ≡ length core.old }
+    requires a { a < addresses }
+    requires b { b < addresses }
+    ensures outcome { CarriesOut (suppress_at core.old a b) core.old core.new result }
     ensures marks { OnOk result (IfSome (field_len_of core.old a) (λ n. IsUnmarked core.new b n)) }
     ensures outside { IfSome (field_len_of core.old a) (λ n. IsSameOutside core.old core.new b n) }
 
@@ -48,7 +48,7 @@ pub fn suppress(core: &mut Core, a: u16, b: u16) -> Result<Done, FieldStop>
     if !has_places(core, b, n) {
         return Err(FieldStop::Address);
     }
-    if overlap(a, n, b, n) {
+    if is_overlap(a, n, b, n) {
         return Err(FieldStop::Overlap);
     }
     let blanks = before_figures(core, a, n);

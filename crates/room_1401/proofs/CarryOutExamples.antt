@@ -1,5 +1,5 @@
 -- Commands on a small machine, and their replay, computed.
-use Rattle.std.proofs.Common.{◌≡◌, true, List, [], ◌∷◌, refl}
+use Rattle.std.proofs.Common.{◌≡◌, true, false, List, [], ◌∷◌, refl}
 use Rattle.bcd_1401.specs.Graphic.{graphics}
 use Rattle.bcd_1401.specs.declared.cell.Cell.{Cell}
 use Rattle.core_1401.specs.Storage.{blank}
@@ -9,7 +9,8 @@ use Rattle.cpu_1401.specs.State.{State, power_on}
 use Rattle.cpu_1401.specs.Step.{step}
 use Rattle.room_1401.specs.declared.answer.Answer.TheVariants.{Done, Cells, Ran, Refused}
 use Rattle.room_1401.specs.declared.answer.Refusal.TheVariants.{Address, Limit, Count}
-use Rattle.room_1401.specs.declared.command.Command.TheVariants.{Deposit, Examine, SetI, Run}
+use Rattle.room_1401.specs.declared.command.Command.TheVariants.{Deposit, Examine, SetI, Switch, Run}
+use Rattle.cpu_1401.specs.declared.switch_name.SwitchName.TheVariants.{B}
 use Rattle.room_1401.specs.CarryOut.{carry_out}
 use Rattle.room_1401.specs.Replay.{Pair, answers_of, replay}
 
@@ -47,6 +48,13 @@ no_place_past_the_end = refl
 a_start_out_of_core_is_refused : carry_out small (SetI 3) ≡ record { state = small; answer = Refused Address }
 unfolding carry_out
 a_start_out_of_core_is_refused = refl
+
+switch_b_is_the_second : carry_out small (Switch B true) ≡ record {
+  state = record small { switches = false ∷ true ∷ false ∷ false ∷ false ∷ false ∷ false ∷ [] };
+  answer = Done;
+}
+unfolding carry_out
+switch_b_is_the_second = refl
 
 a_run_of_none_is_refused : carry_out small (Run 0) ≡ record { state = small; answer = Refused Limit }
 unfolding carry_out

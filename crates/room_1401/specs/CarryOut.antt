@@ -3,13 +3,14 @@ use Rattle.std.specs.Prelude.{ℕ, ◌+◌, ◌&&◌, Bool, List, ◌++◌, leng
 use Rattle.bcd_1401.specs.declared.cell.Cell.{Cell}
 use Rattle.core_1401.specs.Storage.{Storage, is_in_core}
 use Rattle.cpu_1401.specs.Run.{Finished, run_for}
-use Rattle.cpu_1401.specs.State.{State, regs_of}
+use Rattle.cpu_1401.specs.State.{State, regs_of, with_switch}
+use Rattle.cpu_1401.specs.SwitchName.{switch_number}
 use Rattle.room_1401.specs.declared.answer.Answer.{Answer}
 use Rattle.room_1401.specs.declared.answer.Answer.TheVariants.{Done, Cells, Regs, Ran, Refused}
 use Rattle.room_1401.specs.declared.answer.Refusal.{Refusal}
 use Rattle.room_1401.specs.declared.answer.Refusal.TheVariants.{Address, Limit, Count}
 use Rattle.room_1401.specs.declared.command.Command.{Command}
-use Rattle.room_1401.specs.declared.command.Command.TheVariants.{Deposit, Examine, Registers, SetI, Run}
+use Rattle.room_1401.specs.declared.command.Command.TheVariants.{Deposit, Examine, Registers, SetI, Switch, Run}
 
 -- what a command leaves: the machine, and the answer
 pub record Carried : Type 0 where
@@ -58,4 +59,5 @@ carry_out s (Deposit address cells) =
 carry_out s (Examine address count) = tell (examine s.storage address count) s
 carry_out s Registers = tell (Regs (regs_of s)) s
 carry_out s (SetI address) = if is_in_core s.storage address then change_to (record s { i = address }) else refuse Address s
+carry_out s (Switch n on) = change_to (with_switch s (switch_number n) on)
 carry_out s (Run limit) = if nat_le 1 limit && nat_le limit 1000000 then run_answer (run_for limit s) else refuse Limit s

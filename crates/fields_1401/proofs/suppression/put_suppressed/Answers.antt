@@ -7,9 +7,9 @@ use Rattle.fields_1401.specs.Across.{chars_across, units_unzoned, unmarked_cell}
 use Rattle.fields_1401.specs.Places.{is_within}
 use Rattle.fields_1401.specs.Suppress.{suppressed}
 use Rattle.fields_1401.proofs.AcrossLemmas.{length-unzoned_across, unzoned_kept, across_more, across_all}
-use Rattle.fields_1401.proofs.PassLemmas.{not_reached}
+use Rattle.fields_1401.proofs.NumberLemmas.{not_reached}
 use Rattle.fields_1401.proofs.SuppressLemmas.{length-suppressed, suppressed_left, suppressed_right}
-use Rattle.fields_1401.proofs.WrittenLemmas.{with_cells_none, cell_at-outside}
+use Rattle.fields_1401.proofs.PlacesLemmas.{with_cells_none, cell_at-outside}
 use Rattle.fields_1401.proofs.suppression.put_suppressed.Goals as goal
 use Rattle.fields_1401.proofs.suppression.put_suppressed.Goals.{then-n-i, else-n-i}
 

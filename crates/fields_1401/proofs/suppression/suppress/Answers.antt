@@ -1,26 +1,10 @@
 -- What is left is the definition's at this length; what was written is read again.
 use Rattle.std.proofs.Common.{◌≡◌, ◌+◌, ◌<◌, ◌≤◌, ℕ, Option, IfSome, length, ap, sym, ◌∙◌, subst, rules}
 use Rattle.fields_1401.specs.Across.{chars_across, units_unzoned, IsUnmarked, IsSameOutside}
-use Rattle.fields_1401.specs.Suppress.{suppressed, suppress_at, with_suppressed}
+use Rattle.fields_1401.specs.Suppress.{suppressed}
 use Rattle.fields_1401.proofs.AcrossLemmas.{length-unzoned_across, across_unmarked, across_outside, across_again}
 use Rattle.fields_1401.proofs.SuppressLemmas.{length-suppressed, suppressed_again}
 use Rattle.fields_1401.proofs.suppression.suppress.Goals as goal
-
-pub returns-in_default-clause-stop : goal.returns-in_default-clause-stop
-unfolding suppress_at
-returns-in_default-clause-stop c = search rules
-
-pub returns-then-not-has_places-clause-stop : goal.returns-then-not-has_places-clause-stop
-unfolding suppress_at
-returns-then-not-has_places-clause-stop c = search rules
-
-pub returns-then-overlap-clause-stop : goal.returns-then-overlap-clause-stop
-unfolding suppress_at
-returns-then-overlap-clause-stop c = search rules
-
-pub returns-clause-done : goal.returns-clause-done
-unfolding suppress_at with_suppressed
-returns-clause-done c = search rules
 
 -- the places written, and what was written there
 pub returns-clause-marks : goal.returns-clause-marks
