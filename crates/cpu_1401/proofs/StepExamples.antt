@@ -2,7 +2,6 @@
 -- for zero.
 use Rattle.std.proofs.Common.{◌≡◌, ℕ, true, false, [], ◌∷◌, None, Some, refl}
 use Rattle.bcd_1401.specs.Graphic.{graphics}
-use Rattle.bcd_1401.specs.declared.cell.Cell.{Cell}
 use Rattle.core_1401.specs.Storage.{Storage}
 use Rattle.fields_1401.specs.Marks.{cleared}
 use Rattle.fields_1401.specs.Load.{load_at, loaded}
@@ -10,18 +9,9 @@ use Rattle.fields_1401.specs.Move.{move_at, moved}
 use Rattle.fields_1401.specs.Places.{with_cells, with_chars}
 use Rattle.cpu_1401.specs.declared.stop.Stop.TheVariants as stop
 use Rattle.cpu_1401.specs.Run.{run_for}
-use Rattle.cpu_1401.specs.State.{State, power_on, regs_of}
+use Rattle.cpu_1401.specs.State.{power_on, regs_of}
 use Rattle.cpu_1401.specs.Step.{step}
-
-abbrev plain : ℕ → Cell
-plain char = record { char = char; mark = false }
-
-abbrev marked : ℕ → Cell
-marked char = record { char = char; mark = true }
-
--- the machine at power-on with this storage, and with I at a place
-abbrev with_program : Storage → ℕ → State
-with_program storage at = record (power_on 0) { storage = storage; i = at }
+use Rattle.cpu_1401.proofs.ExampleCells.{plain, marked, with_program}
 
 -- a comma with address 001, and a halt behind it
 abbrev set_mark : Storage
