@@ -11,7 +11,7 @@ use Rattle.console_1401.specs.declared.line.LineFault.{LineFault}
 use Rattle.console_1401.specs.declared.line.LineFault.TheVariants.{Word, Graphic, Length, Extra}
 use Rattle.console_1401.specs.declared.words.Keyword.{Keyword}
 use Rattle.console_1401.specs.declared.words.Keyword.TheVariants as keyword
-use Rattle.console_1401.specs.Words.{◌>>=◌, word_in, behind_word, keyword_of, number_of, address_of, count_of}
+use Rattle.console_1401.specs.Words.{◌>>=◌, word_in, behind_word, keyword_of, number_of, address_of, count_of, switch_of, setting_of}
 
 -- what a line says, or its first fault from left to right
 abbrev pub Said : Type 0
@@ -60,6 +60,13 @@ start_of operands = do
   address ← address_of (word_in operands)
   ended (behind_word operands) (Command (command.SetI address))
 
+-- SWITCH x ON, or SWITCH x OFF
+unfoldable pub switch_said : List ℕ → Said
+switch_said operands = do
+  switch ← switch_of (word_in operands)
+  on ← setting_of (word_in (behind_word operands))
+  ended (behind_word (behind_word operands)) (Command (command.Switch switch on))
+
 -- RUN n
 unfoldable pub run_of : List ℕ → Said
 run_of operands = do
@@ -73,6 +80,7 @@ said_with (Some keyword.Deposit) operands = deposit_of operands
 said_with (Some keyword.Examine) operands = examine_of operands
 said_with (Some keyword.Regs) operands = ended operands (Command command.Registers)
 said_with (Some keyword.Start) operands = start_of operands
+said_with (Some keyword.Switch) operands = switch_said operands
 said_with (Some keyword.Run) operands = run_of operands
 said_with (Some keyword.Quit) operands = ended operands Quit
 

@@ -1,11 +1,14 @@
 -- The words of a line, and the numbers among them (own).
-use Rattle.std.specs.Prelude.{ℕ, ◌+◌, ◌-◌, ◌*◌, ◌^◌, ◌==◌, nat_le, nat_lt, Bool, ◌&&◌, if◌then◌else◌, List, [], ◌∷◌, length, drop, find, Option, Result, Ok, Err, codes}
+use Rattle.std.specs.Prelude.{ℕ, ◌+◌, ◌-◌, ◌*◌, ◌^◌, ◌==◌, nat_le, nat_lt, Bool, true, false, ◌&&◌, if◌then◌else◌, List, [], ◌∷◌, length, drop, find, Option, Result, Ok, Err, codes}
 use Rattle.std.specs.List.{prefix_len, position_or_len, before_first, list_all}
+use Rattle.std.specs.Option.{ok_or}
 use Rattle.std.specs.Str.{bytes_eq}
+use Rattle.room_1401.specs.declared.switch_name.SwitchName.{SwitchName}
+use Rattle.room_1401.specs.declared.switch_name.SwitchName.TheVariants.{A, B, C, D, E, F, G}
 use Rattle.console_1401.specs.declared.line.LineFault.{LineFault}
-use Rattle.console_1401.specs.declared.line.LineFault.TheVariants.{Number}
+use Rattle.console_1401.specs.declared.line.LineFault.TheVariants.{Word, Number}
 use Rattle.console_1401.specs.declared.words.Keyword.{Keyword}
-use Rattle.console_1401.specs.declared.words.Keyword.TheVariants.{Deposit, Examine, Regs, Start, Run, Quit}
+use Rattle.console_1401.specs.declared.words.Keyword.TheVariants.{Deposit, Examine, Regs, Start, Switch, Run, Quit}
 
 infixl 10 ◌>>=◌
 -- what stands on the left, and where it has no fault, what stands behind it
@@ -35,11 +38,12 @@ name_of Deposit = codes "DEPOSIT"
 name_of Examine = codes "EXAMINE"
 name_of Regs = codes "REGS"
 name_of Start = codes "START"
+name_of Switch = codes "SWITCH"
 name_of Run = codes "RUN"
 name_of Quit = codes "QUIT"
 
 abbrev pub keywords : List Keyword
-keywords = Deposit ∷ Examine ∷ Regs ∷ Start ∷ Run ∷ Quit ∷ []
+keywords = Deposit ∷ Examine ∷ Regs ∷ Start ∷ Switch ∷ Run ∷ Quit ∷ []
 
 -- the one of them that a word is
 unfoldable pub keyword_of : List ℕ → Option Keyword
@@ -68,3 +72,29 @@ address_of word = do
 -- a count is a number, and 1 where there is no word
 unfoldable pub count_of : List ℕ → Result ℕ LineFault
 count_of word = if length word == 0 then Ok 1 else number_of word
+
+-- a sense switch by its letter
+abbrev pub letter_of : SwitchName → List ℕ
+letter_of A = codes "A"
+letter_of B = codes "B"
+letter_of C = codes "C"
+letter_of D = codes "D"
+letter_of E = codes "E"
+letter_of F = codes "F"
+letter_of G = codes "G"
+
+abbrev pub switches : List SwitchName
+switches = A ∷ B ∷ C ∷ D ∷ E ∷ F ∷ G ∷ []
+
+-- the switch that a word names by its letter
+unfoldable pub switch_named : List ℕ → Option SwitchName
+switch_named word = find (λ switch. bytes_eq (letter_of switch) word) switches
+
+abbrev pub switch_of : List ℕ → Result SwitchName LineFault
+switch_of word = ok_or (switch_named word) Word
+
+-- on or off
+unfoldable pub setting_of : List ℕ → Result Bool LineFault
+setting_of word =
+    if bytes_eq word (codes "ON") then Ok true
+    else (if bytes_eq word (codes "OFF") then Ok false else Err Word)

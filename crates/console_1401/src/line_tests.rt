@@ -4,7 +4,7 @@ use crate::{LINE_LIMIT, Line, LineFault, parse_line, reply_text};
 use bcd_1401::{Cell, Char};
 use core_1401::Cells;
 use cpu_1401::{Regs, Stop};
-use room_1401::{Answer, Command, Refusal};
+use room_1401::{Answer, Command, Refusal, SwitchName};
 
 /// Zero with a word mark, and K.
 fn marked_zero_and_k() -> Option<Cells> {
@@ -53,6 +53,20 @@ fn a_line_says_a_command(rt: HostRuntime) {
         ),
         ("REGS", Command::Registers),
         ("START 0600 ", Command::SetI { address: 600 }),
+        (
+            "SWITCH A ON",
+            Command::Switch {
+                n: SwitchName::A,
+                on: true,
+            },
+        ),
+        (
+            " SWITCH  G  OFF ",
+            Command::Switch {
+                n: SwitchName::G,
+                on: false,
+            },
+        ),
         ("RUN 0", Command::Run { limit: 0 }),
         ("RUN 9999999", Command::Run { limit: 9_999_999 }),
     ] {
@@ -74,6 +88,10 @@ fn a_line_has_its_first_fault(rt: HostRuntime) {
         ("quit", LineFault::Word),
         ("QUIT\r", LineFault::Word),
         ("\tREGS", LineFault::Word),
+        ("SWITCH", LineFault::Word),
+        ("SWITCH H ON", LineFault::Word),
+        ("SWITCH A", LineFault::Word),
+        ("SWITCH A UP DOWN", LineFault::Word),
         ("EXAMINE", LineFault::Number),
         ("EXAMINE 16000", LineFault::Number),
         ("EXAMINE 00000500", LineFault::Number),
@@ -91,6 +109,7 @@ fn a_line_has_its_first_fault(rt: HostRuntime) {
         ),
         ("EXAMINE 1 2 3", LineFault::Extra),
         ("REGS X", LineFault::Extra),
+        ("SWITCH A ON X", LineFault::Extra),
         ("QUIT X", LineFault::Extra),
     ] {
         assert_eq!(rt; parse_line(line.as_bytes()), Err(fault), "{line}");
