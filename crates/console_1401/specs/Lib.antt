@@ -1,8 +1,8 @@
 pub mod ConsoleLine
-pub mod Replies
+pub mod Turns
 pub mod ReplyText
 pub mod Session
 pub mod Sink
-pub mod Taking
+pub mod Answering
 pub mod Text
 pub mod Words

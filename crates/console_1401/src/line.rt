@@ -48,24 +48,24 @@ pub fn parse_line(line: &[u8]) -> Result<Line, LineFault>
     if line.len() > LINE_LIMIT {
         return Err(LineFault::Length);
     }
-    words_say(line)
+    parse_words(line)
 }
 
 /// What the words of a line say.
 #[tactic(auto, unfolding(crate::specs::ConsoleLine::said_in_words))]
-fn words_say(line: &[u8]) -> Result<Line, LineFault>
+fn parse_words(line: &[u8]) -> Result<Line, LineFault>
     ensures { result ≡ said_in_words line.now }
 {
     let (word, operands) = split_word(line);
     if word.is_empty() {
         return Ok(Line::Empty);
     }
-    operands_say(Keyword::from_word(word), operands)
+    parse_operands(Keyword::from_word(word), operands)
 }
 
 /// What a line says by its first word, which may be none that is known, and what stands behind that.
 #[tactic(auto, unfolding(crate::specs::ConsoleLine::said_with))]
-fn operands_say(keyword: Option<Keyword>, operands: &[u8]) -> Result<Line, LineFault>
+fn parse_operands(keyword: Option<Keyword>, operands: &[u8]) -> Result<Line, LineFault>
     ensures { result ≡ said_with keyword operands.now }
 {
     match keyword {

@@ -6,11 +6,12 @@ use std::marker::Model;
 /// How many bytes of a line are kept: 200, a carriage return, and one more, which says that the line is too long.
 const KEPT_BYTES: usize = 202;
 
-/// The first 202 bytes of a line. Contracts see the list of them.
+/// The first 202 bytes of a line, and its number. Contracts see the list of these bytes.
 #[derive(Drop)]
 pub(crate) struct LineBuffer {
     bytes: [u8; 202],
     len: usize,
+    number: u64,
 }
 
 impl Model for LineBuffer {
@@ -24,21 +25,28 @@ impl Model for LineBuffer {
 }
 
 impl LineBuffer {
-    /// A line without a byte.
+    /// The first line, without a byte.
     pub(crate) fn new() -> LineBuffer
         ensures { result ≡ [] }
     {
         LineBuffer {
             bytes: [0; 202],
             len: 0,
+            number: 1,
         }
     }
 
     /// Begins the next line.
-    pub(crate) fn clear(&mut self)
+    pub(crate) fn begin_next(&mut self)
         ensures { self.new ≡ [] }
     {
         self.len = 0;
+        self.number = self.number.saturating_add(1);
+    }
+
+    /// The number of the line; the first one's is 1.
+    pub(crate) fn number(&self) -> u64 {
+        self.number
     }
 
     /// One byte more, which is dropped where 202 are kept.

@@ -4,7 +4,7 @@ use Rattle.std.proofs.lemmas.Grind.{common_steps}
 use Rattle.std.proofs.lemmas.List.{take_more}
 use Rattle.console_1401.specs.ConsoleLine.{spelled}
 use Rattle.console_1401.proofs.SpelledLemmas.{cells_again}
-use Rattle.console_1401.proofs.reply.cells_reply.Goals as goal
+use Rattle.console_1401.proofs.answer_text.cells_reply.Goals as goal
 
 pub loop-cell-init : goal.loop-cell-init
 unfolding spelled

@@ -3,7 +3,7 @@ use Rattle.std.proofs.Common.{◌≡◌, take, map, Some}
 use Rattle.std.specs.List.{flat_map}
 use Rattle.console_1401.specs.ConsoleLine.{spelled}
 use Rattle.console_1401.specs.ReplyText.{cell_text}
-use Rattle.console_1401.proofs.reply.cells_reply.Given as goal
+use Rattle.console_1401.proofs.answer_text.cells_reply.Given as goal
 
 abbrev pub invariant-loop-cell : goal.invariant-loop-cell
 invariant-loop-cell l = record {

@@ -1,26 +1,8 @@
-//! Lines and what they say, answers and their texts, by hand.
+//! Lines and what they say.
 
-use crate::{LINE_LIMIT, Line, LineFault, parse_line, reply_text};
-use bcd_1401::{Cell, Char};
-use core_1401::Cells;
-use cpu_1401::{Regs, Stop};
-use room_1401::{Answer, Command, Refusal, SwitchName};
-
-/// Zero with a word mark, and K.
-fn marked_zero_and_k() -> Option<Cells> {
-    let zero = Char::from_code(10)?;
-    let k = Char::from_code(34)?;
-    Cells::from_slice(&[
-        Cell {
-            char: zero,
-            mark: true,
-        },
-        Cell {
-            char: k,
-            mark: false,
-        },
-    ])
-}
+use super::marked_zero_and_k;
+use crate::{LINE_LIMIT, Line, LineFault, parse_line};
+use room_1401::{Command, SwitchName};
 
 #[test]
 fn a_deposit_has_its_cells(rt: HostRuntime) {
@@ -121,69 +103,4 @@ fn a_line_has_200_bytes_at_the_most(rt: HostRuntime) {
     let blanks = [b' '; LINE_LIMIT + 1];
     assert_eq!(rt; parse_line(&blanks[..LINE_LIMIT]), Ok(Line::Empty));
     assert_eq!(rt; parse_line(&blanks), Err(LineFault::Length));
-}
-
-/// The registers at power-on.
-const POWER_ON: Regs = Regs {
-    i: 0,
-    a: 0,
-    b: 0,
-    unequal: false,
-    overflow: false,
-    switches: [false; 7],
-    hopper: 0,
-    stacker: 0,
-    paper: 0,
-    form: 1,
-    line: 1,
-};
-
-#[test]
-fn an_answer_has_its_text(rt: HostRuntime) {
-    let cells = marked_zero_and_k().expect(&rt, "two cells");
-    let after_a_run = Regs {
-        i: 41,
-        a: 56,
-        b: 15_999,
-        unequal: true,
-        switches: [true, false, false, false, false, false, true],
-        paper: 500,
-        form: 8,
-        line: 40,
-        ..POWER_ON
-    };
-    for (answer, text) in [
-        (Answer::Done, "OK"),
-        (Answer::Cells(cells), "~0K"),
-        (
-            Answer::Regs(POWER_ON),
-            "I=00000 A=00000 B=00000 UNEQUAL=0 OVERFLOW=0 SWITCHES=------- HOPPER=000 STACKER=000 PAPER=000 FORM=0001 LINE=01",
-        ),
-        (
-            Answer::Regs(after_a_run),
-            "I=00041 A=00056 B=15999 UNEQUAL=1 OVERFLOW=0 SWITCHES=A-----G HOPPER=000 STACKER=000 PAPER=500 FORM=0008 LINE=40",
-        ),
-        (
-            Answer::Ran {
-                steps: 7,
-                stop: Stop::Reader,
-                i: 41,
-            },
-            "STOP 03 READER STEPS 7 I 00041",
-        ),
-        (
-            Answer::Ran {
-                steps: 1_000_000,
-                stop: Stop::NotFitted,
-                i: 600,
-            },
-            "STOP 12 NOTFITTED STEPS 1000000 I 00600",
-        ),
-        (Answer::Refused(Refusal::Address), "REFUSED 1 ADDRESS"),
-        (Answer::Refused(Refusal::Limit), "REFUSED 5 LIMIT"),
-        (Answer::Refused(Refusal::Count), "REFUSED 6 COUNT"),
-    ] {
-        let reply = reply_text(rt.alloc(), &answer).expect(&rt, text);
-        assert_eq!(rt; reply.as_slice(), text.as_bytes(), "{text}");
-    }
 }

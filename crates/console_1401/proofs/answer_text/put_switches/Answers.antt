@@ -5,7 +5,7 @@ use Rattle.std.proofs.lemmas.Iterator.{YieldsList-from_slice, YieldsList-from_zi
 use Rattle.std.proofs.lemmas.Iterator.Consumers.{YieldsList-at}
 use Rattle.std.proofs.lemmas.Iterator.Adapters.{items_from_extend}
 use Rattle.console_1401.specs.ReplyText.{switch_text, switches_text}
-use Rattle.console_1401.proofs.reply.put_switches.Goals as goal
+use Rattle.console_1401.proofs.answer_text.put_switches.Goals as goal
 
 pub returns : goal.returns
 unfolding switches_text

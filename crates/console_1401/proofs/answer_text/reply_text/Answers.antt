@@ -1,6 +1,6 @@
 -- There are 1 to 40 cells.
 use Rattle.console_1401.proofs.SpelledLemmas.{again_from}
-use Rattle.console_1401.proofs.reply.reply_text.Goals as goal
+use Rattle.console_1401.proofs.answer_text.reply_text.Goals as goal
 
 pub returns-in-Cells-clause-again : goal.returns-in-Cells-clause-again
 returns-in-Cells-clause-again c =
