@@ -4,7 +4,7 @@ use Rattle.std.specs.Prelude.{Ok, Err, codes}
 use Rattle.bcd_1401.specs.declared.cell.Cell.{Cell}
 use Rattle.bcd_1401.specs.Graphic.{graphics}
 use Rattle.room_1401.specs.declared.command.Command.TheVariants.{Deposit, Examine, Registers, SetI, Switch, Run}
-use Rattle.room_1401.specs.declared.switch_name.SwitchName.TheVariants.{A, B, C, D, E, F, G}
+use Rattle.cpu_1401.specs.declared.switch_name.SwitchName.TheVariants.{A, B, C, D, E, F, G}
 use Rattle.console_1401.specs.declared.line.Line.TheVariants.{Empty, Command, Quit}
 use Rattle.console_1401.specs.declared.line.LineFault.TheVariants.{Word, Number, Graphic, Length, Extra}
 use Rattle.console_1401.specs.Words.{word_in, behind_word, keyword_of, number_of, address_of, count_of, switch_named, setting_of}

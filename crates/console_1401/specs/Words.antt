@@ -3,8 +3,8 @@ use Rattle.std.specs.Prelude.{ℕ, ◌+◌, ◌-◌, ◌*◌, ◌^◌, ◌==◌,
 use Rattle.std.specs.List.{prefix_len, position_or_len, before_first, list_all}
 use Rattle.std.specs.Option.{ok_or}
 use Rattle.std.specs.Str.{bytes_eq}
-use Rattle.room_1401.specs.declared.switch_name.SwitchName.{SwitchName}
-use Rattle.room_1401.specs.declared.switch_name.SwitchName.TheVariants.{A, B, C, D, E, F, G}
+use Rattle.cpu_1401.specs.declared.switch_name.SwitchName.{SwitchName}
+use Rattle.cpu_1401.specs.declared.switch_name.SwitchName.TheVariants.{A, B, C, D, E, F, G}
 use Rattle.console_1401.specs.declared.line.LineFault.{LineFault}
 use Rattle.console_1401.specs.declared.line.LineFault.TheVariants.{Word, Number}
 use Rattle.console_1401.specs.declared.words.Keyword.{Keyword}

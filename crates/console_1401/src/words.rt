@@ -5,7 +5,7 @@ ghost use Rattle.console_1401.specs.Words.{is_blank, is_digit, word_in, behind_w
 
 use crate::line::LineFault;
 use core_1401::ADDRESSES;
-use room_1401::SwitchName;
+use cpu_1401::SwitchName;
 
 /// How many digits a number has at the most.
 const MOST_DIGITS: usize = 7;

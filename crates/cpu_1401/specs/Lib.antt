@@ -4,3 +4,4 @@ pub mod Run
 pub mod State
 pub mod Step
 pub mod Stop
+pub mod SwitchName

@@ -2,8 +2,9 @@
 -- instructions; the order of the checks, and what the registers hold afterwards, are own).
 use Rattle.std.specs.Prelude.{ℕ, ◌==◌, Option, None, Some, Ok, Err, if◌then◌else◌}
 use Rattle.core_1401.specs.Storage.{cell_at}
+use Rattle.fields_1401.specs.Load.{load_at}
 use Rattle.fields_1401.specs.Marks.{set_marks_at, clear_marks_at, clear_down_at}
-use Rattle.fields_1401.specs.Move.{move_at, load_at}
+use Rattle.fields_1401.specs.Move.{move_at}
 use Rattle.fields_1401.specs.Outcome.{Outcome}
 use Rattle.fields_1401.specs.Parts.{digit_moved_at, zone_moved_at}
 use Rattle.cpu_1401.specs.declared.instruction.Instruction.{Instruction}

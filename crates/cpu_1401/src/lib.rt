@@ -16,11 +16,13 @@ pub mod regs;
 pub mod running;
 pub mod stepping;
 pub mod stop;
+pub mod switch_name;
 
 pub use machine::Machine;
 pub use regs::Regs;
 pub use running::Ran;
 pub use stop::Stop;
+pub use switch_name::SwitchName;
 
 #[cfg(test)]
 mod tests;

@@ -1,5 +1,6 @@
 pub mod Arithmetic
 pub mod Compare
+pub mod Load
 pub mod Marks
 pub mod Move
 pub mod Number

@@ -10,7 +10,7 @@ use Rattle.cpu_1401.specs.Step.{step}
 use Rattle.room_1401.specs.declared.answer.Answer.TheVariants.{Done, Cells, Ran, Refused}
 use Rattle.room_1401.specs.declared.answer.Refusal.TheVariants.{Address, Limit, Count}
 use Rattle.room_1401.specs.declared.command.Command.TheVariants.{Deposit, Examine, SetI, Switch, Run}
-use Rattle.room_1401.specs.declared.switch_name.SwitchName.TheVariants.{B}
+use Rattle.cpu_1401.specs.declared.switch_name.SwitchName.TheVariants.{B}
 use Rattle.room_1401.specs.CarryOut.{carry_out}
 use Rattle.room_1401.specs.Replay.{Pair, answers_of, replay}
 

@@ -4,13 +4,13 @@ use Rattle.bcd_1401.specs.declared.cell.Cell.{Cell}
 use Rattle.core_1401.specs.Storage.{Storage, is_in_core}
 use Rattle.cpu_1401.specs.Run.{Finished, run_for}
 use Rattle.cpu_1401.specs.State.{State, regs_of, with_switch}
+use Rattle.cpu_1401.specs.SwitchName.{switch_number}
 use Rattle.room_1401.specs.declared.answer.Answer.{Answer}
 use Rattle.room_1401.specs.declared.answer.Answer.TheVariants.{Done, Cells, Regs, Ran, Refused}
 use Rattle.room_1401.specs.declared.answer.Refusal.{Refusal}
 use Rattle.room_1401.specs.declared.answer.Refusal.TheVariants.{Address, Limit, Count}
 use Rattle.room_1401.specs.declared.command.Command.{Command}
 use Rattle.room_1401.specs.declared.command.Command.TheVariants.{Deposit, Examine, Registers, SetI, Switch, Run}
-use Rattle.room_1401.specs.SwitchName.{switch_number}
 
 -- what a command leaves: the machine, and the answer
 pub record Carried : Type 0 where

@@ -2,4 +2,3 @@ pub mod Account
 pub mod CarryOut
 pub mod Journal
 pub mod Replay
-pub mod SwitchName

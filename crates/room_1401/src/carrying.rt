@@ -11,9 +11,10 @@ use cpu_1401::Machine;
 /// How many instructions a run has at the most.
 const MOST_STEPS: u32 = 1_000_000;
 
-/// Carries a command out. One that is refused leaves the machine as it was.
+/// Carries a command out on a machine, and gives its answer. One that is refused leaves the machine as it was. No command
+/// changes the size of core storage.
 #[tactic(auto, unfolding(crate::specs::CarryOut::carry_out))]
-pub(crate) fn carry_on(machine: &mut Machine, command: &Command) -> Answer
+pub fn carry_out(machine: &mut Machine, command: &Command) -> Answer
     ensures state { machine.new ≡ (carry_out machine.old command.now).state }
     ensures answer { result ≡ (carry_out machine.old command.now).answer }
     ensures size { length machine.new.storage ≡ length machine.old.storage }

@@ -1,7 +1,7 @@
 //! What an operator asks of the machine.
 
-use crate::switch_name::SwitchName;
 use core_1401::Cells;
+use cpu_1401::SwitchName;
 
 /// What an operator asks of the machine. An address may be any number; one that isn't in core is refused.
 #[derive(Clone, Copy, Debug, PartialEq, Eq)]

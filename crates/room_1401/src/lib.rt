@@ -8,19 +8,18 @@
 #![tactic(auto)]
 
 pub mod answer;
-mod carrying;
+pub mod carrying;
 pub mod command;
 pub mod entry;
 pub mod fault;
 pub mod room;
-pub mod switch_name;
 
 pub use answer::{Answer, Refusal};
+pub use carrying::carry_out;
 pub use command::Command;
 pub use entry::Entry;
 pub use fault::RoomFault;
 pub use room::Room;
-pub use switch_name::SwitchName;
 
 #[cfg(test)]
 mod tests;

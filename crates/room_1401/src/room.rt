@@ -1,10 +1,10 @@
 //! A machine with the journal that explains it.
-ghost use Rattle.std.specs.Prelude.{◌≡◌, ◌<◌, ◌≤◌, ◌↔◌, [], ◌∷◌, ◌++◌, true, false, length, IsOk, IfOk, OnErr};
+ghost use Rattle.std.specs.Prelude.{◌≡◌, ◌+◌, ◌<◌, ◌≤◌, ◌↔◌, [], ◌∷◌, ◌++◌, true, false, length, IsOk, IfOk, OnErr};
 ghost use Rattle.core_1401.specs.Storage.{is_core_size};
 ghost use Rattle.room_1401.specs.Journal.{IsLegal, answer_to, entry, is_full, most_entries, state_of};
 
 use crate::answer::Answer;
-use crate::carrying::carry_on;
+use crate::carrying::carry_out;
 use crate::command::Command;
 use crate::entry::Entry;
 use crate::fault::RoomFault;
@@ -55,8 +55,11 @@ impl Room {
 
     /// The machine, which is the one that the journal explains.
     pub fn machine(&self) -> &Machine
-        ensures { result.now ≡ state_of self.now.size self.now.journal }
+        ensures state { result.now ≡ state_of self.now.size self.now.journal }
+        ensures size { length result.now.storage ≡ self.now.size }
+        ensures core { is_core_size self.now.size ≡ true }
     {
+        let _size = self.machine.core().size();
         &self.machine
     }
 
@@ -84,6 +87,10 @@ impl Room {
         ensures full { (result ≡ Err RoomFault.JournalFull) ↔ (is_full self.old.journal ≡ true) }
         ensures err { OnErr result (self.new.journal ≡ self.old.journal) }
         ensures reserved { 0 < self.old.spare → is_full self.old.journal ≡ false → IsOk result }
+
+        // A command takes the room of one entry, and a refusal none.
+        ensures spare { self.old.spare ≤ self.new.spare + 1 }
+        ensures kept { OnErr result (self.new.spare ≡ self.old.spare) }
     {
         if self.journal.len() >= MOST_ENTRIES {
             return Err(RoomFault::JournalFull);
@@ -91,7 +98,7 @@ impl Room {
         if self.journal.reserve(1).is_err() {
             return Err(RoomFault::Memory);
         }
-        let answer = carry_on(&mut self.machine, &command);
+        let answer = carry_out(&mut self.machine, &command);
         self.journal
             .push_reserved(Entry::new(seat, &command, &answer));
         Ok(answer)

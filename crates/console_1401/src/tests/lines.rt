@@ -2,7 +2,8 @@
 
 use super::marked_zero_and_k;
 use crate::{LINE_LIMIT, Line, LineFault, parse_line};
-use room_1401::{Command, SwitchName};
+use cpu_1401::SwitchName;
+use room_1401::Command;
 
 #[test]
 fn a_deposit_has_its_cells(rt: HostRuntime) {

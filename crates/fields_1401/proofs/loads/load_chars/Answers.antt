@@ -2,7 +2,7 @@
 use Rattle.std.proofs.Common.{rules, ◌∙◌, ap}
 use Rattle.core_1401.specs.Field.{field_at}
 use Rattle.fields_1401.proofs.LoadLemmas.{load_brings_the_field}
-use Rattle.fields_1401.proofs.moves.load_chars.Goals as goal
+use Rattle.fields_1401.proofs.loads.load_chars.Goals as goal
 
 pub returns-clause-field : goal.returns-clause-field
 returns-clause-field c =

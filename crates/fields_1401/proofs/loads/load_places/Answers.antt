@@ -1,7 +1,7 @@
 -- Each step loads one cell more.
 use Rattle.std.proofs.Common.{rules, refl, arith}
-use Rattle.fields_1401.proofs.MoveLemmas.{loaded_none, loaded_more}
-use Rattle.fields_1401.proofs.moves.load_places.Goals as goal
+use Rattle.fields_1401.proofs.LoadLemmas.{loaded_none, loaded_more}
+use Rattle.fields_1401.proofs.loads.load_places.Goals as goal
 
 pub loop-i-init : goal.loop-i-init
 loop-i-init c = record { loaded = loaded_none c.args.core.now c.args.a c.args.b; size = refl }

@@ -1,4 +1,4 @@
--- Parts of characters moved: `A` is zone 3 and digit 1, code 49; `N` is zone 2 and digit 5, code 37.
+-- Parts of characters moved, computed: `A` is zone 3 and digit 1, code 49; `N` is zone 2 and digit 5, code 37.
 use Rattle.std.proofs.Common.{◌≡◌, Ok, Err, [], ◌∷◌, refl}
 use Rattle.fields_1401.specs.declared.done.FieldStop.TheVariants.{Address}
 use Rattle.fields_1401.specs.Outcome.{registers_at}

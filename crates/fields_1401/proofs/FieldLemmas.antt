@@ -1,13 +1,14 @@
--- Cells from a place down, and the first word mark among them.
-use Rattle.std.proofs.Common.{◌≡◌, ℕ, ◌+◌, ◌-◌, ◌<◌, ◌≤◌, Bool, List, Option, Some, None, length, get_or, take, position, refl, sym, ◌∙◌, ap, arith}
+-- Cells from a place down, the first word mark among them, and fields that aren't in core.
+use Rattle.std.proofs.Common.{◌≡◌, ℕ, ◌+◌, ◌-◌, ◌<◌, ◌≤◌, Bool, List, Option, Some, None, length, get_or, take, position, refl, sym, ◌∙◌, ap, arith, false, [], ◌∷◌}
 use Rattle.std.proofs.lemmas.Bool.{lt-ltb}
 use Rattle.std.proofs.lemmas.List.{get_or-take, get_or-reverse, length-take-le, length-reverse, get_or_past}
 use Rattle.std.proofs.lemmas.List.Quantifiers.{position-Some}
 use Rattle.std.proofs.lemmas.List.Sums.{position_or_len_is}
 use Rattle.std.specs.Option.{option_map}
+use Rattle.std.specs.List.{zip}
 use Rattle.bcd_1401.specs.declared.cell.Cell.{Cell}
-use Rattle.core_1401.specs.Field.{cells_down, field_len_of}
-use Rattle.core_1401.specs.Storage.{Storage, blank, cell_at}
+use Rattle.core_1401.specs.Field.{cells_down, field_len_of, pair_len_of}
+use Rattle.core_1401.specs.Storage.{Storage, blank, cell_at, is_in_core}
 use Rattle.fields_1401.specs.Number.{places_down, char_at}
 
 -- there is a cell for each place from an address down
@@ -67,3 +68,18 @@ same_field_len storage after at n in_core size same len = found (position (λ (c
       let marks : (i : ℕ) → i ≤ k → (get_or (cells_down after at) i blank).mark ≡ (get_or (cells_down storage at) i blank).mark =
       λ i le. ap mark (get_or-cells_down after at i in_after (omega arith)) ∙ same (at - i) (omega arith) ∙ sym (ap mark (get_or-cells_down storage at i in_core (omega arith))) in
       ap (λ o. option_map (λ i. i + 1) o) (same_first_mark (cells_down storage at) (cells_down after at) k first (omega arith) marks) ∙ e
+
+-- cells beside none
+zip_none : (cells : List Cell) → zip {K = Cell} {X = Cell} cells [] ≡ []
+zip_none [] = refl
+zip_none (cell ∷ cells) = refl
+
+-- two fields have no length where one of them isn't in core
+pub no_pair_without_a : (storage : Storage) (a b : ℕ) → is_in_core storage a ≡ false → pair_len_of storage a b ≡ None
+no_pair_without_a storage a b e = rw e refl
+
+pub no_pair_without_b : (storage : Storage) (a b : ℕ) → is_in_core storage b ≡ false → pair_len_of storage a b ≡ None
+no_pair_without_b storage a b e = rw (e, zip_none (cells_down storage a)) refl
+
+-- whichever it is
+pub ruleset no_pair = (no_pair_without_a, no_pair_without_b)

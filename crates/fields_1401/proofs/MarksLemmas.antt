@@ -2,7 +2,7 @@
 use Rattle.std.proofs.Common.{◌≡◌, ℕ, ◌+◌, ◌-◌, ◌<◌, ◌≤◌, length, set, refl}
 use Rattle.core_1401.specs.Storage.{Storage, blank}
 use Rattle.fields_1401.specs.Marks.{cleared}
-use Rattle.fields_1401.proofs.WrittenLemmas.{with_cells_none, with_cells_more}
+use Rattle.fields_1401.proofs.PlacesLemmas.{with_cells_none, with_cells_more}
 
 -- nothing is cleared yet
 pub cleared_none : (storage : Storage) (at : ℕ) → storage ≡ cleared storage at 0

@@ -1,4 +1,4 @@
--- Word marks and storage cleared.
+-- Word marks and storage cleared, computed.
 use Rattle.std.proofs.Common.{◌≡◌, Ok, Err, [], ◌∷◌, ◌++◌, replicate, refl}
 use Rattle.core_1401.specs.Storage.{blank}
 use Rattle.fields_1401.specs.declared.done.FieldStop.TheVariants.{Address}
