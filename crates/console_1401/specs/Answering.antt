@@ -10,6 +10,7 @@ use Rattle.console_1401.specs.ReplyText.{bytes_of}
 use Rattle.console_1401.specs.Session.{Exchange}
 use Rattle.console_1401.specs.Sink.{AppendsPart}
 use Rattle.console_1401.specs.Text.{said_finished}
+use Rattle.console_1401.specs.Limits.{kept_bytes}
 
 -- how what stands behind a console responds to a line: `responds before said reply after` says that from before it may be
 -- answered so, and leave after
@@ -50,8 +51,8 @@ AnswersLast responds last [] before after old new = (last ≡ end.EndOfInput) ×
 AnswersLast responds last (byte ∷ bytes) before after old new =
     (next : Option SessionEnd) × (last ≡ end_after next) × AnswersLine responds next (said_by (byte ∷ bytes)) before after old new
 
--- one byte more: a line feed (true) ends a line, which is answered; any other byte is kept, up to 202 of a line
+-- one byte more: a line feed (true) ends a line, which is answered; any other byte is kept, up to the most that is kept of a line
 abbrev pub EntersByte : {S : Type 0} → Response S → Bool → ℕ → Option SessionEnd → List ℕ → List ℕ → S → S → Option (List ℕ) → Option (List ℕ) → Type 0
 EntersByte responds true byte next line kept before after old new = AnswersLine responds next (said_finished line) before after old new × (kept ≡ [])
 EntersByte responds false byte next line kept before after old new =
-    (next ≡ None) × (kept ≡ take 202 (line ++ byte ∷ [])) × (after ≡ before) × (new ≡ old)
+    (next ≡ None) × (kept ≡ take kept_bytes (line ++ byte ∷ [])) × (after ≡ before) × (new ≡ old)

@@ -18,6 +18,7 @@ use Rattle.console_1401.specs.declared.line.LineFault.TheVariants as line_fault
 use Rattle.console_1401.specs.declared.reply.Reply.{Reply}
 use Rattle.console_1401.specs.declared.reply.Reply.TheVariants as reply
 use Rattle.console_1401.specs.ConsoleLine.{spelled, cells_of}
+use Rattle.console_1401.specs.Bytes.{line_feed, tilde}
 
 -- a number in decimal digits, with zeros in front where it has fewer than the width; one that has more has them all
 abbrev pub digits_in : ℕ → ℕ → List ℕ
@@ -25,7 +26,7 @@ digits_in width number = replicate (width - length (decimal number)) 48 ++ decim
 
 -- a cell by its graphic, with a tilde in front where it has a word mark
 abbrev pub cell_text : Cell → List ℕ
-cell_text cell = if cell.mark then 126 ∷ slice_index graphics cell.char ∷ [] else slice_index graphics cell.char ∷ []
+cell_text cell = if cell.mark then tilde ∷ slice_index graphics cell.char ∷ [] else slice_index graphics cell.char ∷ []
 
 -- cells one after another, blanks at the end too
 unfoldable pub cells_text : List Cell → List ℕ
@@ -104,4 +105,4 @@ text_of_reply reply.Bye = codes "BYE"
 -- the bytes of a reply, where there is one: its text and a line feed
 abbrev pub bytes_of : Option Reply → List ℕ
 bytes_of None = []
-bytes_of (Some given) = text_of_reply given ++ 10 ∷ []
+bytes_of (Some given) = text_of_reply given ++ line_feed ∷ []

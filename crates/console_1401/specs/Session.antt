@@ -7,6 +7,7 @@ use Rattle.console_1401.specs.declared.session_end.SessionEnd.TheVariants as end
 use Rattle.console_1401.specs.ConsoleLine.{Said}
 use Rattle.console_1401.specs.Sink.{BeginsWith}
 use Rattle.console_1401.specs.Text.{cut_of, lines_of}
+use Rattle.console_1401.specs.Limits.{most_bytes}
 
 -- how lines are answered at a console: `answered before lines written after` says that from before these lines are answered
 -- by these bytes, and leave after
@@ -19,7 +20,7 @@ NoQuit lines = All (λ said. said ≢ Ok Quit) lines
 
 -- fewer bytes were read than a session may read, so that it could ask for another one
 abbrev pub MayReadOn : List ℕ → Type 0
-MayReadOn read = length read < 16777216
+MayReadOn read = length read < most_bytes
 
 -- it asked, and there was none
 abbrev pub IsAllRead : Option (List ℕ) → List ℕ → Type 0
@@ -57,7 +58,7 @@ HasEnded answered end.EndOfInput left before read written after =
 HasEnded answered end.Read left before read written after =
     MayReadOn read × NoQuit (lines_of false read) × answered before (lines_of false read) written after
 HasEnded answered end.Bound left before read written after =
-    (length read ≡ 16777216) × NoQuit (lines_of false read) × answered before (lines_of false read) written after
+    (length read ≡ most_bytes) × NoQuit (lines_of false read) × answered before (lines_of false read) written after
 HasEnded answered end.Write left before read written after =
     (ended : Bool) × (front : List Said) × (last : Said) × LastLine ended left read front last × BrokenOff answered before front last written after
 HasEnded answered end.Memory left before read written after =
@@ -70,5 +71,5 @@ pub record SessionDid {S : Type 0} (answered : Exchange S) (last : SessionEnd) (
   pub written : List ℕ
   pub consumed : Consumes left_before left_after read
   pub appended : Appends received_before received_after written
-  pub bound : length read ≤ 16777216
+  pub bound : length read ≤ most_bytes
   pub session : HasEnded answered last left_after before read written after

@@ -3,6 +3,7 @@ ghost use Rattle.std.specs.Prelude.{◌≡◌, ◌≢◌, ◌==◌, false, IsTru
 ghost use Rattle.console_1401.specs.Session.{SessionDid};
 ghost use Rattle.console_1401.specs.Answering.{AnsweredAll, AnswersLine, AnswersLast, EntersByte};
 ghost use Rattle.console_1401.specs.Text.{without_return};
+ghost use Rattle.console_1401.specs.Bytes.{line_feed};
 
 use crate::line::{Line, LineFault, parse_line};
 use crate::line_buffer::LineBuffer;
@@ -86,7 +87,7 @@ fn enter_byte<T: Responder, W: Sink>(
     line: &mut LineBuffer,
     byte: u8,
 ) -> Option<SessionEnd>
-    ensures byte { EntersByte T.responds (byte == 10) byte result line.old line.new responder.old responder.new (W.received writer.old) (W.received writer.new) }
+    ensures byte { EntersByte T.responds (byte == line_feed) byte result line.old line.new responder.old responder.new (W.received writer.old) (W.received writer.new) }
     ensures write { result ≡ Some SessionEnd.Write → IsTrue (W.has_failed writer.new) }
     ensures good { result ≢ Some SessionEnd.Write → W.has_failed writer.new ≡ W.has_failed writer.old }
 {
