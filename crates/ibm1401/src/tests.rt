@@ -6,8 +6,10 @@ mod command_line;
 mod faults;
 mod moves;
 mod programs;
+mod recorder;
 mod refusals;
 mod storage;
+mod wiring;
 
 use console_1401::{FromReader, SessionEnd, ToWriter, session};
 use room_1401::Room;
