@@ -3,6 +3,7 @@
 
 pub mod fault;
 pub mod image;
+mod version;
 
 pub use fault::ImageFault;
 pub use image::{Image, Segment, Segments};

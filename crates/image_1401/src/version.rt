@@ -1,0 +1,42 @@
+//! The versions of the text of an image. What sets one apart from another stands here alone.
+ghost use Rattle.std.specs.Prelude.{◌≡◌, ◌≤◌};
+ghost use Rattle.image_1401.specs.Version.{name_of, address_digits, has_size};
+
+use core_1401::Core;
+
+/// A version of the text of an image.
+#[derive(Clone, Copy, Debug, PartialEq, Eq)]
+pub(crate) enum Version {
+    /// 1: four digits.
+    One,
+}
+
+impl Version {
+    /// What the header begins with.
+    pub(crate) fn name(self) -> &'static [u8]
+        ensures { result.now ≡ name_of self }
+    {
+        match self {
+            Version::One => b"IMAGE1 ",
+        }
+    }
+
+    /// How many digits a size and an address have.
+    pub(crate) fn address_digits(self) -> usize
+        ensures value { result ≡ address_digits self }
+        ensures bound { result ≤ 5 }
+    {
+        match self {
+            Version::One => 4,
+        }
+    }
+
+    /// Whether an image of this size has a text of this version.
+    pub(crate) fn has_size(self, size: u16) -> bool
+        ensures { result ≡ has_size self size }
+    {
+        match self {
+            Version::One => Core::is_size(size),
+        }
+    }
+}
