@@ -7,7 +7,7 @@ use Rattle.image_1401.specs.declared.fault.ImageFault.{ImageFault}
 use Rattle.image_1401.specs.declared.fault.ImageFault.TheVariants.{Header, BadRecord, Range, Truncated}
 use Rattle.image_1401.specs.declared.image.Image.{Image}
 use Rattle.image_1401.specs.declared.version.Version.TheVariants.{One}
-use Rattle.image_1401.specs.ImageText.{number_text, cells_text, header_text, segment_text, end_text, image_text}
+use Rattle.image_1401.specs.ImageText.{number_text, cells_text, header_text, segment_text, segments_text, end_text, image_text}
 use Rattle.image_1401.specs.Reading.{number_in, number_at, cells_in, header_with, header_in, segment_in, end_in, parts_of, contents_in, image_in}
 
 -- a cell without a word mark, and one with it, by the character's code
@@ -34,7 +34,7 @@ unfolding zero_and_add halt_and_constants plain marked
 five_and_five = record { size = 4000; segments = record { address = 400; cells = zero_and_add halt_and_constants } ∷ []; start = 400 }
 
 text_of_five_and_five : image_text One five_and_five ≡ codes "IMAGE1 4000\n0400 24 ~?423420~A423420~.414~   ~HI~E\nEND 0400\n"
-unfolding five_and_five zero_and_add halt_and_constants plain marked graphics number_text cells_text header_text segment_text end_text image_text
+unfolding five_and_five zero_and_add halt_and_constants plain marked graphics number_text cells_text header_text segment_text segments_text end_text image_text
 text_of_five_and_five = refl
 
 -- what a text is read as

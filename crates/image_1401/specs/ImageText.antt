@@ -39,19 +39,27 @@ end_text version start = codes "END " ++ number_text (address_digits version) st
 abbrev pub line_of : List ℕ → List ℕ
 line_of line = line ++ codes "\n"
 
--- all of them, in order
+-- the lines of segments
+unfoldable pub segments_text : Version → List Segment → List ℕ
+segments_text version segments = flat_map (λ segment. line_of (segment_text version segment)) segments
+
+-- all lines, in order
 unfoldable pub image_text : Version → Image → List ℕ
 image_text version image =
-    line_of (header_text version image.size) ++ flat_map (λ segment. line_of (segment_text version segment)) image.segments
-    ++ line_of (end_text version image.start)
+    line_of (header_text version image.size) ++ segments_text version image.segments ++ line_of (end_text version image.start)
 
--- 1 to 40 cells, each with one of the 64 characters, as every segment has them
-abbrev pub are_cells : List Cell → Bool
-are_cells cells = nat_le 1 (length cells) && nat_le (length cells) 40 && list_all (λ cell. nat_lt cell.char 64) cells
+-- whether a cell has one of the 64 characters
+abbrev pub is_character : Cell → Bool
+is_character cell = nat_lt cell.char 64
+
+-- whether it has 1 to 40 cells, as every segment of the machine has
+abbrev pub is_segment : Segment → Bool
+is_segment segment =
+    nat_le 1 (length segment.cells) && nat_le (length segment.cells) 40 && list_all is_character segment.cells
 
 -- an image that has a text of this version
 pub record HasText (version : Version) (image : Image) : Type 0 where
   pub size : has_size version image.size ≡ true
-  pub cells : list_all (λ segment. are_cells segment.cells) image.segments ≡ true
+  pub cells : list_all is_segment image.segments ≡ true
   pub segments : list_all (is_inside image.size) image.segments ≡ true
   pub start : nat_lt image.start image.size ≡ true

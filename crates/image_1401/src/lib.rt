@@ -4,6 +4,8 @@
 pub mod fault;
 pub mod image;
 mod version;
+pub mod writing;
 
 pub use fault::ImageFault;
 pub use image::{Image, Segment, Segments};
+pub use writing::write_image;
