@@ -58,6 +58,10 @@ cells_in (byte ∷ next ∷ text) =
 abbrev pub if_few : List Cell → Option (List Cell)
 if_few cells = if nat_le 1 (length cells) && nat_le (length cells) 40 then Some cells else None
 
+-- the 1 to 40 cells that all of the text spells
+unfoldable pub few_cells_in : List ℕ → Option (List Cell)
+few_cells_in text = cells_in text >>= if_few
+
 -- the size that a header of this version names
 unfoldable pub header_with : Version → List ℕ → Option ℕ
 header_with version line = do
@@ -76,7 +80,7 @@ segment_in version line = do
   text ← behind (codes " ") address.1
   count ← number_at 2 text
   text ← behind (codes " ") count.1
-  cells ← cells_in text >>= if_few
+  cells ← few_cells_in text
   if length cells == count.0 then Some (record { address = address.0; cells = cells }) else None
 
 -- the entry

@@ -3,6 +3,7 @@
 
 pub mod fault;
 pub mod image;
+pub mod reading;
 mod version;
 pub mod writing;
 

@@ -1,5 +1,5 @@
 //! The versions of the text of an image. What sets one apart from another stands here alone.
-ghost use Rattle.std.specs.Prelude.{◌≡◌, ◌≤◌};
+ghost use Rattle.std.specs.Prelude.{◌≡◌, ◌≤◌, Some, None, if◌then◌else◌};
 ghost use Rattle.image_1401.specs.Version.{name_of, address_digits, has_size};
 
 use core_1401::Core;
@@ -31,12 +31,14 @@ impl Version {
         }
     }
 
-    /// Whether an image of this size has a text of this version.
-    pub(crate) fn has_size(self, size: u16) -> bool
-        ensures { result ≡ has_size self size }
+    /// The size that a number names, if an image with a text of this version can have it.
+    pub(crate) fn size(self, number: u32) -> Option<u16>
+        ensures { result ≡ (if has_size self number then Some number else None) }
     {
         match self {
-            Version::One => Core::is_size(size),
+            Version::One => u16::try_from(number)
+                .ok()
+                .filter(|size| Core::is_size(*size)),
         }
     }
 }
