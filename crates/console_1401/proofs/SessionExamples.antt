@@ -9,8 +9,8 @@ use Rattle.console_1401.specs.declared.line.Line.TheVariants.{Empty, Command, Qu
 use Rattle.console_1401.specs.declared.line.LineFault.TheVariants.{Word, Length}
 use Rattle.console_1401.specs.Words.{word_in, behind_word, keyword_of, number_of, address_of, count_of}
 use Rattle.console_1401.specs.ConsoleLine.{Said, said_by, said_in_words, said_with, ended, examine_of}
-use Rattle.console_1401.specs.ReplyText.{answer_text, cells_text}
-use Rattle.console_1401.specs.Replies.{Turn, text_of, replies_to, journal_after}
+use Rattle.console_1401.specs.ReplyText.{answer_text, cells_text, text_of_reply}
+use Rattle.console_1401.specs.Turns.{Turn, replies_to, journal_after}
 use Rattle.console_1401.specs.Text.{cut_of, without_return, lines_of}
 
 -- the lines of a text, with all that they consist of open
@@ -20,7 +20,7 @@ lines_in ends text = lines_of ends text
 
 -- the replies to some lines at a machine of this size, with all that they consist of open
 replies_in : ℕ → List Turn → List ℕ
-unfolding text_of answer_text cells_text graphics carry_out
+unfolding text_of_reply answer_text cells_text graphics carry_out
 replies_in size turns = replies_to size [] turns
 
 a_return_before_the_line_feed_is_dropped : lines_of false (codes "QUIT" ++ 13 ∷ 10 ∷ []) ≡ Ok Quit ∷ []
@@ -55,12 +55,12 @@ a_line_of_201_bytes_is_too_long = refl
 two_cells : List Cell
 two_cells = record { char = 10; mark = true } ∷ record { char = 34; mark = false } ∷ []
 
--- a line at which growth isn't refused, and one at which it is
+-- a line at which memory isn't refused, and one at which it is
 good : Said → Turn
-good said = record { said = said; refused = false }
+good said = record { said = said; memory_refused = false }
 
 refused : Said → Turn
-refused said = record { said = said; refused = true }
+refused said = record { said = said; memory_refused = true }
 
 each_line_has_its_reply :
     replies_to 20 [] (good (Ok (Command (Deposit 5 two_cells))) ∷ good (Ok Empty) ∷ good (Ok (Command (Examine 5 2))) ∷ good (Err Word) ∷ good (Ok Quit) ∷ [])

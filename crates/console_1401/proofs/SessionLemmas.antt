@@ -2,19 +2,20 @@
 use Rattle.std.proofs.Common.{◌≡◌, ℕ, List, [], ◌∷◌, ◌++◌, Option, refl, ◌∙◌, ap}
 use Rattle.room_1401.specs.declared.entry.Entry.{Entry}
 use Rattle.room_1401.specs.Account.{Account}
-use Rattle.console_1401.specs.declared.replies.Reply.{Reply}
+use Rattle.console_1401.specs.declared.reply.Reply.{Reply}
 use Rattle.console_1401.specs.declared.session_end.SessionEnd.{SessionEnd}
 use Rattle.console_1401.specs.declared.session_end.SessionEnd.TheVariants as end
 use Rattle.console_1401.specs.ConsoleLine.{Said}
-use Rattle.console_1401.specs.Replies.{Taken, Answered, bytes_of, reply_of, journal_after, replies_to}
-use Rattle.console_1401.specs.Session.{Answering, BrokenOff, HasEnded, SessionDid}
-use Rattle.console_1401.specs.Taking.{AnsweredAll}
+use Rattle.console_1401.specs.ReplyText.{bytes_of}
+use Rattle.console_1401.specs.Turns.{RoomResponds, Answered, reply_of, journal_after, replies_to}
+use Rattle.console_1401.specs.Session.{Exchange, BrokenOff, HasEnded, SessionDid}
+use Rattle.console_1401.specs.Answering.{AnsweredAll}
 
 -- lines answered in the one way are answered in the other
-abbrev pub Gives : {S : Type 0} → Answering S → Answering S → Type 0
+abbrev pub Gives : {S : Type 0} → Exchange S → Exchange S → Type 0
 Gives {S} one other = (before : S) (lines : List Said) (written : List ℕ) (after : S) → one before lines written after → other before lines written after
 
-broken_off_as : {S : Type 0} (one other : Answering S) (gives : Gives one other) (before : S) (front : List Said) (last : Said) (written : List ℕ) (after : S)
+broken_off_as : {S : Type 0} (one other : Exchange S) (gives : Gives one other) (before : S) (front : List Said) (last : Said) (written : List ℕ) (after : S)
     → BrokenOff one before front last written after → BrokenOff other before front last written after
 broken_off_as one other gives before front last written after b = record {
   replies = b.replies;
@@ -28,7 +29,7 @@ broken_off_as one other gives before front last written after b = record {
   written_is = b.written_is;
 }
 
-ended_as : {S : Type 0} (one other : Answering S) (gives : Gives one other) (last : SessionEnd) (left : Option (List ℕ)) (before : S) (read written : List ℕ) (after : S)
+ended_as : {S : Type 0} (one other : Exchange S) (gives : Gives one other) (last : SessionEnd) (left : Option (List ℕ)) (before : S) (read written : List ℕ) (after : S)
     → HasEnded one last left before read written after → HasEnded other last left before read written after
 unfolding broken_off_as
 ended_as one other gives end.Quit left before read written after s = (s.0, s.1, s.2, gives before _ written after s.3)
@@ -39,7 +40,7 @@ ended_as one other gives end.Write left before read written after s = (s.0, s.1,
 ended_as one other gives end.Memory left before read written after s = (s.0, s.1, s.2, s.3, broken_off_as one other gives before s.1 s.2 written after s.4, s.5)
 
 -- a session whose lines were answered in the one way, said in the other
-pub session_as : {S : Type 0} (one other : Answering S) → Gives one other → (last : SessionEnd) (l0 l1 t0 t1 : Option (List ℕ)) (before after : S)
+pub session_as : {S : Type 0} (one other : Exchange S) → Gives one other → (last : SessionEnd) (l0 l1 t0 t1 : Option (List ℕ)) (before after : S)
     → SessionDid one last l0 l1 t0 t1 before after → SessionDid other last l0 l1 t0 t1 before after
 session_as one other gives last l0 l1 t0 t1 before after did = record {
   read = did.read;
@@ -50,8 +51,8 @@ session_as one other gives last l0 l1 t0 t1 before after did = record {
   session = ended_as one other gives last l1 before did.read did.written after did.session;
 }
 
--- at a room, the lines taken are turns, each with its flag
-pub answered_at_room : (before : Account) (lines : List Said) (written : List ℕ) (after : Account) → AnsweredAll Taken before lines written after → Answered before lines written after
+-- at a room, the lines received are turns, each with its flag
+pub answered_at_room : (before : Account) (lines : List Said) (written : List ℕ) (after : Account) → AnsweredAll RoomResponds before lines written after → Answered before lines written after
 answered_at_room before [] written after a = record {
   turns = [];
   lines_are = refl;
@@ -63,12 +64,12 @@ answered_at_room before (said ∷ lines) written after a =
     let took = a.3 in
     let more : Answered a.0 lines a.2 after = answered_at_room a.0 lines a.2 after a.5 in
     record {
-      turns = record { said = said; refused = took.refused } ∷ more.turns;
+      turns = record { said = said; memory_refused = took.memory_refused } ∷ more.turns;
       lines_are = ap (λ (rest : List Said). said ∷ rest) more.lines_are;
       written_is =
           a.4
           ∙ ap (λ (reply : Option Reply). bytes_of reply ++ a.2) took.reply_is
-          ∙ ap (λ (rest : List ℕ). bytes_of (reply_of before.size before.journal said took.refused) ++ rest)
+          ∙ ap (λ (rest : List ℕ). bytes_of (reply_of before.size before.journal said took.memory_refused) ++ rest)
           (more.written_is ∙ ap (λ (size : ℕ). replies_to size a.0.journal more.turns) took.size_is ∙ ap (λ (journal : List Entry). replies_to before.size journal more.turns) took.journal_is);
       journal_is =
           more.journal_is

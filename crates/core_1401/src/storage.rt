@@ -1,5 +1,6 @@
 //! Core storage: one cell for each address.
 ghost use Rattle.std.specs.Prelude.{◌≡◌, ◌<◌, ◌≤◌, ◌↔◌, true, false, length, IfOk};
+ghost use Rattle.core_1401.specs.Address.{addresses};
 ghost use Rattle.core_1401.specs.Storage.{cell_at, with_char, with_mark, blanks, is_in_core, is_core_size};
 
 use crate::fault::CoreFault;
@@ -29,6 +30,13 @@ impl Model for Core {
 }
 
 impl Core {
+    /// Whether core storage is made in this size.
+    pub fn is_size(size: u16) -> bool
+        ensures { result ≡ is_core_size size }
+    {
+        SIZES.contains(&size)
+    }
+
     /// Core storage as it is at power-on: blank, and without a word mark.
     ///
     /// # Errors
@@ -38,7 +46,7 @@ impl Core {
         ensures ok { IfOk result (λ core. core ≡ blanks size) }
         ensures size { (result ≡ Err CoreFault.Size) ↔ (is_core_size size ≡ false) }
     {
-        if !SIZES.contains(&size) {
+        if !Core::is_size(size) {
             return Err(CoreFault::Size);
         }
         match vec![in alloc; Cell::BLANK; usize::from(size)] {
@@ -52,7 +60,7 @@ impl Core {
         ensures value { result ≡ length self.now }
         ensures core { is_core_size result ≡ true }
         ensures least { 1400 ≤ result }
-        ensures most { result ≤ 16000 }
+        ensures most { result ≤ addresses }
     {
         self.cells.len() as u16
     }

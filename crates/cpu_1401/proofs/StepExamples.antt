@@ -2,25 +2,16 @@
 -- for zero.
 use Rattle.std.proofs.Common.{◌≡◌, ℕ, true, false, [], ◌∷◌, None, Some, refl}
 use Rattle.bcd_1401.specs.Graphic.{graphics}
-use Rattle.bcd_1401.specs.declared.cell.Cell.{Cell}
 use Rattle.core_1401.specs.Storage.{Storage}
 use Rattle.fields_1401.specs.Marks.{cleared}
-use Rattle.fields_1401.specs.Move.{moved, loaded}
+use Rattle.fields_1401.specs.Load.{load_at, loaded}
+use Rattle.fields_1401.specs.Move.{move_at, moved}
 use Rattle.fields_1401.specs.Places.{with_cells, with_chars}
 use Rattle.cpu_1401.specs.declared.stop.Stop.TheVariants as stop
 use Rattle.cpu_1401.specs.Run.{run_for}
-use Rattle.cpu_1401.specs.State.{State, power_on, regs_of}
+use Rattle.cpu_1401.specs.State.{power_on, regs_of}
 use Rattle.cpu_1401.specs.Step.{step}
-
-abbrev plain : ℕ → Cell
-plain char = record { char = char; mark = false }
-
-abbrev marked : ℕ → Cell
-marked char = record { char = char; mark = true }
-
--- the machine at power-on with this storage, and with I at a place
-abbrev with_program : Storage → ℕ → State
-with_program storage at = record (power_on 0) { storage = storage; i = at }
+use Rattle.cpu_1401.proofs.ExampleCells.{plain, marked, with_program}
 
 -- a comma with address 001, and a halt behind it
 abbrev set_mark : Storage
@@ -72,19 +63,19 @@ a_chained_move : step (record (with_program (marked 36 ∷ marked 59 ∷ marked 
   state = record (with_program (marked 36 ∷ marked 59 ∷ marked 5 ∷ plain 5 ∷ plain 6 ∷ []) 1) { a = 1; b = 2 };
   stop = None;
 }
-unfolding step graphics moved with_chars with_cells
+unfolding step graphics move_at moved with_chars with_cells
 a_chained_move = refl
 
 -- one address of a move goes into the A register alone
 a_move_of_one_address : (step (record (with_program (marked 36 ∷ plain 10 ∷ plain 10 ∷ plain 6 ∷ marked 59 ∷ marked 5 ∷ plain 7 ∷ []) 0) { b = 5 })).state
     ≡ record (with_program (marked 36 ∷ plain 10 ∷ plain 10 ∷ plain 6 ∷ marked 59 ∷ marked 7 ∷ plain 7 ∷ []) 4) { a = 5; b = 4 }
-unfolding step graphics moved with_chars with_cells
+unfolding step graphics move_at moved with_chars with_cells
 a_move_of_one_address = refl
 
 -- a load, 35, chained
 a_chained_load : (step (record (with_program (marked 35 ∷ marked 59 ∷ marked 5 ∷ plain 6 ∷ plain 7 ∷ marked 8 ∷ []) 0) { a = 3; b = 5 })).state
     ≡ record (with_program (marked 35 ∷ marked 59 ∷ marked 5 ∷ plain 6 ∷ marked 5 ∷ plain 6 ∷ []) 1) { a = 1; b = 3 }
-unfolding step graphics loaded with_cells
+unfolding step graphics load_at loaded with_cells
 a_chained_load = refl
 
 -- a halt with the address 003

@@ -45,6 +45,8 @@ fn each_stop_has_its_number_and_name(rt: HostRuntime) {
     for (program, reply) in [
         ("~T~.", "STOP 07 OPCODE STEPS 0 I 00600\n"),
         ("~M70~.", "STOP 08 LENGTH STEPS 0 I 00600\n"),
+        ("~A70~.", "STOP 08 LENGTH STEPS 0 I 00600\n"),
+        ("~@700710~.", "STOP 12 NOTFITTED STEPS 0 I 00600\n"),
         ("~M7007101~.", "STOP 12 NOTFITTED STEPS 0 I 00600\n"),
         ("~L7007101~.", "STOP 12 NOTFITTED STEPS 0 I 00600\n"),
         ("M700710~.", "STOP 06 NOMARK STEPS 0 I 00600\n"),

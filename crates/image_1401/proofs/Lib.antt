@@ -1,0 +1,4 @@
+pub mod CellsLemmas
+pub mod LineLemmas
+pub mod NumberLemmas
+pub mod ReadingExamples
