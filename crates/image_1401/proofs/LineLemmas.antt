@@ -5,7 +5,7 @@ use Rattle.std.specs.List.{onto_first, position_or_len}
 use Rattle.std.proofs.lemmas.Bool.{ltb-false, ltb-true}
 use Rattle.std.proofs.lemmas.Option.{cond_some}
 use Rattle.std.proofs.lemmas.List.Splits.{slice_split_first}
-use Rattle.image_1401.specs.Reading.{parts_of}
+use Rattle.image_1401.specs.Reading.{parts_of, is_done}
 
 -- whether a byte ends a line
 abbrev is_feed : ℕ → Bool
@@ -35,3 +35,22 @@ parts_of-first text end h =
     let inside : position_or_len is_feed text < length text = ltb-true _ _ found.0 in
     let first = slice_split_first is_feed text 0 inside in
     (omega (arith, inside, found.1), subst (λ (n : ℕ). parts_of text ≡ take n text ∷ parts_of (drop (n + 1) text)) found.1 first)
+
+some_by : (b : Bool) (x : ℕ) (parts : List (List ℕ)) → (first : List ℕ) × (more : List (List ℕ)) × (cond {A = List (List ℕ)} b ([] ∷ parts) (onto_first x parts) ≡ first ∷ more)
+some_by true x parts = ([], parts, refl)
+some_by false x [] = (x ∷ [], [], refl)
+some_by false x (part ∷ parts) = (x ∷ part, parts, refl)
+
+-- there is always a part
+pub parts_of-some : (text : List ℕ) → (first : List ℕ) × (more : List (List ℕ)) × (parts_of text ≡ first ∷ more)
+parts_of-some [] = ([], [], refl)
+parts_of-some (x ∷ xs) = some_by (is_feed x) x (parts_of xs)
+
+left_by : (b : Bool) (x : ℕ) (first : List ℕ) (more parts : List (List ℕ)) → parts ≡ first ∷ more → is_done (cond {A = List (List ℕ)} b ([] ∷ parts) (onto_first x parts)) ≡ false
+left_by true x first more parts e = rw e refl
+left_by false x first more parts e = rw e refl
+
+-- a byte is left
+pub is_done-some : (text : List ℕ) → 0 < length text → is_done (parts_of text) ≡ false
+is_done-some [] some = absurd (omega arith)
+is_done-some (x ∷ xs) some = let parts = parts_of-some xs in left_by (is_feed x) x parts.0 parts.1 (parts_of xs) parts.2

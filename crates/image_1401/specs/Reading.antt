@@ -1,14 +1,15 @@
 -- Reading the text of an image from left to right (own): each part is a value and what stands behind it.
-use Rattle.std.specs.Prelude.{ℕ, ◌+◌, ◌-◌, ◌*◌, ◌==◌, nat_le, nat_lt, Bool, true, false, ◌&&◌, if◌then◌else◌, List, [], ◌∷◌, length, take, drop, fold, position, Option, None, Some, Result, Ok, Err, option_and_then, codes}
+use Rattle.std.specs.Prelude.{◌≡◌, ℕ, ◌+◌, ◌-◌, ◌*◌, ◌==◌, nat_le, nat_lt, Bool, true, false, ◌&&◌, if◌then◌else◌, List, [], ◌∷◌, ◌++◌, length, take, drop, fold, position, Option, None, Some, Result, Ok, Err, IsOk, option_and_then, codes}
 use Rattle.std.specs.Option.{option_map}
 use Rattle.std.specs.List.{list_all, slice_split}
 use Rattle.std.specs.Str.{bytes_eq}
 use Rattle.bcd_1401.specs.declared.cell.Cell.{Cell}
 use Rattle.bcd_1401.specs.Graphic.{graphics}
 use Rattle.image_1401.specs.declared.fault.ImageFault.{ImageFault}
-use Rattle.image_1401.specs.declared.fault.ImageFault.TheVariants.{Header, BadRecord, Range, Truncated}
+use Rattle.image_1401.specs.declared.fault.ImageFault.TheVariants.{Memory, Header, BadRecord, Range, Truncated}
 use Rattle.image_1401.specs.declared.image.Image.{Image}
 use Rattle.image_1401.specs.declared.image.Segment.{Segment}
+use Rattle.image_1401.specs.declared.reading.Spelled.{Spelled}
 use Rattle.image_1401.specs.declared.version.Version.{Version}
 use Rattle.image_1401.specs.declared.version.Version.TheVariants.{One}
 use Rattle.image_1401.specs.Image.{is_inside}
@@ -83,6 +84,10 @@ segment_in version line = do
   cells ← few_cells_in text
   if length cells == count.0 then Some (record { address = address.0; cells = cells }) else None
 
+-- a segment as its line spells it
+abbrev pub as_segment : Spelled → Segment
+as_segment spelled = record { address = spelled.address; cells = spelled.cells }
+
 -- the entry
 unfoldable pub end_in : Version → List ℕ → Option ℕ
 end_in version line = do
@@ -105,27 +110,32 @@ is_done ((byte ∷ bytes) ∷ parts) = false
 abbrev pub Contents : Type 0
 Contents = List Segment × ℕ
 
--- the contents with a segment in front
-abbrev pub with_segment : Segment → Result Contents ImageFault → Result Contents ImageFault
-with_segment segment (Ok contents) = Ok (segment ∷ contents.0, contents.1)
-with_segment segment (Err fault) = Err fault
+-- the contents with segments in front
+abbrev pub with_segments : List Segment → Result Contents ImageFault → Result Contents ImageFault
+with_segments segments (Ok contents) = Ok (segments ++ contents.0, contents.1)
+with_segments segments (Err fault) = Err fault
 
--- by the entry, and what is left behind it
-abbrev pub contents_end : ℕ → ℕ → List (List ℕ) → Result Contents ImageFault
-contents_end size start parts = if nat_lt start size then (if is_done parts then Ok ([], start) else Err BadRecord) else Err Range
+-- an entry by itself
+abbrev pub entry_alone : Result ℕ ImageFault → Result Contents ImageFault
+entry_alone (Ok start) = Ok ([], start)
+entry_alone (Err fault) = Err fault
 
--- by the first line, what is left behind it, and what that says
-abbrev pub contents_by : ℕ → Option Segment → Option ℕ → List (List ℕ) → Result Contents ImageFault → Result Contents ImageFault
-contents_by size (Some segment) end parts more = if is_inside size segment then with_segment segment more else Err Range
-contents_by size None (Some start) parts more = contents_end size start parts
-contents_by size None None parts more = Err BadRecord
+-- by the entry that a line names, if it does, and what is left behind that line
+abbrev pub entry_by : ℕ → Option ℕ → List (List ℕ) → Result ℕ ImageFault
+entry_by size None parts = Err BadRecord
+entry_by size (Some start) parts = if nat_lt start size then (if is_done parts then Ok start else Err BadRecord) else Err Range
+
+-- by the segment that a line is, if it is one, what is read behind it, and what is read where it isn't
+abbrev pub contents_by : ℕ → Option Segment → Result Contents ImageFault → Result ℕ ImageFault → Result Contents ImageFault
+contents_by size (Some segment) more entry = if is_inside size segment then with_segments (segment ∷ []) more else Err Range
+contents_by size None more entry = entry_alone entry
 
 -- behind the header
 unfoldable pub contents_in : Version → ℕ → List (List ℕ) → Result Contents ImageFault
 contents_in version size [] = Err Truncated
 contents_in version size (part ∷ []) = Err Truncated
 contents_in version size (line ∷ next ∷ parts) =
-    contents_by size (segment_in version line) (end_in version line) (next ∷ parts) (contents_in version size (next ∷ parts))
+    contents_by size (segment_in version line) (contents_in version size (next ∷ parts)) (entry_by size (end_in version line) (next ∷ parts))
 
 -- an image of this size
 abbrev pub image_of : ℕ → Result Contents ImageFault → Result Image ImageFault
@@ -142,3 +152,20 @@ unfoldable pub image_in : List (List ℕ) → Result Image ImageFault
 image_in [] = Err Truncated
 image_in (part ∷ []) = Err Truncated
 image_in (header ∷ next ∷ parts) = image_by (header_in header) (next ∷ parts)
+
+-- what a call answers for what is read: that, or where an image is read, that memory was refused
+abbrev pub Gives : {X : Type 0} → Result X ImageFault → Result X ImageFault → Type 0
+Gives (Ok found) read = read ≡ Ok found
+Gives (Err Memory) read = IsOk read
+Gives (Err Header) read = read ≡ Err Header
+Gives (Err BadRecord) read = read ≡ Err BadRecord
+Gives (Err Range) read = read ≡ Err Range
+Gives (Err Truncated) read = read ≡ Err Truncated
+
+-- a fault that is the text's own
+abbrev pub IsOfText : ImageFault → Type 0
+IsOfText Memory = ⊥
+IsOfText Header = Unit {0}
+IsOfText BadRecord = Unit {0}
+IsOfText Range = Unit {0}
+IsOfText Truncated = Unit {0}

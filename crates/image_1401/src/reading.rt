@@ -1,8 +1,9 @@
 //! The image of a text.
-ghost use Rattle.std.specs.Prelude.{◌≡◌, ◌<◌, ◌≤◌, ◌^◌, ◌∷◌, [], length, ◌==◌, position, Some, None, IfOk, IfSome, MatchOption};
+ghost use Rattle.std.specs.Prelude.{◌≡◌, ◌<◌, ◌≤◌, ◌^◌, ◌∷◌, [], length, ◌==◌, position, Some, None, Ok, Err, if◌then◌else◌, IfOk, IfErr, MatchOption};
+ghost use Rattle.std.specs.Option.{option_map};
 ghost use Rattle.image_1401.specs.Image.{is_inside};
 ghost use Rattle.image_1401.specs.ImageText.{HasText, image_text};
-ghost use Rattle.image_1401.specs.Reading.{cell_in, cells_in, in_front, few_cells_in, number_in, number_at, header_with, header_in, segment_in, end_in, parts_of, contents_in, image_in};
+ghost use Rattle.image_1401.specs.Reading.{cell_in, cells_in, in_front, few_cells_in, number_in, number_at, header_with, header_in, segment_in, end_in, parts_of, entry_by, contents_in, image_of, image_in, as_segment, Gives, IsOfText};
 
 use crate::fault::ImageFault;
 use crate::image::{Image, Segment, Segments};
@@ -11,6 +12,87 @@ use crate::writing::COUNT_DIGITS;
 use bcd_1401::{Cell, Char};
 use core_1401::{Cells, MOST_CELLS};
 use std::alloc::Global;
+
+/// A segment as its line spells it, wherever it lies.
+#[derive(Clone, Copy)]
+struct Spelled {
+    address: u32,
+    cells: Cells,
+}
+
+/// The image of a text, or the fault of its first wrong line.
+#[tactic(auto, unfolding(crate::specs::Reading::image_in))]
+fn image(alloc: Global, text: &[u8]) -> Result<Image, ImageFault>
+    ensures { Gives result (image_in (parts_of text.now)) }
+{
+    let Some((line, behind)) = split_line(text) else {
+        return Err(ImageFault::Truncated);
+    };
+    let Some((version, size)) = header(line) else {
+        return Err(ImageFault::Header);
+    };
+    contents(alloc, version, size, behind)
+}
+
+/// The image of a size whose segments and entry a text spells. Want of memory is told last: the lines behind it are looked
+/// at first.
+fn contents(alloc: Global, version: Version, size: u16, text: &[u8]) -> Result<Image, ImageFault>
+    ensures { Gives result (image_of size (contents_in version size (parts_of text.now))) }
+{
+    let mut segments = Vec::new(alloc);
+    let mut refused = false;
+    let mut rest = text;
+    while let Some((line, behind)) = split_line(rest) {
+        let Some(spelled) = segment(version, line) else {
+            let start = last_entry(size, entry(version, line), behind)?;
+            if refused {
+                return Err(ImageFault::Memory);
+            }
+            let segments = Segments::from_vec(segments);
+            return Ok(Image {
+                size,
+                segments,
+                start,
+            });
+        };
+        let segment = segment_inside(size, &spelled)?;
+        refused = refused || segments.push(segment).is_err();
+        rest = behind;
+    }
+    Err(ImageFault::Truncated)
+}
+
+/// A segment that lies in core storage of this size.
+fn segment_inside(size: u16, spelled: &Spelled) -> Result<Segment, ImageFault>
+    ensures { result ≡ (if is_inside size (as_segment spelled.now) then Ok (as_segment spelled.now) else Err ImageFault.Range) }
+{
+    let cells = spelled.cells;
+    let end = u64::from(spelled.address) + cells.as_slice().len() as u64;
+    if end > u64::from(size) {
+        return Err(ImageFault::Range);
+    }
+    Ok(Segment {
+        address: spelled.address as u16,
+        cells,
+    })
+}
+
+/// The entry that a line names, if it does, where it lies in core storage of this size and nothing stands behind the line.
+fn last_entry(size: u16, entry: Option<u32>, behind: &[u8]) -> Result<u16, ImageFault>
+    ensures value { result ≡ entry_by size entry (parts_of behind.now) }
+    ensures fault { IfErr result IsOfText }
+{
+    let Some(start) = entry else {
+        return Err(ImageFault::BadRecord);
+    };
+    if start >= u32::from(size) {
+        return Err(ImageFault::Range);
+    }
+    if !behind.is_empty() {
+        return Err(ImageFault::BadRecord);
+    }
+    Ok(start as u16)
+}
 
 /// The first line of a text, and what stands behind its line feed; none where there is no line feed.
 fn split_line(text: &[u8]) -> Option<(&[u8], &[u8])>
@@ -51,18 +133,17 @@ fn header_with(version: Version, line: &[u8]) -> Option<u16>
     }
 }
 
-/// The address and the cells of a segment, if the line is one.
+/// What a segment's line spells, if the line is one.
 #[tactic(auto, unfolding(crate::specs::Reading::segment_in))]
-fn segment(version: Version, line: &[u8]) -> Option<(u32, Cells)>
-    ensures { MatchOption result (segment_in version line.now ≡ None) (λ found.
-        segment_in version line.now ≡ Some (record { address = found.0; cells = found.1 })) }
+fn segment(version: Version, line: &[u8]) -> Option<Spelled>
+    ensures { segment_in version line.now ≡ option_map as_segment result }
 {
     let (address, text) = split_number(line, version.address_digits())?;
     let text = text.strip_prefix(b" ")?;
     let (count, text) = split_number(text, COUNT_DIGITS)?;
     let cells = cells(text.strip_prefix(b" ")?)?;
     if cells.as_slice().len() as u32 == count {
-        Some((address, cells))
+        Some(Spelled { address, cells })
     } else {
         None
     }
