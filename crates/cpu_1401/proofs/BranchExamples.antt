@@ -1,9 +1,10 @@
--- Branches on small machines, and what their d-characters look at, computed. The codes: 17 is the slash, 25 Z, 49 to 55 A to
--- G, 9 the digit, 12 the at sign, 18 S; 34 is K, 51 C, 35 L, 19 T.
+-- Branches on small machines, and what their d-characters look at, computed. The codes: 17 is the slash, 25 Z, 49 to 55
+-- A to G, 9 the digit, 12 the at sign, 18 S; 34 is K, 51 C, 35 L, 19 T.
 use Rattle.std.proofs.Common.{◌≡◌, true, false, [], ◌∷◌, None, Some, refl}
 use Rattle.bcd_1401.specs.Graphic.{graphics}
 use Rattle.core_1401.specs.Storage.{Storage}
-use Rattle.cpu_1401.specs.declared.condition.Condition.TheVariants.{Unequal, Overflow, LastCard, SwitchOn, ChannelNine, ChannelTwelve}
+use Rattle.cpu_1401.specs.declared.condition.Condition.TheVariants.{Unequal, Overflow, LastCard, SwitchOn, ChannelNine}
+use Rattle.cpu_1401.specs.declared.condition.Condition.TheVariants.{ChannelTwelve}
 use Rattle.cpu_1401.specs.declared.stop.Stop.TheVariants as stop
 use Rattle.cpu_1401.specs.declared.switch_name.SwitchName.TheVariants.{B, G}
 use Rattle.cpu_1401.specs.Branch.{condition_of, is_so, passes}
@@ -44,10 +45,12 @@ unfolding graphics
 an_s_looks_at_nothing = refl
 
 -- switch A alone means the last card, as long as the hopper is empty
-the_last_card_wants_switch_a : (is_so (power_on 0) LastCard ≡ false) × (is_so (with_switch (power_on 0) 0 true) LastCard ≡ true)
+the_last_card_wants_switch_a : (is_so (power_on 0) LastCard ≡ false)
+    × (is_so (with_switch (power_on 0) 0 true) LastCard ≡ true)
 the_last_card_wants_switch_a = (refl, refl)
 
-switch_g_is_the_seventh : (is_so (with_switch (power_on 0) 6 true) (SwitchOn G) ≡ true) × (is_so (with_switch (power_on 0) 6 true) (SwitchOn B) ≡ false)
+switch_g_is_the_seventh : (is_so (with_switch (power_on 0) 6 true) (SwitchOn G) ≡ true)
+    × (is_so (with_switch (power_on 0) 6 true) (SwitchOn B) ≡ false)
 switch_g_is_the_seventh = (refl, refl)
 
 no_channel_is_at_the_first_line : (is_so (power_on 0) ChannelNine ≡ false) × (is_so (power_on 0) ChannelTwelve ≡ false)
@@ -62,24 +65,29 @@ unfolding graphics
 two_looks_for_no_zone = (refl, refl)
 
 -- a plus sign of BA, a minus sign of B, and A
-a_letter_looks_for_its_zone : (passes 50 (plain 49) ≡ true) × (passes 34 (plain 33) ≡ true) × (passes 18 (plain 17) ≡ true)
+a_letter_looks_for_its_zone : (passes 50 (plain 49) ≡ true) × (passes 34 (plain 33) ≡ true)
+    × (passes 18 (plain 17) ≡ true)
 unfolding graphics
 a_letter_looks_for_its_zone = (refl, refl, refl)
 
-a_zone_is_not_another : (passes 50 (plain 33) ≡ false) × (passes 34 (plain 17) ≡ false) × (passes 18 (marked 49) ≡ false)
+a_zone_is_not_another : (passes 50 (plain 33) ≡ false) × (passes 34 (plain 17) ≡ false)
+    × (passes 18 (marked 49) ≡ false)
 unfolding graphics
 a_zone_is_not_another = (refl, refl, refl)
 
 -- 3, C, L and T: a mark does where the zone is another one, and the zone does without a mark
-either_does : (passes 3 (marked 33) ≡ true) × (passes 51 (marked 1) ≡ true) × (passes 35 (marked 1) ≡ true) × (passes 19 (marked 1) ≡ true)
+either_does : (passes 3 (marked 33) ≡ true) × (passes 51 (marked 1) ≡ true) × (passes 35 (marked 1) ≡ true)
+    × (passes 19 (marked 1) ≡ true)
 unfolding graphics
 either_does = (refl, refl, refl, refl)
 
-the_zone_alone_does : (passes 3 (plain 7) ≡ true) × (passes 51 (plain 49) ≡ true) × (passes 35 (plain 33) ≡ true) × (passes 19 (plain 17) ≡ true)
+the_zone_alone_does : (passes 3 (plain 7) ≡ true) × (passes 51 (plain 49) ≡ true) × (passes 35 (plain 33) ≡ true)
+    × (passes 19 (plain 17) ≡ true)
 unfolding graphics
 the_zone_alone_does = (refl, refl, refl, refl)
 
-neither_fails : (passes 3 (plain 17) ≡ false) × (passes 51 (plain 33) ≡ false) × (passes 35 (plain 49) ≡ false) × (passes 19 (plain 1) ≡ false)
+neither_fails : (passes 3 (plain 17) ≡ false) × (passes 51 (plain 33) ≡ false) × (passes 35 (plain 49) ≡ false)
+    × (passes 19 (plain 1) ≡ false)
 unfolding graphics
 neither_fails = (refl, refl, refl, refl)
 
@@ -118,8 +126,10 @@ unfolding step graphics
 a_branch_of_five_passed_by_leaves_b = refl
 
 -- a blank without a word mark as the fifth character: four characters, whatever stands behind
-a_blank_ends_a_branch : (step (with_program (marked 50 ∷ plain 10 ∷ plain 10 ∷ plain 7 ∷ plain 0 ∷ plain 9 ∷ plain 9 ∷ plain 9 ∷ []) 0)).state
-    ≡ record (with_program (marked 50 ∷ plain 10 ∷ plain 10 ∷ plain 7 ∷ plain 0 ∷ plain 9 ∷ plain 9 ∷ plain 9 ∷ []) 7) { a = 7; b = 4 }
+a_blank_ends_a_branch : (step (with_program (marked 50 ∷ plain 10 ∷ plain 10 ∷ plain 7 ∷ plain 0 ∷ plain 9 ∷ plain 9
+    ∷ plain 9 ∷ []) 0)).state
+    ≡ record (with_program (marked 50 ∷ plain 10 ∷ plain 10 ∷ plain 7 ∷ plain 0 ∷ plain 9 ∷ plain 9 ∷ plain 9
+    ∷ []) 7) { a = 7; b = 4 }
 unfolding step graphics
 a_blank_ends_a_branch = refl
 
@@ -146,19 +156,22 @@ unfolding step graphics
 a_mark_that_is_missing_goes_on = refl
 
 -- a d-character that looks for nothing reads the cell all the same
-a_cell_out_of_core_stops : (step (with_program (marked 21 ∷ plain 10 ∷ plain 10 ∷ plain 1 ∷ plain 10 ∷ plain 10 ∷ plain 9 ∷ plain 49 ∷ marked 59 ∷ []) 0)).stop ≡ Some stop.Address
+a_cell_out_of_core_stops : (step (with_program (marked 21 ∷ plain 10 ∷ plain 10 ∷ plain 1 ∷ plain 10 ∷ plain 10
+    ∷ plain 9 ∷ plain 49 ∷ marked 59 ∷ []) 0)).stop ≡ Some stop.Address
 unfolding step graphics
 a_cell_out_of_core_stops = refl
 
 -- K, 34, with a d-character alone and with an address
-stackers_move_nothing : step (record (with_program (marked 34 ∷ plain 2 ∷ marked 59 ∷ []) 0) { a = 5; b = 6 }) ≡ record {
-  state = record (with_program (marked 34 ∷ plain 2 ∷ marked 59 ∷ []) 2) { a = 5; b = 6 };
-  stop = None;
-}
+stackers_move_nothing : step (record (with_program (marked 34 ∷ plain 2 ∷ marked 59 ∷ []) 0) { a = 5; b = 6 })
+    ≡ record {
+      state = record (with_program (marked 34 ∷ plain 2 ∷ marked 59 ∷ []) 2) { a = 5; b = 6 };
+      stop = None;
+    }
 unfolding step graphics
 stackers_move_nothing = refl
 
-a_stacker_with_an_address_branches : (step (with_program (marked 34 ∷ plain 10 ∷ plain 10 ∷ plain 7 ∷ plain 2 ∷ marked 59 ∷ []) 0)).state
+a_stacker_with_an_address_branches : (step (with_program (marked 34 ∷ plain 10 ∷ plain 10 ∷ plain 7 ∷ plain 2
+    ∷ marked 59 ∷ []) 0)).state
     ≡ record (with_program (marked 34 ∷ plain 10 ∷ plain 10 ∷ plain 7 ∷ plain 2 ∷ marked 59 ∷ []) 7) { a = 7; b = 5 }
 unfolding step graphics
 a_stacker_with_an_address_branches = refl

@@ -1,6 +1,7 @@
--- Branches and what they look at (A24-1403, "Branch", "Branch if Indicator On", "Branch if Character Equal", "Branch if Word
--- Mark and/or Zone", "Halt and Branch"; what the registers hold afterwards, and the channel tests, are own).
-use Rattle.std.specs.Prelude.{ℕ, ◌==◌, ◌&&◌, ◌||◌, Bool, true, false, List, [], ◌∷◌, Option, None, Some, codes, find, length, slice_index, slice_index_or, if◌then◌else◌}
+-- Branches and what they look at (A24-1403, "Branch", "Branch if Indicator On", "Branch if Character Equal", "Branch if
+-- Word Mark and/or Zone", "Halt and Branch"; what the registers hold afterwards, and the channel tests, are own).
+use Rattle.std.specs.Prelude.{ℕ, ◌==◌, ◌&&◌, ◌||◌, Bool, true, false, List, [], ◌∷◌, Option, None, Some, codes, find}
+use Rattle.std.specs.Prelude.{length, slice_index, slice_index_or, if◌then◌else◌}
 use Rattle.std.specs.List.{zip}
 use Rattle.std.specs.Option.{option_map, unwrap_or}
 use Rattle.bcd_1401.specs.Character.{zone_of}
@@ -10,7 +11,8 @@ use Rattle.core_1401.specs.Storage.{is_in_core, cell_at}
 use Rattle.devices_1401.specs.Devices.{line_of}
 use Rattle.fields_1401.specs.Outcome.{below_by}
 use Rattle.cpu_1401.specs.declared.condition.Condition.{Condition}
-use Rattle.cpu_1401.specs.declared.condition.Condition.TheVariants.{Unequal, Overflow, LastCard, SwitchOn, ChannelNine, ChannelTwelve}
+use Rattle.cpu_1401.specs.declared.condition.Condition.TheVariants.{Unequal, Overflow, LastCard, SwitchOn, ChannelNine}
+use Rattle.cpu_1401.specs.declared.condition.Condition.TheVariants.{ChannelTwelve}
 use Rattle.cpu_1401.specs.declared.instruction.Instruction.{Instruction}
 use Rattle.cpu_1401.specs.declared.stop.Stop.TheVariants as stop
 use Rattle.cpu_1401.specs.declared.switch_name.SwitchName.TheVariants.{B, C, D, E, F, G}
@@ -39,12 +41,14 @@ go_on false this s = record s { i = this.next }
 -- what a branch of five characters looks at, by the graphic of its d-character
 abbrev pub conditions : List (ℕ × Condition)
 conditions = zip (codes "/ZABCDEFG9@") (
-    Unequal ∷ Overflow ∷ LastCard ∷ SwitchOn B ∷ SwitchOn C ∷ SwitchOn D ∷ SwitchOn E ∷ SwitchOn F ∷ SwitchOn G ∷ ChannelNine ∷ ChannelTwelve ∷ []
+    Unequal ∷ Overflow ∷ LastCard ∷ SwitchOn B ∷ SwitchOn C ∷ SwitchOn D ∷ SwitchOn E ∷ SwitchOn F ∷ SwitchOn G
+    ∷ ChannelNine ∷ ChannelTwelve ∷ []
     )
 
 -- the same for a d-character; none where it looks at nothing
 abbrev pub condition_of : ℕ → Option Condition
-condition_of d = option_map (λ (entry : ℕ × Condition). entry.1) (find (λ entry. entry.0 == slice_index graphics d) conditions)
+condition_of d =
+    option_map (λ (entry : ℕ × Condition). entry.1) (find (λ entry. entry.0 == slice_index graphics d) conditions)
 
 -- whether it is so
 abbrev pub is_so : State → Condition → Bool
@@ -83,7 +87,10 @@ has_char char cell = cell.char == char
 abbrev pub after_branch : Instruction → State → Stepped
 after_branch this s =
     if this.len == 4 then step_to (branch_to this s)
-    else (if this.len == 5 then step_to (branch_on (condition_of this.d) this s) else branch_on_cell (has_char this.d) this s)
+    else (
+    if this.len == 5 then step_to (branch_on (condition_of this.d) this s)
+    else branch_on_cell (has_char this.d) this s
+    )
 
 abbrev has_mark : Cell → Bool
 has_mark cell = cell.mark
@@ -94,15 +101,18 @@ has_zone zone cell = zone_of cell.char == zone
 abbrev has_mark_or_zone : ℕ → Cell → Bool
 has_mark_or_zone zone cell = cell.mark || (zone_of cell.char == zone)
 
--- what a branch by word mark or zone looks for, by the graphic of its d-character: a word mark, no zone, the zones BA, B and
--- A, and each zone or a word mark
+-- what a branch by word mark or zone looks for, by the graphic of its d-character: a word mark, no zone, the zones BA,
+-- B and A, and each zone or a word mark
 abbrev pub cell_tests : List (ℕ × (Cell → Bool))
 cell_tests = zip (codes "12BKS3CLT") (
     has_mark ∷ has_zone 0 ∷ has_zone 3 ∷ has_zone 2 ∷ has_zone 1
     ∷ has_mark_or_zone 0 ∷ has_mark_or_zone 3 ∷ has_mark_or_zone 2 ∷ has_mark_or_zone 1 ∷ []
     )
 
+-- what a d-character looks for, if it looks for anything
+abbrev pub cell_test_of : ℕ → Option (ℕ × (Cell → Bool))
+cell_test_of d = find (λ entry. entry.0 == slice_index graphics d) cell_tests
+
 -- whether a cell is what the d-character looks for
 abbrev pub passes : ℕ → Cell → Bool
-passes d cell =
-    unwrap_or (option_map (λ (entry : ℕ × (Cell → Bool)). entry.1 cell) (find (λ entry. entry.0 == slice_index graphics d) cell_tests)) false
+passes d cell = unwrap_or (option_map (λ (entry : ℕ × (Cell → Bool)). entry.1 cell) (cell_test_of d)) false

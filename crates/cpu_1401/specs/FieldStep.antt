@@ -9,17 +9,28 @@ use Rattle.cpu_1401.specs.State.{State}
 use Rattle.cpu_1401.specs.Stepped.{Stepped, step_to, stop_at}
 use Rattle.cpu_1401.specs.Stop.{stop_of}
 
--- after an operation on fields: its core and its registers, and the next instruction; a sum that was too large turns the
--- overflow indicator on, and no other operation turns it off
+-- after an operation on fields: its core and its registers, and the next instruction; a sum that was too large turns
+-- the overflow indicator on, and no other operation turns it off
 abbrev pub after_field : Instruction → State → Outcome → Stepped
 after_field this s (Ok done) =
-    step_to (record s { storage = done.0; i = this.next; a = done.1.a; b = done.1.b; overflow = s.overflow || done.1.overflow })
+    step_to (record s {
+      storage = done.0;
+      i = this.next;
+      a = done.1.a;
+      b = done.1.b;
+      overflow = s.overflow || done.1.overflow;
+    })
 after_field this s (Err why) = stop_at (stop_of why) s
 
 -- after a comparison: one without an address leaves an unequal result unequal
 abbrev pub after_comparison : Instruction → State → Result Done FieldStop → Stepped
 after_comparison this s (Ok done) =
-    step_to (record s { i = this.next; a = done.a; b = done.b; unequal = done.unequal || ((this.len == 1) && s.unequal) })
+    step_to (record s {
+      i = this.next;
+      a = done.a;
+      b = done.b;
+      unequal = done.unequal || ((this.len == 1) && s.unequal);
+    })
 after_comparison this s (Err why) = stop_at (stop_of why) s
 
 -- after storage was cleared: with two addresses a branch is taken, else the A register stays

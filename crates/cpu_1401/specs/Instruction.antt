@@ -26,8 +26,8 @@ most_at storage operation at = (form_of operation).most (cell_at storage (at + 4
 abbrev pub length_at : Storage → Operation → ℕ → ℕ
 length_at storage operation at = min (most_at storage operation at) (distance_from storage at)
 
--- an instruction of this length: without an address it takes the registers as they stand, with one it loads both or the A
--- register alone, with two each has its own
+-- an instruction of this length: without an address it takes the registers as they stand, with one it loads both or the
+-- A register alone, with two each has its own
 abbrev pub instruction_of : Operation → ℕ → State → Instruction
 instruction_of operation len s = record {
   len = len;

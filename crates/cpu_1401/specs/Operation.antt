@@ -1,19 +1,28 @@
 -- The operations by their characters, and what their instructions look like (A24-1403, "Instruction Format", "Address
 -- Registers"; the choice of lengths is own).
-use Rattle.std.specs.Prelude.{ℕ, ◌==◌, Bool, true, false, List, [], ◌∷◌, Option, codes, find, slice_index, if◌then◌else◌}
+use Rattle.std.specs.Prelude.{ℕ, ◌==◌, Bool, true, false, List, [], ◌∷◌, Option, codes, find, slice_index}
+use Rattle.std.specs.Prelude.{if◌then◌else◌}
 use Rattle.std.specs.List.{list_any, zip}
 use Rattle.std.specs.Option.{option_map}
 use Rattle.bcd_1401.specs.Graphic.{graphics}
 use Rattle.cpu_1401.specs.declared.operation.Operation.{Operation}
-use Rattle.cpu_1401.specs.declared.operation.Operation.TheVariants.{Add, Subtract, ZeroAdd, ZeroSubtract, Move, Load, MoveDigit, MoveZone, SetWordMark, ClearWordMark, ClearStorage, Compare, ZeroSuppress, Branch, BranchOnCell, StoreA, StoreB, NoOperation, Halt, SelectStacker}
+use Rattle.cpu_1401.specs.declared.operation.Operation.TheVariants.{Add, Subtract, ZeroAdd, ZeroSubtract, Move, Load}
+use Rattle.cpu_1401.specs.declared.operation.Operation.TheVariants.{MoveDigit, MoveZone, SetWordMark, ClearWordMark}
+use Rattle.cpu_1401.specs.declared.operation.Operation.TheVariants.{ClearStorage, Compare, ZeroSuppress, Branch}
+use Rattle.cpu_1401.specs.declared.operation.Operation.TheVariants.{BranchOnCell, StoreA, StoreB, NoOperation, Halt}
+use Rattle.cpu_1401.specs.declared.operation.Operation.TheVariants.{SelectStacker}
 
 -- the operations, each with its graphic in front
 abbrev pub operations : List (ℕ × Operation)
-operations = zip (codes "AS?!MLDY,)/CZBVQHN.K") (Add ∷ Subtract ∷ ZeroAdd ∷ ZeroSubtract ∷ Move ∷ Load ∷ MoveDigit ∷ MoveZone ∷ SetWordMark ∷ ClearWordMark ∷ ClearStorage ∷ Compare ∷ ZeroSuppress ∷ Branch ∷ BranchOnCell ∷ StoreA ∷ StoreB ∷ NoOperation ∷ Halt ∷ SelectStacker ∷ [])
+operations =
+    zip (codes "AS?!MLDY,)/CZBVQHN.K") (Add ∷ Subtract ∷ ZeroAdd ∷ ZeroSubtract ∷ Move ∷ Load ∷ MoveDigit ∷ MoveZone
+    ∷ SetWordMark ∷ ClearWordMark ∷ ClearStorage ∷ Compare ∷ ZeroSuppress ∷ Branch ∷ BranchOnCell ∷ StoreA ∷ StoreB
+    ∷ NoOperation ∷ Halt ∷ SelectStacker ∷ [])
 
 -- the operation with this graphic, if it is one's
 abbrev pub operation_named : ℕ → Option Operation
-operation_named graphic = option_map (λ (entry : ℕ × Operation). entry.1) (find (λ entry. entry.0 == graphic) operations)
+operation_named graphic =
+    option_map (λ (entry : ℕ × Operation). entry.1) (find (λ entry. entry.0 == graphic) operations)
 
 -- the operation of a character
 abbrev pub operation_of : ℕ → Option Operation
@@ -27,9 +36,9 @@ unfitted = codes "@%U89PXW#"
 abbrev pub is_unfitted : ℕ → Bool
 is_unfitted char = list_any (λ each. each == slice_index graphics char) unfitted
 
--- What the instructions of an operation look like: the lengths that they may have; the lengths that belong to features that
--- this machine hasn't got; how many characters are looked at, by the fifth; and whether their one address goes into both
--- registers, or into the A register alone.
+-- What the instructions of an operation look like: the lengths that they may have; the lengths that belong to features
+-- that this machine hasn't got; how many characters are looked at, by the fifth; and whether their one address goes
+-- into both registers, or into the A register alone.
 pub record Form : Type 0 where
   pub lengths : List ℕ
   pub unfitted : List ℕ
@@ -37,7 +46,8 @@ pub record Form : Type 0 where
   pub loads_both : Bool
 
 abbrev form : List ℕ → List ℕ → (ℕ → ℕ) → Bool → Form
-form lengths unfitted most loads_both = record { lengths = lengths; unfitted = unfitted; most = most; loads_both = loads_both }
+form lengths unfitted most loads_both =
+    record { lengths = lengths; unfitted = unfitted; most = most; loads_both = loads_both }
 
 abbrev eight : ℕ → ℕ
 eight fifth = 8

@@ -23,5 +23,6 @@ stored storage at address =
 -- a register stored at the A address: the B register stays
 abbrev pub after_store : ℕ → Instruction → State → Stepped
 after_store address this s =
-    if has_places s.storage this.a 3 then step_to (record s { storage = stored s.storage this.a address; i = this.next; a = below_by this.a 3 })
+    if has_places s.storage this.a 3
+    then step_to (record s { storage = stored s.storage this.a address; i = this.next; a = below_by this.a 3 })
     else stop_at stop.Address s

@@ -49,7 +49,10 @@ perform op.SelectStacker this s = step_to (go_on (this.len == 5) this s)
 abbrev pub check_length : Operation → ℕ → State → Stepped
 check_length operation len s =
     if is_unfitted_length operation len then stop_at stop.NotFitted s
-    else (if has_length operation len then perform operation (instruction_of operation len s) s else stop_at stop.Length s)
+    else (
+    if has_length operation len then perform operation (instruction_of operation len s) s
+    else stop_at stop.Length s
+    )
 
 -- the character must be an operation; one of a feature that this machine hasn't got isn't fitted at any length
 abbrev pub check_operation : Option Operation → ℕ → State → Stepped

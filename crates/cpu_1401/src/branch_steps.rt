@@ -1,7 +1,8 @@
 //! Branches, and what goes on at an address.
 ghost use Rattle.std.specs.Prelude.{◌≡◌, ◌==◌, ◌<◌, None, Some, length};
 ghost use Rattle.core_1401.specs.Address.{addresses};
-ghost use Rattle.cpu_1401.specs.Branch.{after_branch, branch_if, branch_on, branch_on_cell, condition_of, go_on, is_so, passes};
+ghost use Rattle.cpu_1401.specs.Branch.{after_branch, branch_if, branch_on, branch_on_cell, condition_of, go_on, is_so};
+ghost use Rattle.cpu_1401.specs.Branch.{passes};
 
 use crate::condition::{Condition, passes};
 use crate::instruction::Instruction;
@@ -10,8 +11,8 @@ use crate::stop::Stop;
 use fields_1401::below;
 
 impl Machine {
-    /// Carries out a `B`: of four characters it branches always, of five on a condition, and of eight where the character at
-    /// the B address is the d-character.
+    /// Carries out a `B`: of four characters it branches always, of five on a condition, and of eight where the
+    /// character at the B address is the d-character.
     pub(crate) fn branch(&mut self, this: Instruction) -> Option<Stop>
         requires a { this.a < addresses }
         requires b { this.b < addresses }
@@ -36,8 +37,8 @@ impl Machine {
         None
     }
 
-    /// Carries out a `V`: it branches where the cell at the B address has the word mark or the zone that the d-character
-    /// looks for.
+    /// Carries out a `V`: it branches where the cell at the B address has the word mark or the zone that the
+    /// d-character looks for.
     pub(crate) fn branch_on_cell(&mut self, this: Instruction) -> Option<Stop>
         requires a { this.a < addresses }
         requires b { this.b < addresses }
@@ -72,8 +73,8 @@ impl Machine {
         self.branch_if(is_so, this.b, this);
     }
 
-    /// Whether the condition of a branch is so. There are no cards and no paper yet: the hopper is empty, and the carriage
-    /// stands at the first line.
+    /// Whether the condition of a branch is so. There are no cards and no paper yet: the hopper is empty, and the
+    /// carriage stands at the first line.
     fn is_so(&self, condition: Condition) -> bool
         ensures { result ≡ is_so self.now condition }
     {
@@ -86,8 +87,8 @@ impl Machine {
         }
     }
 
-    /// Takes the branch to the A address, with the next instruction's place in the B register; or passes it by, with this in
-    /// the B register. The A register holds the branch address in either case.
+    /// Takes the branch to the A address, with the next instruction's place in the B register; or passes it by, with
+    /// this in the B register. The A register holds the branch address in either case.
     pub(crate) fn branch_if(&mut self, taken: bool, b: u16, this: Instruction)
         requires a { this.a < addresses }
         requires b { b < addresses }

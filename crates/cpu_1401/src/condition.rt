@@ -44,8 +44,8 @@ impl Condition {
     }
 }
 
-/// Whether a cell is what this d-character looks for: a word mark, a zone, or either of them (A24-1403, "Branch if Word Mark
-/// and/or Zone"). A d-character that looks for nothing is never met.
+/// Whether a cell is what this d-character looks for: a word mark, a zone, or either of them (A24-1403, "Branch if Word
+/// Mark and/or Zone"). A d-character that looks for nothing is never met.
 pub(crate) fn passes(d: Char, cell: Cell) -> bool
     ensures { result ≡ passes d cell }
 {

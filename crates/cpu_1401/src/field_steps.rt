@@ -13,8 +13,8 @@ use crate::stop::Stop;
 use fields_1401::{Done, FieldStop, clear_down, compare};
 
 impl Machine {
-    /// Takes the registers that an operation on fields left, turns the overflow indicator on where a sum was too large, and
-    /// goes on to the next instruction.
+    /// Takes the registers that an operation on fields left, turns the overflow indicator on where a sum was too large,
+    /// and goes on to the next instruction.
     pub(crate) fn after_field(
         &mut self,
         this: Instruction,
@@ -22,8 +22,13 @@ impl Machine {
     ) -> Option<Stop>
         requires next { this.next < addresses }
         requires registers { ForOk outcome (λ done. (done.a < addresses) × (done.b < addresses)) }
-        ensures done { IfOk outcome (λ done. (result ≡ None)
-            × (self.new ≡ record self.old { i = this.next; a = done.a; b = done.b; overflow = self.old.overflow || done.overflow })) }
+        ensures none { IfOk outcome (λ done. result ≡ None) }
+        ensures done { IfOk outcome (λ done. self.new ≡ record self.old {
+          i = this.next;
+          a = done.a;
+          b = done.b;
+          overflow = self.old.overflow || done.overflow;
+        }) }
         ensures stop { IfErr outcome (λ stop. (result ≡ Some (stop_of stop)) × (self.new ≡ self.old)) }
     {
         match outcome {
@@ -38,13 +43,16 @@ impl Machine {
         }
     }
 
-    /// Compares the fields and sets the unequal indicator. A compare without an address leaves an unequal result unequal.
+    /// Compares the fields and sets the unequal indicator. A compare without an address leaves an unequal result
+    /// unequal.
     pub(crate) fn compare(&mut self, this: Instruction) -> Option<Stop>
         requires a { this.a < addresses }
         requires b { this.b < addresses }
         requires next { this.next < addresses }
-        ensures stop { result ≡ (after_comparison this self.old (comparison_at self.old.storage this.a this.b)).stop }
-        ensures state { self.new ≡ (after_comparison this self.old (comparison_at self.old.storage this.a this.b)).state }
+        ensures stop { let outcome = comparison_at self.old.storage this.a this.b in
+            result ≡ (after_comparison this self.old outcome).stop }
+        ensures state { let outcome = comparison_at self.old.storage this.a this.b in
+            self.new ≡ (after_comparison this self.old outcome).state }
         ensures size { length self.new.storage ≡ length self.old.storage }
     {
         let done = match compare(&self.core, this.a, this.b) {
@@ -58,8 +66,8 @@ impl Machine {
         None
     }
 
-    /// Clears storage from the B address down to its hundred. With two addresses it branches to the first, and else the A
-    /// register stays.
+    /// Clears storage from the B address down to its hundred. With two addresses it branches to the first, and else the
+    /// A register stays.
     pub(crate) fn clear_storage(&mut self, this: Instruction) -> Option<Stop>
         requires a { this.a < addresses }
         requires b { this.b < addresses }

@@ -29,7 +29,16 @@ impl Model for Machine {
 
     ghost Value = { State };
 
-    ghost view = { λ m. record { storage = m.core; i = m.i; a = m.a; b = m.b; unequal = m.unequal; overflow = m.overflow; switches = m.switches; devices = no_cards } };
+    ghost view = { λ m. record {
+      storage = m.core;
+      i = m.i;
+      a = m.a;
+      b = m.b;
+      unequal = m.unequal;
+      overflow = m.overflow;
+      switches = m.switches;
+      devices = no_cards;
+    } };
 
     ghost invariant = { λ m. (m.i < addresses) × (m.a < addresses) × (m.b < addresses) };
 }

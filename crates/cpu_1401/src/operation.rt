@@ -79,7 +79,8 @@ impl Operation {
         }
     }
 
-    /// How many characters of its instructions are looked at, by the fifth of them: a branch with a blank there has four.
+    /// How many characters of its instructions are looked at, by the fifth of them: a branch with a blank there has
+    /// four.
     pub fn most(self, fifth: Char) -> u16
         ensures value { result ≡ (form_of self).most fifth }
         ensures some { 0 < result }
@@ -136,8 +137,8 @@ impl Operation {
         }
     }
 
-    /// Whether this length belongs to a feature that this machine hasn't got: a move or a load of eight characters is one of
-    /// tapes.
+    /// Whether this length belongs to a feature that this machine hasn't got: a move or a load of eight characters is
+    /// one of tapes.
     pub fn is_unfitted_length(self, len: u16) -> bool
         ensures { result ≡ is_unfitted_length self len }
     {
@@ -192,8 +193,8 @@ impl Operation {
     }
 }
 
-/// Whether a character is an operation of a feature that this machine hasn't got: multiply and divide, tapes and disks, the
-/// moves of records, early read and punch.
+/// Whether a character is an operation of a feature that this machine hasn't got: multiply and divide, tapes and disks,
+/// the moves of records, early read and punch.
 pub(crate) fn is_unfitted(char: Char) -> bool
     ensures { result ≡ is_unfitted char }
 {

@@ -17,8 +17,8 @@ use fields_1401::{
 };
 
 impl Machine {
-    /// Carries out the instruction at the I register, or says why it can't. A halt is carried out; any other stop leaves
-    /// the machine as it was.
+    /// Carries out the instruction at the I register, or says why it can't. A halt is carried out; any other stop
+    /// leaves the machine as it was.
     #[tactic(auto, unfolding(crate::specs::Step::step))]
     pub fn step(&mut self) -> Option<Stop>
         ensures stop { result ≡ (step self.old).stop }

@@ -84,8 +84,8 @@ fn a_halt_as_the_last_step_answers_halt(rt: HostRuntime) -> Result<(), Fail> {
     Ok(())
 }
 
-/// What a character does as an instruction of 1 to 8 characters: `c` is carried out, `h` carried out as a halt, and the others
-/// are stops.
+/// What a character does as an instruction of 1 to 8 characters: `c` is carried out, `h` carried out as a halt, and the
+/// others are stops.
 fn outcomes(graphic: u8) -> &'static [u8; 8] {
     match graphic {
         b'A' | b'S' | b'?' | b'!' | b'D' | b'Y' | b')' | b'C' | b'Z' => b"cLLcLLcL",
