@@ -24,7 +24,7 @@ pub fn console<R: Source, W: Sink>(
     writer: &mut W,
 ) -> Result<(), Fault>
     ensures size { (result ≡ Err Fault.Size) ↔ (is_core_size size ≡ false) }
-    ensures session { ConsoleDid size (R.left reader.old) (R.left reader.new) (W.taken writer.old) (W.taken writer.new) result }
+    ensures session { ConsoleDid size (R.left reader.old) (R.left reader.new) (W.received writer.old) (W.received writer.new) result }
 {
     let mut room = match Room::power_on(alloc, size) {
         Ok(room) => room,
