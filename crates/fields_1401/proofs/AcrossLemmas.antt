@@ -102,3 +102,12 @@ across_again s t at n chars e size in_core above =
     ∙ ap (λ (u : Storage). (cell_at u q).char) e
     ∙ ap (λ (cell : Cell). cell.char) (cell_at-within s at (length chars) (unmarked_cell chars) q (omega arith) (is_within-inside at (length chars) q (omega arith) (omega arith)))
     ∙ ap (λ k. get_or chars k 0) (omega arith))
+
+-- the same characters where each place is as it was
+pub across_kept : (s t : Storage) (at n : ℕ) → at < length s → length t ≡ length s → n ≤ at + 1
+    → ((k : ℕ) → k < n → cell_at t (at - k) ≡ cell_at s (at - k)) → chars_across t at n ≡ chars_across s at n
+across_kept s t at n in_core size above same =
+    let in_t : at < length t = omega arith in
+    let t_size : length (chars_across t at n) ≡ n = length-across t at n in_t above in
+    ext_get_or 0 (chars_across t at n) (chars_across s at n) (t_size ∙ sym (length-across s at n in_core above)) (λ i lt.
+    char_across t at n i in_t above (omega arith) ∙ ap (λ (cell : Cell). cell.char) (same (n - 1 - i) (omega arith)) ∙ sym (char_across s at n i in_core above (omega arith)))

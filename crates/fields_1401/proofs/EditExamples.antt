@@ -4,7 +4,7 @@ use Rattle.std.proofs.Common.{◌≡◌, Ok, Err, [], ◌∷◌, refl}
 use Rattle.std.specs.Prelude.{codes, slice_index}
 use Rattle.bcd_1401.specs.Graphic.{graphics}
 use Rattle.fields_1401.specs.Across.{chars_across, units_unzoned, with_across}
-use Rattle.fields_1401.specs.Edit.{ampersand_char, minus_char, c_char, r_char, before_significant, limit_of, edited, with_edited, edit_at}
+use Rattle.fields_1401.specs.Edit.{ampersand_char, minus_char, c_char, r_char, before_significant, limit_of, edited, edit_lengths_at, with_edited, edit_at}
 use Rattle.fields_1401.specs.Outcome.{registers_at}
 use Rattle.fields_1401.specs.Places.{with_cells}
 use Rattle.fields_1401.specs.declared.done.FieldStop.TheVariants.{Address, Overlap}
@@ -161,48 +161,48 @@ a_letter_from_a = refl
 -- 1234E is five long and plus, the control word takes the last three of it; its mark goes, and the cells beside it stay
 a_longer_field : edit_at (marked 1 ∷ plain 2 ∷ plain 3 ∷ plain 4 ∷ plain 53 ∷ marked 0 ∷ plain 0 ∷ plain 10 ∷ plain 32 ∷ marked 7 ∷ []) 4 8
     ≡ Ok (marked 1 ∷ plain 2 ∷ plain 3 ∷ plain 4 ∷ plain 53 ∷ plain 3 ∷ plain 4 ∷ plain 5 ∷ plain 0 ∷ marked 7 ∷ [], registers_at 1 4)
-unfolding edit_at with_edited with_across with_cells edited before_significant limit_of units_unzoned chars_across
+unfolding edit_at edit_lengths_at with_edited with_across with_cells edited before_significant limit_of units_unzoned chars_across
 a_longer_field = refl
 
 -- 0N is -5: two places of three are filled, and the sign stays
 a_minus_field : edit_at (marked 10 ∷ plain 37 ∷ marked 0 ∷ plain 0 ∷ plain 0 ∷ plain 32 ∷ []) 1 5
     ≡ Ok (marked 10 ∷ plain 37 ∷ plain 0 ∷ plain 10 ∷ plain 5 ∷ plain 32 ∷ [], registers_at 15999 1)
-unfolding edit_at with_edited with_across with_cells edited before_significant limit_of units_unzoned chars_across
+unfolding edit_at edit_lengths_at with_edited with_across with_cells edited before_significant limit_of units_unzoned chars_across
 a_minus_field = refl
 
 -- nothing is taken, and the character at 0 still has the sign; it needs no word mark
 the_sign_alone : edit_at (plain 37 ∷ marked 51 ∷ plain 41 ∷ []) 0 2 ≡ Ok (plain 37 ∷ plain 51 ∷ plain 41 ∷ [], registers_at 0 0)
-unfolding edit_at with_edited with_across with_cells edited before_significant limit_of units_unzoned chars_across
+unfolding edit_at edit_lengths_at with_edited with_across with_cells edited before_significant limit_of units_unzoned chars_across
 the_sign_alone = refl
 
 -- both places that the control word takes are there, though no word mark is
 enough_places : edit_at (plain 1 ∷ plain 2 ∷ marked 0 ∷ plain 0 ∷ []) 1 3 ≡ Ok (plain 1 ∷ plain 2 ∷ plain 1 ∷ plain 2 ∷ [], registers_at 15999 1)
-unfolding edit_at with_edited with_across with_cells edited before_significant limit_of units_unzoned chars_across
+unfolding edit_at edit_lengths_at with_edited with_across with_cells edited before_significant limit_of units_unzoned chars_across
 enough_places = refl
 
 too_few_places : edit_at (plain 1 ∷ plain 2 ∷ marked 0 ∷ plain 0 ∷ plain 0 ∷ []) 1 4 ≡ Err Address
-unfolding edit_at with_edited with_across with_cells edited before_significant limit_of units_unzoned chars_across
+unfolding edit_at edit_lengths_at with_edited with_across with_cells edited before_significant limit_of units_unzoned chars_across
 too_few_places = refl
 
 no_control_word : edit_at (marked 1 ∷ plain 2 ∷ []) 0 2 ≡ Err Address
-unfolding edit_at with_edited with_across with_cells edited before_significant limit_of units_unzoned chars_across
+unfolding edit_at edit_lengths_at with_edited with_across with_cells edited before_significant limit_of units_unzoned chars_across
 no_control_word = refl
 
 the_sign_is_not_in_core : edit_at (marked 51 ∷ plain 41 ∷ []) 2 1 ≡ Err Address
-unfolding edit_at with_edited with_across with_cells edited before_significant limit_of units_unzoned chars_across
+unfolding edit_at edit_lengths_at with_edited with_across with_cells edited before_significant limit_of units_unzoned chars_across
 the_sign_is_not_in_core = refl
 
 -- a field is no control word for itself
 the_same_field : edit_at (marked 1 ∷ marked 2 ∷ []) 1 1 ≡ Err Overlap
-unfolding edit_at with_edited with_across with_cells edited before_significant limit_of units_unzoned chars_across
+unfolding edit_at edit_lengths_at with_edited with_across with_cells edited before_significant limit_of units_unzoned chars_across
 the_same_field = refl
 
 -- the last place of A is the first of the control word
 a_shared_place : edit_at (marked 1 ∷ plain 2 ∷ marked 0 ∷ plain 0 ∷ []) 2 3 ≡ Err Overlap
-unfolding edit_at with_edited with_across with_cells edited before_significant limit_of units_unzoned chars_across
+unfolding edit_at edit_lengths_at with_edited with_across with_cells edited before_significant limit_of units_unzoned chars_across
 a_shared_place = refl
 
 -- no place is taken, but the sign stands in the control word
 a_shared_sign : edit_at (marked 51 ∷ plain 41 ∷ []) 0 1 ≡ Err Overlap
-unfolding edit_at with_edited with_across with_cells edited before_significant limit_of units_unzoned chars_across
+unfolding edit_at edit_lengths_at with_edited with_across with_cells edited before_significant limit_of units_unzoned chars_across
 a_shared_sign = refl

@@ -3,6 +3,7 @@ mod ArithmeticExamples
 mod ArithmeticLemmas
 mod CompareLemmas
 mod EditExamples
+mod EditLemmas
 mod ExampleCells
 mod ExampleGraphics
 mod FieldLemmas

@@ -141,6 +141,10 @@ abbrev pub refuse_shared : ℕ → ℕ → Option (ℕ × ℕ) → Result (ℕ �
 refuse_shared a b None = Err Address
 refuse_shared a b (Some (t, m)) = if is_shared a t b m then Err Overlap else Ok (t, m)
 
+-- how many characters of A are taken, and how many places the control word has, or why the edit can't be carried out
+unfoldable pub edit_lengths_at : Storage → ℕ → ℕ → Result (ℕ × ℕ) FieldStop
+edit_lengths_at storage a b = refuse_shared a b (taken_at storage a b)
+
 -- the sign of the character at an address
 abbrev pub sign_at : Storage → ℕ → Sign
 sign_at storage a = sign_under (zone_of (cell_at storage a).char)
@@ -154,4 +158,4 @@ with_edited storage a t b m = (
 
 -- the A field edited by the control word at b
 unfoldable pub edit_at : Storage → ℕ → ℕ → Outcome
-edit_at storage a b = on_lengths (refuse_shared a b (taken_at storage a b)) (λ t m. with_edited storage a t b m)
+edit_at storage a b = on_lengths (edit_lengths_at storage a b) (λ t m. with_edited storage a t b m)

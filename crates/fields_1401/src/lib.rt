@@ -12,8 +12,10 @@
 mod across;
 pub mod arithmetic;
 pub mod comparison;
+mod control_word;
 mod digits;
 pub mod done;
+pub mod editing;
 mod lengths;
 mod like_signs;
 pub mod loads;
@@ -32,6 +34,7 @@ pub mod zero_sums;
 pub use arithmetic::{add, subtract};
 pub use comparison::compare;
 pub use done::{Done, FieldStop};
+pub use editing::edit;
 pub use loads::load_chars;
 pub use marks::{clear_down, clear_marks, set_marks};
 pub use moves::move_chars;
