@@ -17,6 +17,7 @@ mod NumberLemmas
 mod PartsExamples
 mod PartsLemmas
 mod PlacesLemmas
+mod PlainLemmas
 mod RefusalLemmas
 mod SuppressExamples
 mod SuppressLemmas

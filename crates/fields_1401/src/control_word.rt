@@ -50,6 +50,7 @@ impl ControlWord {
         requires b { b < addresses }
         ensures ok { IfOk result (λ word. edit_lengths_at core.now a b ≡ Ok (word.taken, word.len)) }
         ensures err { IfErr result (λ stop. edit_lengths_at core.now a b ≡ Err stop) }
+        ensures taken { IfOk result (λ word. taken_at core.now a b ≡ Some (word.taken, word.len)) }
         ensures field { IfOk result (λ word. field_len_of core.now b ≡ Some word.len) }
         ensures at_a { IfOk result (λ word. (word.a ≡ a) × (a < length core.now)) }
         ensures at_b { IfOk result (λ word. (word.b ≡ b) × (b < length core.now)) }
