@@ -8,7 +8,7 @@ use Rattle.console_1401.specs.Words.{value_of}
 tens_more : (i : ℕ) → 10 ^ (i + 1) ≡ 10 * 10 ^ i
 tens_more i = rw add-one (pow-succ' 10 i)
 
-value_of-push : (digits : List ℕ) (digit : ℕ) → value_of (digits ++ digit ∷ []) ≡ 10 * value_of digits + (digit - 48)
+pub value_of-push : (digits : List ℕ) (digit : ℕ) → value_of (digits ++ digit ∷ []) ≡ 10 * value_of digits + (digit - 48)
 value_of-push [] digit = omega arith
 value_of-push (first ∷ digits) digit =
     let places : 10 ^ length (digits ++ digit ∷ []) ≡ 10 * 10 ^ length digits = ap (λ n. 10 ^ n) (length_push digits digit) ∙ tens_more (length digits) in

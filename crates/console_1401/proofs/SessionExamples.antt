@@ -283,7 +283,7 @@ ends_at_the_bound : (n : ℕ) → n ≡ most_bytes → SessionDid Answered end.B
     (Some (replicate n 32 ++ codes "QUIT")) (Some (codes "QUIT")) (Some []) (Some []) (room_with []) (room_with [])
 ends_at_the_bound n all =
     let none : lines_of false (replicate n 32) ≡ [] =
-        ap (λ (cut : Cut). map said_finished cut.finished) (blanks_alone n) in
+    ap (λ (cut : Cut). map said_finished cut.finished) (blanks_alone n) in
     record {
       read = replicate n 32;
       written = [];

@@ -58,11 +58,11 @@ no_tilde byte false e there = refl
 no_tilde byte true e there = absurd (false≢true (subst (λ n. is_some (cell_of false n) ≡ true) (eqb-true byte 126 e) there))
 
 -- both parts of a test that passes
-second : (a b : Bool) → (a && b) ≡ true → b ≡ true
+pub second : (a b : Bool) → (a && b) ≡ true → b ≡ true
 second true b h = h
 second false b h = absurd (false≢true h)
 
-first : (a b : Bool) → (a && b) ≡ true → a ≡ true
+pub first : (a b : Bool) → (a && b) ≡ true → a ≡ true
 first true b h = refl
 first false b h = absurd (false≢true h)
 
