@@ -82,13 +82,19 @@ pub record Split (word rest line : List ℕ) : Type 0 where
   pub word_is : word_in line ≡ word
   pub rest_is : behind_word line ≡ rest
 
-split_by : (blanks : ℕ) (word rest line : List ℕ) → line ≡ replicate blanks blank ++ (word ++ rest) → IsWord word → IsParted rest → Split word rest line
+split_by : (blanks : ℕ) (word rest line : List ℕ) → line ≡ replicate blanks blank ++ (word ++ rest) → IsWord word
+    → IsParted rest → Split word rest line
 split_by blanks word rest line is w parted =
-    let stands : Stands blanks word rest line = record { some = w.some; whole = w.whole; line_is = is; rest_parted = parted } in
-    record { word_is = word_in-typed blanks word rest line stands; rest_is = behind_word-typed blanks word rest line stands }
+    let stands : Stands blanks word rest line =
+    record { some = w.some; whole = w.whole; line_is = is; rest_parted = parted } in
+    record {
+      word_is = word_in-typed blanks word rest line stands;
+      rest_is = behind_word-typed blanks word rest line stands;
+    }
 
 -- a name that stands first
-split_name : (name : List ℕ) (blanks : ℕ) (word rest line : List ℕ) → IsWord name → line ≡ replicate blanks blank ++ (word ++ rest) → word ≡ name → IsParted rest → Split name rest line
+split_name : (name : List ℕ) (blanks : ℕ) (word rest line : List ℕ) → IsWord name
+    → line ≡ replicate blanks blank ++ (word ++ rest) → word ≡ name → IsParted rest → Split name rest line
 split_name name blanks word rest line w is same parted =
     split_by blanks name rest line (is ∙ ap (λ word. replicate blanks blank ++ (word ++ rest)) same) w parted
 
@@ -97,17 +103,20 @@ some_bytes : (word : List ℕ) → 0 < length word → (length word == 0) ≡ fa
 some_bytes word some = grind (arith, nat_tests)
 
 -- a line that begins with a known word says what that word and the rest say
-said_by_keyword : (k : Keyword) (rest line : List ℕ) → Split (name_of k) rest line → said_in_words line ≡ said_with (Some k) rest
+said_by_keyword : (k : Keyword) (rest line : List ℕ) → Split (name_of k) rest line
+    → said_in_words line ≡ said_with (Some k) rest
 unfolding said_in_words
 said_by_keyword k rest line s =
     rw (s.word_is, s.rest_is, some_bytes (name_of k) (keyword_is_word k).some, keyword_is_known k) refl
 
 -- behind blanks alone a line is ended
-ended_by_blanks : (said : Line) (blanks : ℕ) (rest : List ℕ) → rest ≡ replicate blanks blank → ended rest said ≡ Ok said
+ended_by_blanks : (said : Line) (blanks : ℕ) (rest : List ℕ) → rest ≡ replicate blanks blank
+    → ended rest said ≡ Ok said
 unfolding ended
 ended_by_blanks said blanks rest is = rw (word_in-blanks blanks rest is) refl
 
-address_is : (address : ℕ) (word : List ℕ) → address < addresses → number_of word ≡ Ok address → address_of word ≡ Ok address
+address_is : (address : ℕ) (word : List ℕ) → address < addresses → number_of word ≡ Ok address
+    → address_of word ≡ Ok address
 unfolding address_of
 address_is address word in_range says = rw says (grind (arith, nat_tests))
 
@@ -116,24 +125,29 @@ unfolding count_of
 count_is count word n = rw (some_bytes word n.some) n.says
 
 -- a number that stands first, and what stands behind it
-split_number : (number blanks : ℕ) (word rest line : List ℕ) → IsNumeral number word → line ≡ replicate blanks blank ++ (word ++ rest) → IsParted rest → Split word rest line
-split_number number blanks word rest line n is parted = split_by blanks word rest line is (record { some = n.some; whole = n.whole }) parted
+split_number : (number blanks : ℕ) (word rest line : List ℕ) → IsNumeral number word
+    → line ≡ replicate blanks blank ++ (word ++ rest) → IsParted rest → Split word rest line
+split_number number blanks word rest line n is parted =
+    split_by blanks word rest line is (record { some = n.some; whole = n.whole }) parted
 
-start_says : (address : ℕ) (line : List ℕ) → address < addresses → IsTyped (Numeral address ∷ []) [] line → start_of line ≡ Ok (Command (command.SetI address))
+start_says : (address : ℕ) (line : List ℕ) → address < addresses → IsTyped (Numeral address ∷ []) [] line
+    → start_of line ≡ Ok (Command (command.SetI address))
 unfolding start_of
 start_says address line in_range t =
     let n = numeral address t.1 (omega arith) t.4 in
     let s = split_number address t.0 t.1 t.2 line n t.3 t.5 in
     rw (s.word_is, s.rest_is, address_is address t.1 in_range n.says) (ended_by_blanks _ t.6.0 t.2 t.6.1)
 
-run_says : (limit : ℕ) (line : List ℕ) → limit < 10 ^ most_digits → IsTyped (Numeral limit ∷ []) [] line → run_of line ≡ Ok (Command (command.Run limit))
+run_says : (limit : ℕ) (line : List ℕ) → limit < 10 ^ most_digits → IsTyped (Numeral limit ∷ []) [] line
+    → run_of line ≡ Ok (Command (command.Run limit))
 unfolding run_of
 run_says limit line in_range t =
     let n = numeral limit t.1 in_range t.4 in
     let s = split_number limit t.0 t.1 t.2 line n t.3 t.5 in
     rw (s.word_is, s.rest_is, n.says) (ended_by_blanks _ t.6.0 t.2 t.6.1)
 
-examine_says : (address count : ℕ) (line : List ℕ) → address < addresses → count < 10 ^ most_digits → IsTyped (Numeral address ∷ Numeral count ∷ []) [] line
+examine_says : (address count : ℕ) (line : List ℕ) → address < addresses → count < 10 ^ most_digits
+    → IsTyped (Numeral address ∷ Numeral count ∷ []) [] line
     → examine_of line ≡ Ok (Command (command.Examine address count))
 unfolding examine_of
 examine_says address count line in_range small t =
@@ -142,16 +156,19 @@ examine_says address count line in_range small t =
     let u = t.6 in
     let m = numeral count u.1 small u.4 in
     let r = split_number count u.0 u.1 u.2 t.2 m u.3 u.5 in
-    rw (s.word_is, s.rest_is, address_is address t.1 in_range n.says, r.word_is, r.rest_is, count_is count u.1 m) (ended_by_blanks _ u.6.0 u.2 u.6.1)
+    rw (s.word_is, s.rest_is, address_is address t.1 in_range n.says, r.word_is, r.rest_is, count_is count u.1 m)
+    (ended_by_blanks _ u.6.0 u.2 u.6.1)
 
-switch_says : (switch : SwitchName) (on : Bool) (line : List ℕ) → IsTyped (Name (letter_of switch) ∷ Name (setting_text on) ∷ []) [] line
+switch_says : (switch : SwitchName) (on : Bool) (line : List ℕ)
+    → IsTyped (Name (letter_of switch) ∷ Name (setting_text on) ∷ []) [] line
     → switch_said line ≡ Ok (Command (command.Switch switch on))
 unfolding switch_said
 switch_says switch on line t =
     let s = split_name (letter_of switch) t.0 t.1 t.2 line (letter_is_word switch) t.3 t.4 t.5 in
     let u = t.6 in
     let r = split_name (setting_text on) u.0 u.1 u.2 t.2 (setting_is_word on) u.3 u.4 u.5 in
-    rw (s.word_is, s.rest_is, letter_is_known switch, r.word_is, r.rest_is, setting_is_known on) (ended_by_blanks _ u.6.0 u.2 u.6.1)
+    rw (s.word_is, s.rest_is, letter_is_known switch, r.word_is, r.rest_is, setting_is_known on)
+    (ended_by_blanks _ u.6.0 u.2 u.6.1)
 
 -- whether a character is found again by its graphic
 found : Option ℕ → ℕ → Bool
@@ -192,17 +209,21 @@ unfolding cells_text spelled
 all_again [] all = refl
 all_again (cell ∷ cells) all =
     let P : Cell → Type 0 = λ cell. cell.char < 64 in
-    let one : spelled (cell_text cell) ≡ Some cell ∷ [] = cell_again cell (own_graphic cell.char (All-head P cell cells all)) in
+    let one : spelled (cell_text cell) ≡ Some cell ∷ [] =
+    cell_again cell (own_graphic cell.char (All-head P cell cells all)) in
     let more : spelled (flat_map cell_text cells) ≡ map Some cells = all_again cells (All-tail P cell cells all) in
     let there : list_all is_some (spelled (cell_text cell)) ≡ true = ap (list_all is_some) one in
     spelled-append (cell_text cell) (flat_map cell_text cells) there ∙ rw (one, more) refl
 
-text_says : (cells : List Cell) (rest : List ℕ) → 1 ≤ length cells → length cells ≤ most_cells → All (λ cell. cell.char < 64) cells → IsTypedBehind cells rest
+text_says : (cells : List Cell) (rest : List ℕ) → 1 ≤ length cells → length cells ≤ most_cells
+    → All (λ cell. cell.char < 64) cells → IsTypedBehind cells rest
     → cells_of (spelled (drop 1 rest)) ≡ Ok cells
 text_says [] rest some few all t = absurd (omega arith)
-text_says (cell ∷ cells) rest some few all t = rw (t, all_again (cell ∷ cells) all) (cells_of-some (cell ∷ cells) some few)
+text_says (cell ∷ cells) rest some few all t =
+    rw (t, all_again (cell ∷ cells) all) (cells_of-some (cell ∷ cells) some few)
 
-deposit_says : (address : ℕ) (cells : List Cell) (line : List ℕ) → CanBeSaid (Command (command.Deposit address cells)) → IsTyped (Numeral address ∷ []) cells line
+deposit_says : (address : ℕ) (cells : List Cell) (line : List ℕ) → CanBeSaid (Command (command.Deposit address cells))
+    → IsTyped (Numeral address ∷ []) cells line
     → deposit_of line ≡ Ok (Command (command.Deposit address cells))
 unfolding deposit_of
 deposit_says address cells line can t =
@@ -211,13 +232,15 @@ deposit_says address cells line can t =
     rw (s.word_is, s.rest_is, address_is address t.1 can.0 n.says, text_says cells t.2 can.1 can.2 can.3 t.6) refl
 
 -- by its first word
-by_keyword : (k : Keyword) (cells : List Cell) (parts : List Part) (line : List ℕ) (said : Line) → (t : IsTyped (Name (name_of k) ∷ parts) cells line)
+by_keyword : (k : Keyword) (cells : List Cell) (parts : List Part) (line : List ℕ) (said : Line)
+    → (t : IsTyped (Name (name_of k) ∷ parts) cells line)
     → said_with (Some k) t.2 ≡ Ok said → said_in_words line ≡ Ok said
 by_keyword k cells parts line said t says =
     said_by_keyword k t.2 line (split_name (name_of k) t.0 t.1 t.2 line (keyword_is_word k) t.3 t.4 t.5) ∙ says
 
 -- what is typed for a line is what its words say
-pub in_words : (said : Line) (line : List ℕ) → CanBeSaid said → IsTyped (text_of said).parts (text_of said).cells line → said_in_words line ≡ Ok said
+pub in_words : (said : Line) (line : List ℕ) → CanBeSaid said → IsTyped (text_of said).parts (text_of said).cells line
+    → said_in_words line ≡ Ok said
 unfolding said_in_words said_with
 in_words Empty line can t = rw (word_in-blanks t.0 line t.1) refl
 in_words (Command (command.Deposit address cells)) line can t =

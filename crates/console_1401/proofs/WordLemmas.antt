@@ -24,7 +24,8 @@ abbrev pub in_word : ℕ → Bool
 in_word byte = not (is_blank byte)
 
 -- those that pass stand in front of one that doesn't
-passing : (q : ℕ → Bool) (xs ys : List ℕ) → list_all q xs ≡ true → prefix_len q ys ≡ 0 → prefix_len q (xs ++ ys) ≡ length xs
+passing : (q : ℕ → Bool) (xs ys : List ℕ) → list_all q xs ≡ true → prefix_len q ys ≡ 0
+    → prefix_len q (xs ++ ys) ≡ length xs
 passing q [] ys all none = none
 passing q (x ∷ xs) ys all none =
     let here : q x ≡ true = first (q x) (list_all q xs) all in
@@ -40,7 +41,8 @@ no_blank true n h = cc
 no_blank false n h = refl
 
 -- where a word begins
-word_first : (word rest : List ℕ) → 0 < length word → list_all in_word word ≡ true → prefix_len is_blank (word ++ rest) ≡ 0
+word_first : (word rest : List ℕ) → 0 < length word → list_all in_word word ≡ true
+    → prefix_len is_blank (word ++ rest) ≡ 0
 word_first [] rest some all = absurd (omega arith)
 word_first (byte ∷ word) rest some all =
     let here : not (byte == blank) ≡ true = first _ _ all in no_blank (byte == blank) _ here
@@ -83,7 +85,8 @@ behind_word-typed blanks word rest line s =
 pub word_in-blanks : (blanks : ℕ) (line : List ℕ) → line ≡ replicate blanks blank → word_in line ≡ []
 unfolding word_in
 word_in-blanks blanks line is =
-    let none : drop blanks (replicate {A = ℕ} blanks blank) ≡ [] = drop_of_length-le (replicate {A = ℕ} blanks blank) (omega (arith, length-replicate {A = ℕ} blanks blank)) in
+    let none : drop blanks (replicate {A = ℕ} blanks blank) ≡ [] =
+    drop_of_length-le (replicate {A = ℕ} blanks blank) (omega (arith, length-replicate {A = ℕ} blanks blank)) in
     rw (is, prefix_len-replicate is_blank blanks blank refl, none) refl
 
 -- zeros in front don't count
@@ -96,7 +99,8 @@ value_of-decimal zero number small fits = rw (decimal_digit number (omega arith)
 value_of-decimal (suc k) number small fits = elim (cases_lt number 10) [
   | inl one ↦ rw (decimal_digit number one) (omega arith)
   | inr more ↦
-      let tenth : value_of (decimal (number / 10)) ≡ number / 10 = value_of-decimal k (number / 10) (omega (arith, pow-succ' 10 k)) (omega arith) in
+      let tenth : value_of (decimal (number / 10)) ≡ number / 10 =
+      value_of-decimal k (number / 10) (omega (arith, pow-succ' 10 k)) (omega arith) in
       rw (decimal_step number more fits, value_of-push) (omega (arith, tenth))
 ]
 
@@ -108,7 +112,8 @@ digits_alone zero number small fits = rw (decimal_digit number (omega arith), di
 digits_alone (suc k) number small fits = elim (cases_lt number 10) [
   | inl one ↦ rw (decimal_digit number one, digit_is number one) refl
   | inr more ↦
-      let tenth : list_all is_digit (decimal (number / 10)) ≡ true = digits_alone k (number / 10) (omega (arith, pow-succ' 10 k)) (omega arith) in
+      let tenth : list_all is_digit (decimal (number / 10)) ≡ true =
+      digits_alone k (number / 10) (omega (arith, pow-succ' 10 k)) (omega arith) in
       rw (decimal_step number more fits, list_all-append, tenth, digit_is (number % 10) (omega arith)) refl
 ]
 
@@ -132,15 +137,26 @@ pub record IsNumeral (number : ℕ) (word : List ℕ) : Type 0 where
   pub whole : list_all in_word word ≡ true
   pub says : number_of word ≡ Ok number
 
-by_tests : (word : List ℕ) (number : ℕ) → 1 ≤ length word → length word ≤ most_digits → list_all is_digit word ≡ true → value_of word ≡ number → number_of word ≡ Ok number
+by_tests : (word : List ℕ) (number : ℕ) → 1 ≤ length word → length word ≤ most_digits → list_all is_digit word ≡ true
+    → value_of word ≡ number → number_of word ≡ Ok number
 unfolding number_of
 by_tests word number some few all value = rw (all, value) (grind (arith, nat_tests))
 
-pub numeral : (number : ℕ) (word : List ℕ) → number < 10 ^ most_digits → IsTypedAs (Numeral number) word → IsNumeral number word
+pub numeral : (number : ℕ) (word : List ℕ) → number < 10 ^ most_digits → IsTypedAs (Numeral number) word
+    → IsNumeral number word
 numeral number word small typed =
     let zeros = typed.0 in
     let fits : number < 2 ^ 64 = omega arith in
-    let digits : list_all is_digit word ≡ true = rw (typed.1, list_all-append, zeros_alone, digits_alone most_digits number small fits) refl in
-    let value : value_of word ≡ number = rw (typed.1, value_of-zeros) (value_of-decimal most_digits number small fits) in
-    let some : 0 < length word = omega (arith, decimal_nonempty number fits, ap length typed.1, length-append (replicate {A = ℕ} zeros 48) (decimal number)) in
+    let digits : list_all is_digit word ≡ true =
+    rw (typed.1, list_all-append, zeros_alone, digits_alone most_digits number small fits) refl in
+    let value : value_of word ≡ number =
+    rw (typed.1, value_of-zeros) (value_of-decimal most_digits number small fits) in
+    let some : 0 < length word =
+    omega (
+      arith,
+      decimal_nonempty number fits,
+      ap length typed.1,
+      length-append (replicate {A = ℕ} zeros 48)
+          (decimal number),
+    ) in
     record { some = some; whole = digits_in_word word digits; says = by_tests word number some typed.2 digits value }

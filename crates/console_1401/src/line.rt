@@ -175,8 +175,8 @@ fn cells(text: &[u8]) -> Result<Cells, LineFault>
     Cells::from_slice(&cells[..count]).ok_or(LineFault::Length)
 }
 
-/// The first cell that a text spells, which is none where a graphic is missed, and what stands behind it; none at the end
-/// of the text.
+/// The first cell that a text spells, which is none where a graphic is missed, and what stands behind it; none at the
+/// end of the text.
 #[tactic(auto, unfolding(crate::specs::ConsoleLine::spelled))]
 fn split_cell(text: &[u8]) -> Option<(Option<Cell>, &[u8])>
     ensures { MatchOption result (text.now ≡ []) (λ first.
