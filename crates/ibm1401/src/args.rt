@@ -14,6 +14,7 @@ Lines, each with one reply:
   EXAMINE A [N]   shows the cell at address A, or N cells from there on, 1 to 40
   REGS            shows registers, indicators, switches and devices
   START A         sets the I register, and runs nothing
+  SWITCH X ON     turns sense switch X on, A to G; SWITCH X OFF turns it off
   RUN N           carries out at most N instructions, 1 to 1000000
   QUIT            ends the session, of which nothing is kept";
 

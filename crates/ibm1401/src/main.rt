@@ -23,8 +23,8 @@ fn main(rt: HostRuntime) -> ExitCode {
 ///
 /// # Errors
 ///
-/// `Text`, `Usage` or `Memory` where the command line can't be read, `Output` where its help can't be written, else what
-/// the subcommand fails by.
+/// `Text`, `Usage` or `Memory` where the command line can't be read, `Output` where its help can't be written, else
+/// what the subcommand fails by.
 fn run(rt: &(impl Env + Input + Print + AllocGlobal)) -> Result<(), Fault> {
     let words = command_line(rt)?;
     match read_call(rt.alloc(), words.as_slice()) {

@@ -2,7 +2,7 @@
 ghost use Rattle.std.specs.Prelude.{◌≡◌, ◌≢◌, ◌↔◌, false, OnErr};
 ghost use Rattle.clap.specs.Values.{kind_of};
 ghost use Rattle.core_1401.specs.Storage.{is_core_size};
-ghost use Rattle.ibm1401.specs.Console.{ConsoleDid};
+ghost use Rattle.ibm1401.specs.Console.{ConsoleDid, streams};
 
 use crate::fault::{Fault, ended};
 use clap::Error;
@@ -24,7 +24,8 @@ pub fn console<R: Source, W: Sink>(
     writer: &mut W,
 ) -> Result<(), Fault>
     ensures size { (result ≡ Err Fault.Size) ↔ (is_core_size size ≡ false) }
-    ensures session { ConsoleDid size (R.left reader.old) (R.left reader.new) (W.received writer.old) (W.received writer.new) result }
+    ensures session { ConsoleDid size (streams (R.left reader.old) (W.received writer.old))
+        (streams (R.left reader.new) (W.received writer.new)) result }
 {
     let mut room = match Room::power_on(alloc, size) {
         Ok(room) => room,

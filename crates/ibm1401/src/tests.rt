@@ -16,8 +16,8 @@ use room_1401::Room;
 use std::alloc::Global;
 use std::process::Abort;
 
-/// Answers the lines in a new room of 4,000 places, and compares the replies, how the session ends, and how many commands
-/// the journal has.
+/// Answers the lines in a new room of 4,000 places, and compares the replies, how the session ends, and how many
+/// commands the journal has.
 fn expect_session(
     rt: &impl Abort,
     alloc: Global,

@@ -105,6 +105,7 @@ fn the_help_names_each_line(rt: HostRuntime) -> Result<(), Fail> {
         "\n  EXAMINE A [N] ",
         "\n  REGS ",
         "\n  START A ",
+        "\n  SWITCH X ON ",
         "\n  RUN N ",
         "\n  QUIT ",
     ] {

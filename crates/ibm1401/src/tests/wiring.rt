@@ -8,8 +8,8 @@ use std::io;
 use std::io::{ErrorKind, Read, Write};
 use std::test::Fail;
 
-/// Gives as many of its bytes as it is asked for, and counts them. Where a number of bytes is named, it fails once when so
-/// many are left, and would go on.
+/// Gives as many of its bytes as it is asked for, and counts them. Where a number of bytes is named, it fails once when
+/// so many are left, and would go on.
 #[derive(Drop)]
 struct Input<'a> {
     bytes: &'a [u8],
@@ -61,8 +61,8 @@ impl Write for Output<'_> {
     }
 }
 
-/// One call of the console over this input, whose reads or writes fail where they are said to: what it answers, what was
-/// written after how many bytes read, and how many bytes were read in all.
+/// One call of the console over this input, whose reads or writes fail where they are said to: what it answers, what
+/// was written after how many bytes read, and how many bytes were read in all.
 fn call(
     rt: &impl AllocGlobal,
     input: &str,
