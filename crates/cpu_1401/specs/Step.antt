@@ -4,6 +4,7 @@ use Rattle.std.specs.Prelude.{ℕ, ◌==◌, false, Option, None, Some, if◌the
 use Rattle.core_1401.specs.Storage.{cell_at}
 use Rattle.fields_1401.specs.Arithmetic.{sum_at, difference_at, zero_sum_at, zero_difference_at}
 use Rattle.fields_1401.specs.Compare.{comparison_at}
+use Rattle.fields_1401.specs.Edit.{edit_at}
 use Rattle.fields_1401.specs.Load.{load_at}
 use Rattle.fields_1401.specs.Marks.{set_marks_at, clear_marks_at, clear_down_at}
 use Rattle.fields_1401.specs.Move.{move_at}
@@ -37,6 +38,7 @@ perform op.ClearWordMark this s = after_field this s (clear_marks_at s.storage t
 perform op.ClearStorage this s = after_clear this s (clear_down_at s.storage this.b)
 perform op.Compare this s = after_comparison this s (comparison_at s.storage this.a this.b)
 perform op.ZeroSuppress this s = after_field this s (suppress_at s.storage this.a this.b)
+perform op.Edit this s = after_field this s (edit_at s.storage this.a this.b)
 perform op.Branch this s = after_branch this s
 perform op.BranchOnCell this s = branch_on_cell (passes this.d) this s
 perform op.StoreA this s = after_store s.a this s

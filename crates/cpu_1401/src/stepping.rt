@@ -12,8 +12,8 @@ use crate::stop::Stop;
 use bcd_1401::Char;
 use core_1401::ADDRESSES;
 use fields_1401::{
-    add, clear_marks, load_chars, move_chars, move_digit, move_zone, set_marks, subtract, suppress,
-    zero_add, zero_subtract,
+    add, clear_marks, edit, load_chars, move_chars, move_digit, move_zone, set_marks, subtract,
+    suppress, zero_add, zero_subtract,
 };
 
 impl Machine {
@@ -134,6 +134,7 @@ impl Machine {
             Operation::SetWordMark => set_marks(&mut self.core, a, b),
             Operation::ClearWordMark => clear_marks(&mut self.core, a, b),
             Operation::ZeroSuppress => suppress(&mut self.core, a, b),
+            Operation::Edit => edit(&mut self.core, a, b),
             Operation::ClearStorage => return self.clear_storage(this),
             Operation::Compare => return self.compare(this),
             Operation::Branch => return self.branch(this),
