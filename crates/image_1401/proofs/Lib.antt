@@ -3,3 +3,5 @@ pub mod ContentsLemmas
 pub mod LineLemmas
 pub mod NumberLemmas
 pub mod ReadingExamples
+pub mod SpellingLemmas
+pub mod RecordLemmas

@@ -1,5 +1,5 @@
 -- The text of an image (own).
-use Rattle.std.specs.Prelude.{◌≡◌, ℕ, zero, suc, ◌+◌, ◌/◌, ◌%◌, Bool, true, ◌&&◌, if◌then◌else◌, List, [], ◌∷◌, ◌++◌, length, slice_index, nat_le, nat_lt, codes}
+use Rattle.std.specs.Prelude.{◌≡◌, ℕ, zero, suc, ◌+◌, ◌/◌, ◌%◌, ◌==◌, Bool, true, false, Option, None, Some, position, ◌&&◌, if◌then◌else◌, List, [], ◌∷◌, ◌++◌, length, slice_index, nat_le, nat_lt, codes}
 use Rattle.std.specs.List.{flat_map, list_all}
 use Rattle.bcd_1401.specs.declared.cell.Cell.{Cell}
 use Rattle.bcd_1401.specs.Graphic.{graphics}
@@ -48,9 +48,14 @@ unfoldable pub image_text : Version → Image → List ℕ
 image_text version image =
     line_of (header_text version image.size) ++ segments_text version image.segments ++ line_of (end_text version image.start)
 
--- whether a cell has one of the 64 characters
+-- whether this is the character
+abbrev pub is_char : Option ℕ → ℕ → Bool
+is_char None char = false
+is_char (Some found) char = found == char
+
+-- whether a cell's character is the one that its graphic stands for, as each of the 64 is
 abbrev pub is_character : Cell → Bool
-is_character cell = nat_lt cell.char 64
+is_character cell = is_char (position (λ each. each == slice_index graphics cell.char) graphics) cell.char
 
 -- whether it has 1 to 40 cells, as every segment of the machine has
 abbrev pub is_segment : Segment → Bool

@@ -116,10 +116,10 @@ fn put_cell(text: &mut Vec<u8>, cell: Cell) -> Result<(), AllocError>
     ensures text { OnOk result (text.new.items ≡ text.old.items ++ cell_text cell) }
     ensures character { is_character cell ≡ true }
 {
-    let _code = cell.char.code();
+    let graphic = cell.char.graphic();
     if cell.mark {
         text.push(b'~')?;
     }
-    text.push(cell.char.graphic())?;
+    text.push(graphic)?;
     Ok(())
 }
