@@ -3,5 +3,6 @@ pub mod ContentsLemmas
 pub mod LineLemmas
 pub mod NumberLemmas
 pub mod ReadingExamples
-pub mod SpellingLemmas
 pub mod RecordLemmas
+pub mod SpellingLemmas
+pub mod TextLemmas
