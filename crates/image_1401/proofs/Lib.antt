@@ -4,5 +4,6 @@ pub mod LineLemmas
 pub mod NumberLemmas
 pub mod ReadingExamples
 pub mod RecordLemmas
+pub mod RefusalLemmas
 pub mod SpellingLemmas
 pub mod TextLemmas

@@ -1,9 +1,8 @@
 -- A whole text, written and read.
 use Rattle.std.proofs.Common.{◌≡◌, ℕ, ◌+◌, ◌^◌, ◌<◌, ◌≤◌, ◌==◌, ◌&&◌, Bool, true, false, cond, List, [], ◌∷◌, ◌++◌, length, slice_index, Option, Some, None, Result, Ok, Err, refl, sym, ap, subst, ◌∙◌, arith}
-use Rattle.std.specs.Prelude.{codes, not, nat_le, nat_lt, position, if◌then◌else◌, IsOk}
-use Rattle.std.specs.Option.{option_map}
-use Rattle.std.specs.List.{list_all, flat_map, slice_split, join_with_byte, All}
-use Rattle.std.proofs.lemmas.Bool.{eqb-true, leb-true, ltb-true, ltb-false, false≢true}
+use Rattle.std.specs.Prelude.{codes, not, nat_le, nat_lt, position, if◌then◌else◌}
+use Rattle.std.specs.List.{list_all, flat_map, join_with_byte, All}
+use Rattle.std.proofs.lemmas.Bool.{eqb-true, leb-true, ltb-true, false≢true}
 use Rattle.std.proofs.lemmas.Bool.Decides.{nat_tests}
 use Rattle.std.proofs.lemmas.List.{append-nil, append_assoc}
 use Rattle.std.proofs.lemmas.List.Folds.{list_all-append}
@@ -12,18 +11,18 @@ use Rattle.std.proofs.lemmas.List.Splits.{slice_split_at, join_with_byte-slice_s
 use Rattle.bcd_1401.specs.declared.cell.Cell.{Cell}
 use Rattle.bcd_1401.specs.Graphic.{graphics}
 use Rattle.image_1401.specs.declared.fault.ImageFault.{ImageFault}
-use Rattle.image_1401.specs.declared.fault.ImageFault.TheVariants.{Header, BadRecord, Range, Truncated}
+use Rattle.image_1401.specs.declared.fault.ImageFault.TheVariants.{BadRecord, Range}
 use Rattle.image_1401.specs.declared.image.Image.{Image}
 use Rattle.image_1401.specs.declared.image.Segment.{Segment}
 use Rattle.image_1401.specs.declared.version.Version.{Version}
 use Rattle.image_1401.specs.declared.version.Version.TheVariants.{One}
 use Rattle.image_1401.specs.Image.{is_inside}
-use Rattle.image_1401.specs.ImageText.{number_text, cell_text, cells_text, header_text, segment_text, end_text, line_of, segments_text, image_text, is_char, is_character, is_segment, HasText}
+use Rattle.image_1401.specs.ImageText.{number_text, cell_text, cells_text, header_text, segment_text, end_text, line_of, segments_text, image_text, is_char, is_character, is_segment, HasText, IsTextOf}
 use Rattle.image_1401.specs.Reading.{is_digit, segment_in, end_in, header_in, parts_of, is_done, Contents, with_segments, entry_alone, entry_by, contents_by, contents_in, image_of, image_by, image_in}
 use Rattle.image_1401.specs.Version.{name_of, address_digits, has_size}
 use Rattle.image_1401.proofs.ContentsLemmas.{contents_in-line, image_in-line}
 use Rattle.image_1401.proofs.NumberLemmas.{both, first_half, second_half, digits-number_text}
-use Rattle.image_1401.proofs.RecordLemmas.{IsSegmentLine, size_bound, header_takes, header_again, segment_takes, segment_again, end_takes, end_again, end_is_no_segment}
+use Rattle.image_1401.proofs.RecordLemmas.{size_bound, header_takes, header_again, segment_takes, segment_again, end_takes, end_again, end_is_no_segment}
 
 -- ---- no line feed stands in a line
 
@@ -113,7 +112,7 @@ same_Ok x y h = cc
 same_Ok_contents : (x y : Contents) → ◌≡◌ {A = Result Contents ImageFault} (Ok x) (Ok y) → x ≡ y
 same_Ok_contents x y h = cc
 
-same_Ok_image : (x y : Image) → ◌≡◌ {A = Result Image ImageFault} (Ok x) (Ok y) → x ≡ y
+pub same_Ok_image : (x y : Image) → ◌≡◌ {A = Result Image ImageFault} (Ok x) (Ok y) → x ≡ y
 same_Ok_image x y h = cc
 
 -- ---- what is written is read
@@ -256,14 +255,8 @@ read_size size (Ok contents) image h =
     (ap (λ (each : Image). let c : Contents = (each.segments, each.start) in Ok c) same, ap (λ (each : Image). each.size) same)
 read_size size (Err fault) image h = absurd cc
 
--- a text that is read as an image
-pub record IsImageText (text : List ℕ) (image : Image) : Type 0 where
-  pub version : Version
-  pub has_text : HasText version image
-  pub text_is : text ≡ image_text version image
-
 by_header : (line next : List ℕ) (parts : List (List ℕ)) (header : Option (Version × ℕ)) (image : Image) → header_in line ≡ header → image_by header (next ∷ parts) ≡ Ok image
-    → IsImageText (join_with_byte 10 (line ∷ next ∷ parts)) image
+    → IsTextOf (join_with_byte 10 (line ∷ next ∷ parts)) image
 unfolding image_text
 by_header line next parts None image e h = absurd cc
 by_header line next parts (Some header) image e h =
@@ -285,12 +278,12 @@ by_header line next parts (Some header) image e h =
           ∙ sym (append_assoc (line_of (header_text header.0 image.size)) (segments_text header.0 image.segments) (line_of (end_text header.0 image.start)))));
     }
 
-image_parts : (parts : List (List ℕ)) (image : Image) → image_in parts ≡ Ok image → IsImageText (join_with_byte 10 parts) image
+image_parts : (parts : List (List ℕ)) (image : Image) → image_in parts ≡ Ok image → IsTextOf (join_with_byte 10 parts) image
 unfolding image_in
 image_parts [] image h = absurd cc
 image_parts (part ∷ []) image h = absurd cc
 image_parts (line ∷ next ∷ parts) image h = by_header line next parts (header_in line) image refl h
 
 -- what is read as an image is the image's text
-pub image_takes : (text : List ℕ) (image : Image) → image_in (parts_of text) ≡ Ok image → IsImageText text image
-image_takes text image h = subst (λ (each : List ℕ). IsImageText each image) (join_with_byte-slice_split 10 text) (image_parts (parts_of text) image h)
+pub image_takes : (text : List ℕ) (image : Image) → image_in (parts_of text) ≡ Ok image → IsTextOf text image
+image_takes text image h = subst (λ (each : List ℕ). IsTextOf each image) (join_with_byte-slice_split 10 text) (image_parts (parts_of text) image h)

@@ -1,14 +1,14 @@
 -- What is wrong with a text that is no image's (own): the first wrong line decides, and what a line is wrong in is said by
 -- the texts of right lines alone. A text is given by its parts between line feeds: its lines, and last what stands behind
 -- the last line feed, which is empty where the text ends with one.
-use Rattle.std.specs.Prelude.{◌≡◌, ◌≢◌, ℕ, ◌^◌, ◌<◌, ◌≤◌, Bool, true, false, List, [], ◌∷◌}
+use Rattle.std.specs.Prelude.{◌≡◌, ◌≢◌, ℕ, ◌^◌, ◌<◌, ◌≤◌, true, false, List, [], ◌∷◌}
 use Rattle.image_1401.specs.declared.fault.ImageFault.{ImageFault}
 use Rattle.image_1401.specs.declared.fault.ImageFault.TheVariants.{Memory, Header, BadRecord, Range, Truncated}
 use Rattle.image_1401.specs.declared.image.Image.{Image}
 use Rattle.image_1401.specs.declared.image.Segment.{Segment}
 use Rattle.image_1401.specs.declared.version.Version.{Version}
 use Rattle.image_1401.specs.Image.{is_inside}
-use Rattle.image_1401.specs.ImageText.{header_text, segment_text, end_text, image_text, is_segment, HasText}
+use Rattle.image_1401.specs.ImageText.{header_text, segment_text, end_text, is_segment, IsTextOf}
 use Rattle.image_1401.specs.Reading.{is_done, parts_of}
 use Rattle.image_1401.specs.Version.{address_digits, has_size}
 
@@ -47,16 +47,9 @@ pub data HasTextFault : List (List ℕ) → ImageFault → Type 0 where
   behind_the_header : (line next : List ℕ) (parts : List (List ℕ)) (version : Version) (size : ℕ) (fault : ImageFault)
       → line ≡ header_text version size → has_size version size ≡ true → HasFault version size (next ∷ parts) fault → HasTextFault (line ∷ next ∷ parts) fault
 
--- the text is that of an image
-pub record IsText (text : List ℕ) : Type 0 where
-  pub version : Version
-  pub image : Image
-  pub has_text : HasText version image
-  pub text_is : text ≡ image_text version image
-
--- why a text is refused: by its own fault; and for memory only where it is an image's
+-- why a text is refused: by its own fault, and for want of memory only where it is an image's
 abbrev pub IsRefused : List ℕ → ImageFault → Type 0
-IsRefused text Memory = IsText text
+IsRefused text Memory = (image : Image) × IsTextOf text image
 IsRefused text Header = HasTextFault (parts_of text) Header
 IsRefused text BadRecord = HasTextFault (parts_of text) BadRecord
 IsRefused text Range = HasTextFault (parts_of text) Range
