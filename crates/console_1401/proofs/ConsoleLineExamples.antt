@@ -3,15 +3,16 @@ use Rattle.std.proofs.Common.{◌≡◌, ℕ, true, false, List, [], ◌∷◌, 
 use Rattle.std.specs.Prelude.{Ok, Err, codes}
 use Rattle.bcd_1401.specs.declared.cell.Cell.{Cell}
 use Rattle.bcd_1401.specs.Graphic.{graphics}
-use Rattle.room_1401.specs.declared.command.Command.TheVariants.{Deposit, Examine, Registers, SetI, Run}
+use Rattle.room_1401.specs.declared.command.Command.TheVariants.{Deposit, Examine, Registers, SetI, Switch, Run}
+use Rattle.cpu_1401.specs.declared.switch_name.SwitchName.TheVariants.{A, B, C, D, E, F, G}
 use Rattle.console_1401.specs.declared.line.Line.TheVariants.{Empty, Command, Quit}
 use Rattle.console_1401.specs.declared.line.LineFault.TheVariants.{Word, Number, Graphic, Length, Extra}
-use Rattle.console_1401.specs.Words.{word_in, behind_word, keyword_of, number_of, address_of, count_of}
-use Rattle.console_1401.specs.ConsoleLine.{Said, said_by, said_in_words, said_with, ended, spelled, cells_of, deposit_of, examine_of, start_of, run_of}
+use Rattle.console_1401.specs.Words.{word_in, behind_word, keyword_of, number_of, address_of, count_of, switch_named, setting_of}
+use Rattle.console_1401.specs.ConsoleLine.{Said, said_by, said_in_words, said_with, ended, spelled, cells_of, deposit_of, examine_of, start_of, switch_said, run_of}
 
 -- what a line says, with all that its grammar consists of open
 says : List ℕ → Said
-unfolding said_by said_in_words said_with ended spelled cells_of deposit_of examine_of start_of run_of word_in behind_word keyword_of number_of address_of count_of graphics
+unfolding said_by said_in_words said_with ended spelled cells_of deposit_of examine_of start_of switch_said run_of word_in behind_word keyword_of number_of address_of count_of switch_named setting_of graphics
 says line = said_by line
 
 -- each of these lines says what stands beside it
@@ -59,6 +60,33 @@ start_takes_an_address_and_run_a_number : AllSay (
     (codes "RUN 9999999 ", Ok (Command (Run 9999999))) ∷ [])
 unfolding says
 start_takes_an_address_and_run_a_number = refl
+
+each_switch_has_its_letter : AllSay (
+    (codes "SWITCH A ON", Ok (Command (Switch A true))) ∷
+    (codes "SWITCH B OFF", Ok (Command (Switch B false))) ∷
+    (codes "SWITCH C ON", Ok (Command (Switch C true))) ∷
+    (codes "SWITCH D OFF", Ok (Command (Switch D false))) ∷
+    (codes "SWITCH E ON", Ok (Command (Switch E true))) ∷
+    (codes "SWITCH F OFF", Ok (Command (Switch F false))) ∷
+    (codes "  SWITCH   G  ON ", Ok (Command (Switch G true))) ∷ [])
+unfolding says
+each_switch_has_its_letter = refl
+
+no_switch_or_neither_on_nor_off_is_no_word : AllSay (
+    (codes "SWITCH", Err Word) ∷
+    (codes "SWITCH H ON", Err Word) ∷
+    (codes "SWITCH a ON", Err Word) ∷
+    (codes "SWITCH AB ON", Err Word) ∷
+    (codes "SWITCH 1 ON X", Err Word) ∷
+    (codes "SWITCH ON", Err Word) ∷
+    (codes "SWITCH A", Err Word) ∷
+    (codes "SWITCH A ", Err Word) ∷
+    (codes "SWITCH A on", Err Word) ∷
+    (codes "SWITCH A ONE", Err Word) ∷
+    (codes "SWITCH A X X", Err Word) ∷
+    (codes "SWITCHA ON", Err Word) ∷ [])
+unfolding says
+no_switch_or_neither_on_nor_off_is_no_word = refl
 
 a_tilde_marks_the_next_cell : said_by (codes "DEPOSIT 0500 ~0K~A") ≡ Ok (Command (Deposit 500 (marked 10 ∷ plain 34 ∷ marked 49 ∷ [])))
 unfolding says
@@ -165,6 +193,8 @@ more_than_a_line_says : AllSay (
     (codes "QUIT X", Err Extra) ∷
     (codes "REGS X", Err Extra) ∷
     (codes "START 1 X", Err Extra) ∷
+    (codes "SWITCH A ON X", Err Extra) ∷
+    (codes "SWITCH A OFF ON", Err Extra) ∷
     (codes "RUN 1 1", Err Extra) ∷ [])
 unfolding says
 more_than_a_line_says = refl

@@ -6,5 +6,5 @@ mod ReplyTextExamples
 mod SessionExamples
 pub mod SessionLemmas
 pub mod SpelledLemmas
-pub mod TakingLemmas
+pub mod AnsweringLemmas
 pub mod TextLemmas

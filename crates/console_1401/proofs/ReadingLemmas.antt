@@ -7,69 +7,81 @@ use Rattle.std.proofs.lemmas.List.Elements.{All-append, All-nil, All-cons}
 use Rattle.std.specs.Io.KnownBytes.{Appends, Consumes, IsAtEnd}
 use Rattle.std.specs.Prelude.{IsSome, Ok}
 use Rattle.console_1401.specs.declared.line.Line.TheVariants.{Quit}
-use Rattle.console_1401.specs.declared.replies.Reply.{Reply}
+use Rattle.console_1401.specs.declared.reply.Reply.{Reply}
 use Rattle.console_1401.specs.declared.session_end.SessionEnd.{SessionEnd}
 use Rattle.console_1401.specs.declared.session_end.SessionEnd.TheVariants as end
 use Rattle.console_1401.specs.ConsoleLine.{Said, said_by}
-use Rattle.console_1401.specs.Replies.{text_of, bytes_of}
+use Rattle.console_1401.specs.ReplyText.{text_of_reply, bytes_of}
 use Rattle.console_1401.specs.Session.{NoQuit, IsAllRead, LastLine, SessionDid}
-use Rattle.console_1401.specs.Taking.{LineTaking, AnsweredAll, Answers, AnswersLast, TakesByte, end_after}
+use Rattle.console_1401.specs.Answering.{Response, AnsweredAll, AnswersLine, AnswersLast, EntersByte, end_after}
 use Rattle.console_1401.specs.Text.{cut_of, said_finished, last_said, lines_of}
-use Rattle.console_1401.proofs.TakingLemmas.{answered_one, answered_more}
+use Rattle.console_1401.proofs.AnsweringLemmas.{answered_one, answered_more}
 use Rattle.console_1401.proofs.TextLemmas.{lines_of-feed, lines_of-byte, rest-feed, rest-byte, kept-byte, said_by-kept, said_finished-kept}
 
--- A moment of a session: what the source has left, what the sink has taken, and what stands behind the console.
+-- A moment of a session: what the source has left, what the sink has received, and what stands behind the console.
 pub record Moment (S : Type 0) : Type 0 where
   pub left : Option (List ℕ)
-  pub taken : Option (List ℕ)
+  pub received : Option (List ℕ)
   pub state : S
 
 -- So many bytes were read, every finished line among them is answered, and the first 202 bytes of the rest are kept.
-pub record SoFar {S : Type 0} (takes : LineTaking S) (before now : Moment S) (count : ℕ) (line : List ℕ) : Type 0 where
+pub record SoFar {S : Type 0} (responds : Response S) (before now : Moment S) (count : ℕ) (line : List ℕ) : Type 0 where
   pub read : List ℕ
   pub written : List ℕ
   pub consumed : Consumes before.left now.left read
-  pub appended : Appends before.taken now.taken written
+  pub appended : Appends before.received now.received written
   pub count_is : length read ≡ count
   pub line_is : line ≡ take 202 (cut_of read).rest
   pub no_quit : NoQuit (lines_of false read)
-  pub answered : AnsweredAll takes before.state (lines_of false read) written now.state
+  pub answered : AnsweredAll responds before.state (lines_of false read) written now.state
 
 -- one line was answered between two moments
-abbrev pub AnswersAt : {S : Type 0} → LineTaking S → Option SessionEnd → Said → Moment S → Moment S → Type 0
-AnswersAt takes next said now after = Answers takes next said now.state after.state now.taken after.taken
+abbrev pub AnswersBetween : {S : Type 0} → Response S → Option SessionEnd → Said → Moment S → Moment S → Type 0
+AnswersBetween responds next said now after = AnswersLine responds next said now.state after.state now.received after.received
 
 -- a session from one moment to another
-abbrev pub DidAt : {S : Type 0} → LineTaking S → SessionEnd → Moment S → Moment S → Type 0
-DidAt takes last before after = SessionDid (AnsweredAll takes) last before.left after.left before.taken after.taken before.state after.state
+abbrev pub DidBetween : {S : Type 0} → Response S → SessionEnd → Moment S → Moment S → Type 0
+DidBetween responds last before after = SessionDid (AnsweredAll responds) last before.left after.left before.received after.received before.state after.state
 
 no_quit_more : (lines : List Said) (said : Said) → NoQuit lines → said ≢ Ok Quit → NoQuit (lines ++ said ∷ [])
 no_quit_more lines said all here =
     let P : Said → Type 0 = λ s. s ≢ Ok Quit in
     All-append P lines (said ∷ []) all (All-cons P said [] here (All-nil P))
 
-pub nothing_yet : {S : Type 0} (takes : LineTaking S) (now : Moment S) → SoFar takes now now 0 []
+pub nothing_yet : {S : Type 0} (responds : Response S) (now : Moment S) → SoFar responds now now 0 []
 unfolding cut_of
-nothing_yet takes now = record {
+nothing_yet responds now = record {
   read = [];
   written = [];
   consumed = Consumes-nil now.left;
-  appended = Appends-nil now.taken;
+  appended = Appends-nil now.received;
   count_is = refl;
   line_is = refl;
   no_quit = All-nil (λ (said : Said). said ≢ Ok Quit);
   answered = (refl, refl);
 }
 
+-- a source that has failed before gives no byte
+pub nothing_read : {S : Type 0} (responds : Response S) (now : Moment S) → DidBetween responds end.Read now now
+unfolding cut_of
+nothing_read responds now = record {
+  read = [];
+  written = [];
+  consumed = Consumes-nil now.left;
+  appended = Appends-nil now.received;
+  bound = omega arith;
+  session = (omega arith, All-nil (λ (said : Said). said ≢ Ok Quit), (refl, refl));
+}
+
 -- a byte that is no line feed
-byte_more : {S : Type 0} (takes : LineTaking S) (before now after : Moment S) (count byte : ℕ) (line : List ℕ)
-    → SoFar takes before now count line → (byte == 10) ≡ false → Consumes now.left after.left (byte ∷ []) → after.state ≡ now.state → after.taken ≡ now.taken
-    → SoFar takes before after (count + 1) (take 202 (line ++ byte ∷ []))
-byte_more {S} takes before now after count byte line s h c same kept = record {
+byte_more : {S : Type 0} (responds : Response S) (before now after : Moment S) (count byte : ℕ) (line : List ℕ)
+    → SoFar responds before now count line → (byte == 10) ≡ false → Consumes now.left after.left (byte ∷ []) → after.state ≡ now.state → after.received ≡ now.received
+    → SoFar responds before after (count + 1) (take 202 (line ++ byte ∷ []))
+byte_more {S} responds before now after count byte line s h c same kept = record {
   read = s.read ++ byte ∷ [];
   written = s.written;
   consumed = Consumes-trans before.left now.left after.left s.read (byte ∷ []) s.consumed c;
-  appended = subst (λ (taken : Option (List ℕ)). Appends before.taken taken s.written) (sym kept) s.appended;
+  appended = subst (λ (received : Option (List ℕ)). Appends before.received received s.written) (sym kept) s.appended;
   count_is = omega (arith, length-append s.read (byte ∷ []), s.count_is);
   line_is =
       ap (λ (bytes : List ℕ). take 202 (bytes ++ byte ∷ [])) s.line_is
@@ -77,77 +89,77 @@ byte_more {S} takes before now after count byte line s h c same kept = record {
       ∙ ap (λ (rest : List ℕ). take 202 rest) (sym (rest-byte s.read byte h));
   no_quit = subst NoQuit (sym (lines_of-byte s.read byte h)) s.no_quit;
   answered =
-      subst (λ (lines : List Said). AnsweredAll takes before.state lines s.written after.state) (sym (lines_of-byte s.read byte h))
-      (subst (λ (state : S). AnsweredAll takes before.state (lines_of false s.read) s.written state) (sym same) s.answered);
+      subst (λ (lines : List Said). AnsweredAll responds before.state lines s.written after.state) (sym (lines_of-byte s.read byte h))
+      (subst (λ (state : S). AnsweredAll responds before.state (lines_of false s.read) s.written state) (sym same) s.answered);
 }
 
 -- with a line feed the kept bytes are one line more
-lines_now : {S : Type 0} (takes : LineTaking S) (before now : Moment S) (count : ℕ) (line : List ℕ) (s : SoFar takes before now count line)
+lines_now : {S : Type 0} (responds : Response S) (before now : Moment S) (count : ℕ) (line : List ℕ) (s : SoFar responds before now count line)
     → lines_of false (s.read ++ 10 ∷ []) ≡ lines_of false s.read ++ said_finished line ∷ []
-lines_now takes before now count line s =
+lines_now responds before now count line s =
     let said : said_finished line ≡ said_finished (cut_of s.read).rest = ap said_finished s.line_is ∙ said_finished-kept (cut_of s.read).rest in
     lines_of-feed s.read ∙ ap (λ (said : Said). lines_of false s.read ++ said ∷ []) (sym said)
 
 -- a line feed, and the line was answered
-line_more : {S : Type 0} (takes : LineTaking S) (before now after : Moment S) (count : ℕ) (line : List ℕ)
-    → SoFar takes before now count line → Consumes now.left after.left (10 ∷ []) → AnswersAt takes None (said_finished line) now after
-    → SoFar takes before after (count + 1) []
-line_more takes before now after count line s c a =
+line_more : {S : Type 0} (responds : Response S) (before now after : Moment S) (count : ℕ) (line : List ℕ)
+    → SoFar responds before now count line → Consumes now.left after.left (10 ∷ []) → AnswersBetween responds None (said_finished line) now after
+    → SoFar responds before after (count + 1) []
+line_more responds before now after count line s c a =
     let reply : List ℕ = bytes_of a.reply in
-    let lines = lines_now takes before now count line s in
+    let lines = lines_now responds before now count line s in
     record {
       read = s.read ++ 10 ∷ [];
       written = s.written ++ reply;
       consumed = Consumes-trans before.left now.left after.left s.read (10 ∷ []) s.consumed c;
-      appended = Appends-trans before.taken now.taken after.taken s.written reply s.appended a.wrote.1;
+      appended = Appends-trans before.received now.received after.received s.written reply s.appended a.wrote.1;
       count_is = omega (arith, length-append s.read (10 ∷ []), s.count_is);
       line_is = ap (λ (rest : List ℕ). take 202 rest) (sym (rest-feed s.read));
       no_quit = subst NoQuit (sym lines) (no_quit_more (lines_of false s.read) (said_finished line) s.no_quit a.wrote.0);
       answered =
-          subst (λ (all : List Said). AnsweredAll takes before.state all (s.written ++ reply) after.state) (sym lines)
-          (answered_more takes before.state now.state after.state (lines_of false s.read) s.written (said_finished line) a.reply s.answered a.took);
+          subst (λ (all : List Said). AnsweredAll responds before.state all (s.written ++ reply) after.state) (sym lines)
+          (answered_more responds before.state now.state after.state (lines_of false s.read) s.written (said_finished line) a.reply s.answered a.responded);
     }
 
--- a byte was read and taken, and the session goes on
-pub goes_on : {S : Type 0} (takes : LineTaking S) (is_feed : Bool) (before now after : Moment S) (count byte : ℕ) (line kept : List ℕ)
-    → (byte == 10) ≡ is_feed → SoFar takes before now count line → Consumes now.left after.left (byte ∷ []) → TakesByte takes is_feed byte None line kept now.state after.state now.taken after.taken
-    → SoFar takes before after (count + 1) kept
-goes_on takes true before now after count byte line kept h s c a =
+-- a byte was read and received, and the session goes on
+pub goes_on : {S : Type 0} (responds : Response S) (is_feed : Bool) (before now after : Moment S) (count byte : ℕ) (line kept : List ℕ)
+    → (byte == 10) ≡ is_feed → SoFar responds before now count line → Consumes now.left after.left (byte ∷ []) → EntersByte responds is_feed byte None line kept now.state after.state now.received after.received
+    → SoFar responds before after (count + 1) kept
+goes_on responds true before now after count byte line kept h s c a =
     let feed : byte ≡ 10 = eqb-true byte 10 h in
-    subst (λ (bytes : List ℕ). SoFar takes before after (count + 1) bytes) (sym a.1)
-    (line_more takes before now after count line s (subst (λ (b : ℕ). Consumes now.left after.left (b ∷ [])) feed c) a.0)
-goes_on takes false before now after count byte line kept h s c a =
-    subst (λ (bytes : List ℕ). SoFar takes before after (count + 1) bytes) (sym a.1) (byte_more takes before now after count byte line s h c a.2 a.3)
+    subst (λ (bytes : List ℕ). SoFar responds before after (count + 1) bytes) (sym a.1)
+    (line_more responds before now after count line s (subst (λ (b : ℕ). Consumes now.left after.left (b ∷ [])) feed c) a.0)
+goes_on responds false before now after count byte line kept h s c a =
+    subst (λ (bytes : List ℕ). SoFar responds before after (count + 1) bytes) (sym a.1) (byte_more responds before now after count byte line s h c a.2 a.3)
 
 -- a reply has a byte
 some_bytes : (reply : Option Reply) → IsSome reply → 0 < length (bytes_of reply)
 some_bytes None h = cc
-some_bytes (Some reply) h = omega (arith, length-append (text_of reply) (10 ∷ []))
+some_bytes (Some reply) h = omega (arith, length-append (text_of_reply reply) (10 ∷ []))
 
 -- The session ends with this line, which comes after those in front.
-ended_line : {S : Type 0} (takes : LineTaking S) (last : SessionEnd) (ended : Bool) (before now after : Moment S) (read written : List ℕ) (front : List Said) (said : Said)
-    → Consumes before.left after.left read → Appends before.taken now.taken written → length read ≤ 16777216 → LastLine ended after.left read front said
-    → AnsweredAll takes before.state front written now.state → AnswersAt takes (Some last) said now after → DidAt takes last before after
-ended_line takes end.Quit ended before now after read written front said c p n last d a =
+ended_line : {S : Type 0} (responds : Response S) (last : SessionEnd) (ended : Bool) (before now after : Moment S) (read written : List ℕ) (front : List Said) (said : Said)
+    → Consumes before.left after.left read → Appends before.received now.received written → length read ≤ 16777216 → LastLine ended after.left read front said
+    → AnsweredAll responds before.state front written now.state → AnswersBetween responds (Some last) said now after → DidBetween responds last before after
+ended_line responds end.Quit ended before now after read written front said c p n last d a =
     let reply : List ℕ = bytes_of a.reply in
     record {
       read = read;
       written = written ++ reply;
       consumed = c;
-      appended = Appends-trans before.taken now.taken after.taken written reply p a.wrote.1;
+      appended = Appends-trans before.received now.received after.received written reply p a.wrote.1;
       bound = n;
       session = (
         ended,
         front,
         subst (λ (s : Said). LastLine ended after.left read front s) a.wrote.0 last,
-        subst (λ (all : List Said). AnsweredAll takes before.state all (written ++ reply) after.state) (sym last.lines_are) (answered_more takes before.state now.state after.state front written said a.reply d a.took),
+        subst (λ (all : List Said). AnsweredAll responds before.state all (written ++ reply) after.state) (sym last.lines_are) (answered_more responds before.state now.state after.state front written said a.reply d a.responded),
       );
     }
-ended_line takes end.Write ended before now after read written front said c p n last d a = record {
+ended_line responds end.Write ended before now after read written front said c p n last d a = record {
   read = read;
   written = written ++ a.wrote.1.0;
   consumed = c;
-  appended = Appends-trans before.taken now.taken after.taken written a.wrote.1.0 p a.wrote.1.2;
+  appended = Appends-trans before.received now.received after.received written a.wrote.1.0 p a.wrote.1.2;
   bound = n;
   session = (
     ended,
@@ -159,7 +171,7 @@ ended_line takes end.Write ended before now after read written front said c p n 
       middle = now.state;
       front_answered = d;
       reply = bytes_of a.reply;
-      last_answered = answered_one takes now.state after.state said a.reply a.took;
+      last_answered = answered_one responds now.state after.state said a.reply a.responded;
       some = some_bytes a.reply a.wrote.0;
       part = a.wrote.1.0;
       begins = a.wrote.1.1;
@@ -167,11 +179,11 @@ ended_line takes end.Write ended before now after read written front said c p n 
     },
   );
 }
-ended_line takes end.Memory ended before now after read written front said c p n last d a = record {
+ended_line responds end.Memory ended before now after read written front said c p n last d a = record {
   read = read;
   written = written;
   consumed = c;
-  appended = Appends-kept before.taken now.taken after.taken written p a.wrote.1;
+  appended = Appends-kept before.received now.received after.received written p a.wrote.1;
   bound = n;
   session = (
     ended,
@@ -183,7 +195,7 @@ ended_line takes end.Memory ended before now after read written front said c p n
       middle = now.state;
       front_answered = d;
       reply = bytes_of a.reply;
-      last_answered = answered_one takes now.state after.state said a.reply a.took;
+      last_answered = answered_one responds now.state after.state said a.reply a.responded;
       some = some_bytes a.reply a.wrote.0;
       part = [];
       begins = (bytes_of a.reply, refl);
@@ -192,24 +204,24 @@ ended_line takes end.Memory ended before now after read written front said c p n
     refl,
   );
 }
-ended_line takes end.EndOfInput ended before now after read written front said c p n last d a = absurd a.wrote
-ended_line takes end.Read ended before now after read written front said c p n last d a = absurd a.wrote
-ended_line takes end.Bound ended before now after read written front said c p n last d a = absurd a.wrote
+ended_line responds end.EndOfInput ended before now after read written front said c p n last d a = absurd a.wrote
+ended_line responds end.Read ended before now after read written front said c p n last d a = absurd a.wrote
+ended_line responds end.Bound ended before now after read written front said c p n last d a = absurd a.wrote
 
--- a byte was read and taken, and the session ended
-pub ends_here : {S : Type 0} (takes : LineTaking S) (is_feed : Bool) (last : SessionEnd) (before now after : Moment S) (count byte : ℕ) (line kept : List ℕ)
-    → (byte == 10) ≡ is_feed → SoFar takes before now count line → count < 16777216 → Consumes now.left after.left (byte ∷ [])
-    → TakesByte takes is_feed byte (Some last) line kept now.state after.state now.taken after.taken → DidAt takes last before after
-ends_here takes true last before now after count byte line kept h s n c a =
+-- a byte was read and received, and the session ended
+pub ends_here : {S : Type 0} (responds : Response S) (is_feed : Bool) (last : SessionEnd) (before now after : Moment S) (count byte : ℕ) (line kept : List ℕ)
+    → (byte == 10) ≡ is_feed → SoFar responds before now count line → count < 16777216 → Consumes now.left after.left (byte ∷ [])
+    → EntersByte responds is_feed byte (Some last) line kept now.state after.state now.received after.received → DidBetween responds last before after
+ends_here responds true last before now after count byte line kept h s n c a =
     let feed : byte ≡ 10 = eqb-true byte 10 h in
-    ended_line takes last false before now after (s.read ++ 10 ∷ []) s.written (lines_of false s.read) (said_finished line)
+    ended_line responds last false before now after (s.read ++ 10 ∷ []) s.written (lines_of false s.read) (said_finished line)
     (Consumes-trans before.left now.left after.left s.read (10 ∷ []) s.consumed (subst (λ (b : ℕ). Consumes now.left after.left (b ∷ [])) feed c))
     s.appended
     (omega (arith, length-append s.read (10 ∷ []), s.count_is))
-    (record { lines_are = lines_now takes before now count line s; no_quit = s.no_quit; ends = rest-feed s.read })
+    (record { lines_are = lines_now responds before now count line s; no_quit = s.no_quit; ends = rest-feed s.read })
     s.answered
     a.0
-ends_here takes false last before now after count byte line kept h s n c a = let none : Some last ≡ None = a.0 in cc
+ends_here responds false last before now after count byte line kept h s n c a = let none : Some last ≡ None = a.0 in cc
 
 -- an unfinished line says what its kept bytes say
 last_said-kept : (line rest : List ℕ) → line ≡ take 202 rest → last_said rest ≡ last_said line
@@ -219,47 +231,47 @@ last_said-kept (kept ∷ more) [] h = cc
 last_said-kept (kept ∷ more) (byte ∷ bytes) h = ap (λ (said : Said). said ∷ []) (sym (said_by-kept (byte ∷ bytes)) ∙ ap said_by (sym h))
 
 -- the input ended, and what stood in the last line was answered
-last_by : {S : Type 0} (takes : LineTaking S) (next : Option SessionEnd) (before now after : Moment S) (read written : List ℕ) (front : List Said) (said : Said)
-    → Consumes before.left after.left read → Appends before.taken now.taken written → IsAllRead after.left read → lines_of true read ≡ front ++ said ∷ [] → NoQuit front
-    → AnsweredAll takes before.state front written now.state → AnswersAt takes next said now after → DidAt takes (end_after next) before after
-last_by takes (Some last) before now after read written front said c p z lines q d a =
-    ended_line takes last true before now after read written front said c p (omega (arith, z.1)) (record { lines_are = lines; no_quit = q; ends = z }) d a
-last_by takes None before now after read written front said c p z lines q d a =
+last_by : {S : Type 0} (responds : Response S) (next : Option SessionEnd) (before now after : Moment S) (read written : List ℕ) (front : List Said) (said : Said)
+    → Consumes before.left after.left read → Appends before.received now.received written → IsAllRead after.left read → lines_of true read ≡ front ++ said ∷ [] → NoQuit front
+    → AnsweredAll responds before.state front written now.state → AnswersBetween responds next said now after → DidBetween responds (end_after next) before after
+last_by responds (Some last) before now after read written front said c p z lines q d a =
+    ended_line responds last true before now after read written front said c p (omega (arith, z.1)) (record { lines_are = lines; no_quit = q; ends = z }) d a
+last_by responds None before now after read written front said c p z lines q d a =
     let reply : List ℕ = bytes_of a.reply in
     record {
       read = read;
       written = written ++ reply;
       consumed = c;
-      appended = Appends-trans before.taken now.taken after.taken written reply p a.wrote.1;
+      appended = Appends-trans before.received now.received after.received written reply p a.wrote.1;
       bound = omega (arith, z.1);
       session = (
         z,
         subst NoQuit (sym lines) (no_quit_more front said q a.wrote.0),
-        subst (λ (all : List Said). AnsweredAll takes before.state all (written ++ reply) after.state) (sym lines) (answered_more takes before.state now.state after.state front written said a.reply d a.took),
+        subst (λ (all : List Said). AnsweredAll responds before.state all (written ++ reply) after.state) (sym lines) (answered_more responds before.state now.state after.state front written said a.reply d a.responded),
       );
     }
 
 -- the input ended, and what stood in the last line, if that was a byte at least, was answered
-pub ended_at_end : {S : Type 0} (takes : LineTaking S) (line : List ℕ) (last : SessionEnd) (before now after : Moment S) (count : ℕ)
-    → SoFar takes before now count line → count < 16777216 → Consumes now.left after.left [] → IsAtEnd after.left → AnswersLast takes last line now.state after.state now.taken after.taken
-    → DidAt takes last before after
-ended_at_end {S} takes [] last before now after count s n c z a =
+pub ended_at_end : {S : Type 0} (responds : Response S) (line : List ℕ) (last : SessionEnd) (before now after : Moment S) (count : ℕ)
+    → SoFar responds before now count line → count < 16777216 → Consumes now.left after.left [] → IsAtEnd after.left → AnswersLast responds last line now.state after.state now.received after.received
+    → DidBetween responds last before after
+ended_at_end {S} responds [] last before now after count s n c z a =
     let lines : lines_of true s.read ≡ lines_of false s.read = ap (λ (more : List Said). lines_of false s.read ++ more) (last_said-kept [] (cut_of s.read).rest s.line_is) ∙ append-nil (lines_of false s.read) in
-    subst (λ (e : SessionEnd). DidAt takes e before after) (sym a.0) (record {
+    subst (λ (e : SessionEnd). DidBetween responds e before after) (sym a.0) (record {
       read = s.read;
       written = s.written;
       consumed = subst (λ (text : List ℕ). Consumes before.left after.left text) (append-nil s.read) (Consumes-trans before.left now.left after.left s.read [] s.consumed c);
-      appended = Appends-kept before.taken now.taken after.taken s.written s.appended a.2;
+      appended = Appends-kept before.received now.received after.received s.written s.appended a.2;
       bound = omega (arith, s.count_is);
       session = (
         (z, omega (arith, s.count_is)),
         subst NoQuit (sym lines) s.no_quit,
-        subst (λ (all : List Said). AnsweredAll takes before.state all s.written after.state) (sym lines) (subst (λ (state : S). AnsweredAll takes before.state (lines_of false s.read) s.written state) (sym a.1) s.answered),
+        subst (λ (all : List Said). AnsweredAll responds before.state all s.written after.state) (sym lines) (subst (λ (state : S). AnsweredAll responds before.state (lines_of false s.read) s.written state) (sym a.1) s.answered),
       );
     })
-ended_at_end takes (byte ∷ bytes) last before now after count s n c z a =
+ended_at_end responds (byte ∷ bytes) last before now after count s n c z a =
     let lines : lines_of true s.read ≡ lines_of false s.read ++ said_by (byte ∷ bytes) ∷ [] = ap (λ (more : List Said). lines_of false s.read ++ more) (last_said-kept (byte ∷ bytes) (cut_of s.read).rest s.line_is) in
     let all : Consumes before.left after.left s.read = subst (λ (text : List ℕ). Consumes before.left after.left text) (append-nil s.read) (Consumes-trans before.left now.left after.left s.read [] s.consumed c) in
     let few : length s.read < 16777216 = omega (arith, s.count_is) in
-    subst (λ (e : SessionEnd). DidAt takes e before after) (sym a.1)
-    (last_by takes a.0 before now after s.read s.written (lines_of false s.read) (said_by (byte ∷ bytes)) all s.appended (z, few) lines s.no_quit s.answered a.2)
+    subst (λ (e : SessionEnd). DidBetween responds e before after) (sym a.1)
+    (last_by responds a.0 before now after s.read s.written (lines_of false s.read) (said_by (byte ∷ bytes)) all s.appended (z, few) lines s.no_quit s.answered a.2)

@@ -11,7 +11,9 @@ use Rattle.console_1401.specs.declared.line.LineFault.{LineFault}
 use Rattle.console_1401.specs.declared.line.LineFault.TheVariants.{Word, Graphic, Length, Extra}
 use Rattle.console_1401.specs.declared.words.Keyword.{Keyword}
 use Rattle.console_1401.specs.declared.words.Keyword.TheVariants as keyword
-use Rattle.console_1401.specs.Words.{◌>>=◌, word_in, behind_word, keyword_of, number_of, address_of, count_of}
+use Rattle.console_1401.specs.Words.{◌>>=◌, word_in, behind_word, keyword_of, number_of, address_of, count_of, switch_of, setting_of}
+use Rattle.console_1401.specs.Bytes.{tilde}
+use Rattle.console_1401.specs.Limits.{most_line_bytes, most_cells}
 
 -- what a line says, or its first fault from left to right
 abbrev pub Said : Type 0
@@ -27,13 +29,13 @@ unfoldable pub spelled : List ℕ → List (Option Cell)
 spelled [] = []
 spelled (byte ∷ []) = cell_of false byte ∷ []
 spelled (byte ∷ next ∷ more) =
-    if byte == 126 then cell_of true next ∷ spelled more else cell_of false byte ∷ spelled (next ∷ more)
+    if byte == tilde then cell_of true next ∷ spelled more else cell_of false byte ∷ spelled (next ∷ more)
 
 -- 1 to 40 cells; but one of the first 40 that isn't there is a fault before their number is
 unfoldable pub cells_of : List (Option Cell) → Result (List Cell) LineFault
 cells_of cells =
-    if list_all is_some (take 40 cells)
-    then (if nat_le 1 (length cells) && nat_le (length cells) 40 then Ok (filter_map (λ cell. cell) cells) else Err Length)
+    if list_all is_some (take most_cells cells)
+    then (if nat_le 1 (length cells) && nat_le (length cells) most_cells then Ok (filter_map (λ cell. cell) cells) else Err Length)
     else Err Graphic
 
 -- nothing but blanks stands behind what is said
@@ -60,6 +62,13 @@ start_of operands = do
   address ← address_of (word_in operands)
   ended (behind_word operands) (Command (command.SetI address))
 
+-- SWITCH x ON, or SWITCH x OFF
+unfoldable pub switch_said : List ℕ → Said
+switch_said operands = do
+  switch ← switch_of (word_in operands)
+  on ← setting_of (word_in (behind_word operands))
+  ended (behind_word (behind_word operands)) (Command (command.Switch switch on))
+
 -- RUN n
 unfoldable pub run_of : List ℕ → Said
 run_of operands = do
@@ -73,6 +82,7 @@ said_with (Some keyword.Deposit) operands = deposit_of operands
 said_with (Some keyword.Examine) operands = examine_of operands
 said_with (Some keyword.Regs) operands = ended operands (Command command.Registers)
 said_with (Some keyword.Start) operands = start_of operands
+said_with (Some keyword.Switch) operands = switch_said operands
 said_with (Some keyword.Run) operands = run_of operands
 said_with (Some keyword.Quit) operands = ended operands Quit
 
@@ -82,4 +92,4 @@ said_in_words line = if length (word_in line) == 0 then Ok Empty else said_with 
 
 -- more than 200 bytes are a fault before all else
 unfoldable pub said_by : List ℕ → Said
-said_by line = if nat_lt 200 (length line) then Err Length else said_in_words line
+said_by line = if nat_lt most_line_bytes (length line) then Err Length else said_in_words line

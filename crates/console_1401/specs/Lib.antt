@@ -1,8 +1,10 @@
+pub mod Answering
+pub mod Bytes
 pub mod ConsoleLine
-pub mod Replies
+pub mod Limits
 pub mod ReplyText
 pub mod Session
 pub mod Sink
-pub mod Taking
 pub mod Text
+pub mod Turns
 pub mod Words

@@ -1,5 +1,5 @@
--- What the console replies (own), without the line feed behind it.
-use Rattle.std.specs.Prelude.{◌≡◌, ℕ, ◌-◌, Bool, if◌then◌else◌, List, [], ◌∷◌, ◌++◌, length, map, replicate, slice_index, Ok, codes}
+-- What the console replies (own).
+use Rattle.std.specs.Prelude.{◌≡◌, ℕ, ◌-◌, Bool, if◌then◌else◌, List, [], ◌∷◌, ◌++◌, length, map, replicate, slice_index, Option, None, Some, Ok, codes}
 use Rattle.std.specs.List.{flat_map, zip}
 use Rattle.std.specs.Fmt.{decimal}
 use Rattle.bcd_1401.specs.declared.cell.Cell.{Cell}
@@ -15,7 +15,10 @@ use Rattle.room_1401.specs.declared.fault.RoomFault.{RoomFault}
 use Rattle.room_1401.specs.declared.fault.RoomFault.TheVariants as room_fault
 use Rattle.console_1401.specs.declared.line.LineFault.{LineFault}
 use Rattle.console_1401.specs.declared.line.LineFault.TheVariants as line_fault
+use Rattle.console_1401.specs.declared.reply.Reply.{Reply}
+use Rattle.console_1401.specs.declared.reply.Reply.TheVariants as reply
 use Rattle.console_1401.specs.ConsoleLine.{spelled, cells_of}
+use Rattle.console_1401.specs.Bytes.{line_feed, tilde}
 
 -- a number in decimal digits, with zeros in front where it has fewer than the width; one that has more has them all
 abbrev pub digits_in : ℕ → ℕ → List ℕ
@@ -23,7 +26,7 @@ digits_in width number = replicate (width - length (decimal number)) 48 ++ decim
 
 -- a cell by its graphic, with a tilde in front where it has a word mark
 abbrev pub cell_text : Cell → List ℕ
-cell_text cell = if cell.mark then 126 ∷ slice_index graphics cell.char ∷ [] else slice_index graphics cell.char ∷ []
+cell_text cell = if cell.mark then tilde ∷ slice_index graphics cell.char ∷ [] else slice_index graphics cell.char ∷ []
 
 -- cells one after another, blanks at the end too
 unfoldable pub cells_text : List Cell → List ℕ
@@ -87,7 +90,19 @@ fault_text line_fault.Graphic = codes "ERROR 3 GRAPHIC"
 fault_text line_fault.Length = codes "ERROR 4 LENGTH"
 fault_text line_fault.Extra = codes "ERROR 5 EXTRA"
 
--- a room that can't take a command
+-- a room that can't carry a command out
 abbrev pub room_fault_text : RoomFault → List ℕ
 room_fault_text room_fault.Memory = codes "FAULT 1 MEMORY"
 room_fault_text room_fault.JournalFull = codes "FAULT 2 JOURNAL FULL"
+
+-- the text of a reply
+unfoldable pub text_of_reply : Reply → List ℕ
+text_of_reply (reply.Answer answer) = answer_text answer
+text_of_reply (reply.RoomFault fault) = room_fault_text fault
+text_of_reply (reply.LineFault fault) = fault_text fault
+text_of_reply reply.Bye = codes "BYE"
+
+-- the bytes of a reply, where there is one: its text and a line feed
+abbrev pub bytes_of : Option Reply → List ℕ
+bytes_of None = []
+bytes_of (Some given) = text_of_reply given ++ line_feed ∷ []

@@ -7,11 +7,12 @@ use Rattle.console_1401.specs.declared.session_end.SessionEnd.TheVariants as end
 use Rattle.console_1401.specs.ConsoleLine.{Said}
 use Rattle.console_1401.specs.Sink.{BeginsWith}
 use Rattle.console_1401.specs.Text.{cut_of, lines_of}
+use Rattle.console_1401.specs.Limits.{most_bytes}
 
 -- how lines are answered at a console: `answered before lines written after` says that from before these lines are answered
 -- by these bytes, and leave after
-abbrev pub Answering : Type 0 → Type 1
-Answering S = S → List Said → List ℕ → S → Type 0
+abbrev pub Exchange : Type 0 → Type 1
+Exchange S = S → List Said → List ℕ → S → Type 0
 
 -- none of these lines is QUIT
 abbrev pub NoQuit : List Said → Type 0
@@ -19,7 +20,7 @@ NoQuit lines = All (λ said. said ≢ Ok Quit) lines
 
 -- fewer bytes were read than a session may read, so that it could ask for another one
 abbrev pub MayReadOn : List ℕ → Type 0
-MayReadOn read = length read < 16777216
+MayReadOn read = length read < most_bytes
 
 -- it asked, and there was none
 abbrev pub IsAllRead : Option (List ℕ) → List ℕ → Type 0
@@ -37,7 +38,7 @@ pub record LastLine (ended : Bool) (left : Option (List ℕ)) (read : List ℕ) 
   pub ends : EndsWithLine ended left read
 
 -- The lines in front were answered, then the last one was, which has a reply, and a part of that was written.
-pub record BrokenOff {S : Type 0} (answered : Answering S) (before : S) (front : List Said) (last : Said) (written : List ℕ) (after : S) : Type 0 where
+pub record BrokenOff {S : Type 0} (answered : Exchange S) (before : S) (front : List Said) (last : Said) (written : List ℕ) (after : S) : Type 0 where
   pub replies : List ℕ
   pub middle : S
   pub front_answered : answered before front replies middle
@@ -49,7 +50,7 @@ pub record BrokenOff {S : Type 0} (answered : Answering S) (before : S) (front :
   pub written_is : written ≡ replies ++ part
 
 -- from the bytes read, what was written and what is left, by how the session ended
-abbrev pub HasEnded : {S : Type 0} → Answering S → SessionEnd → Option (List ℕ) → S → List ℕ → List ℕ → S → Type 0
+abbrev pub HasEnded : {S : Type 0} → Exchange S → SessionEnd → Option (List ℕ) → S → List ℕ → List ℕ → S → Type 0
 HasEnded answered end.Quit left before read written after =
     (ended : Bool) × (front : List Said) × LastLine ended left read front (Ok Quit) × answered before (lines_of ended read) written after
 HasEnded answered end.EndOfInput left before read written after =
@@ -57,7 +58,7 @@ HasEnded answered end.EndOfInput left before read written after =
 HasEnded answered end.Read left before read written after =
     MayReadOn read × NoQuit (lines_of false read) × answered before (lines_of false read) written after
 HasEnded answered end.Bound left before read written after =
-    (length read ≡ 16777216) × NoQuit (lines_of false read) × answered before (lines_of false read) written after
+    (length read ≡ most_bytes) × NoQuit (lines_of false read) × answered before (lines_of false read) written after
 HasEnded answered end.Write left before read written after =
     (ended : Bool) × (front : List Said) × (last : Said) × LastLine ended left read front last × BrokenOff answered before front last written after
 HasEnded answered end.Memory left before read written after =
@@ -65,10 +66,10 @@ HasEnded answered end.Memory left before read written after =
     × (broken : BrokenOff answered before front last written after) × (broken.part ≡ [])
 
 -- What a session did: the bytes that it read, those that it wrote, and how these go together.
-pub record SessionDid {S : Type 0} (answered : Answering S) (last : SessionEnd) (left_before left_after taken_before taken_after : Option (List ℕ)) (before after : S) : Type 0 where
+pub record SessionDid {S : Type 0} (answered : Exchange S) (last : SessionEnd) (left_before left_after received_before received_after : Option (List ℕ)) (before after : S) : Type 0 where
   pub read : List ℕ
   pub written : List ℕ
   pub consumed : Consumes left_before left_after read
-  pub appended : Appends taken_before taken_after written
-  pub bound : length read ≤ 16777216
+  pub appended : Appends received_before received_after written
+  pub bound : length read ≤ most_bytes
   pub session : HasEnded answered last left_after before read written after

@@ -1,6 +1,7 @@
 -- The lines of a text (own).
 use Rattle.std.specs.Prelude.{ℕ, ◌-◌, ◌==◌, Bool, true, false, List, [], ◌∷◌, ◌++◌, map, length, take, slice_index, if◌then◌else◌}
 use Rattle.console_1401.specs.ConsoleLine.{Said, said_by}
+use Rattle.console_1401.specs.Bytes.{line_feed, carriage_return}
 
 -- a text cut at its line feeds: the finished lines, and what comes after the last line feed
 pub record Cut : Type 0 where
@@ -15,7 +16,7 @@ onto_lines byte (line ∷ lines) rest = record { finished = (byte ∷ line) ∷ 
 -- the byte in front of a text that is cut so: a line feed ends a line of its own
 abbrev pub in_front : ℕ → Cut → Cut
 in_front byte cut =
-    if byte == 10 then record { finished = [] ∷ cut.finished; rest = cut.rest } else onto_lines byte cut.finished cut.rest
+    if byte == line_feed then record { finished = [] ∷ cut.finished; rest = cut.rest } else onto_lines byte cut.finished cut.rest
 
 -- the text, cut
 unfoldable pub cut_of : List ℕ → Cut
@@ -24,7 +25,7 @@ cut_of (byte ∷ bytes) = in_front byte (cut_of bytes)
 
 -- a line without one carriage return at its end
 unfoldable pub without_return : List ℕ → List ℕ
-without_return line = if slice_index line (length line - 1) == 13 then take (length line - 1) line else line
+without_return line = if slice_index line (length line - 1) == carriage_return then take (length line - 1) line else line
 
 -- what a finished line says
 abbrev pub said_finished : List ℕ → Said

@@ -8,24 +8,25 @@
 //! ```
 #![tactic(auto)]
 
+pub mod answer_text;
+mod answering;
 pub mod failure;
 pub mod from_reader;
 pub mod line;
 mod line_buffer;
-mod replies;
-pub mod reply;
+mod reply;
+mod responder;
 pub mod session_end;
 pub mod sessions;
 pub mod sink;
 pub mod source;
-mod taking;
 pub mod to_writer;
 mod words;
 
+pub use answer_text::reply_text;
 pub use failure::Failed;
 pub use from_reader::FromReader;
 pub use line::{LINE_LIMIT, Line, LineFault, parse_line};
-pub use reply::reply_text;
 pub use session_end::SessionEnd;
 pub use sessions::session;
 pub use sink::Sink;
@@ -33,6 +34,4 @@ pub use source::Source;
 pub use to_writer::ToWriter;
 
 #[cfg(test)]
-mod line_tests;
-#[cfg(test)]
-mod session_tests;
+mod tests;

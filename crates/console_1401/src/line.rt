@@ -1,8 +1,8 @@
 //! What a line at the console says.
 ghost use Rattle.std.specs.Prelude.{◌≡◌, ◌<◌, [], ◌∷◌, length, MatchOption};
-ghost use Rattle.console_1401.specs.ConsoleLine.{cell_of, spelled, cells_of, ended, deposit_of, examine_of, start_of, run_of, said_with, said_in_words, said_by};
+ghost use Rattle.console_1401.specs.ConsoleLine.{cell_of, spelled, cells_of, ended, deposit_of, examine_of, start_of, switch_said, run_of, said_with, said_in_words, said_by};
 
-use crate::words::{Keyword, address, count, number, split_word};
+use crate::words::{Keyword, address, count, number, setting, split_word, switch};
 use bcd_1401::{Cell, Char};
 use core_1401::{Cells, MOST_CELLS};
 use room_1401::Command;
@@ -48,24 +48,24 @@ pub fn parse_line(line: &[u8]) -> Result<Line, LineFault>
     if line.len() > LINE_LIMIT {
         return Err(LineFault::Length);
     }
-    words_say(line)
+    parse_words(line)
 }
 
 /// What the words of a line say.
 #[tactic(auto, unfolding(crate::specs::ConsoleLine::said_in_words))]
-fn words_say(line: &[u8]) -> Result<Line, LineFault>
+fn parse_words(line: &[u8]) -> Result<Line, LineFault>
     ensures { result ≡ said_in_words line.now }
 {
     let (word, operands) = split_word(line);
     if word.is_empty() {
         return Ok(Line::Empty);
     }
-    operands_say(Keyword::from_word(word), operands)
+    parse_operands(Keyword::from_word(word), operands)
 }
 
 /// What a line says by its first word, which may be none that is known, and what stands behind that.
 #[tactic(auto, unfolding(crate::specs::ConsoleLine::said_with))]
-fn operands_say(keyword: Option<Keyword>, operands: &[u8]) -> Result<Line, LineFault>
+fn parse_operands(keyword: Option<Keyword>, operands: &[u8]) -> Result<Line, LineFault>
     ensures { result ≡ said_with keyword operands.now }
 {
     match keyword {
@@ -73,6 +73,7 @@ fn operands_say(keyword: Option<Keyword>, operands: &[u8]) -> Result<Line, LineF
         Some(Keyword::Examine) => examine(operands),
         Some(Keyword::Regs) => end(operands, Line::Command(Command::Registers)),
         Some(Keyword::Start) => start(operands),
+        Some(Keyword::Switch) => switch_line(operands),
         Some(Keyword::Run) => run(operands),
         Some(Keyword::Quit) => end(operands, Line::Quit),
         None => Err(LineFault::Word),
@@ -123,6 +124,18 @@ fn start(operands: &[u8]) -> Result<Line, LineFault>
     let (word, behind) = split_word(operands);
     let address = address(word)?;
     end(behind, Line::Command(Command::SetI { address }))
+}
+
+/// SWITCH x ON, or SWITCH x OFF.
+#[tactic(auto, unfolding(crate::specs::ConsoleLine::switch_said))]
+fn switch_line(operands: &[u8]) -> Result<Line, LineFault>
+    ensures { result ≡ switch_said operands.now }
+{
+    let (word, behind) = split_word(operands);
+    let n = switch(word)?;
+    let (word, behind) = split_word(behind);
+    let on = setting(word)?;
+    end(behind, Line::Command(Command::Switch { n, on }))
 }
 
 /// RUN n.

@@ -1,49 +1,60 @@
 //! The bytes of the line that is being read.
 ghost use Rattle.std.specs.Prelude.{◌≡◌, [], ◌∷◌, ◌++◌, take};
+ghost use Rattle.console_1401.specs.Limits.{kept_bytes};
 
 use std::marker::Model;
 
-/// How many bytes of a line are kept: 200, a carriage return, and one more, which says that the line is too long.
+/// How many bytes of a line are kept: as many as it has at the most, a carriage return, and one more, which says that it is
+/// too long.
 const KEPT_BYTES: usize = 202;
 
-/// The first 202 bytes of a line. Contracts see the list of them.
+/// What is kept of a line, and its number. Contracts see the list of the bytes kept.
 #[derive(Drop)]
 pub(crate) struct LineBuffer {
-    bytes: [u8; 202],
+    bytes: [u8; KEPT_BYTES],
     len: usize,
+    number: u64,
 }
 
 impl Model for LineBuffer {
     ghost use Rattle.std.specs.Prelude.{ℕ, ◌≤◌, List, take};
+    ghost use Rattle.console_1401.specs.Limits.{kept_bytes};
 
     ghost Value = { List ℕ };
 
     ghost view = { λ line. take line.len line.bytes };
 
-    ghost invariant = { λ line. line.len ≤ 202 };
+    ghost invariant = { λ line. line.len ≤ kept_bytes };
 }
 
 impl LineBuffer {
-    /// A line without a byte.
+    /// The first line, without a byte.
     pub(crate) fn new() -> LineBuffer
         ensures { result ≡ [] }
     {
         LineBuffer {
-            bytes: [0; 202],
+            bytes: [0; KEPT_BYTES],
             len: 0,
+            number: 1,
         }
     }
 
     /// Begins the next line.
-    pub(crate) fn clear(&mut self)
+    pub(crate) fn begin_next(&mut self)
         ensures { self.new ≡ [] }
     {
         self.len = 0;
+        self.number = self.number.saturating_add(1);
     }
 
-    /// One byte more, which is dropped where 202 are kept.
+    /// The number of the line; the first one's is 1.
+    pub(crate) fn number(&self) -> u64 {
+        self.number
+    }
+
+    /// One byte more, which is dropped where as many as can be are kept.
     pub(crate) fn push(&mut self, byte: u8)
-        ensures { self.new ≡ take 202 (self.old ++ byte ∷ []) }
+        ensures { self.new ≡ take kept_bytes (self.old ++ byte ∷ []) }
     {
         if self.len < KEPT_BYTES {
             self.bytes[self.len] = byte;

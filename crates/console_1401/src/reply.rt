@@ -1,171 +1,36 @@
-//! The texts of replies, without the line feed behind them.
-ghost use Rattle.std.specs.Prelude.{◌≡◌, [], ◌∷◌, ◌++◌, map, IfOk, OnOk};
-ghost use Rattle.console_1401.specs.ConsoleLine.{spelled};
-ghost use Rattle.console_1401.specs.ReplyText.{answer_text, IsReadAgain, cell_text, cells_text, regs_text, ran_text, digits_in, indicator_text, switch_text, switches_text, refusal_text, fault_text, room_fault_text};
+//! What a line is answered.
+ghost use Rattle.std.specs.Prelude.{◌≡◌, IfOk, Some};
+ghost use Rattle.console_1401.specs.ReplyText.{bytes_of};
 
+use crate::answer_text::{fault_reply, reply_text, room_fault_reply};
 use crate::line::LineFault;
-use bcd_1401::Cell;
-use cpu_1401::{Regs, Stop};
-use room_1401::{Answer, Refusal, RoomFault};
+use room_1401::{Answer, RoomFault};
 use std::alloc::{AllocError, Global};
 
-/// The text of an answer.
-///
-/// # Errors
-///
-/// Where the memory for the text is refused.
-#[tactic(auto, unfolding(crate::specs::ReplyText::answer_text))]
-pub fn reply_text(alloc: Global, answer: &Answer) -> Result<Vec<u8>, AllocError>
-    ensures text { IfOk result (λ text. text.items ≡ answer_text answer.now) }
-
-    // Cells that are shown can be deposited as they stand.
-    ensures again { IfOk result (λ text. IsReadAgain answer.now text.items) }
-{
-    match answer {
-        Answer::Done => Vec::from_slice(alloc, b"OK"),
-        Answer::Cells(cells) => cells_reply(alloc, cells.as_slice()),
-        Answer::Regs(regs) => regs_reply(alloc, regs),
-        Answer::Ran { steps, stop, i } => ran_reply(alloc, *steps, *stop, *i),
-        Answer::Refused(why) => Vec::from_slice(alloc, refusal_reply(*why)),
-    }
+/// What a line is answered.
+#[derive(Clone, Copy)]
+pub(crate) enum Reply {
+    /// The machine's answer to a command.
+    Answer(Answer),
+    /// Why the room can't carry a command out.
+    RoomFault(RoomFault),
+    /// Why the line says nothing that the console knows.
+    LineFault(LineFault),
+    /// The end of the session.
+    Bye,
 }
 
-/// Cells by their graphics, each marked one with a tilde in front of it.
-#[tactic(auto, unfolding(crate::specs::ReplyText::cells_text))]
-fn cells_reply(alloc: Global, cells: &[Cell]) -> Result<Vec<u8>, AllocError>
-    ensures text { IfOk result (λ text. text.items ≡ cells_text cells.now) }
-    ensures again { IfOk result (λ text. spelled text.items ≡ map Some cells.now) }
+/// A reply's text and a line feed.
+#[tactic(auto, unfolding(crate::specs::ReplyText::text_of_reply))]
+pub(crate) fn reply_bytes(alloc: Global, reply: Reply) -> Result<Vec<u8>, AllocError>
+    ensures { IfOk result (λ bytes. bytes.items ≡ bytes_of (Some reply)) }
 {
-    let mut text = Vec::new(alloc);
-    for cell in cells {
-        put_cell(&mut text, *cell)?;
-    }
-    Ok(text)
-}
-
-/// Adds a cell by its graphic, with a tilde in front of it where it has a word mark.
-fn put_cell(text: &mut Vec<u8>, cell: Cell) -> Result<(), AllocError>
-    ensures text { OnOk result (text.new.items ≡ text.old.items ++ cell_text cell) }
-    ensures again { OnOk result (spelled (cell_text cell) ≡ Some cell ∷ []) }
-{
-    if cell.mark {
-        text.push(b'~')?;
-    }
-    text.push(cell.char.graphic())?;
-    Ok(())
-}
-
-/// The registers, each behind its name.
-#[tactic(auto, unfolding(crate::specs::ReplyText::regs_text))]
-fn regs_reply(alloc: Global, regs: &Regs) -> Result<Vec<u8>, AllocError>
-    ensures { IfOk result (λ text. text.items ≡ regs_text regs.now) }
-{
-    let mut text = Vec::new(alloc);
-    put_number(&mut text, b"I=", 5, u32::from(regs.i))?;
-    put_number(&mut text, b" A=", 5, u32::from(regs.a))?;
-    put_number(&mut text, b" B=", 5, u32::from(regs.b))?;
-    put_indicator(&mut text, b" UNEQUAL=", regs.unequal)?;
-    put_indicator(&mut text, b" OVERFLOW=", regs.overflow)?;
-    put_switches(&mut text, b" SWITCHES=", regs.switches)?;
-    put_number(&mut text, b" HOPPER=", 3, u32::from(regs.hopper))?;
-    put_number(&mut text, b" STACKER=", 3, u32::from(regs.stacker))?;
-    put_number(&mut text, b" PAPER=", 3, u32::from(regs.paper))?;
-    put_number(&mut text, b" FORM=", 4, u32::from(regs.form))?;
-    put_number(&mut text, b" LINE=", 2, u32::from(regs.line))?;
-    Ok(text)
-}
-
-/// A run: why it ended, how many instructions were carried out, and the I register.
-#[tactic(auto, unfolding(crate::specs::ReplyText::ran_text))]
-fn ran_reply(alloc: Global, steps: u32, stop: Stop, i: u16) -> Result<Vec<u8>, AllocError>
-    ensures { IfOk result (λ text. text.items ≡ ran_text steps stop i) }
-{
-    let mut text = Vec::new(alloc);
-    put_number(&mut text, b"STOP ", 2, u32::from(stop.number()))?;
-    text.extend_from_slice(b" ")?;
-    text.extend_from_slice(stop.name().as_bytes())?;
-    put_number(&mut text, b" STEPS ", 1, steps)?;
-    put_number(&mut text, b" I ", 5, u32::from(i))?;
-    Ok(text)
-}
-
-/// Adds a name, and behind it a number in at least so many digits.
-fn put_number(text: &mut Vec<u8>, name: &[u8], width: u8, number: u32) -> Result<(), AllocError>
-    ensures { OnOk result (text.new.items ≡ text.old.items ++ name.now ++ digits_in width number) }
-{
-    text.extend_from_slice(name)?;
-    put_digits(text, width, number)
-}
-
-/// Adds a number in at least so many digits.
-fn put_digits(text: &mut Vec<u8>, width: u8, number: u32) -> Result<(), AllocError>
-    ensures { OnOk result (text.new.items ≡ text.old.items ++ digits_in width number) }
-{
-    if width > 1 || number > 9 {
-        put_digits(text, width.saturating_sub(1), number / 10)?;
-    }
-    text.push(b'0' + (number % 10) as u8)?;
-    Ok(())
-}
-
-/// Adds a name, and behind it whether an indicator is on.
-fn put_indicator(text: &mut Vec<u8>, name: &[u8], on: bool) -> Result<(), AllocError>
-    ensures { OnOk result (text.new.items ≡ text.old.items ++ name.now ++ indicator_text on) }
-{
-    text.extend_from_slice(name)?;
-    text.extend_from_slice(if on { b"1" } else { b"0" })
-}
-
-/// Adds a name, and behind it the letters of the switches that are on.
-fn put_switches(text: &mut Vec<u8>, name: &[u8], switches: [bool; 7]) -> Result<(), AllocError>
-    ensures { OnOk result (text.new.items ≡ text.old.items ++ name.now ++ switches_text switches) }
-{
-    text.extend_from_slice(name)?;
-    text.extend(
-        switches
-            .iter()
-            .zip(b"ABCDEFG")
-            .map(|(on, letter)| switch_letter(*on, *letter)),
-    )
-}
-
-/// A switch by its letter where it is on, and by - where it isn't.
-fn switch_letter(on: bool, letter: u8) -> u8
-    ensures { result ≡ switch_text on letter }
-{
-    if on { letter } else { b'-' }
-}
-
-/// The text of a refusal.
-fn refusal_reply(why: Refusal) -> &'static [u8]
-    ensures { result.now ≡ refusal_text why }
-{
-    match why {
-        Refusal::Address => b"REFUSED 1 ADDRESS",
-        Refusal::Limit => b"REFUSED 5 LIMIT",
-        Refusal::Count => b"REFUSED 6 COUNT",
-    }
-}
-
-/// The text of a line's fault.
-pub(crate) fn fault_reply(fault: LineFault) -> &'static [u8]
-    ensures { result.now ≡ fault_text fault }
-{
-    match fault {
-        LineFault::Word => b"ERROR 1 WORD",
-        LineFault::Number => b"ERROR 2 NUMBER",
-        LineFault::Graphic => b"ERROR 3 GRAPHIC",
-        LineFault::Length => b"ERROR 4 LENGTH",
-        LineFault::Extra => b"ERROR 5 EXTRA",
-    }
-}
-
-/// The text of a room's fault.
-pub(crate) fn room_fault_reply(fault: RoomFault) -> &'static [u8]
-    ensures { result.now ≡ room_fault_text fault }
-{
-    match fault {
-        RoomFault::Memory => b"FAULT 1 MEMORY",
-        RoomFault::JournalFull => b"FAULT 2 JOURNAL FULL",
-    }
+    let mut bytes = match reply {
+        Reply::Answer(answer) => reply_text(alloc, &answer)?,
+        Reply::RoomFault(fault) => Vec::from_slice(alloc, room_fault_reply(fault))?,
+        Reply::LineFault(fault) => Vec::from_slice(alloc, fault_reply(fault))?,
+        Reply::Bye => Vec::from_slice(alloc, b"BYE")?,
+    };
+    bytes.push(b'\n')?;
+    Ok(bytes)
 }

@@ -1,10 +1,11 @@
 //! The words of a line, and the numbers among them.
 ghost use Rattle.std.specs.Prelude.{◌≡◌, ◌-◌, ◌<◌, ◌≤◌, length, IfSome, if◌then◌else◌};
 ghost use Rattle.std.specs.List.{prefix_len, position_or_len};
-ghost use Rattle.console_1401.specs.Words.{is_blank, is_digit, word_in, behind_word, name_of, keyword_of, number_of, address_of, count_of};
+ghost use Rattle.console_1401.specs.Words.{is_blank, is_digit, word_in, behind_word, name_of, keyword_of, number_of, address_of, count_of, letter_of, switch_named, switch_of, setting_of};
 
 use crate::line::LineFault;
 use core_1401::ADDRESSES;
+use cpu_1401::SwitchName;
 
 /// How many digits a number has at the most.
 const MOST_DIGITS: usize = 7;
@@ -20,6 +21,8 @@ pub(crate) enum Keyword {
     Regs,
     /// START: the address of the next instruction.
     Start,
+    /// SWITCH: a sense switch, on or off.
+    Switch,
     /// RUN: so many instructions.
     Run,
     /// QUIT: the end of the session.
@@ -28,11 +31,12 @@ pub(crate) enum Keyword {
 
 impl Keyword {
     /// All of them.
-    const ALL: [Keyword; 6] = [
+    const ALL: [Keyword; 7] = [
         Keyword::Deposit,
         Keyword::Examine,
         Keyword::Regs,
         Keyword::Start,
+        Keyword::Switch,
         Keyword::Run,
         Keyword::Quit,
     ];
@@ -46,6 +50,7 @@ impl Keyword {
             Keyword::Examine => b"EXAMINE",
             Keyword::Regs => b"REGS",
             Keyword::Start => b"START",
+            Keyword::Switch => b"SWITCH",
             Keyword::Run => b"RUN",
             Keyword::Quit => b"QUIT",
         }
@@ -149,4 +154,70 @@ pub(crate) fn count(word: &[u8]) -> Result<u32, LineFault>
     ensures { result ≡ count_of word.now }
 {
     if word.is_empty() { Ok(1) } else { number(word) }
+}
+
+/// The sense switches.
+const SWITCHES: [SwitchName; 7] = [
+    SwitchName::A,
+    SwitchName::B,
+    SwitchName::C,
+    SwitchName::D,
+    SwitchName::E,
+    SwitchName::F,
+    SwitchName::G,
+];
+
+/// The letter of a sense switch.
+fn letter(switch: SwitchName) -> &'static [u8]
+    ensures { result.now ≡ letter_of switch }
+{
+    match switch {
+        SwitchName::A => b"A",
+        SwitchName::B => b"B",
+        SwitchName::C => b"C",
+        SwitchName::D => b"D",
+        SwitchName::E => b"E",
+        SwitchName::F => b"F",
+        SwitchName::G => b"G",
+    }
+}
+
+/// The sense switch that a word names by its letter, if it names one.
+#[tactic(auto, unfolding(crate::specs::Words::switch_named))]
+fn switch_named(word: &[u8]) -> Option<SwitchName>
+    ensures { result ≡ switch_named word.now }
+{
+    SWITCHES
+        .iter()
+        .copied()
+        .find(|switch| letter(*switch) == word)
+}
+
+/// The sense switch that a word names.
+///
+/// # Errors
+///
+/// `Word` where the word names none.
+pub(crate) fn switch(word: &[u8]) -> Result<SwitchName, LineFault>
+    ensures { result ≡ switch_of word.now }
+{
+    switch_named(word).ok_or(LineFault::Word)
+}
+
+/// Whether a switch is to be on, as a word says it: ON or OFF.
+///
+/// # Errors
+///
+/// `Word` where the word is neither.
+#[tactic(auto, unfolding(crate::specs::Words::setting_of))]
+pub(crate) fn setting(word: &[u8]) -> Result<bool, LineFault>
+    ensures { result ≡ setting_of word.now }
+{
+    if word == b"ON".as_slice() {
+        Ok(true)
+    } else if word == b"OFF".as_slice() {
+        Ok(false)
+    } else {
+        Err(LineFault::Word)
+    }
 }

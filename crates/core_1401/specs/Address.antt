@@ -3,6 +3,10 @@ use Rattle.std.specs.Prelude.{ℕ, ◌+◌, ◌*◌, ◌/◌, ◌%◌, ◌==◌,
 use Rattle.bcd_1401.specs.Character.{digit_of, digit_under, zone_of}
 use Rattle.core_1401.specs.Storage.{Storage, cell_at}
 
+-- how many addresses there are, whatever the size of core storage
+abbrev pub addresses : ℕ
+addresses = 16000
+
 -- the value of the characters h, t and u, before indexing
 abbrev pub value_of : ℕ → ℕ → ℕ → ℕ
 value_of h t u = 100 * digit_of h + 10 * digit_of t + digit_of u + 1000 * zone_of h + 4000 * zone_of u
@@ -32,4 +36,4 @@ index_register number = 5 * number + 82
 abbrev pub effective_at : Storage → ℕ → ℕ
 effective_at storage at =
     let number = zone_of (cell_at storage (at + 1)).char in
-    if number == 0 then value_at storage at else (value_at storage at + value_at storage (index_register number)) % 16000
+    if number == 0 then value_at storage at else (value_at storage at + value_at storage (index_register number)) % addresses

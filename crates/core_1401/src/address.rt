@@ -1,7 +1,7 @@
 //! Addresses of three characters.
 ghost use Rattle.std.specs.Prelude.{◌≡◌, ◌<◌, ◌∷◌, [], true, slice_index};
 ghost use Rattle.bcd_1401.specs.Character.{zone_of};
-ghost use Rattle.core_1401.specs.Address.{value_of, spelling_of, is_spelled};
+ghost use Rattle.core_1401.specs.Address.{addresses, value_of, spelling_of, is_spelled};
 
 use bcd_1401::Char;
 
@@ -12,8 +12,9 @@ pub const ADDRESSES: u16 = 16_000;
 pub fn decode(chars: [Char; 3]) -> (u16, u8)
     ensures value { result.0 ≡ value_of (slice_index chars 0) (slice_index chars 1) (slice_index chars 2) }
     ensures index { result.1 ≡ zone_of (slice_index chars 1) }
-    ensures range { result.0 < 16000 }
+    ensures range { result.0 < addresses }
     ensures registers { result.1 < 4 }
+    ensures addresses { ADDRESSES ≡ addresses }
 
     // An address has one spelling.
     ensures spelling { is_spelled (slice_index chars 0) (slice_index chars 1) (slice_index chars 2) ≡ true → chars ≡ spelling_of result.0 }
@@ -28,7 +29,7 @@ pub fn decode(chars: [Char; 3]) -> (u16, u8)
 
 /// The one spelling of an address below 16,000 with the digits 0 to 9 and without an index register.
 pub fn encode(address: u16) -> [Char; 3]
-    requires { address < 16000 }
+    requires { address < addresses }
     ensures spelling { result ≡ spelling_of address }
 
     // It is read again as the same address.

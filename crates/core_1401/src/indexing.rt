@@ -1,7 +1,7 @@
 //! Addresses in core storage, with index registers.
 ghost use Rattle.std.specs.Prelude.{◌≡◌, ◌+◌, ◌*◌, ◌<◌, length};
 ghost use Rattle.bcd_1401.specs.Character.{zone_of};
-ghost use Rattle.core_1401.specs.Address.{value_at, effective_at};
+ghost use Rattle.core_1401.specs.Address.{addresses, value_at, effective_at};
 ghost use Rattle.core_1401.specs.Storage.{cell_at};
 
 use crate::address::{ADDRESSES, decode};
@@ -15,7 +15,7 @@ impl Core {
     pub fn effective(&self, at: u16) -> u16
         requires { at + 2 < length self.now }
         ensures value { result ≡ effective_at self.now at }
-        ensures range { result < 16000 }
+        ensures range { result < addresses }
     {
         let (value, number) = decode_at(&self.cells, usize::from(at));
         if number == 0 {
@@ -38,7 +38,7 @@ fn decode_at(cells: &[Cell], at: usize) -> (u16, u8)
     requires { at + 2 < length cells.now }
     ensures value { result.0 ≡ value_at cells.now at }
     ensures index { result.1 ≡ zone_of (cell_at cells.now (at + 1)).char }
-    ensures range { result.0 < 16000 }
+    ensures range { result.0 < addresses }
     ensures registers { result.1 < 4 }
 {
     decode([cells[at].char, cells[at + 1].char, cells[at + 2].char])

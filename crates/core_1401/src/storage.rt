@@ -1,5 +1,6 @@
 //! Core storage: one cell for each address.
 ghost use Rattle.std.specs.Prelude.{◌≡◌, ◌<◌, ◌≤◌, ◌↔◌, true, false, length, IfOk};
+ghost use Rattle.core_1401.specs.Address.{addresses};
 ghost use Rattle.core_1401.specs.Storage.{cell_at, with_char, with_mark, blanks, is_in_core, is_core_size};
 
 use crate::fault::CoreFault;
@@ -59,7 +60,7 @@ impl Core {
         ensures value { result ≡ length self.now }
         ensures core { is_core_size result ≡ true }
         ensures least { 1400 ≤ result }
-        ensures most { result ≤ 16000 }
+        ensures most { result ≤ addresses }
     {
         self.cells.len() as u16
     }

@@ -45,6 +45,10 @@ regs_of s = record {
   line = line_of s.devices.carriage;
 }
 
+-- a sense switch turned on or off: 0 is A, 6 is G
+abbrev pub with_switch : State → ℕ → Bool → State
+with_switch s n on = record s { switches = slice_set s.switches n on }
+
 -- another cell at a place
 abbrev pub with_cell : State → ℕ → Cell → State
 with_cell s at cell = record s { storage = slice_set s.storage at cell }

@@ -8,19 +8,23 @@
 #![tactic(auto)]
 
 mod branch_steps;
+pub mod condition;
 mod field_steps;
 pub mod instruction;
 pub mod machine;
 pub mod operation;
+mod register_steps;
 pub mod regs;
 pub mod running;
 pub mod stepping;
 pub mod stop;
+pub mod switch_name;
 
 pub use machine::Machine;
 pub use regs::Regs;
 pub use running::Ran;
 pub use stop::Stop;
+pub use switch_name::SwitchName;
 
 #[cfg(test)]
 mod tests;

@@ -1,7 +1,7 @@
 //! The machine: core storage, registers, indicators and sense switches.
 ghost use Rattle.std.specs.Prelude.{◌≡◌, ◌<◌, ◌↔◌, false, length, IfOk};
 ghost use Rattle.core_1401.specs.Storage.{is_core_size};
-ghost use Rattle.cpu_1401.specs.State.{power_on, regs_of, with_cell};
+ghost use Rattle.cpu_1401.specs.State.{power_on, regs_of, with_cell, with_switch};
 
 use crate::regs::Regs;
 use bcd_1401::Cell;
@@ -23,14 +23,24 @@ pub struct Machine {
 
 impl Model for Machine {
     ghost use Rattle.std.specs.Prelude.{◌<◌};
+    ghost use Rattle.core_1401.specs.Address.{addresses};
     ghost use Rattle.devices_1401.specs.Devices.{no_cards};
     ghost use Rattle.cpu_1401.specs.State.{State};
 
     ghost Value = { State };
 
-    ghost view = { λ m. record { storage = m.core; i = m.i; a = m.a; b = m.b; unequal = m.unequal; overflow = m.overflow; switches = m.switches; devices = no_cards } };
+    ghost view = { λ m. record {
+      storage = m.core;
+      i = m.i;
+      a = m.a;
+      b = m.b;
+      unequal = m.unequal;
+      overflow = m.overflow;
+      switches = m.switches;
+      devices = no_cards;
+    } };
 
-    ghost invariant = { λ m. (m.i < 16000) × (m.a < 16000) × (m.b < 16000) };
+    ghost invariant = { λ m. (m.i < addresses) × (m.a < addresses) × (m.b < addresses) };
 }
 
 impl Machine {
@@ -99,5 +109,13 @@ impl Machine {
     {
         self.core.put_char(at, cell.char);
         self.core.put_mark(at, cell.mark);
+    }
+
+    /// Turns a sense switch on or off: 0 is A, 6 is G.
+    pub fn switch(&mut self, n: u8, on: bool)
+        requires { n < 7 }
+        ensures { self.new ≡ with_switch self.old n on }
+    {
+        self.switches[usize::from(n)] = on;
     }
 }

@@ -1,13 +1,13 @@
 -- What a move has moved so far, one character on.
-use Rattle.std.proofs.Common.{◌≡◌, ℕ, ◌+◌, ◌-◌, ◌<◌, ◌≤◌, false, length, set, ap, sym, ◌∙◌, arith, inl, inr}
+use Rattle.std.proofs.Common.{◌≡◌, ℕ, ◌+◌, ◌-◌, ◌<◌, ◌≤◌, false, length, ap, sym, ◌∙◌, arith, inl, inr}
 use Rattle.std.proofs.Math.Nat.{mod-eq_of_lt, add-mod_left}
 use Rattle.std.proofs.lemmas.Bool.{cases_lt}
 use Rattle.std.proofs.lemmas.Bool.Decides.{nat_tests}
 use Rattle.bcd_1401.specs.declared.cell.Cell.{Cell}
 use Rattle.core_1401.specs.Storage.{Storage, cell_at, with_char}
 use Rattle.fields_1401.specs.Places.{is_within, with_chars, rewritten_cell}
-use Rattle.fields_1401.proofs.WrittenLemmas.{length-with_cells, cell_at-within, cell_at-outside, is_within-inside, is_within-above, is_within-below, with_cells_none, with_cells_more, with_chars_none, with_chars_more}
-use Rattle.fields_1401.specs.Move.{source_of, moved, loaded, is_overwritten}
+use Rattle.fields_1401.proofs.PlacesLemmas.{cell_at-within, cell_at-outside, is_within-inside, is_within-above, is_within-below, with_chars_none, with_chars_more}
+use Rattle.fields_1401.specs.Move.{source_of, moved}
 
 -- where the B field begins above the A field, or further below it than the i-th place, a character is its own source
 source_far : (a b i : ℕ) → a ≤ b → source_of a b i ≡ a - i
@@ -49,25 +49,3 @@ unfolding moved
 moved_more storage a b i a_in b_in in_a in_b =
     ap (with_char (moved storage a b i) (b - i)) (source-moved storage a b i a_in b_in in_a in_b)
     ∙ with_chars_more storage b i (λ k. (cell_at storage (source_of a b k)).char) b_in in_b
-
--- before a load nothing is loaded
-pub loaded_none : (storage : Storage) (a b : ℕ) → storage ≡ loaded storage a b 0
-unfolding loaded
-loaded_none storage a b = with_cells_none storage b (λ i. cell_at storage (a - i))
-
--- a place of the A field that is loaded wasn't written before
-source_kept : (a b n i : ℕ) → is_overwritten a b n ≡ false → i < n → i ≤ a → is_within b i (a - i) ≡ false
-source_kept a b n i kept lt in_a = grind (arith, nat_tests)
-
--- one cell more is loaded
-pub loaded_more : (storage : Storage) (a b n i : ℕ) → a < length storage → b < length storage → is_overwritten a b n ≡ false → i < n → i ≤ a → i ≤ b
-    → set (loaded storage a b i) (b - i) (cell_at (loaded storage a b i) (a - i)) ≡ loaded storage a b (i + 1)
-unfolding loaded
-loaded_more storage a b n i a_in b_in kept lt in_a in_b =
-    with_cells_more storage b i (λ k. cell_at storage (a - k)) (cell_at (loaded storage a b i) (a - i)) b_in in_b
-    (cell_at-outside storage b i (λ k. cell_at storage (a - k)) (a - i) (omega arith) (source_kept a b n i kept lt in_a))
-
--- after a load the core is as large as before
-pub length-loaded : (storage : Storage) (a b n : ℕ) → length (loaded storage a b n) ≡ length storage
-unfolding loaded
-length-loaded storage a b n = length-with_cells storage b n (λ i. cell_at storage (a - i))

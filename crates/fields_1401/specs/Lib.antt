@@ -1,5 +1,8 @@
+pub mod Across
 pub mod Arithmetic
 pub mod Compare
+pub mod Edit
+pub mod Load
 pub mod Marks
 pub mod Move
 pub mod Number
@@ -7,3 +10,4 @@ pub mod Outcome
 pub mod Parts
 pub mod Places
 pub mod Refusal
+pub mod Suppress

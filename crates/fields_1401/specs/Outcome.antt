@@ -1,5 +1,6 @@
 -- What an operation on fields leaves (A24-1403, "Address Registers"; the registers after each operation are own).
-use Rattle.std.specs.Prelude.{ℕ, ◌+◌, ◌-◌, ◌%◌, false, Result}
+use Rattle.std.specs.Prelude.{ℕ, ◌+◌, ◌-◌, ◌%◌, ◌<◌, ◌≡◌, false, length, Result, Ok, Err, IfOk, IfErr, OnErr}
+use Rattle.core_1401.specs.Address.{addresses}
 use Rattle.core_1401.specs.Storage.{Storage}
 use Rattle.fields_1401.specs.declared.done.Done.{Done}
 use Rattle.fields_1401.specs.declared.done.FieldStop.{FieldStop}
@@ -10,8 +11,18 @@ Outcome = Result (Storage × Done) FieldStop
 
 -- the address so many places below, modulo 16,000
 abbrev pub below_by : ℕ → ℕ → ℕ
-below_by at by = (at + 16000 - by) % 16000
+below_by at by = (at + addresses - by) % addresses
 
 -- the registers afterwards, and no indicator
 abbrev pub registers_at : ℕ → ℕ → Done
 registers_at a b = record { a = a; b = b; overflow = false; unequal = false }
+
+-- A call that found the core old, left it new and gave this result has carried out the operation that has this outcome; or
+-- the operation can't be carried out, and the core is as it was. Both registers hold addresses, and the core keeps its size.
+pub record CarriesOut (outcome : Outcome) (old new : Storage) (result : Result Done FieldStop) : Type 0 where
+  pub done : IfOk result (λ done. outcome ≡ Ok (new, done))
+  pub stop : IfErr result (λ stop. outcome ≡ Err stop)
+  pub unchanged : OnErr result (new ≡ old)
+  pub a_range : IfOk result (λ done. done.a < addresses)
+  pub b_range : IfOk result (λ done. done.b < addresses)
+  pub size : length new ≡ length old

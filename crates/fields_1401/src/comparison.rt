@@ -1,6 +1,7 @@
 //! Fields compared.
-ghost use Rattle.std.specs.Prelude.{◌≡◌, ◌+◌, ◌≤◌, ◌<◌, length};
+ghost use Rattle.std.specs.Prelude.{◌≡◌, ◌+◌, ◌≤◌, ◌<◌, length, IfOk};
 ghost use Rattle.std.specs.List.{list_any, range_with_len};
+ghost use Rattle.core_1401.specs.Address.{addresses};
 ghost use Rattle.fields_1401.specs.Compare.{comparison_at, is_unequal_pair};
 
 use crate::done::{Done, FieldStop};
@@ -15,9 +16,10 @@ use core_1401::Core;
 ///
 /// `Address` where one of the addresses isn't in core, or one field comes to address 0 before a word mark stands in either.
 pub fn compare(core: &Core, a: u16, b: u16) -> Result<Done, FieldStop>
-    requires a { a < 16000 }
-    requires b { b < 16000 }
-    ensures { result ≡ comparison_at core.now a b }
+    requires a { a < addresses }
+    requires b { b < addresses }
+    ensures value { result ≡ comparison_at core.now a b }
+    ensures registers { IfOk result (λ done. (done.a < addresses) × (done.b < addresses)) }
 {
     let Some(n) = pair_len(core, a, b) else {
         return Err(FieldStop::Address);

@@ -1,12 +1,14 @@
 //! Parts of a character moved: its digit or its zone.
-ghost use Rattle.std.specs.Prelude.{◌≡◌, ◌%◌, ◌<◌, Ok, Err, IfOk, IfErr, OnErr, length};
+ghost use Rattle.std.specs.Prelude.{◌≡◌, ◌%◌, ◌<◌, IfOk};
 ghost use Rattle.bcd_1401.specs.Character.{zone_of};
+ghost use Rattle.core_1401.specs.Address.{addresses};
 ghost use Rattle.core_1401.specs.Storage.{cell_at};
+ghost use Rattle.fields_1401.specs.Outcome.{CarriesOut};
 ghost use Rattle.fields_1401.specs.Parts.{digit_moved_at, zone_moved_at};
 ghost use Rattle.fields_1401.specs.Places.{marks_of};
 
 use crate::done::{Done, FieldStop};
-use crate::lengths::are_in_core;
+use crate::refusals::are_in_core;
 use crate::registers::{below, registers};
 use core_1401::Core;
 
@@ -15,17 +17,14 @@ use core_1401::Core;
 /// # Errors
 ///
 /// `Address` where one of the places isn't in core.
-#[tactic(auto, using(crate::proofs::PartLemmas::part_put))]
+#[tactic(auto, using(crate::proofs::PartsLemmas::part_put))]
 pub fn move_digit(core: &mut Core, a: u16, b: u16) -> Result<Done, FieldStop>
-    requires a { a < 16000 }
-    requires b { b < 16000 }
-    ensures done { IfOk result (λ done. digit_moved_at core.old a b ≡ Ok (core.new, done)) }
-    ensures stop { IfErr result (λ stop. digit_moved_at core.old a b ≡ Err stop) }
-    ensures err { OnErr result (core.new ≡ core.old) }
+    requires a { a < addresses }
+    requires b { b < addresses }
+    ensures outcome { CarriesOut (digit_moved_at core.old a b) core.old core.new result }
     ensures digit { IfOk result (λ done. (cell_at core.new b).char % 16 ≡ (cell_at core.old a).char % 16) }
     ensures zone { zone_of (cell_at core.new b).char ≡ zone_of (cell_at core.old b).char }
     ensures marks { marks_of core.new ≡ marks_of core.old }
-    ensures size { length core.new ≡ length core.old }
 {
     if !are_in_core(core, a, b) {
         return Err(FieldStop::Address);
@@ -41,17 +40,14 @@ pub fn move_digit(core: &mut Core, a: u16, b: u16) -> Result<Done, FieldStop>
 /// # Errors
 ///
 /// `Address` where one of the places isn't in core.
-#[tactic(auto, using(crate::proofs::PartLemmas::part_put))]
+#[tactic(auto, using(crate::proofs::PartsLemmas::part_put))]
 pub fn move_zone(core: &mut Core, a: u16, b: u16) -> Result<Done, FieldStop>
-    requires a { a < 16000 }
-    requires b { b < 16000 }
-    ensures done { IfOk result (λ done. zone_moved_at core.old a b ≡ Ok (core.new, done)) }
-    ensures stop { IfErr result (λ stop. zone_moved_at core.old a b ≡ Err stop) }
-    ensures err { OnErr result (core.new ≡ core.old) }
+    requires a { a < addresses }
+    requires b { b < addresses }
+    ensures outcome { CarriesOut (zone_moved_at core.old a b) core.old core.new result }
     ensures zone { IfOk result (λ done. zone_of (cell_at core.new b).char ≡ zone_of (cell_at core.old a).char) }
     ensures digit { (cell_at core.new b).char % 16 ≡ (cell_at core.old b).char % 16 }
     ensures marks { marks_of core.new ≡ marks_of core.old }
-    ensures size { length core.new ≡ length core.old }
 {
     if !are_in_core(core, a, b) {
         return Err(FieldStop::Address);

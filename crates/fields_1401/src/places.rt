@@ -5,7 +5,7 @@ use bcd_1401::Cell;
 use core_1401::Core;
 
 /// Puts a cell at a place.
-#[tactic(auto, using(crate::proofs::WrittenLemmas::with_mark_with_char))]
+#[tactic(auto, using(crate::proofs::PlacesLemmas::with_mark_with_char))]
 pub(crate) fn put_cell(core: &mut Core, at: u16, cell: Cell)
     requires { at < length core.old }
     ensures { core.new ≡ slice_set core.old at cell }

@@ -1,120 +1,57 @@
-//! The places that an operation of arithmetic takes, and its refusals, all of them before anything is written.
-ghost use Rattle.std.specs.Prelude.{◌≡◌, ◌+◌, ◌<◌, ◌≤◌, false, length, Some, Ok, Err, IfOk, IfErr, IfSome};
-ghost use Rattle.core_1401.specs.Field.{field_len_of};
-ghost use Rattle.fields_1401.specs.Number.{places_down, sign_of};
-ghost use Rattle.fields_1401.specs.Refusal.{part_len_of, needed_at, is_overlap, lengths_at};
+//! What an operation is refused for: places that aren't in core, and fields that overlap. All of it is asked before anything
+//! is written.
+ghost use Rattle.std.specs.Prelude.{◌≡◌, ◌≢◌, ◌+◌, ◌<◌, ◌≤◌, ◌&&◌, ◌↔◌, nat_lt, IsTrue};
+ghost use Rattle.core_1401.specs.Address.{addresses};
+ghost use Rattle.core_1401.specs.Storage.{is_in_core};
+ghost use Rattle.fields_1401.specs.Load.{has_places, is_overwritten};
+ghost use Rattle.fields_1401.specs.Refusal.{is_overlap, SharePlace};
 
-use crate::done::FieldStop;
-use crate::lengths::field_len;
-use crate::sign::Sign;
 use core_1401::Core;
 
-/// The places of an operation that isn't refused.
-#[derive(Clone, Copy)]
-pub(crate) struct Operands {
-    /// The units place of the A field.
-    pub(crate) a: u16,
-    /// How many places of the A field are used: no more than the B field has.
-    pub(crate) used: u16,
-    /// The units place of the B field.
-    pub(crate) b: u16,
-    /// The length of the B field.
-    pub(crate) len: u16,
-    ghost a_range: { a < 16000 },
-    ghost b_range: { b < 16000 },
-    ghost some: { 0 < used },
-    ghost fewer: { used ≤ len },
-    ghost a_above: { used ≤ a + 1 },
-    ghost b_above: { len ≤ b + 1 },
-    ghost apart: { is_overlap a used b len ≡ false },
-}
-
-impl Operands {
-    /// The places that an operation with these addresses takes.
-    ///
-    /// # Errors
-    ///
-    /// `Address` where there is no B field, or a place of A that is needed isn't in core; else `Overlap` where the addresses
-    /// differ and a place of A that is used is one of the B field.
-    #[tactic(auto, unfolding(crate::specs::Refusal::lengths_at))]
-    pub(crate) fn at(core: &Core, a: u16, b: u16) -> Result<Operands, FieldStop>
-        requires a { a < 16000 }
-        requires b { b < 16000 }
-        ensures ok { IfOk result (λ taken. lengths_at core.now a b ≡ Ok (taken.used, taken.len)) }
-        ensures err { IfErr result (λ stop. lengths_at core.now a b ≡ Err stop) }
-        ensures needed { IfOk result (λ taken. needed_at core.now a b ≡ Some (taken.used, taken.len)) }
-        ensures field { IfOk result (λ taken. field_len_of core.now b ≡ Some taken.len) }
-        ensures at_a { IfOk result (λ taken. (taken.a ≡ a) × (a < length core.now)) }
-        ensures at_b { IfOk result (λ taken. (taken.b ≡ b) × (b < length core.now)) }
-    {
-        let Some((used, len)) = needed(core, a, b) else {
-            return Err(FieldStop::Address);
-        };
-        if overlap(a, used, b, len) {
-            return Err(FieldStop::Overlap);
-        }
-        Ok(Operands { a, used, b, len })
-    }
-
-    /// The sign of the used part of A.
-    #[tactic(auto, using(crate::proofs::CellsDownLemmas::char_down))]
-    pub(crate) fn a_sign(self, core: &Core) -> Sign
-        requires { self.a < length core.now }
-        ensures { result ≡ sign_of (places_down core.now self.a self.used) }
-    {
-        Sign::of_units(core.get(self.a).char)
-    }
-
-    /// The sign of the B field.
-    #[tactic(auto, using(crate::proofs::CellsDownLemmas::char_down))]
-    pub(crate) fn b_sign(self, core: &Core) -> Sign
-        requires { self.b < length core.now }
-        ensures { result ≡ sign_of (places_down core.now self.b self.len) }
-    {
-        Sign::of_units(core.get(self.b).char)
-    }
-}
-
-/// How many places of A are used, and how many the B field has; none where one of them isn't in core.
-fn needed(core: &Core, a: u16, b: u16) -> Option<(u16, u16)>
-    requires { a < 16000 }
-    ensures value { result ≡ needed_at core.now a b }
-    ensures used { IfSome result (λ taken. (0 < taken.0) × (taken.0 ≤ taken.1) × (taken.0 ≤ a + 1)) }
-    ensures len { IfSome result (λ taken. taken.1 ≤ b + 1) }
-    ensures field { IfSome result (λ taken. field_len_of core.now b ≡ Some taken.1) }
-    ensures in_core { IfSome result (λ taken. (a < length core.now) × (b < length core.now)) }
+/// Whether two addresses are both those of places.
+pub(crate) fn are_in_core(core: &Core, a: u16, b: u16) -> bool
+    ensures { result ≡ is_in_core core.now a && is_in_core core.now b }
 {
-    let len = field_len(core, b)?;
-    let used = part_len(core, a, len)?;
-    Some((used, len))
+    core.in_core(a) && core.in_core(b)
 }
 
-/// How many places of A are used beside so many of B: down to its first word mark, but no more than those; none where one of
-/// them isn't in core.
-fn part_len(core: &Core, a: u16, len: u16) -> Option<u16>
-    requires a { a < 16000 }
-    requires len { 0 < len }
-    ensures value { result ≡ part_len_of core.now a len }
-    ensures bounds { IfSome result (λ u. (0 < u) × (u ≤ len) × (u ≤ a + 1)) }
-    ensures in_core { IfSome result (λ u. a < length core.now) }
+/// Whether n places from an address down are all in core.
+pub(crate) fn has_places(core: &Core, at: u16, n: u16) -> bool
+    requires { at < addresses }
+    ensures { result ≡ has_places core.now at n }
 {
-    if !core.in_core(a) {
-        return None;
-    }
-    match core.field_len(a) {
-        Some(n) => Some(n.min(len)),
-        None if len <= a + 1 => Some(len),
-        None => None,
-    }
+    core.in_core(at) && n <= at + 1
 }
 
-/// Whether so many places from a down and so many from b down have one in common, though they don't begin at the same one.
-fn overlap(a: u16, used: u16, b: u16, len: u16) -> bool
-    requires a { a < 16000 }
-    requires b { b < 16000 }
-    requires used { used ≤ a + 1 }
-    requires len { len ≤ b + 1 }
-    ensures { result ≡ is_overlap a used b len }
+/// Whether a field of n places at a is written over from b down before its word mark is met.
+pub(crate) fn is_overwritten(a: u16, b: u16, n: u16) -> bool
+    ensures { result ≡ is_overwritten a b n }
 {
-    a != b && a < b + used && b < a + len
+    b < a && a - b < n
+}
+
+/// Whether two fields that begin at different addresses share a place: this many from a down are used of the one, and the
+/// other has this many from b down.
+pub(crate) fn is_overlap(a: u16, used: u16, b: u16, len: u16) -> bool
+    requires a { a < addresses }
+    requires b { b < addresses }
+    requires used { (0 < used) × (used ≤ a + 1) }
+    requires len { (0 < len) × (len ≤ b + 1) }
+    ensures value { result ≡ is_overlap a used b len }
+    ensures shared { IsTrue result ↔ ((a ≢ b) × SharePlace a used b len) }
+{
+    a != b && share_place(a, used, b, len)
+}
+
+/// Whether one of this many places from a down is one of this many from b down.
+#[tactic(auto, using(crate::proofs::RefusalLemmas::places))]
+pub(crate) fn share_place(a: u16, used: u16, b: u16, len: u16) -> bool
+    requires a { a < addresses }
+    requires b { b < addresses }
+    requires used { (0 < used) × (used ≤ a + 1) }
+    requires len { (0 < len) × (len ≤ b + 1) }
+    ensures value { result ≡ (nat_lt a (b + used) && nat_lt b (a + len)) }
+    ensures shared { IsTrue result ↔ SharePlace a used b len }
+{
+    a < b + used && b < a + len
 }

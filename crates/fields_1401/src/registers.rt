@@ -1,16 +1,17 @@
 //! Registers that step down.
 ghost use Rattle.std.specs.Prelude.{◌≡◌, ◌<◌, ◌≤◌};
+ghost use Rattle.core_1401.specs.Address.{addresses};
 ghost use Rattle.fields_1401.specs.Outcome.{below_by, registers_at};
 
 use crate::done::Done;
 use core_1401::ADDRESSES;
 
 /// The address so many places below, modulo 16,000.
-pub(crate) fn below(at: u16, by: u16) -> u16
-    requires at { at < 16000 }
-    requires by { by ≤ 16000 }
+pub fn below(at: u16, by: u16) -> u16
+    requires at { at < addresses }
+    requires by { by ≤ addresses }
     ensures value { result ≡ below_by at by }
-    ensures range { result < 16000 }
+    ensures range { result < addresses }
 {
     (at + ADDRESSES - by) % ADDRESSES
 }

@@ -1,18 +1,21 @@
 //! Operations worked out by hand from the manual's rules. Cells are written as on the console: `~` before a graphic is its
 //! word mark.
 ghost use Rattle.std.specs.Prelude.{◌<◌};
+ghost use Rattle.core_1401.specs.Address.{addresses};
 
 mod arithmetic;
 mod comparison;
+mod editing;
 mod moves;
+mod suppression;
 
 use bcd_1401::{Cell, Char};
 use core_1401::Core;
 
 /// Puts cells into core storage from a place on, and gives the last place.
 fn deposit(core: &mut Core, from: u16, text: &str) -> u16
-    requires { from < 16000 }
-    ensures { result < 16000 }
+    requires { from < addresses }
+    ensures { result < addresses }
 {
     let mut last = from;
     let mut next = from;
@@ -33,7 +36,7 @@ fn deposit(core: &mut Core, from: u16, text: &str) -> u16
 
 /// Whether these cells stand in core storage from a place on.
 fn stands(core: &Core, from: u16, text: &str) -> bool
-    requires { from < 16000 }
+    requires { from < addresses }
 {
     let mut next = from;
     let mut mark = false;

@@ -1,6 +1,7 @@
 //! What an operator asks of the machine.
 
 use core_1401::Cells;
+use cpu_1401::SwitchName;
 
 /// What an operator asks of the machine. An address may be any number; one that isn't in core is refused.
 #[derive(Clone, Copy, Debug, PartialEq, Eq)]
@@ -25,6 +26,13 @@ pub enum Command {
     SetI {
         /// The place of the instruction.
         address: u16,
+    },
+    /// Turns a sense switch on or off.
+    Switch {
+        /// Which switch.
+        n: SwitchName,
+        /// Whether it is on afterwards.
+        on: bool,
     },
     /// Carries out instructions until one stops the machine.
     Run {

@@ -8,15 +8,16 @@
 #![tactic(auto)]
 
 pub mod answer;
-mod carrying;
+pub mod carrying;
 pub mod command;
 pub mod entry;
 pub mod fault;
 pub mod room;
 
 pub use answer::{Answer, Refusal};
+pub use carrying::carry_out;
 pub use command::Command;
-pub use entry::Entry;
+pub use entry::{Entry, Pair};
 pub use fault::RoomFault;
 pub use room::Room;
 

@@ -1,7 +1,7 @@
 -- A pair that differs settles it, and where none did there is none.
 use Rattle.std.proofs.Common.{sym, rules}
 use Rattle.fields_1401.specs.Compare.{is_unequal_pair}
-use Rattle.fields_1401.proofs.BelowLemmas.{any_below, none_below}
+use Rattle.fields_1401.proofs.CompareLemmas.{any_below, none_below}
 use Rattle.fields_1401.proofs.comparison.differ.Goals as goal
 
 pub returns-then-ne : goal.returns-then-ne

@@ -1,6 +1,6 @@
 -- Each step clears one place more.
 use Rattle.std.proofs.Common.{rules, refl, arith}
-use Rattle.fields_1401.proofs.MarkLemmas.{cleared_none, cleared_more}
+use Rattle.fields_1401.proofs.MarksLemmas.{cleared_none, cleared_more}
 use Rattle.fields_1401.proofs.marks.clear_places.Goals as goal
 
 pub loop-i-init : goal.loop-i-init

@@ -1,7 +1,7 @@
 -- Each step moves one character more.
 use Rattle.std.proofs.Common.{rules, refl, arith, ◌∙◌, ap}
 use Rattle.fields_1401.specs.Places.{marks_of}
-use Rattle.fields_1401.proofs.WrittenLemmas.{marks_stay}
+use Rattle.fields_1401.proofs.PlacesLemmas.{marks_stay}
 use Rattle.fields_1401.proofs.MoveLemmas.{moved_none, moved_more}
 use Rattle.fields_1401.proofs.moves.move_places.Goals as goal
 

@@ -1,0 +1,22 @@
+-- How much the console takes (own).
+use Rattle.std.specs.Prelude.{ℕ}
+
+-- how many bytes a line has at the most
+abbrev pub most_line_bytes : ℕ
+most_line_bytes = 200
+
+-- how many bytes of a line are kept: as many as it has at the most, a carriage return, and one that is too many
+abbrev pub kept_bytes : ℕ
+kept_bytes = 202
+
+-- how many bytes a session reads at the most
+abbrev pub most_bytes : ℕ
+most_bytes = 16777216
+
+-- how many digits a number has at the most
+abbrev pub most_digits : ℕ
+most_digits = 7
+
+-- how many cells a text spells at the most
+abbrev pub most_cells : ℕ
+most_cells = 40

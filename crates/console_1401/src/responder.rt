@@ -1,0 +1,25 @@
+//! What stands behind a console.
+ghost use Rattle.std.specs.Prelude.{◌≡◌, Option};
+ghost use Rattle.console_1401.specs.declared.reply.Reply.{Reply};
+ghost use Rattle.console_1401.specs.ConsoleLine.{Said};
+
+use crate::line::{Line, LineFault};
+use crate::reply::Reply;
+
+/// What stands behind a console and carries out its lines: a room, or a seat of one that is shared.
+pub(crate) trait Responder {
+    // From the first, this line may be replied to so, and leave the second.
+    ghost responds: { Self → Said → Option Reply → Self → Type 0 };
+
+    /// Is told that a line, counted from 1, is about to be carried out.
+    fn before(&mut self, line: u64)
+        ensures { self.new ≡ self.old };
+
+    /// Carries a line out, and gives its reply; an empty line has none.
+    fn respond(&mut self, said: Result<Line, LineFault>) -> Option<Reply>
+        ensures { responds self.old said result self.new };
+
+    /// Is told that the reply to a line, counted from 1, is written.
+    fn after(&mut self, line: u64)
+        ensures { self.new ≡ self.old };
+}

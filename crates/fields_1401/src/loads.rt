@@ -1,0 +1,53 @@
+//! Fields loaded.
+ghost use Rattle.std.specs.Prelude.{◌≡◌, ◌+◌, ◌<◌, ◌≤◌, false, IfOk, length};
+ghost use Rattle.core_1401.specs.Address.{addresses};
+ghost use Rattle.core_1401.specs.Field.{field_at};
+ghost use Rattle.fields_1401.specs.Load.{loaded, load_at, is_overwritten};
+ghost use Rattle.fields_1401.specs.Outcome.{CarriesOut};
+
+use crate::done::{Done, FieldStop};
+use crate::lengths::field_len;
+use crate::places::put_cell;
+use crate::refusals::{has_places, is_overwritten};
+use crate::registers::{below, registers};
+use core_1401::Core;
+
+/// Loads the A field with its word mark to b and the places below it, from right to left. The word marks that stood there are
+/// gone (A24-1403, "Load Characters to A Word Mark").
+///
+/// # Errors
+///
+/// `Address` where a isn't in core or its field comes to address 0 before a word mark, where b isn't in core or has too few
+/// places below it, or where the word mark would be written over before it is met.
+#[tactic(auto, unfolding(crate::specs::Load::load_at))]
+pub fn load_chars(core: &mut Core, a: u16, b: u16) -> Result<Done, FieldStop>
+    requires a { a < addresses }
+    requires b { b < addresses }
+    ensures outcome { CarriesOut (load_at core.old a b) core.old core.new result }
+    ensures field { IfOk result (λ done. field_at core.new b ≡ field_at core.old a) }
+{
+    let Some(n) = field_len(core, a) else {
+        return Err(FieldStop::Address);
+    };
+    if !has_places(core, b, n) || is_overwritten(a, b, n) {
+        return Err(FieldStop::Address);
+    }
+    load_places(core, a, b, n);
+    Ok(registers(below(a, n), below(b, n)))
+}
+
+/// Loads n cells, each after the one to its right.
+fn load_places(core: &mut Core, a: u16, b: u16, n: u16)
+    requires a_in { a < length core.old }
+    requires b_in { b < length core.old }
+    requires a_places { n ≤ a + 1 }
+    requires b_places { n ≤ b + 1 }
+    requires kept { is_overwritten a b n ≡ false }
+    ensures loaded { core.new ≡ loaded core.old a b n }
+    ensures size { length core.new ≡ length core.old }
+{
+    for i in 0..n {
+        let cell = core.get(a - i);
+        put_cell(core, b - i, cell);
+    }
+}
