@@ -8,15 +8,15 @@ use Rattle.bcd_1401.specs.Graphic.{graphics}
 use Rattle.cpu_1401.specs.declared.operation.Operation.{Operation}
 use Rattle.cpu_1401.specs.declared.operation.Operation.TheVariants.{Add, Subtract, ZeroAdd, ZeroSubtract, Move, Load}
 use Rattle.cpu_1401.specs.declared.operation.Operation.TheVariants.{MoveDigit, MoveZone, SetWordMark, ClearWordMark}
-use Rattle.cpu_1401.specs.declared.operation.Operation.TheVariants.{ClearStorage, Compare, ZeroSuppress, Branch}
+use Rattle.cpu_1401.specs.declared.operation.Operation.TheVariants.{ClearStorage, Compare, ZeroSuppress, Edit, Branch}
 use Rattle.cpu_1401.specs.declared.operation.Operation.TheVariants.{BranchOnCell, StoreA, StoreB, NoOperation, Halt}
 use Rattle.cpu_1401.specs.declared.operation.Operation.TheVariants.{SelectStacker}
 
 -- the operations, each with its graphic in front
 abbrev pub operations : List (ℕ × Operation)
 operations =
-    zip (codes "AS?!MLDY,)/CZBVQHN.K") (Add ∷ Subtract ∷ ZeroAdd ∷ ZeroSubtract ∷ Move ∷ Load ∷ MoveDigit ∷ MoveZone
-    ∷ SetWordMark ∷ ClearWordMark ∷ ClearStorage ∷ Compare ∷ ZeroSuppress ∷ Branch ∷ BranchOnCell ∷ StoreA ∷ StoreB
+    zip (codes "AS?!MLDY,)/CZEBVQHN.K") (Add ∷ Subtract ∷ ZeroAdd ∷ ZeroSubtract ∷ Move ∷ Load ∷ MoveDigit ∷ MoveZone
+    ∷ SetWordMark ∷ ClearWordMark ∷ ClearStorage ∷ Compare ∷ ZeroSuppress ∷ Edit ∷ Branch ∷ BranchOnCell ∷ StoreA ∷ StoreB
     ∷ NoOperation ∷ Halt ∷ SelectStacker ∷ [])
 
 -- the operation with this graphic, if it is one's
@@ -73,6 +73,7 @@ form_of ClearWordMark = form (1 ∷ 4 ∷ 7 ∷ []) [] eight true
 form_of ClearStorage = form (1 ∷ 4 ∷ 7 ∷ []) [] seven true
 form_of Compare = form (1 ∷ 4 ∷ 7 ∷ []) [] eight true
 form_of ZeroSuppress = form (1 ∷ 4 ∷ 7 ∷ []) [] eight true
+form_of Edit = form (1 ∷ 4 ∷ 7 ∷ []) [] eight true
 form_of Branch = form (4 ∷ 5 ∷ 8 ∷ []) [] four_before_a_blank false
 form_of BranchOnCell = form (8 ∷ []) [] eight false
 form_of StoreA = form (4 ∷ []) [] eight false

@@ -33,6 +33,8 @@ pub enum Operation {
     Compare,
     /// `Z`: moves the A field with blanks for the zeros on its left.
     ZeroSuppress,
+    /// `E`: moves the A field into the control word in the B field.
+    Edit,
     /// `B`: branches always, on a condition, or where a character is the d-character.
     Branch,
     /// `V`: branches by the word mark and the zone of a cell.
@@ -68,6 +70,7 @@ impl Operation {
             b'/' => Some(Operation::ClearStorage),
             b'C' => Some(Operation::Compare),
             b'Z' => Some(Operation::ZeroSuppress),
+            b'E' => Some(Operation::Edit),
             b'B' => Some(Operation::Branch),
             b'V' => Some(Operation::BranchOnCell),
             b'Q' => Some(Operation::StoreA),
@@ -100,6 +103,7 @@ impl Operation {
             | Operation::ClearWordMark
             | Operation::Compare
             | Operation::ZeroSuppress
+            | Operation::Edit
             | Operation::BranchOnCell
             | Operation::StoreA
             | Operation::StoreB
@@ -124,7 +128,8 @@ impl Operation {
             | Operation::ClearWordMark
             | Operation::ClearStorage
             | Operation::Compare
-            | Operation::ZeroSuppress => true,
+            | Operation::ZeroSuppress
+            | Operation::Edit => true,
             Operation::Move
             | Operation::Load
             | Operation::Branch
@@ -155,6 +160,7 @@ impl Operation {
             | Operation::ClearStorage
             | Operation::Compare
             | Operation::ZeroSuppress
+            | Operation::Edit
             | Operation::Branch
             | Operation::BranchOnCell
             | Operation::StoreA
@@ -182,7 +188,8 @@ impl Operation {
             | Operation::ClearWordMark
             | Operation::ClearStorage
             | Operation::Compare
-            | Operation::ZeroSuppress => len == 1 || len == 4 || len == 7,
+            | Operation::ZeroSuppress
+            | Operation::Edit => len == 1 || len == 4 || len == 7,
             Operation::Branch => len == 4 || len == 5 || len == 8,
             Operation::BranchOnCell => len == 8,
             Operation::StoreA | Operation::StoreB => len == 4,

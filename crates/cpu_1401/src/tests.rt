@@ -85,10 +85,11 @@ fn a_halt_as_the_last_step_answers_halt(rt: HostRuntime) -> Result<(), Fail> {
 }
 
 /// What a character does as an instruction of 1 to 8 characters: `c` is carried out, `h` carried out as a halt, and the
-/// others are stops.
+/// others are stops: an edit of a field by itself overlaps.
 fn outcomes(graphic: u8) -> &'static [u8; 8] {
     match graphic {
         b'A' | b'S' | b'?' | b'!' | b'D' | b'Y' | b')' | b'C' | b'Z' => b"cLLcLLcL",
+        b'E' => b"oLLoLLcL",
         b'M' | b'L' => b"cLLcLLcF",
         b',' | b'/' => b"cLLcLLcc",
         b'B' => b"LLLccLLc",
@@ -108,6 +109,7 @@ fn stop_of(letter: u8) -> Option<Stop> {
         b'h' => Some(Stop::Halt),
         b'L' => Some(Stop::Length),
         b'F' => Some(Stop::NotFitted),
+        b'o' => Some(Stop::Overlap),
         b'O' => Some(Stop::OpCode),
         _ => None,
     }

@@ -3,6 +3,7 @@
 mod arithmetic;
 mod branches;
 mod command_line;
+mod editing;
 mod faults;
 mod moves;
 mod programs;

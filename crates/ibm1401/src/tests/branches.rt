@@ -102,3 +102,17 @@ fn a_branch_whose_fifth_character_is_a_blank_is_four_long(rt: HostRuntime) {
         4,
     );
 }
+
+#[test]
+fn a_switch_that_is_on_branches(rt: HostRuntime) {
+    expect_replies(
+        &rt,
+        rt.alloc(),
+        "SWITCH B ON\nDEPOSIT 0600 ~B700B~.\nSTART 0600\nRUN 1\nREGS\nSWITCH B OFF\nSTART 0600\nRUN 1\nREGS\n",
+        "OK\nOK\nOK\nSTOP 01 LIMIT STEPS 1 I 00700\n\
+         I=00700 A=00700 B=00605 UNEQUAL=0 OVERFLOW=0 SWITCHES=-B----- HOPPER=000 STACKER=000 PAPER=000 FORM=0001 LINE=01\n\
+         OK\nOK\nSTOP 01 LIMIT STEPS 1 I 00605\n\
+         I=00605 A=00700 B=00605 UNEQUAL=0 OVERFLOW=0 SWITCHES=------- HOPPER=000 STACKER=000 PAPER=000 FORM=0001 LINE=01\n",
+        9,
+    );
+}
