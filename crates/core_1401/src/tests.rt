@@ -1,5 +1,6 @@
 //! Core storage, fields and addresses at places worked out by hand.
 ghost use Rattle.std.specs.Prelude.{◌<◌, length};
+ghost use Rattle.core_1401.specs.Address.{addresses};
 
 use crate::{Cells, Core, CoreFault, MOST_CELLS, decode, encode};
 use bcd_1401::{Cell, Char};
@@ -94,7 +95,6 @@ fn cells_are_one_to_forty(rt: HostRuntime) {
     );
 }
 
-/// The field lengths of one word mark alone in core storage of 4,000.
 #[test]
 fn a_mark_is_found_across_words(rt: HostRuntime) -> Result<(), Fail> {
     for (mark, at, len) in [
@@ -124,7 +124,8 @@ fn a_mark_is_found_across_words(rt: HostRuntime) -> Result<(), Fail> {
 
 /// The length of a field by a walk over its places.
 fn walked_len(core: &Core, at: u16) -> Option<u16>
-    requires { at < length core.now }
+    requires inside { at < length core.now }
+    requires fits { at < addresses }
 {
     for i in 0..at + 1 {
         if core.get(at - i).mark {

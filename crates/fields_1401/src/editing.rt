@@ -1,5 +1,5 @@
 //! A field edited by the control word in the B field.
-ghost use Rattle.std.specs.Prelude.{◌≡◌, ◌+◌, ◌<◌, ◌≤◌, length, min, nat_lt, IfSome, OnOk, Option, Bool};
+ghost use Rattle.std.specs.Prelude.{◌≡◌, ◌+◌, ◌<◌, length, min, nat_lt, IfSome, OnOk, Option};
 ghost use Rattle.core_1401.specs.Address.{addresses};
 ghost use Rattle.core_1401.specs.Field.{field_len_of};
 ghost use Rattle.fields_1401.specs.Across.{chars_across, units_unzoned, with_across, IsUnmarked, IsSameOutside};

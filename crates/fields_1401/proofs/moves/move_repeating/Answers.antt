@@ -3,7 +3,7 @@ use Rattle.std.proofs.Common.{rules, refl, arith, ◌∙◌, ap}
 use Rattle.fields_1401.specs.Places.{marks_of}
 use Rattle.fields_1401.proofs.PlacesLemmas.{marks_stay}
 use Rattle.fields_1401.proofs.MoveLemmas.{moved_none, moved_more}
-use Rattle.fields_1401.proofs.moves.move_places.Goals as goal
+use Rattle.fields_1401.proofs.moves.move_repeating.Goals as goal
 
 pub loop-i-init : goal.loop-i-init
 loop-i-init c = record { moved = moved_none c.args.core.now c.args.a c.args.b; marks = refl; size = refl }
