@@ -1,1 +1,3 @@
+mod CardCodeExamples
+pub mod CardCodeLemmas
 pub mod GraphicLemmas

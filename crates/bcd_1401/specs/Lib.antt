@@ -1,2 +1,3 @@
+pub mod CardCode
 pub mod Character
 pub mod Graphic

@@ -1,5 +1,5 @@
-//! The characters of the IBM 1401: 64 codes of six bits, each with a zone, a digit and a graphic, and the cell that
-//! holds one of them with its word mark.
+//! The characters of the IBM 1401: 64 codes of six bits, each with a zone, a digit, a graphic and a column of
+//! a card, and the cell that holds one of them with its word mark.
 //!
 //! ```text
 //! let five = Char::from_graphic(b'5')?;   // code 5, no zone
@@ -10,6 +10,7 @@
 pub mod cell;
 pub mod character;
 pub mod graphic;
+pub mod punch;
 
 pub use cell::Cell;
 pub use character::{CODES, Char};

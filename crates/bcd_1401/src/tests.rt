@@ -84,3 +84,48 @@ fn a_cell_has_a_character_and_a_mark(rt: HostRuntime) {
     };
     assert_ne!(rt; Cell { char, mark: true }, Cell { char, mark: false });
 }
+
+#[test]
+fn each_character_has_its_column(rt: HostRuntime) {
+    // rows 12, 11, 0 and 1 to 9 count 2048, 1024, 512, 256, 128, 64, 32, 16, 8, 4, 2 and 1
+    for (graphic, column) in [
+        (b' ', 0),
+        (b'1', 256),
+        (b'9', 1),
+        (b'0', 512),
+        (b'#', 66),
+        (b'(', 6),
+        (b'^', 130),
+        (b'/', 768),
+        (b'Z', 513),
+        (b'\'', 642),
+        (b',', 578),
+        (b'-', 1_024),
+        (b'J', 1_280),
+        (b'!', 1_536),
+        (b'$', 1_090),
+        (b'&', 2_048),
+        (b'A', 2_304),
+        (b'?', 2_560),
+        (b')', 2_082),
+        (b'"', 2_054),
+    ] {
+        let char = Char::from_graphic(graphic);
+        assert_eq!(rt; char.map(|char| char.punch()), Some(column), "{graphic}");
+        assert_eq!(rt; Char::from_punch(column), char, "{graphic}");
+    }
+    for column in [3, 3_072, 1_792, 65, 130 + 512 + 1, 4_095, 4_096, 65_535] {
+        assert_eq!(rt; Char::from_punch(column), None, "{column}");
+    }
+}
+
+#[test]
+fn sixty_four_columns_are_characters(rt: HostRuntime) {
+    let mut count = 0u32;
+    for column in 0..4_096u16 {
+        if Char::from_punch(column).is_some() {
+            count = count.saturating_add(1);
+        }
+    }
+    assert_eq!(rt; count, 64);
+}

@@ -1,5 +1,6 @@
 -- How far it is to the next word mark, place by place.
-use Rattle.std.proofs.Common.{◌≡◌, ℕ, ◌+◌, ◌-◌, ◌<◌, ◌≤◌, true, false, length, drop, get_or, sym, ◌∙◌, ap, arith, length-drop, inl, inr, true≢false}
+use Rattle.std.proofs.Common.{◌≡◌, ℕ, ◌+◌, ◌-◌, ◌<◌, ◌≤◌, true, false, length, drop, get_or, sym, ◌∙◌, ap, arith}
+use Rattle.std.proofs.Common.{length-drop, inl, inr, true≢false}
 use Rattle.std.specs.List.{position_or_len}
 use Rattle.std.proofs.lemmas.List.{get_or-drop}
 use Rattle.std.proofs.lemmas.List.Sums.{position_or_len_is, passes_at_first}
@@ -13,7 +14,8 @@ abbrev pub NoMarkTo : Storage → ℕ → ℕ → Type 0
 NoMarkTo storage at len = (k : ℕ) → 0 < k → k < len → (cell_at storage (at + k)).mark ≡ false
 
 -- a place of the rest above is one of core
-above : (storage : Storage) (at k : ℕ) → (get_or (drop (at + 1) storage) k blank).mark ≡ (cell_at storage (at + (k + 1))).mark
+above : (storage : Storage) (at k : ℕ) → (get_or (drop (at + 1) storage) k blank).mark
+    ≡ (cell_at storage (at + (k + 1))).mark
 above storage at k =
     let place : at + 1 + k ≡ at + (k + 1) = omega arith in
     ap (λ (cell : Cell). cell.mark) (get_or-drop (at + 1) storage k blank) ∙ ap (λ n. (cell_at storage n).mark) place
@@ -32,15 +34,18 @@ distance_is storage at len some inside none there =
     omega (arith, first)
 
 -- The distance is no less, where there is no word mark before.
-pub distance_least : (storage : Storage) (at len : ℕ) → at + len ≤ length storage → NoMarkTo storage at len → len ≤ distance_from storage at
+pub distance_least : (storage : Storage) (at len : ℕ) → at + len ≤ length storage → NoMarkTo storage at len
+    → len ≤ distance_from storage at
 distance_least storage at len inside none =
     let rest = drop (at + 1) storage in
     let first : ℕ = position_or_len (λ (cell : Cell). cell.mark) rest in
     let left : length rest ≡ length storage - (at + 1) = length-drop (at + 1) storage in
     elim (cases_lt (first + 1) len) [
       | inl h ↦
-          let passes : (get_or rest first blank).mark ≡ true = passes_at_first (λ (cell : Cell). cell.mark) rest blank (omega (arith, left)) in
-          let fails : (get_or rest first blank).mark ≡ false = above storage at first ∙ none (first + 1) (omega arith) h in
+          let passes : (get_or rest first blank).mark
+          ≡ true = passes_at_first (λ (cell : Cell). cell.mark) rest blank (omega (arith, left)) in
+          let fails : (get_or rest first blank).mark ≡ false = above storage at first
+          ∙ none (first + 1) (omega arith) h in
           absurd (true≢false (sym passes ∙ fails))
       | inr h ↦ h
     ]

@@ -16,13 +16,15 @@ pub record SoFar (limit : ℕ) (first now : State) (steps : ℕ) : Type 0 where
 
 -- the same run, counted otherwise
 counted : (run : Finished) (m n : ℕ) → m ≡ n
-    → (let x : Finished = record { state = run.state; steps = m; stop = run.stop } in x) ≡ record { state = run.state; steps = n; stop = run.stop }
+    → (let x : Finished = record { state = run.state; steps = m; stop = run.stop } in x)
+    ≡ record { state = run.state; steps = n; stop = run.stop }
 counted run m n e = ap (λ k. let x : Finished = record { state = run.state; steps = k; stop = run.stop } in x) e
 
 pub nothing_yet : (limit : ℕ) (first : State) → SoFar limit first first 0
 nothing_yet limit first =
     let all : limit - 0 ≡ limit = omega arith in
-    let none = counted (run_for limit first) (0 + (run_for limit first).steps) (run_for limit first).steps (omega arith) in
+    let none =
+    counted (run_for limit first) (0 + (run_for limit first).steps) (run_for limit first).steps (omega arith) in
     record { whole = sym (ap (λ k. after_steps 0 (run_for k first)) all ∙ none) }
 
 -- the run that is left, by its first step
@@ -49,7 +51,8 @@ goes_on limit steps first now next h s none e =
 
 -- the step stops the machine
 pub stops : (limit steps : ℕ) (first now next : State) (why : Stop) → steps < limit → SoFar limit first now steps
-    → (step now).stop ≡ Some why → next ≡ (step now).state → run_for limit first ≡ record { state = next; steps = steps + carried_out_at why; stop = why }
+    → (step now).stop ≡ Some why → next ≡ (step now).state → run_for limit first
+    ≡ record { state = next; steps = steps + carried_out_at why; stop = why }
 stops limit steps first now next why h s some e =
     let more = run_for (limit - (steps + 1)) in
     left limit steps first now h s
@@ -57,8 +60,10 @@ stops limit steps first now next why h s some e =
     ∙ ap (λ (state : State). after_steps steps (run_on (Some why) state more)) (sym e)
 
 -- no step is left
-pub limit_met : (limit : ℕ) (first now : State) → SoFar limit first now limit → run_for limit first ≡ record { state = now; steps = limit; stop = stop.Limit }
+pub limit_met : (limit : ℕ) (first now : State) → SoFar limit first now limit → run_for limit first
+    ≡ record { state = now; steps = limit; stop = stop.Limit }
 unfolding run_for
 limit_met limit first now s =
     let none_left : limit - limit ≡ 0 = omega arith in
-    s.whole ∙ ap (λ k. after_steps limit (run_for k now)) none_left ∙ counted (run_for 0 now) (limit + 0) limit (omega arith)
+    s.whole ∙ ap (λ k. after_steps limit (run_for k now)) none_left
+    ∙ counted (run_for 0 now) (limit + 0) limit (omega arith)

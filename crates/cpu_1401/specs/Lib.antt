@@ -1,7 +1,11 @@
+pub mod Branch
+pub mod FieldStep
 pub mod Instruction
 pub mod Operation
+pub mod RegisterStep
 pub mod Run
 pub mod State
 pub mod Step
+pub mod Stepped
 pub mod Stop
 pub mod SwitchName

@@ -1,44 +1,91 @@
--- The operations by their characters, and the lengths of their instructions (A24-1403, "Instruction Format"; the choice
--- of lengths is own).
-use Rattle.std.specs.Prelude.{ℕ, ◌==◌, ◌||◌, Bool, true, false, not, List, [], ◌∷◌, Option, codes, find, slice_index}
-use Rattle.std.specs.List.{zip}
+-- The operations by their characters, and what their instructions look like (A24-1403, "Instruction Format", "Address
+-- Registers"; the choice of lengths is own).
+use Rattle.std.specs.Prelude.{ℕ, ◌==◌, Bool, true, false, List, [], ◌∷◌, Option, codes, find, slice_index}
+use Rattle.std.specs.Prelude.{if◌then◌else◌}
+use Rattle.std.specs.List.{list_any, zip}
 use Rattle.std.specs.Option.{option_map}
 use Rattle.bcd_1401.specs.Graphic.{graphics}
 use Rattle.cpu_1401.specs.declared.operation.Operation.{Operation}
-use Rattle.cpu_1401.specs.declared.operation.Operation.TheVariants.{Move, Load, MoveDigit, MoveZone, SetWordMark, ClearWordMark, ClearStorage, Halt}
+use Rattle.cpu_1401.specs.declared.operation.Operation.TheVariants.{Add, Subtract, ZeroAdd, ZeroSubtract, Move, Load}
+use Rattle.cpu_1401.specs.declared.operation.Operation.TheVariants.{MoveDigit, MoveZone, SetWordMark, ClearWordMark}
+use Rattle.cpu_1401.specs.declared.operation.Operation.TheVariants.{ClearStorage, Compare, ZeroSuppress, Edit, Branch}
+use Rattle.cpu_1401.specs.declared.operation.Operation.TheVariants.{BranchOnCell, StoreA, StoreB, NoOperation, Halt}
+use Rattle.cpu_1401.specs.declared.operation.Operation.TheVariants.{SelectStacker}
 
 -- the operations, each with its graphic in front
 abbrev pub operations : List (ℕ × Operation)
 operations =
-    zip (codes "MLDY,)/.") (Move ∷ Load ∷ MoveDigit ∷ MoveZone ∷ SetWordMark ∷ ClearWordMark ∷ ClearStorage ∷ Halt ∷ [])
+    zip (codes "AS?!MLDY,)/CZEBVQHN.K") (Add ∷ Subtract ∷ ZeroAdd ∷ ZeroSubtract ∷ Move ∷ Load ∷ MoveDigit ∷ MoveZone
+    ∷ SetWordMark ∷ ClearWordMark ∷ ClearStorage ∷ Compare ∷ ZeroSuppress ∷ Edit ∷ Branch ∷ BranchOnCell ∷ StoreA ∷ StoreB
+    ∷ NoOperation ∷ Halt ∷ SelectStacker ∷ [])
 
 -- the operation with this graphic, if it is one's
 abbrev pub operation_named : ℕ → Option Operation
-operation_named graphic = option_map (λ (entry : ℕ × Operation). entry.1) (find (λ entry. entry.0 == graphic) operations)
+operation_named graphic =
+    option_map (λ (entry : ℕ × Operation). entry.1) (find (λ entry. entry.0 == graphic) operations)
 
 -- the operation of a character
 abbrev pub operation_of : ℕ → Option Operation
 operation_of char = operation_named (slice_index graphics char)
 
--- how many characters an instruction has at the most
-abbrev pub most_of : Operation → ℕ
-most_of SetWordMark = 7
-most_of ClearStorage = 7
-most_of other = 8
+-- the graphics of the operations that belong to features that this machine hasn't got
+abbrev pub unfitted : List ℕ
+unfitted = codes "@%U89PXW#"
 
--- whether the one address of an instruction goes into the B register too
-abbrev pub loads_both : Operation → Bool
-loads_both Move = false
-loads_both Load = false
-loads_both other = true
+-- whether a character is such an operation
+abbrev pub is_unfitted : ℕ → Bool
+is_unfitted char = list_any (λ each. each == slice_index graphics char) unfitted
 
--- a move or a load of eight characters is one of tapes, which this machine hasn't got
-abbrev pub is_fitted : Operation → ℕ → Bool
-is_fitted Move len = not (len == 8)
-is_fitted Load len = not (len == 8)
-is_fitted other len = true
+-- What the instructions of an operation look like: the lengths that they may have; the lengths that belong to features
+-- that this machine hasn't got; how many characters are looked at, by the fifth; and whether their one address goes
+-- into both registers, or into the A register alone.
+pub record Form : Type 0 where
+  pub lengths : List ℕ
+  pub unfitted : List ℕ
+  pub most : ℕ → ℕ
+  pub loads_both : Bool
 
--- whether an instruction may have this length: no address, one, or two; a halt has one at the most
+abbrev form : List ℕ → List ℕ → (ℕ → ℕ) → Bool → Form
+form lengths unfitted most loads_both =
+    record { lengths = lengths; unfitted = unfitted; most = most; loads_both = loads_both }
+
+abbrev eight : ℕ → ℕ
+eight fifth = 8
+
+abbrev seven : ℕ → ℕ
+seven fifth = 7
+
+abbrev four_before_a_blank : ℕ → ℕ
+four_before_a_blank fifth = if fifth == 0 then 4 else 8
+
+-- Instructions of 1, 4 and 7 characters have no address, one and two; those of 2, 5 and 8 have a d-character behind.
+abbrev pub form_of : Operation → Form
+form_of Add = form (1 ∷ 4 ∷ 7 ∷ []) [] eight true
+form_of Subtract = form (1 ∷ 4 ∷ 7 ∷ []) [] eight true
+form_of ZeroAdd = form (1 ∷ 4 ∷ 7 ∷ []) [] eight true
+form_of ZeroSubtract = form (1 ∷ 4 ∷ 7 ∷ []) [] eight true
+form_of Move = form (1 ∷ 4 ∷ 7 ∷ []) (8 ∷ []) eight false
+form_of Load = form (1 ∷ 4 ∷ 7 ∷ []) (8 ∷ []) eight false
+form_of MoveDigit = form (1 ∷ 4 ∷ 7 ∷ []) [] eight true
+form_of MoveZone = form (1 ∷ 4 ∷ 7 ∷ []) [] eight true
+form_of SetWordMark = form (1 ∷ 4 ∷ 7 ∷ []) [] seven true
+form_of ClearWordMark = form (1 ∷ 4 ∷ 7 ∷ []) [] eight true
+form_of ClearStorage = form (1 ∷ 4 ∷ 7 ∷ []) [] seven true
+form_of Compare = form (1 ∷ 4 ∷ 7 ∷ []) [] eight true
+form_of ZeroSuppress = form (1 ∷ 4 ∷ 7 ∷ []) [] eight true
+form_of Edit = form (1 ∷ 4 ∷ 7 ∷ []) [] eight true
+form_of Branch = form (4 ∷ 5 ∷ 8 ∷ []) [] four_before_a_blank false
+form_of BranchOnCell = form (8 ∷ []) [] eight false
+form_of StoreA = form (4 ∷ []) [] eight false
+form_of StoreB = form (4 ∷ []) [] eight false
+form_of NoOperation = form (1 ∷ 2 ∷ 3 ∷ 4 ∷ 5 ∷ 6 ∷ 7 ∷ 8 ∷ []) [] eight false
+form_of Halt = form (1 ∷ 4 ∷ []) [] eight false
+form_of SelectStacker = form (2 ∷ 5 ∷ []) [] eight false
+
+-- whether an instruction may have this length
 abbrev pub has_length : Operation → ℕ → Bool
-has_length Halt len = (len == 1) || (len == 4)
-has_length other len = (len == 1) || (len == 4) || (len == 7)
+has_length operation len = list_any (λ each. each == len) (form_of operation).lengths
+
+-- whether this length belongs to a feature that this machine hasn't got
+abbrev pub is_unfitted_length : Operation → ℕ → Bool
+is_unfitted_length operation len = list_any (λ each. each == len) (form_of operation).unfitted

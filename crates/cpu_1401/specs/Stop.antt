@@ -3,7 +3,8 @@ use Rattle.std.specs.Prelude.{ℕ, List, codes}
 use Rattle.fields_1401.specs.declared.done.FieldStop.{FieldStop}
 use Rattle.fields_1401.specs.declared.done.FieldStop.TheVariants as field
 use Rattle.cpu_1401.specs.declared.stop.Stop.{Stop}
-use Rattle.cpu_1401.specs.declared.stop.Stop.TheVariants.{Limit, Halt, Reader, Forms, Stacker, NoMark, OpCode, Length, Address, Overlap, Carriage, NotFitted, DChar}
+use Rattle.cpu_1401.specs.declared.stop.Stop.TheVariants.{Limit, Halt, Reader, Forms, Stacker, NoMark, OpCode, Length}
+use Rattle.cpu_1401.specs.declared.stop.Stop.TheVariants.{Address, Overlap, Carriage, NotFitted, DChar}
 
 -- the number of a stop
 abbrev pub stop_number : Stop → ℕ

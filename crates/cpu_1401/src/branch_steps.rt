@@ -1,35 +1,133 @@
-//! Branches and the halt.
-ghost use Rattle.std.specs.Prelude.{◌≡◌, ◌<◌, Some};
-ghost use Rattle.cpu_1401.specs.Step.{after_halt, branch_to};
+//! Branches, and what goes on at an address.
+ghost use Rattle.std.specs.Prelude.{◌≡◌, ◌==◌, ◌<◌, None, Some, length};
+ghost use Rattle.core_1401.specs.Address.{addresses};
+ghost use Rattle.cpu_1401.specs.Branch.{after_branch, branch_if, branch_on, branch_on_cell, condition_of, go_on, is_so};
+ghost use Rattle.cpu_1401.specs.Branch.{passes};
 
+use crate::condition::{Condition, passes};
 use crate::instruction::Instruction;
 use crate::machine::Machine;
 use crate::stop::Stop;
+use fields_1401::below;
 
 impl Machine {
-    /// Takes the branch to the A address, and leaves the next instruction's place in the B register.
-    pub(crate) fn branch(&mut self, this: Instruction)
-        requires a { this.a < 16000 }
-        requires next { this.next < 16000 }
-        ensures { self.new ≡ branch_to this.a this self.old }
+    /// Carries out a `B`: of four characters it branches always, of five on a condition, and of eight where the
+    /// character at the B address is the d-character.
+    pub(crate) fn branch(&mut self, this: Instruction) -> Option<Stop>
+        requires a { this.a < addresses }
+        requires b { this.b < addresses }
+        requires next { this.next < addresses }
+        ensures stop { result ≡ (after_branch this self.old).stop }
+        ensures state { self.new ≡ (after_branch this self.old).state }
+        ensures size { length self.new.storage ≡ length self.old.storage }
     {
-        self.i = this.a;
+        if this.len == 4 {
+            self.branch_if(true, this.b, this);
+            return None;
+        }
+        if this.len == 5 {
+            self.branch_on(this);
+            return None;
+        }
+        if !self.core.in_core(this.b) {
+            return Some(Stop::Address);
+        }
+        let is_equal = self.core.get(this.b).char == this.d;
+        self.branch_if(is_equal, below(this.b, 1), this);
+        None
+    }
+
+    /// Carries out a `V`: it branches where the cell at the B address has the word mark or the zone that the
+    /// d-character looks for.
+    pub(crate) fn branch_on_cell(&mut self, this: Instruction) -> Option<Stop>
+        requires a { this.a < addresses }
+        requires b { this.b < addresses }
+        requires next { this.next < addresses }
+        ensures stop { result ≡ (branch_on_cell (passes this.d) this self.old).stop }
+        ensures state { self.new ≡ (branch_on_cell (passes this.d) this self.old).state }
+        ensures size { length self.new.storage ≡ length self.old.storage }
+    {
+        if !self.core.in_core(this.b) {
+            return Some(Stop::Address);
+        }
+        let is_met = passes(this.d, self.core.get(this.b));
+        self.branch_if(is_met, below(this.b, 1), this);
+        None
+    }
+
+    /// Branches on the condition that the d-character stands for. The overflow indicator is turned off by its test.
+    fn branch_on(&mut self, this: Instruction)
+        requires a { this.a < addresses }
+        requires b { this.b < addresses }
+        requires next { this.next < addresses }
+        ensures { self.new ≡ branch_on (condition_of this.d) this self.old }
+    {
+        let Some(condition) = Condition::from_char(this.d) else {
+            self.branch_if(false, this.b, this);
+            return;
+        };
+        let is_so = self.is_so(condition);
+        if condition == Condition::Overflow {
+            self.overflow = false;
+        }
+        self.branch_if(is_so, this.b, this);
+    }
+
+    /// Whether the condition of a branch is so. There are no cards and no paper yet: the hopper is empty, and the
+    /// carriage stands at the first line.
+    fn is_so(&self, condition: Condition) -> bool
+        ensures { result ≡ is_so self.now condition }
+    {
+        match condition {
+            Condition::Unequal => self.unequal,
+            Condition::Overflow => self.overflow,
+            Condition::LastCard => self.switches[0],
+            Condition::SwitchOn(name) => self.switches[usize::from(name.number())],
+            Condition::ChannelNine | Condition::ChannelTwelve => false,
+        }
+    }
+
+    /// Takes the branch to the A address, with the next instruction's place in the B register; or passes it by, with
+    /// this in the B register. The A register holds the branch address in either case.
+    pub(crate) fn branch_if(&mut self, taken: bool, b: u16, this: Instruction)
+        requires a { this.a < addresses }
+        requires b { b < addresses }
+        requires next { this.next < addresses }
+        ensures { self.new ≡ branch_if taken b this self.old }
+    {
         self.a = this.a;
-        self.b = this.next;
+        if taken {
+            self.i = this.a;
+            self.b = this.next;
+        } else {
+            self.i = this.next;
+            self.b = b;
+        }
+    }
+
+    /// Goes on at the address, as a branch does, or at the next instruction with the registers as they stand.
+    pub(crate) fn go_on(&mut self, has_address: bool, this: Instruction) -> Option<Stop>
+        requires a { this.a < addresses }
+        requires next { this.next < addresses }
+        ensures stop { result ≡ None }
+        ensures state { self.new ≡ go_on has_address this self.old }
+    {
+        if has_address {
+            self.branch_if(true, this.next, this);
+        } else {
+            self.i = this.next;
+        }
+        None
     }
 
     /// Halts, and goes on at the address or at the next instruction.
     pub(crate) fn halt(&mut self, this: Instruction) -> Option<Stop>
-        requires a { this.a < 16000 }
-        requires next { this.next < 16000 }
+        requires a { this.a < addresses }
+        requires next { this.next < addresses }
         ensures stop { result ≡ Some Stop.Halt }
-        ensures state { self.new ≡ after_halt this self.old }
+        ensures state { self.new ≡ go_on (this.len == 4) this self.old }
     {
-        if this.len == 4 {
-            self.branch(this);
-        } else {
-            self.i = this.next;
-        }
+        self.go_on(this.len == 4, this);
         Some(Stop::Halt)
     }
 }

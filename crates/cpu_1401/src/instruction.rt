@@ -2,6 +2,7 @@
 ghost use Rattle.std.specs.Prelude.{◌≡◌, ◌+◌, ◌<◌, ◌≤◌, min, true, IfOk, length};
 ghost use Rattle.cpu_1401.specs.Instruction.{distance_from};
 
+use bcd_1401::Char;
 use core_1401::Core;
 
 /// What an instruction says.
@@ -13,6 +14,8 @@ pub struct Instruction {
     pub a: u16,
     /// The B address, below 16,000.
     pub b: u16,
+    /// The last character, which is the d-character of an instruction of 2, 5 or 8 characters.
+    pub d: Char,
     /// Where the next instruction stands, below 16,000.
     pub next: u16,
 }

@@ -8,10 +8,12 @@
 #![tactic(auto)]
 
 mod branch_steps;
+pub mod condition;
 mod field_steps;
 pub mod instruction;
 pub mod machine;
 pub mod operation;
+mod register_steps;
 pub mod regs;
 pub mod running;
 pub mod stepping;

@@ -23,14 +23,24 @@ pub struct Machine {
 
 impl Model for Machine {
     ghost use Rattle.std.specs.Prelude.{◌<◌};
+    ghost use Rattle.core_1401.specs.Address.{addresses};
     ghost use Rattle.devices_1401.specs.Devices.{no_cards};
     ghost use Rattle.cpu_1401.specs.State.{State};
 
     ghost Value = { State };
 
-    ghost view = { λ m. record { storage = m.core; i = m.i; a = m.a; b = m.b; unequal = m.unequal; overflow = m.overflow; switches = m.switches; devices = no_cards } };
+    ghost view = { λ m. record {
+      storage = m.core;
+      i = m.i;
+      a = m.a;
+      b = m.b;
+      unequal = m.unequal;
+      overflow = m.overflow;
+      switches = m.switches;
+      devices = no_cards;
+    } };
 
-    ghost invariant = { λ m. (m.i < 16000) × (m.a < 16000) × (m.b < 16000) };
+    ghost invariant = { λ m. (m.i < addresses) × (m.a < addresses) × (m.b < addresses) };
 }
 
 impl Machine {

@@ -1,18 +1,24 @@
 //! One step of the machine: the checks in their order, then what the operation does.
 ghost use Rattle.std.specs.Prelude.{◌≡◌, ◌≢◌, ◌+◌, ◌<◌, ◌≤◌, length, Some, IfSome};
-ghost use Rattle.cpu_1401.specs.Instruction.{begins_at, instruction_of};
+ghost use Rattle.core_1401.specs.Address.{addresses};
+ghost use Rattle.core_1401.specs.Storage.{cell_at};
+ghost use Rattle.cpu_1401.specs.Instruction.{begins_at, instruction_of, length_at};
 ghost use Rattle.cpu_1401.specs.Step.{perform, step};
 
 use crate::instruction::{Instruction, distance};
 use crate::machine::Machine;
-use crate::operation::Operation;
+use crate::operation::{Operation, is_unfitted};
 use crate::stop::Stop;
+use bcd_1401::Char;
 use core_1401::ADDRESSES;
-use fields_1401::{clear_marks, load_chars, move_chars, move_digit, move_zone, set_marks};
+use fields_1401::{
+    add, clear_marks, edit, load_chars, move_chars, move_digit, move_zone, set_marks, subtract,
+    suppress, zero_add, zero_subtract,
+};
 
 impl Machine {
-    /// Carries out the instruction at the I register, or says why it can't. A halt is carried out; any other stop leaves
-    /// the machine as it was.
+    /// Carries out the instruction at the I register, or says why it can't. A halt is carried out; any other stop
+    /// leaves the machine as it was.
     #[tactic(auto, unfolding(crate::specs::Step::step))]
     pub fn step(&mut self) -> Option<Stop>
         ensures stop { result ≡ (step self.old).stop }
@@ -28,11 +34,16 @@ impl Machine {
         if !self.begins() {
             return Some(Stop::NoMark);
         }
-        let Some(operation) = Operation::from_char(self.core.get(self.i).char) else {
-            return Some(Stop::OpCode);
+        let char = self.core.get(self.i).char;
+        let Some(operation) = Operation::from_char(char) else {
+            return Some(if is_unfitted(char) {
+                Stop::NotFitted
+            } else {
+                Stop::OpCode
+            });
         };
-        let len = distance(&self.core, self.i, operation.most());
-        if !operation.is_fitted(len) {
+        let len = self.len(operation);
+        if operation.is_unfitted_length(len) {
             return Some(Stop::NotFitted);
         }
         if !operation.has_length(len) {
@@ -49,15 +60,38 @@ impl Machine {
         self.core.in_core(self.i) && self.core.get(self.i).mark
     }
 
+    /// How many characters the instruction at the I register has, if it is one of this operation.
+    fn len(&self, operation: Operation) -> u16
+        requires { self.now.i < length self.now.storage }
+        ensures value { result ≡ length_at self.now.storage operation self.now.i }
+        ensures some { 0 < result }
+        ensures most { result ≤ 8 }
+        ensures inside { self.now.i + result ≤ length self.now.storage }
+    {
+        let fifth = self.char_at(self.i + 4);
+        distance(&self.core, self.i, operation.most(fifth))
+    }
+
+    /// The character at a place, and a blank past the end of core.
+    fn char_at(&self, at: u16) -> Char
+        ensures { result ≡ (cell_at self.now.storage at).char }
+    {
+        if self.core.in_core(at) {
+            self.core.get(at).char
+        } else {
+            Char::BLANK
+        }
+    }
+
     /// The instruction of this length at the I register.
     fn instruction(&self, operation: Operation, len: u16) -> Instruction
         requires some { 0 < len }
         requires most { len ≤ 8 }
         requires inside { self.now.i + len ≤ length self.now.storage }
         ensures value { result ≡ instruction_of operation len self.now }
-        ensures a { result.a < 16000 }
-        ensures b { result.b < 16000 }
-        ensures next { result.next < 16000 }
+        ensures a { result.a < addresses }
+        ensures b { result.b < addresses }
+        ensures next { result.next < addresses }
     {
         let a = if len >= 4 {
             self.core.effective(self.i + 1)
@@ -71,15 +105,16 @@ impl Machine {
         } else {
             self.b
         };
+        let d = self.core.get(self.i + len - 1).char;
         let next = (self.i + len) % ADDRESSES;
-        Instruction { len, a, b, next }
+        Instruction { len, a, b, d, next }
     }
 
     /// Does what the operation does.
     fn perform(&mut self, operation: Operation, this: Instruction) -> Option<Stop>
-        requires a { this.a < 16000 }
-        requires b { this.b < 16000 }
-        requires next { this.next < 16000 }
+        requires a { this.a < addresses }
+        requires b { this.b < addresses }
+        requires next { this.next < addresses }
         ensures stop { result ≡ (perform operation this self.old).stop }
         ensures state { self.new ≡ (perform operation this self.old).state }
         ensures unchanged { IfSome result (λ why. why ≢ Stop.Halt → self.new ≡ self.old) }
@@ -88,13 +123,26 @@ impl Machine {
     {
         let Instruction { a, b, .. } = this;
         let outcome = match operation {
+            Operation::Add => add(&mut self.core, a, b),
+            Operation::Subtract => subtract(&mut self.core, a, b),
+            Operation::ZeroAdd => zero_add(&mut self.core, a, b),
+            Operation::ZeroSubtract => zero_subtract(&mut self.core, a, b),
             Operation::Move => move_chars(&mut self.core, a, b),
             Operation::Load => load_chars(&mut self.core, a, b),
             Operation::MoveDigit => move_digit(&mut self.core, a, b),
             Operation::MoveZone => move_zone(&mut self.core, a, b),
             Operation::SetWordMark => set_marks(&mut self.core, a, b),
             Operation::ClearWordMark => clear_marks(&mut self.core, a, b),
+            Operation::ZeroSuppress => suppress(&mut self.core, a, b),
+            Operation::Edit => edit(&mut self.core, a, b),
             Operation::ClearStorage => return self.clear_storage(this),
+            Operation::Compare => return self.compare(this),
+            Operation::Branch => return self.branch(this),
+            Operation::BranchOnCell => return self.branch_on_cell(this),
+            Operation::StoreA => return self.store(this, self.a),
+            Operation::StoreB => return self.store(this, self.b),
+            Operation::NoOperation => return self.go_on(false, this),
+            Operation::SelectStacker => return self.go_on(this.len == 5, this),
             Operation::Halt => return self.halt(this),
         };
         self.after_field(this, outcome)

@@ -37,7 +37,8 @@ fn each_stop_comes_where_it_should(rt: HostRuntime) -> Result<(), Fail> {
     for (text, stop) in [
         (b"~".as_slice(), Stop::NoMark),
         (b"M700710~.", Stop::NoMark),
-        (b"~Z~.", Stop::OpCode),
+        (b"~T~.", Stop::OpCode),
+        (b"~@700710~.", Stop::NotFitted),
         (b"~M70~.", Stop::Length),
         (b"~.000000~.", Stop::Length),
         (b"~.", Stop::Length),
@@ -79,6 +80,103 @@ fn a_halt_as_the_last_step_answers_halt(rt: HostRuntime) -> Result<(), Fail> {
     assert_eq!(rt;
         (machine.regs().i, machine.regs().a, machine.regs().b),
         (0, 0, 11)
+    );
+    Ok(())
+}
+
+/// What a character does as an instruction of 1 to 8 characters: `c` is carried out, `h` carried out as a halt, and the
+/// others are stops: an edit of a field by itself overlaps.
+fn outcomes(graphic: u8) -> &'static [u8; 8] {
+    match graphic {
+        b'A' | b'S' | b'?' | b'!' | b'D' | b'Y' | b')' | b'C' | b'Z' => b"cLLcLLcL",
+        b'E' => b"oLLoLLcL",
+        b'M' | b'L' => b"cLLcLLcF",
+        b',' | b'/' => b"cLLcLLcc",
+        b'B' => b"LLLccLLc",
+        b'V' => b"LLLLLLLc",
+        b'Q' | b'H' => b"LLLcLLLL",
+        b'N' => b"cccccccc",
+        b'.' => b"hLLhLLLL",
+        b'K' => b"LcLLcLLL",
+        b'@' | b'%' | b'U' | b'8' | b'9' | b'P' | b'X' | b'W' | b'#' => b"FFFFFFFF",
+        _ => b"OOOOOOOO",
+    }
+}
+
+/// The stop that a letter of these stands for.
+fn stop_of(letter: u8) -> Option<Stop> {
+    match letter {
+        b'h' => Some(Stop::Halt),
+        b'L' => Some(Stop::Length),
+        b'F' => Some(Stop::NotFitted),
+        b'o' => Some(Stop::Overlap),
+        b'O' => Some(Stop::OpCode),
+        _ => None,
+    }
+}
+
+#[test]
+fn each_character_at_each_length(rt: HostRuntime) -> Result<(), Fail> {
+    for code in 0..64 {
+        let char = Char::from_code(code).expect(&rt, "a code");
+        for (behind, letter) in outcomes(char.graphic()).iter().enumerate() {
+            let mut machine = Machine::power_on(rt.alloc(), 1_400)?;
+            put(&rt, &mut machine, 0, b"~5");
+            put(&rt, &mut machine, 700, b"~5");
+            put(&rt, &mut machine, 710, b"~5");
+            put(&rt, &mut machine, 601, b"7007102");
+            for mark in [600, 601 + behind as u16] {
+                assert!(rt; machine.core().in_core(mark));
+                let cell = machine.core().get(mark);
+                machine.put(mark, Cell { mark: true, ..cell });
+            }
+            assert!(rt; machine.core().in_core(600));
+            machine.put(600, Cell { char, mark: true });
+            machine.set_i(600);
+            let name = char::from(char.graphic());
+            assert_eq!(rt;
+                machine.step(),
+                stop_of(*letter),
+                "{name} of {}",
+                behind + 1
+            );
+        }
+    }
+    Ok(())
+}
+
+#[test]
+fn a_sum_turns_overflow_on_and_its_test_turns_it_off(rt: HostRuntime) -> Result<(), Fail> {
+    let mut machine = Machine::power_on(rt.alloc(), 4_000)?;
+    put(&rt, &mut machine, 700, b"~1");
+    put(&rt, &mut machine, 709, b"~99");
+    put(&rt, &mut machine, 600, b"~A700710~A700700~B600Z~B600Z~.");
+    assert!(rt; machine.core().in_core(600));
+    machine.set_i(600);
+    for (overflow, i) in [(true, 607), (true, 614), (false, 600)] {
+        assert_eq!(rt; machine.step(), None, "{i}");
+        assert_eq!(rt; (machine.regs().overflow, machine.regs().i), (overflow, i));
+    }
+    assert!(rt; machine.core().in_core(619));
+    machine.set_i(619);
+    assert_eq!(rt; machine.step(), None);
+    assert_eq!(rt;
+        (machine.regs().overflow, machine.regs().i, machine.regs().b),
+        (false, 624, 619)
+    );
+    Ok(())
+}
+
+#[test]
+fn switches_are_told_by_their_places(rt: HostRuntime) -> Result<(), Fail> {
+    let mut machine = Machine::power_on(rt.alloc(), 1_400)?;
+    machine.switch(1, true);
+    machine.switch(6, true);
+    machine.switch(6, false);
+    machine.switch(2, true);
+    assert_eq!(rt;
+        machine.regs().switches,
+        [false, true, true, false, false, false, false]
     );
     Ok(())
 }

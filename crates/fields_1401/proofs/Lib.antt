@@ -1,7 +1,11 @@
+mod AcrossLemmas
 mod ArithmeticExamples
 mod ArithmeticLemmas
 mod CompareLemmas
+mod EditExamples
+mod EditLemmas
 mod ExampleCells
+mod ExampleGraphics
 mod FieldLemmas
 mod LoadExamples
 mod LoadLemmas
@@ -14,3 +18,5 @@ mod PartsExamples
 mod PartsLemmas
 mod PlacesLemmas
 mod RefusalLemmas
+mod SuppressExamples
+mod SuppressLemmas

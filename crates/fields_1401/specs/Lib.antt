@@ -1,5 +1,7 @@
+pub mod Across
 pub mod Arithmetic
 pub mod Compare
+pub mod Edit
 pub mod Load
 pub mod Marks
 pub mod Move
@@ -8,3 +10,4 @@ pub mod Outcome
 pub mod Parts
 pub mod Places
 pub mod Refusal
+pub mod Suppress

@@ -9,10 +9,13 @@
 //! ```
 #![tactic(auto)]
 
+mod across;
 pub mod arithmetic;
 pub mod comparison;
+mod control_word;
 mod digits;
 pub mod done;
+pub mod editing;
 mod lengths;
 mod like_signs;
 pub mod loads;
@@ -22,19 +25,23 @@ mod operands;
 pub mod parts;
 mod places;
 mod refusals;
-mod registers;
+pub mod registers;
 pub mod sign;
+pub mod suppression;
 mod unlike_signs;
 pub mod zero_sums;
 
 pub use arithmetic::{add, subtract};
 pub use comparison::compare;
 pub use done::{Done, FieldStop};
+pub use editing::edit;
 pub use loads::load_chars;
 pub use marks::{clear_down, clear_marks, set_marks};
 pub use moves::move_chars;
 pub use parts::{move_digit, move_zone};
+pub use registers::below;
 pub use sign::Sign;
+pub use suppression::suppress;
 pub use zero_sums::{zero_add, zero_subtract};
 
 #[cfg(test)]

@@ -93,7 +93,7 @@ fn needed(core: &Core, a: u16, b: u16) -> Option<(u16, u16)>
 
 /// How many places of A are used beside so many of B: down to its first word mark, but no more than those; none where one of
 /// them isn't in core.
-fn used_len(core: &Core, a: u16, len: u16) -> Option<u16>
+pub(crate) fn used_len(core: &Core, a: u16, len: u16) -> Option<u16>
     requires a { a < addresses }
     requires len { 0 < len }
     ensures value { result ≡ used_len_of core.now a len }

@@ -5,7 +5,9 @@ ghost use Rattle.core_1401.specs.Address.{addresses};
 
 mod arithmetic;
 mod comparison;
+mod editing;
 mod moves;
+mod suppression;
 
 use bcd_1401::{Cell, Char};
 use core_1401::Core;

@@ -7,6 +7,17 @@ use std::convert::AsStr;
 /// The size of core storage where none is named.
 const DEFAULT_SIZE: u16 = 4_000;
 
+/// The lines of a session, for the help.
+const LINES: &str = "\
+Lines, each with one reply:
+  DEPOSIT A TEXT  puts the cells of TEXT at address A and above; ~ before one gives it a word mark
+  EXAMINE A [N]   shows the cell at address A, or N cells from there on, 1 to 40
+  REGS            shows registers, indicators, switches and devices
+  START A         sets the I register, and runs nothing
+  SWITCH X ON     turns sense switch X on, A to G; SWITCH X OFF turns it off
+  RUN N           carries out at most N instructions, 1 to 1000000
+  QUIT            ends the session, of which nothing is kept";
+
 /// What the command line asks for.
 #[derive(Clone, Copy, Debug, PartialEq, Eq)]
 pub enum Call {
@@ -31,9 +42,10 @@ pub fn read_call(alloc: Global, words: &[impl AsStr]) -> Result<Call, Error> {
         .value_parser(value_parser!(u16));
     let console = Command::new(alloc, "console")
         .about("Carries out the lines of standard input, and writes their replies")
+        .after_help(LINES)
         .arg(size)?;
     let program = Command::new(alloc, "ibm1401")
-        .about("An IBM 1401 card system")
+        .about("An IBM 1401 card system, each operation of it proved")
         .subcommand_required(true)
         .subcommand(console)?;
     let matches = program.try_get_matches_from(words)?;

@@ -1,23 +1,60 @@
-//! What a run of the program may fail by.
+//! What a run of the program may fail by, and the status that it ends with.
+ghost use Rattle.std.specs.Prelude.{◌≡◌};
+ghost use Rattle.ibm1401.specs.Status.{outcome_of, run_status, status_of};
 
+use clap::Error as Refusal;
 use console_1401::SessionEnd;
 use thiserror::Error;
 
-/// What a run of the program may fail by. Each is one line on standard error.
+/// The status of a command line that can't be read.
+const MISUSED: u8 = 2;
+
+/// The status of a run that failed.
+const FAILED: u8 = 1;
+
+/// What a run of the program may fail by. Each but `Usage`, which has a text of its own, is one line on standard error.
 #[derive(Debug, Drop, Error)]
 pub enum Fault {
     /// A word of the command line isn't UTF-8.
     #[error("command line refused: it isn't UTF-8")]
     Text,
+    /// The command line asks for nothing that the program does.
+    #[error("{0}")]
+    Usage(Refusal),
+    /// Standard output didn't take the help.
+    #[error("cannot write")]
+    Output,
     /// No core storage of the size named is made.
     #[error("size refused")]
     Size,
-    /// Memory was refused.
+    /// Memory was refused before the session.
     #[error("memory refused")]
     Memory,
-    /// The session ended otherwise than with QUIT or the end of input.
-    #[error("session ended: {0}")]
-    Session(&'static str),
+    /// A read of the session failed.
+    #[error("session ended: READ")]
+    Read,
+    /// A write of the session failed, or took nothing.
+    #[error("session ended: WRITE")]
+    Write,
+    /// The session read as many bytes as it may.
+    #[error("session ended: BOUND")]
+    Bound,
+    /// The memory for a reply was refused.
+    #[error("session ended: MEMORY")]
+    Reply,
+}
+
+impl Fault {
+    /// The exit status.
+    pub fn status(&self) -> u8
+        ensures { result ≡ status_of self.now }
+    {
+        match self {
+            Fault::Text | Fault::Usage(_) => MISUSED,
+            Fault::Output | Fault::Size | Fault::Memory => FAILED,
+            Fault::Read | Fault::Write | Fault::Bound | Fault::Reply => FAILED,
+        }
+    }
 }
 
 /// What a session's end means for the program.
@@ -25,12 +62,30 @@ pub enum Fault {
 /// # Errors
 ///
 /// Any end but QUIT and the end of the input.
-pub fn ended(end: SessionEnd) -> Result<(), Fault> {
+pub fn ended(end: SessionEnd) -> Result<(), Fault>
+    ensures { result ≡ outcome_of end }
+{
     match end {
         SessionEnd::Quit | SessionEnd::EndOfInput => Ok(()),
-        SessionEnd::Read => Err(Fault::Session("READ")),
-        SessionEnd::Write => Err(Fault::Session("WRITE")),
-        SessionEnd::Bound => Err(Fault::Session("BOUND")),
-        SessionEnd::Memory => Err(Fault::Session("MEMORY")),
+        SessionEnd::Read => Err(Fault::Read),
+        SessionEnd::Write => Err(Fault::Write),
+        SessionEnd::Bound => Err(Fault::Bound),
+        SessionEnd::Memory => Err(Fault::Reply),
     }
+}
+
+/// Tells on standard error what a run failed by, and gives the exit status, which is the same where standard error
+/// doesn't take the text.
+pub fn report(rt: &impl Eprint, outcome: Result<(), Fault>) -> u8
+    ensures { result ≡ run_status outcome }
+{
+    let Err(fault) = outcome else {
+        return 0;
+    };
+    let status = fault.status();
+    let _ = match fault {
+        Fault::Usage(refusal) => rt.eprint(refusal),
+        fault => eprintln!(rt; "ibm1401: {fault}"),
+    };
+    status
 }

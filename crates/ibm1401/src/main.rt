@@ -8,29 +8,32 @@ mod subcommands;
 mod tests;
 
 use crate::args::{Call, read_call};
-use crate::fault::Fault;
-use crate::subcommands::console;
-use clap::error::ErrorKind;
+use crate::fault::{Fault, report};
+use crate::subcommands::{console, tell};
+use console_1401::{FromReader, ToWriter};
 use std::process::ExitCode;
 use std::rt::Env;
 use std::{env, io};
 
-/// The status of a command line that can't be read.
-const MISUSED: u8 = 2;
+fn main(rt: HostRuntime) -> ExitCode {
+    ExitCode::from(report(&rt, run(&rt)))
+}
 
-fn main(rt: HostRuntime) -> io::Result<ExitCode> {
-    let words = match command_line(&rt) {
-        Ok(words) => words,
-        Err(fault) => return end(&rt, Err(fault)),
-    };
+/// Runs what the command line asks for.
+///
+/// # Errors
+///
+/// `Text`, `Usage` or `Memory` where the command line can't be read, `Output` where its help can't be written, else
+/// what the subcommand fails by.
+fn run(rt: &(impl Env + Input + Print + AllocGlobal)) -> Result<(), Fault> {
+    let words = command_line(rt)?;
     match read_call(rt.alloc(), words.as_slice()) {
-        Ok(Call::Console { size }) => end(&rt, console(&rt, size)),
-        Err(error) if error.kind() == ErrorKind::OutOfMemory => end(&rt, Err(Fault::Memory)),
-        Err(error) => {
-            error.print(&rt)?;
-            let status = if error.use_stderr() { MISUSED } else { 0 };
-            Ok(ExitCode::from(status))
+        Ok(Call::Console { size }) => {
+            let mut reader = FromReader::new(rt.reader());
+            let mut writer = ToWriter::new(io::writer(rt));
+            console(rt.alloc(), size, &mut reader, &mut writer)
         }
+        Err(error) => tell(rt, error),
     }
 }
 
@@ -46,16 +49,4 @@ fn command_line(rt: &(impl Env + AllocGlobal)) -> Result<Vec<String>, Fault> {
         Err(_) => return Err(Fault::Memory),
     };
     words.collect(rt.alloc()).map_err(|_| Fault::Memory)
-}
-
-/// Tells a fault in one line on standard error, and gives the exit status.
-fn end(rt: &impl Eprint, outcome: Result<(), Fault>) -> io::Result<ExitCode> {
-    let Err(fault) = outcome else {
-        return Ok(ExitCode::SUCCESS);
-    };
-    eprintln!(rt; "ibm1401: {fault}")?;
-    Ok(match fault {
-        Fault::Text => ExitCode::from(MISUSED),
-        Fault::Size | Fault::Memory | Fault::Session(_) => ExitCode::FAILURE,
-    })
 }

@@ -1,24 +1,57 @@
 //! What the program's subcommands do.
+ghost use Rattle.std.specs.Prelude.{◌≡◌, ◌≢◌, ◌↔◌, false, OnErr};
+ghost use Rattle.clap.specs.Values.{kind_of};
+ghost use Rattle.core_1401.specs.Storage.{is_core_size};
+ghost use Rattle.ibm1401.specs.Console.{ConsoleDid, streams};
 
 use crate::fault::{Fault, ended};
-use console_1401::{FromReader, ToWriter, session};
+use clap::Error;
+use clap::error::ErrorKind;
+use console_1401::{Sink, Source, session};
 use core_1401::CoreFault;
 use room_1401::Room;
-use std::io;
+use std::alloc::Global;
 
-/// A session of standard input and output on a new room.
+/// One session at the console of a new room.
 ///
 /// # Errors
 ///
-/// The size or its memory refused, or a session that a read, a write, its bound or a reply's memory ended.
-pub fn console(rt: &(impl Input + Print + AllocGlobal), size: u16) -> Result<(), Fault> {
-    let mut room = match Room::power_on(rt.alloc(), size) {
+/// `Size` or `Memory` where there is no such room, or what ended the session but QUIT and the end of the input.
+pub fn console<R: Source, W: Sink>(
+    alloc: Global,
+    size: u16,
+    reader: &mut R,
+    writer: &mut W,
+) -> Result<(), Fault>
+    ensures size { (result ≡ Err Fault.Size) ↔ (is_core_size size ≡ false) }
+    ensures session { ConsoleDid size (streams (R.left reader.old) (W.received writer.old))
+        (streams (R.left reader.new) (W.received writer.new)) result }
+{
+    let mut room = match Room::power_on(alloc, size) {
         Ok(room) => room,
         Err(CoreFault::Size) => return Err(Fault::Size),
         Err(CoreFault::Memory) => return Err(Fault::Memory),
     };
-    let mut reader = FromReader::new(rt.reader());
-    let mut writer = ToWriter::new(io::writer(rt));
-    let end = session(rt.alloc(), &mut room, &mut reader, &mut writer);
+    let end = session(alloc, &mut room, reader, writer);
     ended(end)
+}
+
+/// Tells what a parse of the command line answers where it asks for no subcommand: the text of the help.
+///
+/// # Errors
+///
+/// `Output` where standard output doesn't take the help; `Usage` where the parse asks for none, or `Memory`.
+pub fn tell(rt: &impl Print, error: Error) -> Result<(), Fault>
+    ensures help { kind_of error ≡ ErrorKind.DisplayHelp → OnErr result (result ≡ Err Fault.Output) }
+    ensures memory { kind_of error ≡ ErrorKind.OutOfMemory → result ≡ Err Fault.Memory }
+    ensures usage { kind_of error ≢ ErrorKind.DisplayHelp → kind_of error ≢ ErrorKind.DisplayVersion
+        → kind_of error ≢ ErrorKind.OutOfMemory → result ≡ Err (Fault.Usage error) }
+{
+    match error.kind() {
+        ErrorKind::OutOfMemory => Err(Fault::Memory),
+        ErrorKind::DisplayHelp | ErrorKind::DisplayVersion => {
+            rt.print(error).map_err(|_| Fault::Output)
+        }
+        _ => Err(Fault::Usage(error)),
+    }
 }

@@ -1,19 +1,24 @@
 //! Whole sessions by theme: the lines, then the replies, worked out by hand.
 
+mod arithmetic;
+mod branches;
 mod command_line;
+mod editing;
 mod faults;
 mod moves;
 mod programs;
+mod recorder;
 mod refusals;
 mod storage;
+mod wiring;
 
 use console_1401::{FromReader, SessionEnd, ToWriter, session};
 use room_1401::Room;
 use std::alloc::Global;
 use std::process::Abort;
 
-/// Answers the lines in a new room of 4,000 places, and compares the replies, how the session ends, and how many commands
-/// the journal has.
+/// Answers the lines in a new room of 4,000 places, and compares the replies, how the session ends, and how many
+/// commands the journal has.
 fn expect_session(
     rt: &impl Abort,
     alloc: Global,

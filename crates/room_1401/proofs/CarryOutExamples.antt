@@ -12,7 +12,8 @@ use Rattle.room_1401.specs.declared.answer.Refusal.TheVariants.{Address, Limit, 
 use Rattle.room_1401.specs.declared.command.Command.TheVariants.{Deposit, Examine, SetI, Switch, Run}
 use Rattle.cpu_1401.specs.declared.switch_name.SwitchName.TheVariants.{B}
 use Rattle.room_1401.specs.CarryOut.{carry_out}
-use Rattle.room_1401.specs.Replay.{Pair, answers_of, replay}
+use Rattle.room_1401.specs.declared.entry.Pair.{Pair}
+use Rattle.room_1401.specs.Replay.{pair, answers_of, replay}
 
 -- K with a word mark
 abbrev marked_k : Cell
@@ -33,7 +34,8 @@ cells_go_up_from_their_address : carry_out small (Deposit 1 (marked_k ∷ blank 
 unfolding carry_out
 cells_go_up_from_their_address = refl
 
-cells_past_the_end_are_refused : carry_out small (Deposit 2 (marked_k ∷ blank ∷ [])) ≡ record { state = small; answer = Refused Address }
+cells_past_the_end_are_refused : carry_out small (Deposit 2 (marked_k ∷ blank ∷ []))
+    ≡ record { state = small; answer = Refused Address }
 unfolding carry_out
 cells_past_the_end_are_refused = refl
 
@@ -63,13 +65,14 @@ a_run_of_none_is_refused = refl
 -- a halt is put at the last place and run, and then it is shown
 abbrev halt_and_look : List Pair
 halt_and_look =
-    record { seat = 0; command = Deposit 2 (a_halt ∷ []) }
-    ∷ record { seat = 1; command = SetI 2 }
-    ∷ record { seat = 1; command = Run 5 }
-    ∷ record { seat = 0; command = Examine 1 2 }
+    pair 0 (Deposit 2 (a_halt ∷ []))
+    ∷ pair 1 (SetI 2)
+    ∷ pair 1 (Run 5)
+    ∷ pair 0 (Examine 1 2)
     ∷ []
 
-each_answer_follows_from_the_commands_before : answers_of 3 halt_and_look ≡ Done ∷ Done ∷ Ran 1 stop.Halt 3 ∷ Cells (blank ∷ a_halt ∷ []) ∷ []
+each_answer_follows_from_the_commands_before : answers_of 3 halt_and_look
+    ≡ Done ∷ Done ∷ Ran 1 stop.Halt 3 ∷ Cells (blank ∷ a_halt ∷ []) ∷ []
 unfolding carry_out step run_for graphics
 each_answer_follows_from_the_commands_before = refl
 

@@ -1,3 +1,4 @@
 pub mod ReplayLemmas
 mod CarryOutExamples
+mod JournalExamples
 pub mod CellsLemmas

@@ -1,5 +1,6 @@
 -- What a command does to the machine, and what it is answered (own).
-use Rattle.std.specs.Prelude.{ℕ, ◌+◌, ◌&&◌, Bool, List, ◌++◌, length, take, drop, nat_le, if◌then◌else◌}
+use Rattle.std.specs.Prelude.{ℕ, ◌+◌, ◌&&◌, Bool, List, ◌++◌}
+use Rattle.std.specs.Prelude.{length, take, drop, nat_le, if◌then◌else◌}
 use Rattle.bcd_1401.specs.declared.cell.Cell.{Cell}
 use Rattle.core_1401.specs.Storage.{Storage, is_in_core}
 use Rattle.cpu_1401.specs.Run.{Finished, run_for}
@@ -11,6 +12,14 @@ use Rattle.room_1401.specs.declared.answer.Refusal.{Refusal}
 use Rattle.room_1401.specs.declared.answer.Refusal.TheVariants.{Address, Limit, Count}
 use Rattle.room_1401.specs.declared.command.Command.{Command}
 use Rattle.room_1401.specs.declared.command.Command.TheVariants.{Deposit, Examine, Registers, SetI, Switch, Run}
+
+-- how many cells a command takes or shows at the most
+abbrev pub most_cells : ℕ
+most_cells = 40
+
+-- how many instructions a run has at the most
+abbrev pub most_steps : ℕ
+most_steps = 1000000
 
 -- what a command leaves: the machine, and the answer
 pub record Carried : Type 0 where
@@ -29,7 +38,7 @@ tell answer s = record { state = s; answer = answer }
 abbrev pub change_to : State → Carried
 change_to s = record { state = s; answer = Done }
 
--- whether so many places from an address on are in core
+-- whether these places, from an address on, are in core
 abbrev pub are_in_core : Storage → ℕ → ℕ → Bool
 are_in_core storage address count = nat_le (address + count) (length storage)
 
@@ -37,27 +46,44 @@ are_in_core storage address count = nat_le (address + count) (length storage)
 abbrev pub deposited : Storage → ℕ → List Cell → Storage
 deposited storage address cells = take address storage ++ cells ++ drop (address + length cells) storage
 
--- so many cells from an address on
+-- the cells from an address on
 abbrev pub examined : Storage → ℕ → ℕ → List Cell
 examined storage address count = take count (drop address storage)
 
--- what is answered for so many cells from an address on: the count is looked at before the places
+-- cells put at an address and the ones above it, where all of these places are in core
+abbrev pub deposit : ℕ → List Cell → State → Carried
+deposit address cells s =
+    if are_in_core s.storage address (length cells)
+    then change_to (record s { storage = deposited s.storage address cells })
+    else refuse Address s
+
+-- the cells from an address on are shown, where all of these places are in core
+abbrev pub show_cells : Storage → ℕ → ℕ → Answer
+show_cells storage address count =
+    if are_in_core storage address count then Cells (examined storage address count) else Refused Address
+
+-- what is answered for the cells from an address on: the count is looked at before the places
 abbrev pub examine : Storage → ℕ → ℕ → Answer
 examine storage address count =
-    if nat_le 1 count && nat_le count 40 then (if are_in_core storage address count then Cells (examined storage address count) else Refused Address)
-    else Refused Count
+    if nat_le 1 count && nat_le count most_cells then show_cells storage address count else Refused Count
 
--- a run, with the I register afterwards
+-- the next instruction is taken from an address that is in core
+abbrev pub set_i : ℕ → State → Carried
+set_i address s = if is_in_core s.storage address then change_to (record s { i = address }) else refuse Address s
+
+-- what a run leaves, with the I register afterwards
 abbrev pub run_answer : Finished → Carried
 run_answer run = record { state = run.state; answer = Ran run.steps run.stop run.state.i }
 
+-- a run, where the limit is one that a run has
+abbrev pub run : ℕ → State → Carried
+run limit s = if nat_le 1 limit && nat_le limit most_steps then run_answer (run_for limit s) else refuse Limit s
+
 -- what a command does, and what it is answered
 unfoldable pub carry_out : State → Command → Carried
-carry_out s (Deposit address cells) =
-    if are_in_core s.storage address (length cells) then change_to (record s { storage = deposited s.storage address cells })
-    else refuse Address s
+carry_out s (Deposit address cells) = deposit address cells s
 carry_out s (Examine address count) = tell (examine s.storage address count) s
 carry_out s Registers = tell (Regs (regs_of s)) s
-carry_out s (SetI address) = if is_in_core s.storage address then change_to (record s { i = address }) else refuse Address s
+carry_out s (SetI address) = set_i address s
 carry_out s (Switch n on) = change_to (with_switch s (switch_number n) on)
-carry_out s (Run limit) = if nat_le 1 limit && nat_le limit 1000000 then run_answer (run_for limit s) else refuse Limit s
+carry_out s (Run limit) = run limit s

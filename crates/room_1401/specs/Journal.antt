@@ -4,8 +4,8 @@ use Rattle.cpu_1401.specs.State.{State}
 use Rattle.room_1401.specs.declared.answer.Answer.{Answer}
 use Rattle.room_1401.specs.declared.command.Command.{Command}
 use Rattle.room_1401.specs.declared.entry.Entry.{Entry}
-use Rattle.room_1401.specs.CarryOut.{carry_out}
-use Rattle.room_1401.specs.Replay.{Pair, replay, answers_of}
+use Rattle.room_1401.specs.declared.entry.Pair.{Pair}
+use Rattle.room_1401.specs.Replay.{pair, replay, answers_of, reply_to}
 
 -- an entry of the journal
 abbrev pub entry : ℕ → Command → Answer → Entry
@@ -13,7 +13,7 @@ entry seat command answer = record { seat = seat; command = command; answer = an
 
 -- what an entry asks, and who asks it
 abbrev pub pair_of : Entry → Pair
-pair_of entry = record { seat = entry.seat; command = entry.command }
+pair_of entry = pair entry.seat entry.command
 
 -- the answer that an entry records
 abbrev pub answer_in : Entry → Answer
@@ -33,7 +33,7 @@ IsLegal size journal = map answer_in journal ≡ answers_of size (pairs_of journ
 
 -- what the sequential machine answers to a command after these entries
 abbrev pub answer_to : ℕ → List Entry → Command → Answer
-answer_to size journal command = (carry_out (state_of size journal) command).answer
+answer_to size journal command = reply_to size (pairs_of journal) command
 
 -- how many entries a journal has at the most
 abbrev pub most_entries : ℕ

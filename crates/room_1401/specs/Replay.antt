@@ -3,12 +3,12 @@ use Rattle.std.specs.Prelude.{ℕ, List, [], ◌∷◌}
 use Rattle.cpu_1401.specs.State.{State, power_on}
 use Rattle.room_1401.specs.declared.answer.Answer.{Answer}
 use Rattle.room_1401.specs.declared.command.Command.{Command}
+use Rattle.room_1401.specs.declared.entry.Pair.{Pair}
 use Rattle.room_1401.specs.CarryOut.{carry_out}
 
--- a command, and the seat that gave it
-pub record Pair : Type 0 where
-  pub seat : ℕ
-  pub command : Command
+-- a command of a seat
+abbrev pub pair : ℕ → Command → Pair
+pair seat command = record { seat = seat; command = command }
 
 -- the machine after these commands
 abbrev pub state_after : State → List Pair → State
@@ -18,7 +18,8 @@ state_after s (pair ∷ pairs) = state_after (carry_out s pair.command).state pa
 -- what these commands are answered
 abbrev pub answers_after : State → List Pair → List Answer
 answers_after s [] = []
-answers_after s (pair ∷ pairs) = (carry_out s pair.command).answer ∷ answers_after (carry_out s pair.command).state pairs
+answers_after s (pair ∷ pairs) =
+    let carried = carry_out s pair.command in carried.answer ∷ answers_after carried.state pairs
 
 -- the machine of this size after these commands, from power-on
 abbrev pub replay : ℕ → List Pair → State
@@ -27,3 +28,7 @@ replay size pairs = state_after (power_on size) pairs
 -- what these commands are answered by the machine of this size, from power-on
 abbrev pub answers_of : ℕ → List Pair → List Answer
 answers_of size pairs = answers_after (power_on size) pairs
+
+-- what the machine of this size answers to a command after these commands
+abbrev pub reply_to : ℕ → List Pair → Command → Answer
+reply_to size pairs command = (carry_out (replay size pairs) command).answer

@@ -1,6 +1,7 @@
 //! A command carried out on the machine.
-ghost use Rattle.std.specs.Prelude.{◌≡◌, ◌+◌, ◌≤◌, IsTrue, length};
-ghost use Rattle.room_1401.specs.CarryOut.{are_in_core, carry_out, deposited, examine, examined};
+ghost use Rattle.std.specs.Prelude.{◌≡◌, ◌+◌, ◌<◌, ◌≤◌, ◌^◌, IsTrue, length};
+ghost use Rattle.room_1401.specs.CarryOut.{are_in_core, carry_out, deposit, deposited, examine, examined};
+ghost use Rattle.room_1401.specs.CarryOut.{most_cells, run, set_i};
 
 use crate::answer::{Answer, Refusal};
 use crate::command::Command;
@@ -11,7 +12,7 @@ use cpu_1401::Machine;
 /// How many instructions a run has at the most.
 const MOST_STEPS: u32 = 1_000_000;
 
-/// Carries a command out on a machine, and gives its answer. One that is refused leaves the machine as it was. No command
+/// Carries a command out on a machine, and gives its answer. One that is refused leaves the machine as it was, and none
 /// changes the size of core storage.
 #[tactic(auto, unfolding(crate::specs::CarryOut::carry_out))]
 pub fn carry_out(machine: &mut Machine, command: &Command) -> Answer
@@ -20,55 +21,47 @@ pub fn carry_out(machine: &mut Machine, command: &Command) -> Answer
     ensures size { length machine.new.storage ≡ length machine.old.storage }
 {
     match *command {
-        Command::Deposit { address, cells } => {
-            let cells = cells.as_slice();
-            if !are_in_core(machine.core(), address, cells.len()) {
-                return Answer::Refused(Refusal::Address);
-            }
-            deposit(machine, address, cells);
-            Answer::Done
-        }
+        Command::Deposit { address, cells } => deposit(machine, address, cells.as_slice()),
         Command::Examine { address, count } => examine(machine.core(), address, count),
         Command::Registers => Answer::Regs(machine.regs()),
-        Command::SetI { address } => {
-            if !machine.core().in_core(address) {
-                return Answer::Refused(Refusal::Address);
-            }
-            machine.set_i(address);
-            Answer::Done
-        }
+        Command::SetI { address } => set_i(machine, address),
         Command::Switch { n, on } => {
             machine.switch(n.number(), on);
             Answer::Done
         }
-        Command::Run { limit } => {
-            if limit < 1 || limit > MOST_STEPS {
-                return Answer::Refused(Refusal::Limit);
-            }
-            let ran = machine.run(limit);
-            Answer::Ran {
-                steps: ran.steps,
-                stop: ran.stop,
-                i: machine.regs().i,
-            }
-        }
+        Command::Run { limit } => run(machine, limit),
     }
 }
 
-/// Whether so many places from an address on are in core.
+/// Whether these places, from an address on, are in core.
 fn are_in_core(core: &Core, address: u16, count: usize) -> bool
-    requires { count ≤ 40 }
+    requires { count ≤ most_cells }
     ensures value { result ≡ are_in_core core.now address count }
-    ensures most { IsTrue result → address + count ≤ 16000 }
+    ensures most { IsTrue result → address + count < 2 ^ 16 }
 {
     usize::from(address) + count <= usize::from(core.size())
 }
 
+/// Puts cells at an address and the ones above it, where all of these places are in core.
+fn deposit(machine: &mut Machine, address: u16, cells: &[Cell]) -> Answer
+    requires { length cells.now ≤ most_cells }
+    ensures state { machine.new ≡ (deposit address cells.now machine.old).state }
+    ensures answer { result ≡ (deposit address cells.now machine.old).answer }
+    ensures size { length machine.new.storage ≡ length machine.old.storage }
+{
+    if !are_in_core(machine.core(), address, cells.len()) {
+        return Answer::Refused(Refusal::Address);
+    }
+    put_cells(machine, address, cells);
+    Answer::Done
+}
+
 /// Puts cells at an address and the ones above it.
-fn deposit(machine: &mut Machine, address: u16, cells: &[Cell])
+fn put_cells(machine: &mut Machine, address: u16, cells: &[Cell])
     requires inside { address + length cells.now ≤ length machine.old.storage }
-    requires most { address + length cells.now ≤ 16000 }
-    ensures { machine.new ≡ record machine.old { storage = deposited machine.old.storage address cells.now } }
+    requires most { address + length cells.now < 2 ^ 16 }
+    ensures value { machine.new ≡ record machine.old { storage = deposited machine.old.storage address cells.now } }
+    ensures size { length machine.new.storage ≡ length machine.old.storage }
 {
     for (i, cell) in cells.iter().enumerate() {
         machine.put(address + i as u16, *cell);
@@ -89,12 +82,12 @@ fn examine(core: &Core, address: u16, count: u32) -> Answer
     Answer::Cells(cells_from(core, address, count))
 }
 
-/// So many cells from an address on.
+/// The cells from an address on.
 fn cells_from(core: &Core, address: u16, count: usize) -> Cells
     requires some { 1 ≤ count }
-    requires few { count ≤ 40 }
+    requires few { count ≤ most_cells }
     requires inside { address + count ≤ length core.now }
-    requires most { address + count ≤ 16000 }
+    requires most { address + count < 2 ^ 16 }
     ensures { result ≡ examined core.now address count }
 {
     let mut cells = [Cell::BLANK; MOST_CELLS];
@@ -104,5 +97,35 @@ fn cells_from(core: &Core, address: u16, count: usize) -> Cells
     match Cells::from_slice(&cells[..count]) {
         Some(cells) => cells,
         None => unreachable!(),
+    }
+}
+
+/// Sets the I register to an address that is in core.
+fn set_i(machine: &mut Machine, address: u16) -> Answer
+    ensures state { machine.new ≡ (set_i address machine.old).state }
+    ensures answer { result ≡ (set_i address machine.old).answer }
+    ensures size { length machine.new.storage ≡ length machine.old.storage }
+{
+    if !machine.core().in_core(address) {
+        return Answer::Refused(Refusal::Address);
+    }
+    machine.set_i(address);
+    Answer::Done
+}
+
+/// Runs the machine, where the limit is one that a run has.
+fn run(machine: &mut Machine, limit: u32) -> Answer
+    ensures state { machine.new ≡ (run limit machine.old).state }
+    ensures answer { result ≡ (run limit machine.old).answer }
+    ensures size { length machine.new.storage ≡ length machine.old.storage }
+{
+    if limit < 1 || limit > MOST_STEPS {
+        return Answer::Refused(Refusal::Limit);
+    }
+    let ran = machine.run(limit);
+    Answer::Ran {
+        steps: ran.steps,
+        stop: ran.stop,
+        i: machine.regs().i,
     }
 }

@@ -1,8 +1,17 @@
-//! A line of the journal.
+//! A line of the journal, and the command in it with its seat.
 ghost use Rattle.std.specs.Prelude.{◌≡◌};
 
 use crate::answer::Answer;
 use crate::command::Command;
+
+/// A command with the seat that gave it.
+#[derive(Clone, Copy, Debug, PartialEq, Eq)]
+pub struct Pair {
+    /// The seat, numbered from 1; 0 is the console of a machine that isn't shared.
+    pub seat: u8,
+    /// The command.
+    pub command: Command,
+}
 
 /// A command with the seat that gave it and the answer that it got.
 #[derive(Clone, Copy, Debug, PartialEq, Eq)]

@@ -17,7 +17,7 @@ pub mod room;
 pub use answer::{Answer, Refusal};
 pub use carrying::carry_out;
 pub use command::Command;
-pub use entry::Entry;
+pub use entry::{Entry, Pair};
 pub use fault::RoomFault;
 pub use room::Room;
 

@@ -1,5 +1,6 @@
 //! A machine with the journal that explains it.
-ghost use Rattle.std.specs.Prelude.{◌≡◌, ◌+◌, ◌<◌, ◌≤◌, ◌↔◌, [], ◌∷◌, ◌++◌, true, false, length, IsOk, IfOk, OnErr};
+ghost use Rattle.std.specs.Prelude.{◌≡◌, ◌+◌, ◌<◌, ◌≤◌, ◌↔◌, [], ◌∷◌, ◌++◌, true, false, length};
+ghost use Rattle.std.specs.Prelude.{IsOk, IfOk, OnOk, OnErr};
 ghost use Rattle.core_1401.specs.Storage.{is_core_size};
 ghost use Rattle.room_1401.specs.Journal.{IsLegal, answer_to, entry, is_full, most_entries, state_of};
 
@@ -30,9 +31,13 @@ impl Model for Room {
 
     ghost Value = { Account };
 
-    ghost view = { λ r. record { size = length r.machine.storage; journal = r.journal.items; spare = vec_capacity r.journal - vec_len r.journal } };
+    ghost view = { λ room. record {
+      size = length room.machine.storage;
+      journal = room.journal.items;
+      spare = vec_capacity room.journal - vec_len room.journal;
+    } };
 
-    ghost invariant = { λ r. IsExplained r.machine r.journal.items };
+    ghost invariant = { λ room. IsExplained room.machine room.journal.items };
 }
 
 impl Room {
@@ -72,15 +77,40 @@ impl Room {
         self.journal.as_slice()
     }
 
-    /// Carries a command out for a seat, and records it with its answer.
+    /// Makes room for one entry more. After `Ok` the next command is carried out.
     ///
     /// # Errors
     ///
     /// `JournalFull` where the journal has its 100,000 entries, else `Memory` where there is no room for one more. The
-    /// machine and the journal are as they were.
+    /// journal is as it was in each case.
+    pub fn reserve(&mut self) -> Result<(), RoomFault>
+        ensures journal { self.new.journal ≡ self.old.journal }
+        ensures size { self.new.size ≡ self.old.size }
+        ensures ok { OnOk result (0 < self.new.spare) }
+        ensures not_full { OnOk result (is_full self.old.journal ≡ false) }
+        ensures full { (result ≡ Err RoomFault.JournalFull) ↔ (is_full self.old.journal ≡ true) }
+        ensures reserved { 0 < self.old.spare → is_full self.old.journal ≡ false → IsOk result }
+        ensures spare { self.old.spare ≤ self.new.spare }
+        ensures kept { OnErr result (self.new.spare ≡ self.old.spare) }
+    {
+        if self.journal.len() >= MOST_ENTRIES {
+            return Err(RoomFault::JournalFull);
+        }
+        if self.journal.reserve(1).is_err() {
+            return Err(RoomFault::Memory);
+        }
+        Ok(())
+    }
+
+    /// Carries a command out for a seat, and records it with its answer.
+    ///
+    /// # Errors
+    ///
+    /// As those of `reserve`. The machine and the journal are as they were.
     pub fn carry(&mut self, seat: u8, command: Command) -> Result<Answer, RoomFault>
         ensures answer { IfOk result (λ answer. answer ≡ answer_to self.old.size self.old.journal command) }
-        ensures recorded { IfOk result (λ answer. self.new.journal ≡ self.old.journal ++ entry seat command answer ∷ []) }
+        ensures recorded { IfOk result (λ answer.
+            self.new.journal ≡ self.old.journal ++ entry seat command answer ∷ []) }
         ensures size { self.new.size ≡ self.old.size }
 
         // A refusal changes nothing.
@@ -92,15 +122,22 @@ impl Room {
         ensures spare { self.old.spare ≤ self.new.spare + 1 }
         ensures kept { OnErr result (self.new.spare ≡ self.old.spare) }
     {
-        if self.journal.len() >= MOST_ENTRIES {
-            return Err(RoomFault::JournalFull);
-        }
-        if self.journal.reserve(1).is_err() {
-            return Err(RoomFault::Memory);
-        }
+        self.reserve()?;
+        Ok(self.carry_reserved(seat, command))
+    }
+
+    /// Carries a command out for a seat, and records it with its answer, where there is room for the entry.
+    fn carry_reserved(&mut self, seat: u8, command: Command) -> Answer
+        requires spare { 0 < self.old.spare }
+        requires not_full { is_full self.old.journal ≡ false }
+        ensures answer { result ≡ answer_to self.old.size self.old.journal command }
+        ensures recorded { self.new.journal ≡ self.old.journal ++ entry seat command result ∷ [] }
+        ensures size { self.new.size ≡ self.old.size }
+        ensures spare { self.new.spare + 1 ≡ self.old.spare }
+    {
         let answer = carry_out(&mut self.machine, &command);
         self.journal
             .push_reserved(Entry::new(seat, &command, &answer));
-        Ok(answer)
+        answer
     }
 }

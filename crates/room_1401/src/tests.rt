@@ -13,6 +13,40 @@ fn a_size_that_is_none_is_refused(rt: HostRuntime) {
 }
 
 #[test]
+fn each_size_of_core_powers_on(rt: HostRuntime) -> Result<(), Fail> {
+    for size in [1_400, 2_000, 4_000] {
+        let mut room = Room::power_on(rt.alloc(), size)?;
+        assert_eq!(rt; room.journal().len(), 0, "{size}");
+        assert_eq!(rt; room.machine().core().size(), size, "{size}");
+        let last = Command::SetI { address: size - 1 };
+        assert_eq!(rt; room.carry(0, last).ok(), Some(Answer::Done), "{size}");
+        let past = Command::SetI { address: size };
+        let refused = Some(Answer::Refused(Refusal::Address));
+        assert_eq!(rt; room.carry(0, past).ok(), refused, "{size}");
+    }
+    Ok(())
+}
+
+#[test]
+fn an_entry_names_its_seat(rt: HostRuntime) -> Result<(), Fail> {
+    let mut room = Room::power_on(rt.alloc(), 1_400)?;
+    for seat in [0, 1, 8, 255] {
+        assert!(rt; room.carry(seat, Command::Registers).is_ok(), "{seat}");
+        let last = room.journal().last().map(|entry| entry.seat);
+        assert_eq!(rt; last, Some(seat), "{seat}");
+    }
+    Ok(())
+}
+
+#[test]
+fn room_is_made_for_an_entry(rt: HostRuntime) -> Result<(), Fail> {
+    let mut room = Room::power_on(rt.alloc(), 4_000)?;
+    assert!(rt; room.reserve().is_ok());
+    assert_eq!(rt; room.journal().len(), 0);
+    Ok(())
+}
+
+#[test]
 fn each_refusal_is_recorded(rt: HostRuntime) -> Result<(), Fail> {
     let mut room = Room::power_on(rt.alloc(), 4_000)?;
     for (command, refusal) in [
@@ -59,6 +93,7 @@ fn a_full_journal_keeps_its_entries(rt: HostRuntime) -> Result<(), Fail> {
         let refused = room.carry(0, Command::SetI { address: 7 }).err();
         assert_eq!(rt; refused, Some(RoomFault::JournalFull));
     }
+    assert_eq!(rt; room.reserve().err(), Some(RoomFault::JournalFull));
     assert_eq!(rt; room.journal().len(), 100_000);
     assert_eq!(rt; room.machine().regs().i, 0);
     Ok(())

@@ -8,8 +8,10 @@ fn each_fault_has_its_reply(rt: HostRuntime) {
     expect_replies(
         &rt,
         rt.alloc(),
-        "HELLO\nEXAMINE\nEXAMINE 16000\nDEPOSIT 0500 a\nDEPOSIT 0500 ~\nDEPOSIT 0500\nREGS X\nEXAMINE 3999 2\nEXAMINE 4000 41\n",
-        "ERROR 1 WORD\nERROR 2 NUMBER\nERROR 2 NUMBER\nERROR 3 GRAPHIC\nERROR 3 GRAPHIC\nERROR 4 LENGTH\nERROR 5 EXTRA\n\
+        "HELLO\nEXAMINE\nEXAMINE 16000\nDEPOSIT 0500 a\nDEPOSIT 0500 ~\nDEPOSIT 0500\nREGS X\nEXAMINE 3999 2\n\
+         EXAMINE 4000 41\n",
+        "ERROR 1 WORD\nERROR 2 NUMBER\nERROR 2 NUMBER\nERROR 3 GRAPHIC\nERROR 3 GRAPHIC\nERROR 4 LENGTH\n\
+         ERROR 5 EXTRA\n\
          REFUSED 1 ADDRESS\nREFUSED 6 COUNT\n",
         2,
     );
@@ -22,7 +24,8 @@ fn a_refused_command_changes_nothing(rt: HostRuntime) {
         rt.alloc(),
         "DEPOSIT 3999 KL\nEXAMINE 3999\nSTART 4000\nEXAMINE 0 0\nREGS\nQUIT",
         "REFUSED 1 ADDRESS\n \nREFUSED 1 ADDRESS\nREFUSED 6 COUNT\n\
-         I=00000 A=00000 B=00000 UNEQUAL=0 OVERFLOW=0 SWITCHES=------- HOPPER=000 STACKER=000 PAPER=000 FORM=0001 LINE=01\n\
+         I=00000 A=00000 B=00000 UNEQUAL=0 OVERFLOW=0 SWITCHES=------- \
+         HOPPER=000 STACKER=000 PAPER=000 FORM=0001 LINE=01\n\
          BYE\n",
         SessionEnd::Quit,
         5,
@@ -45,6 +48,8 @@ fn each_stop_has_its_number_and_name(rt: HostRuntime) {
     for (program, reply) in [
         ("~T~.", "STOP 07 OPCODE STEPS 0 I 00600\n"),
         ("~M70~.", "STOP 08 LENGTH STEPS 0 I 00600\n"),
+        ("~A70~.", "STOP 08 LENGTH STEPS 0 I 00600\n"),
+        ("~@700710~.", "STOP 12 NOTFITTED STEPS 0 I 00600\n"),
         ("~M7007101~.", "STOP 12 NOTFITTED STEPS 0 I 00600\n"),
         ("~L7007101~.", "STOP 12 NOTFITTED STEPS 0 I 00600\n"),
         ("M700710~.", "STOP 06 NOMARK STEPS 0 I 00600\n"),

@@ -7,9 +7,11 @@ fn storage_is_cleared_down_to_its_hundred(rt: HostRuntime) {
     expect_replies(
         &rt,
         rt.alloc(),
-        "DEPOSIT 0798 ~XY~Z\nDEPOSIT 0699 K\nDEPOSIT 0500 ~/799~.\nSTART 0500\nRUN 1\nEXAMINE 0798 3\nEXAMINE 0699\nREGS\n",
+        "DEPOSIT 0798 ~XY~Z\nDEPOSIT 0699 K\nDEPOSIT 0500 ~/799~.\nSTART 0500\nRUN 1\nEXAMINE 0798 3\n\
+         EXAMINE 0699\nREGS\n",
         "OK\nOK\nOK\nOK\nSTOP 01 LIMIT STEPS 1 I 00504\n  ~Z\nK\n\
-         I=00504 A=00799 B=00699 UNEQUAL=0 OVERFLOW=0 SWITCHES=------- HOPPER=000 STACKER=000 PAPER=000 FORM=0001 LINE=01\n",
+         I=00504 A=00799 B=00699 UNEQUAL=0 OVERFLOW=0 SWITCHES=------- \
+         HOPPER=000 STACKER=000 PAPER=000 FORM=0001 LINE=01\n",
         8,
     );
 }
@@ -21,7 +23,8 @@ fn clearing_with_two_addresses_branches(rt: HostRuntime) {
         rt.alloc(),
         "DEPOSIT 0500 ~AB\nDEPOSIT 0600 ~/700501~.\nSTART 0600\nRUN 1\nEXAMINE 0500 2\nREGS\nRUN 1\n",
         "OK\nOK\nOK\nSTOP 01 LIMIT STEPS 1 I 00700\n  \n\
-         I=00700 A=00700 B=00607 UNEQUAL=0 OVERFLOW=0 SWITCHES=------- HOPPER=000 STACKER=000 PAPER=000 FORM=0001 LINE=01\n\
+         I=00700 A=00700 B=00607 UNEQUAL=0 OVERFLOW=0 SWITCHES=------- \
+         HOPPER=000 STACKER=000 PAPER=000 FORM=0001 LINE=01\n\
          STOP 06 NOMARK STEPS 0 I 00700\n",
         7,
     );
@@ -34,7 +37,8 @@ fn clearing_below_the_first_hundred_steps_round(rt: HostRuntime) {
         rt.alloc(),
         "DEPOSIT 0000 ~AB\nDEPOSIT 0600 ~/001~/~.\nSTART 0600\nRUN 2\nEXAMINE 0000 3\nREGS\n",
         "OK\nOK\nOK\nSTOP 09 ADDRESS STEPS 1 I 00604\n   \n\
-         I=00604 A=00001 B=15999 UNEQUAL=0 OVERFLOW=0 SWITCHES=------- HOPPER=000 STACKER=000 PAPER=000 FORM=0001 LINE=01\n",
+         I=00604 A=00001 B=15999 UNEQUAL=0 OVERFLOW=0 SWITCHES=------- \
+         HOPPER=000 STACKER=000 PAPER=000 FORM=0001 LINE=01\n",
         6,
     );
 }
@@ -44,7 +48,8 @@ fn word_marks_are_set_and_cleared_alone(rt: HostRuntime) {
     expect_replies(
         &rt,
         rt.alloc(),
-        "DEPOSIT 0500 A~BC\nDEPOSIT 0600 ~,500502~)501~.\nSTART 0600\nRUN 1\nEXAMINE 0500 3\nRUN 1\nEXAMINE 0500 3\nDEPOSIT 0500 A\nEXAMINE 0500\n",
+        "DEPOSIT 0500 A~BC\nDEPOSIT 0600 ~,500502~)501~.\nSTART 0600\nRUN 1\nEXAMINE 0500 3\nRUN 1\n\
+         EXAMINE 0500 3\nDEPOSIT 0500 A\nEXAMINE 0500\n",
         "OK\nOK\nOK\nSTOP 01 LIMIT STEPS 1 I 00607\n~A~B~C\nSTOP 01 LIMIT STEPS 1 I 00611\n~AB~C\nOK\nA\n",
         9,
     );
@@ -57,7 +62,8 @@ fn an_index_register_is_added_round_the_last_address(rt: HostRuntime) {
         rt.alloc(),
         "DEPOSIT 0087 003\nDEPOSIT 0002 Q\nDEPOSIT 0600 ~,IZI~.\nSTART 0600\nRUN 1\nEXAMINE 2\nREGS\n",
         "OK\nOK\nOK\nOK\nSTOP 01 LIMIT STEPS 1 I 00604\n~Q\n\
-         I=00604 A=00001 B=00001 UNEQUAL=0 OVERFLOW=0 SWITCHES=------- HOPPER=000 STACKER=000 PAPER=000 FORM=0001 LINE=01\n",
+         I=00604 A=00001 B=00001 UNEQUAL=0 OVERFLOW=0 SWITCHES=------- \
+         HOPPER=000 STACKER=000 PAPER=000 FORM=0001 LINE=01\n",
         7,
     );
 }
@@ -67,7 +73,8 @@ fn each_index_register_has_its_places(rt: HostRuntime) {
     expect_replies(
         &rt,
         rt.alloc(),
-        "DEPOSIT 0087 010\nDEPOSIT 0092 0K0\nDEPOSIT 0097 030\nDEPOSIT 0500 ABCD\nDEPOSIT 0600 ~,4Z1~,4R1~,4I1~.\nSTART 0600\nRUN 3\nEXAMINE 0501\nEXAMINE 0511\nEXAMINE 0521\n",
+        "DEPOSIT 0087 010\nDEPOSIT 0092 0K0\nDEPOSIT 0097 030\nDEPOSIT 0500 ABCD\n\
+         DEPOSIT 0600 ~,4Z1~,4R1~,4I1~.\nSTART 0600\nRUN 3\nEXAMINE 0501\nEXAMINE 0511\nEXAMINE 0521\n",
         "OK\nOK\nOK\nOK\nOK\nOK\nSTOP 01 LIMIT STEPS 3 I 00612\n~B\n~ \n~ \n",
         10,
     );
@@ -80,7 +87,8 @@ fn an_instruction_ends_with_core(rt: HostRuntime) {
         rt.alloc(),
         "DEPOSIT 3996 ~,500\nSTART 3996\nRUN 2\nREGS\nDEPOSIT 3999 ~.\nSTART 3999\nRUN 5\n",
         "OK\nOK\nSTOP 06 NOMARK STEPS 1 I 04000\n\
-         I=04000 A=00499 B=00499 UNEQUAL=0 OVERFLOW=0 SWITCHES=------- HOPPER=000 STACKER=000 PAPER=000 FORM=0001 LINE=01\n\
+         I=04000 A=00499 B=00499 UNEQUAL=0 OVERFLOW=0 SWITCHES=------- \
+         HOPPER=000 STACKER=000 PAPER=000 FORM=0001 LINE=01\n\
          OK\nOK\nSTOP 02 HALT STEPS 1 I 04000\n",
         7,
     );
@@ -93,7 +101,8 @@ fn a_register_steps_round_the_first_address(rt: HostRuntime) {
         rt.alloc(),
         "DEPOSIT 0000 ~AB\nDEPOSIT 0502 ~   \nDEPOSIT 0600 ~M002505~,~.\nSTART 0600\nRUN 2\nREGS\nEXAMINE 0502 4\n",
         "OK\nOK\nOK\nOK\nSTOP 09 ADDRESS STEPS 1 I 00607\n\
-         I=00607 A=15999 B=00502 UNEQUAL=0 OVERFLOW=0 SWITCHES=------- HOPPER=000 STACKER=000 PAPER=000 FORM=0001 LINE=01\n\
+         I=00607 A=15999 B=00502 UNEQUAL=0 OVERFLOW=0 SWITCHES=------- \
+         HOPPER=000 STACKER=000 PAPER=000 FORM=0001 LINE=01\n\
          ~ AB \n",
         7,
     );

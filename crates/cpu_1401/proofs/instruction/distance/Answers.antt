@@ -4,7 +4,8 @@ use Rattle.bcd_1401.specs.declared.cell.Cell.{Cell}
 use Rattle.cpu_1401.specs.Instruction.{distance_from}
 use Rattle.cpu_1401.proofs.DistanceLemmas.{distance_is, distance_least}
 use Rattle.cpu_1401.proofs.instruction.distance.Goals as goal
-use Rattle.cpu_1401.proofs.instruction.distance.Goals.{then-at-len-via-then-at-len, then-at-len-via-else-at-len+then-get}
+use Rattle.cpu_1401.proofs.instruction.distance.Goals.{then-at-len-via-then-at-len}
+use Rattle.cpu_1401.proofs.instruction.distance.Goals.{then-at-len-via-else-at-len+then-get}
 
 pub returns-then-at-len-clause-value : goal.returns-then-at-len-clause-value
 returns-then-at-len-clause-value c =

@@ -12,7 +12,8 @@ returns-in-Some-clause-run c =
 
 pub loop-steps-preserved : goal.loop-steps-preserved
 loop-steps-preserved c =
-    let run = goes_on c.args.limit c.loop-steps.steps c.args.self.now c.loop-steps.self c.step.new.self c.loop-steps-test.true c.loop-steps.invariant.run
+    let run =
+    goes_on c.args.limit c.loop-steps.steps c.args.self.now c.loop-steps.self c.step.new.self c.loop-steps-test.true c.loop-steps.invariant.run
     (sym c.step.ensures.stop ∙ c.in_default.is) c.step.ensures.state in
     record { run = run; size = c.step.ensures.size ∙ c.loop-steps.invariant.size }
 

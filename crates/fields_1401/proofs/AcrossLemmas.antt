@@ -1,0 +1,113 @@
+-- Fields read and written from left to right.
+use Rattle.std.proofs.Common.{◌≡◌, ℕ, ◌+◌, ◌-◌, ◌==◌, ◌<◌, ◌≤◌, false, List, length, get_or, take, drop, set, ap, sym, ◌∙◌, inl, inr, arith, if◌then◌else◌}
+use Rattle.std.proofs.lemmas.Bool.{cases_lt}
+use Rattle.std.proofs.lemmas.List.{ext_get_or, get_or_past, length-map, length-take, length-drop, get_or-map, get_or-take, get_or-drop}
+use Rattle.std.proofs.lemmas.List.FromFn.{get_or-map-range_with_len, length-map-range_with_len}
+use Rattle.bcd_1401.specs.Character.{with_zone_of}
+use Rattle.bcd_1401.specs.declared.cell.Cell.{Cell}
+use Rattle.core_1401.specs.Storage.{Storage, blank, cell_at}
+use Rattle.fields_1401.specs.Across.{chars_across, unzoned_at, units_unzoned, unmarked_cell, with_across, IsUnmarked, IsSameOutside}
+use Rattle.fields_1401.specs.Places.{with_cells}
+use Rattle.fields_1401.proofs.PlacesLemmas.{with_cells_more, cell_at-within, cell_at-outside, is_within-inside, length-with_cells}
+
+-- so many characters as places
+pub length-across : (s : Storage) (at n : ℕ) → at < length s → n ≤ at + 1 → length (chars_across s at n) ≡ n
+unfolding chars_across
+length-across s at n in_core above =
+    let cells : List Cell = take n (drop (at + 1 - n) s) in
+    length-map cells (λ (cell : Cell). cell.char) ∙ omega (arith, length-take n (drop (at + 1 - n) s), length-drop (at + 1 - n) s)
+
+-- the character of place i
+pub char_across : (s : Storage) (at n i : ℕ) → at < length s → n ≤ at + 1 → i < n → get_or (chars_across s at n) i 0 ≡ (cell_at s (at - (n - 1 - i))).char
+unfolding chars_across
+char_across s at n i in_core above within =
+    let cells : List Cell = take n (drop (at + 1 - n) s) in
+    let size : length cells ≡ n = omega (arith, length-take n (drop (at + 1 - n) s), length-drop (at + 1 - n) s) in
+    let here : get_or cells i blank ≡ cell_at s (at - (n - 1 - i)) =
+    get_or-take n (drop (at + 1 - n) s) i blank within ∙ get_or-drop (at + 1 - n) s i blank ∙ ap (λ q. get_or s q blank) (omega arith) in
+    get_or-map (λ (cell : Cell). cell.char) cells i blank 0 (omega arith) ∙ ap (λ (cell : Cell). cell.char) here
+
+pub length-units_unzoned : (chars : List ℕ) → length (units_unzoned chars) ≡ length chars
+unfolding units_unzoned
+length-units_unzoned chars = length-map-range_with_len (unzoned_at chars) 0 (length chars)
+
+pub char_unzoned : (chars : List ℕ) (i : ℕ) → i < length chars → get_or (units_unzoned chars) i 0 ≡ unzoned_at chars i
+unfolding units_unzoned
+char_unzoned chars i within = get_or-map-range_with_len (unzoned_at chars) 0 (length chars) i i 0 within (omega arith)
+
+-- so many characters, the units without their zone
+pub length-unzoned_across : (s : Storage) (at n : ℕ) → at < length s → n ≤ at + 1 → length (units_unzoned (chars_across s at n)) ≡ n
+length-unzoned_across s at n in_core above = length-units_unzoned (chars_across s at n) ∙ length-across s at n in_core above
+
+-- the character of place i: without its zone where it is the last
+pub unzoned_read : (s : Storage) (at n i : ℕ) → at < length s → n ≤ at + 1 → i < n
+    → get_or (units_unzoned (chars_across s at n)) i 0
+    ≡ (if i + 1 == n then with_zone_of (cell_at s (at - (n - 1 - i))).char 0 else (cell_at s (at - (n - 1 - i))).char)
+unzoned_read s at n i in_core above within =
+    let chars = chars_across s at n in
+    let size : length chars ≡ n = length-across s at n in_core above in
+    let shown : ℕ → ℕ → ℕ = λ m char. if i + 1 == m then with_zone_of char 0 else char in
+    char_unzoned chars i (omega arith)
+    ∙ ap (λ m. shown m (get_or chars i 0)) size
+    ∙ ap (shown n) (char_across s at n i in_core above within)
+
+-- the same character where the place is as it was
+pub unzoned_kept : (s t : Storage) (at n i : ℕ) → at < length s → length t ≡ length s → n ≤ at + 1 → i < n
+    → cell_at t (at - (n - 1 - i)) ≡ cell_at s (at - (n - 1 - i))
+    → get_or (units_unzoned (chars_across t at n)) i 0 ≡ get_or (units_unzoned (chars_across s at n)) i 0
+unzoned_kept s t at n i in_core size above within same =
+    let in_t : at < length t = omega arith in
+    let shown : Cell → ℕ = λ cell. if i + 1 == n then with_zone_of cell.char 0 else cell.char in
+    unzoned_read t at n i in_t above within ∙ ap shown same ∙ sym (unzoned_read s at n i in_core above within)
+
+-- one place more is written
+pub across_more : (s : Storage) (at i : ℕ) (chars : List ℕ) (char : ℕ) → at < length s → i ≤ at → char ≡ get_or chars (length chars - 1 - i) 0
+    → set (with_cells s at i (unmarked_cell chars)) (at - i) (record { char = char; mark = false }) ≡ with_cells s at (i + 1) (unmarked_cell chars)
+across_more s at i chars char in_core i_in e =
+    with_cells_more s at i (unmarked_cell chars) (record { char = char; mark = false }) in_core i_in
+    (ap (λ k. let cell : Cell = record { char = k; mark = false } in cell) e)
+
+-- all places are written
+pub across_all : (s t : Storage) (at i : ℕ) (chars : List ℕ) → t ≡ with_cells s at i (unmarked_cell chars) → i ≡ length chars → t ≡ with_across s at chars
+unfolding with_across
+across_all s t at i chars e last = e ∙ ap (λ n. with_cells s at n (unmarked_cell chars)) last
+
+-- no word mark is left at the places written
+pub across_unmarked : (s t : Storage) (at n : ℕ) (chars : List ℕ) → t ≡ with_across s at chars → length chars ≡ n → at < length s → n ≤ at + 1 → IsUnmarked t at n
+unfolding with_across
+across_unmarked s t at n chars e size in_core above i within =
+    ap (λ (u : Storage). (cell_at u (at - i)).mark) e
+    ∙ ap (λ (cell : Cell). cell.mark) (cell_at-within s at (length chars) (unmarked_cell chars) (at - i) (omega arith) (is_within-inside at (length chars) (at - i) (omega arith) (omega arith)))
+
+-- each other place is as it was
+pub across_outside : (s t : Storage) (at n : ℕ) (chars : List ℕ) → t ≡ with_across s at chars → length chars ≡ n → IsSameOutside s t at n
+unfolding with_across
+across_outside s t at n chars e size place out =
+    let same_size : length t ≡ length s = ap length e ∙ length-with_cells s at (length chars) (unmarked_cell chars) in
+    elim (cases_lt place (length s)) [
+      | inl inside ↦ ap (λ (u : Storage). cell_at u place) e
+          ∙ cell_at-outside s at (length chars) (unmarked_cell chars) place inside (rw size out)
+      | inr past ↦ get_or_past t place blank (omega arith) ∙ sym (get_or_past s place blank past)
+    ]
+
+-- what was written is read again
+pub across_again : (s t : Storage) (at n : ℕ) (chars : List ℕ) → t ≡ with_across s at chars → length chars ≡ n → at < length s → n ≤ at + 1 → chars_across t at n ≡ chars
+unfolding with_across
+across_again s t at n chars e size in_core above =
+    let same_size : length t ≡ length s = ap length e ∙ length-with_cells s at (length chars) (unmarked_cell chars) in
+    let read_size : length (chars_across t at n) ≡ n = length-across t at n (omega arith) above in
+    ext_get_or 0 (chars_across t at n) chars (read_size ∙ sym size) (λ i lt.
+    let q = at - (n - 1 - i) in
+    char_across t at n i (omega arith) above (omega arith)
+    ∙ ap (λ (u : Storage). (cell_at u q).char) e
+    ∙ ap (λ (cell : Cell). cell.char) (cell_at-within s at (length chars) (unmarked_cell chars) q (omega arith) (is_within-inside at (length chars) q (omega arith) (omega arith)))
+    ∙ ap (λ k. get_or chars k 0) (omega arith))
+
+-- the same characters where each place is as it was
+pub across_kept : (s t : Storage) (at n : ℕ) → at < length s → length t ≡ length s → n ≤ at + 1
+    → ((k : ℕ) → k < n → cell_at t (at - k) ≡ cell_at s (at - k)) → chars_across t at n ≡ chars_across s at n
+across_kept s t at n in_core size above same =
+    let in_t : at < length t = omega arith in
+    let t_size : length (chars_across t at n) ≡ n = length-across t at n in_t above in
+    ext_get_or 0 (chars_across t at n) (chars_across s at n) (t_size ∙ sym (length-across s at n in_core above)) (λ i lt.
+    char_across t at n i in_t above (omega arith) ∙ ap (λ (cell : Cell). cell.char) (same (n - 1 - i) (omega arith)) ∙ sym (char_across s at n i in_core above (omega arith)))

@@ -1,0 +1,32 @@
+-- How a run of the program ends (own).
+use Rattle.std.specs.Prelude.{ℕ, ⊤, Result, Ok, Err}
+use Rattle.console_1401.specs.declared.session_end.SessionEnd.{SessionEnd}
+use Rattle.console_1401.specs.declared.session_end.SessionEnd.TheVariants as end
+use Rattle.ibm1401.specs.declared.fault.Fault.{Fault}
+use Rattle.ibm1401.specs.declared.fault.Fault.TheVariants as fault
+
+-- the status after a fault: 2 for a command line that can't be read, else 1
+abbrev pub status_of : Fault → ℕ
+status_of fault.Text = 2
+status_of (fault.Usage refusal) = 2
+status_of fault.Output = 1
+status_of fault.Size = 1
+status_of fault.Memory = 1
+status_of fault.Read = 1
+status_of fault.Write = 1
+status_of fault.Bound = 1
+status_of fault.Reply = 1
+
+-- the status that a run ends with
+abbrev pub run_status : Result ⊤ Fault → ℕ
+run_status (Ok _) = 0
+run_status (Err why) = status_of why
+
+-- what a session's end is for the program: QUIT and the end of the input are no faults
+abbrev pub outcome_of : SessionEnd → Result ⊤ Fault
+outcome_of end.Quit = Ok tt
+outcome_of end.EndOfInput = Ok tt
+outcome_of end.Read = Err fault.Read
+outcome_of end.Write = Err fault.Write
+outcome_of end.Bound = Err fault.Bound
+outcome_of end.Memory = Err fault.Reply
