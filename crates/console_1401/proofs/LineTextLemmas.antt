@@ -10,6 +10,7 @@ use Rattle.bcd_1401.specs.Graphic.{graphics}
 use Rattle.core_1401.specs.Address.{addresses}
 use Rattle.cpu_1401.specs.declared.switch_name.SwitchName.{SwitchName}
 use Rattle.cpu_1401.specs.declared.switch_name.SwitchName.TheVariants.{A, B, C, D, E, F, G}
+use Rattle.room_1401.specs.CarryOut.{most_cells}
 use Rattle.room_1401.specs.declared.command.Command.TheVariants as command
 use Rattle.console_1401.specs.declared.line.Line.{Line}
 use Rattle.console_1401.specs.declared.line.Line.TheVariants.{Empty, Command, Quit}
@@ -17,7 +18,7 @@ use Rattle.console_1401.specs.declared.words.Keyword.{Keyword}
 use Rattle.console_1401.specs.declared.words.Keyword.TheVariants as keyword
 use Rattle.console_1401.specs.Bytes.{blank}
 use Rattle.console_1401.specs.ConsoleLine.{said_in_words, said_with, ended, spelled, cells_of, deposit_of, examine_of, start_of, switch_said, run_of}
-use Rattle.console_1401.specs.Limits.{most_digits, most_cells}
+use Rattle.console_1401.specs.Limits.{most_digits}
 use Rattle.console_1401.specs.LineText.{Part, IsTyped, IsTypedBehind, IsParted, CanBeSaid, text_of, setting_text}
 use Rattle.console_1401.specs.LineText.Part.{Name, Numeral}
 use Rattle.console_1401.specs.ReplyText.{cell_text, cells_text}

@@ -27,7 +27,7 @@ pub record Moment (S : Type 0) : Type 0 where
 abbrev pub moment : {S : Type 0} → Option (List ℕ) → Option (List ℕ) → S → Moment S
 moment left received state = record { left = left; received = received; state = state }
 
--- So many bytes were read, every finished line among them is answered, and the first 202 bytes of the rest are kept.
+-- Of the bytes read, as many as the count, every finished line is answered, and what can be kept of the rest is kept.
 pub record SoFar {S : Type 0} (responds : Response S) (before now : Moment S) (count : ℕ)
     (line : List ℕ) : Type 0 where
   pub read : List ℕ
@@ -136,7 +136,7 @@ line_more responds before now after count line s c a =
           (said_finished line) a.reply s.answered a.responded);
     }
 
--- a byte was read and received, and the session goes on
+-- a byte was read and entered, and the session goes on
 pub goes_on : {S : Type 0} (responds : Response S) (is_feed : Bool) (before now after : Moment S) (count byte : ℕ)
     (line kept : List ℕ)
     → (byte == 10) ≡ is_feed → SoFar responds before now count line → Consumes now.left after.left (byte ∷ [])
@@ -233,7 +233,7 @@ ended_line responds end.EndOfInput ended before now after read written front sai
 ended_line responds end.Read ended before now after read written front said c p n last d a = absurd a.wrote
 ended_line responds end.Bound ended before now after read written front said c p n last d a = absurd a.wrote
 
--- a byte was read and received, and the session ended
+-- a byte was read and entered, and the session ended
 pub ends_here : {S : Type 0} (responds : Response S) (is_feed : Bool) (last : SessionEnd) (before now after : Moment S)
     (count byte : ℕ) (line kept : List ℕ)
     → (byte == 10) ≡ is_feed → SoFar responds before now count line → count < 16777216

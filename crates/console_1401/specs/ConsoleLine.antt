@@ -4,6 +4,7 @@ use Rattle.std.specs.Option.{option_map}
 use Rattle.std.specs.List.{list_all}
 use Rattle.bcd_1401.specs.declared.cell.Cell.{Cell}
 use Rattle.bcd_1401.specs.Graphic.{graphics}
+use Rattle.room_1401.specs.CarryOut.{most_cells}
 use Rattle.room_1401.specs.declared.command.Command.TheVariants as command
 use Rattle.console_1401.specs.declared.line.Line.{Line}
 use Rattle.console_1401.specs.declared.line.Line.TheVariants.{Empty, Command, Quit}
@@ -13,7 +14,7 @@ use Rattle.console_1401.specs.declared.words.Keyword.{Keyword}
 use Rattle.console_1401.specs.declared.words.Keyword.TheVariants as keyword
 use Rattle.console_1401.specs.Words.{◌>>=◌, word_in, behind_word, keyword_of, number_of, address_of, count_of, switch_of, setting_of}
 use Rattle.console_1401.specs.Bytes.{tilde}
-use Rattle.console_1401.specs.Limits.{most_line_bytes, most_cells}
+use Rattle.console_1401.specs.Limits.{most_line_bytes}
 
 -- what a line says, or its first fault from left to right
 abbrev pub Said : Type 0

@@ -3,11 +3,12 @@ use Rattle.std.specs.Prelude.{◌≡◌, ℕ, ◌^◌, ◌<◌, ◌≤◌, Bool,
 use Rattle.std.specs.Fmt.{decimal}
 use Rattle.bcd_1401.specs.declared.cell.Cell.{Cell}
 use Rattle.core_1401.specs.Address.{addresses}
+use Rattle.room_1401.specs.CarryOut.{most_cells}
 use Rattle.room_1401.specs.declared.command.Command.TheVariants as command
 use Rattle.console_1401.specs.declared.line.Line.{Line}
 use Rattle.console_1401.specs.declared.line.Line.TheVariants as line
 use Rattle.console_1401.specs.Bytes.{blank}
-use Rattle.console_1401.specs.Limits.{most_line_bytes, most_digits, most_cells}
+use Rattle.console_1401.specs.Limits.{most_line_bytes, most_digits}
 use Rattle.console_1401.specs.ReplyText.{cells_text}
 use Rattle.console_1401.specs.Words.{letter_of}
 

@@ -1,4 +1,4 @@
--- What was received of the rest is added, and what is left of it is the rest.
+-- What the sink received of the rest is added, and what is left of it is the rest.
 use Rattle.std.proofs.Common.{ℕ, List, ◌++◌, take, drop, sym, ◌∙◌, ap, append_assoc, take-append-drop}
 use Rattle.std.proofs.lemmas.List.{take_rest}
 use Rattle.std.proofs.KnownBytes.{Appends-trans}
