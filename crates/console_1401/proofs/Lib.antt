@@ -8,3 +8,4 @@ pub mod SessionLemmas
 pub mod SpelledLemmas
 pub mod AnsweringLemmas
 pub mod TextLemmas
+pub mod ImageLoadingLemmas
