@@ -1,6 +1,7 @@
 pub mod AnsweringLemmas
 mod ConsoleLineExamples
 pub mod DigitLemmas
+pub mod ImageLoadingLemmas
 mod LineTextExamples
 pub mod LineTextLemmas
 pub mod NumberLemmas

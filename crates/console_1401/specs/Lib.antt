@@ -1,6 +1,7 @@
 pub mod Answering
 pub mod Bytes
 pub mod ConsoleLine
+pub mod ImageLoading
 pub mod Limits
 pub mod LineText
 pub mod ReplyText

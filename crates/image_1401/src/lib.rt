@@ -18,3 +18,6 @@ pub use fault::ImageFault;
 pub use image::{Image, Segment, Segments};
 pub use reading::read_image;
 pub use writing::write_image;
+
+#[cfg(test)]
+mod tests;
