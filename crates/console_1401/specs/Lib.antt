@@ -2,6 +2,7 @@ pub mod Answering
 pub mod Bytes
 pub mod ConsoleLine
 pub mod Limits
+pub mod LineText
 pub mod ReplyText
 pub mod Session
 pub mod Sink

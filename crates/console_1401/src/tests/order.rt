@@ -11,8 +11,8 @@ use std::io;
 use std::io::{ErrorKind, Read, Write};
 use std::test::Fail;
 
-/// What a reader and a writer were asked, in order: each byte that was read stands as it is, the end of input as `.`, the
-/// bytes of a write in brackets, and what failed as `!`.
+/// What a reader and a writer were asked, in order: each byte that was read stands as it is, the end of input as `.`,
+/// the bytes of a write in brackets, and what failed as `!`.
 type Record = RefCell<Vec<u8>>;
 
 /// Adds to a record.
