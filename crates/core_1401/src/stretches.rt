@@ -56,7 +56,8 @@ impl Core {
         requires at { at < length self.old }
         requires some { 0 < n }
         requires places { n ≤ at + 1 }
-        ensures { self.new ≡ with_cells self.old at n (λ i. blank) }
+        ensures value { self.new ≡ with_cells self.old at n (λ i. blank) }
+        ensures size { length self.new ≡ length self.old }
     {
         let high = usize::from(at);
         let low = high + 1 - usize::from(n);

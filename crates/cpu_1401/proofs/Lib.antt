@@ -1,4 +1,6 @@
 mod BranchExamples
+mod CardsExamples
+pub mod CardsAndPrinterLemmas
 pub mod ExampleCells
 mod RegisterExamples
 pub mod RunLemmas

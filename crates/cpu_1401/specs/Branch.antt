@@ -8,7 +8,7 @@ use Rattle.bcd_1401.specs.Character.{zone_of}
 use Rattle.bcd_1401.specs.Graphic.{graphics}
 use Rattle.bcd_1401.specs.declared.cell.Cell.{Cell}
 use Rattle.core_1401.specs.Storage.{is_in_core, cell_at}
-use Rattle.devices_1401.specs.Devices.{line_of}
+use Rattle.devices_1401.specs.Carriage.{is_at_channel}
 use Rattle.fields_1401.specs.Outcome.{below_by}
 use Rattle.cpu_1401.specs.declared.condition.Condition.{Condition}
 use Rattle.cpu_1401.specs.declared.condition.Condition.TheVariants.{Unequal, Overflow, LastCard, SwitchOn, ChannelNine}
@@ -56,8 +56,8 @@ is_so s Unequal = s.unequal
 is_so s Overflow = s.overflow
 is_so s LastCard = slice_index_or s.switches 0 false && (length s.devices.hopper == 0)
 is_so s (SwitchOn name) = slice_index_or s.switches (switch_number name) false
-is_so s ChannelNine = line_of s.devices.carriage == 60
-is_so s ChannelTwelve = line_of s.devices.carriage == 63
+is_so s ChannelNine = is_at_channel s.devices.carriage 9
+is_so s ChannelTwelve = is_at_channel s.devices.carriage 12
 
 -- what looking leaves: the overflow indicator is turned off by its test
 abbrev pub after_look : State → Condition → State

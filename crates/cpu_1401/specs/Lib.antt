@@ -1,4 +1,5 @@
 pub mod Branch
+pub mod CardsAndPrinter
 pub mod FieldStep
 pub mod Instruction
 pub mod Operation

@@ -10,14 +10,19 @@ use Rattle.cpu_1401.specs.declared.operation.Operation.TheVariants.{Add, Subtrac
 use Rattle.cpu_1401.specs.declared.operation.Operation.TheVariants.{MoveDigit, MoveZone, SetWordMark, ClearWordMark}
 use Rattle.cpu_1401.specs.declared.operation.Operation.TheVariants.{ClearStorage, Compare, ZeroSuppress, Edit, Branch}
 use Rattle.cpu_1401.specs.declared.operation.Operation.TheVariants.{BranchOnCell, StoreA, StoreB, NoOperation, Halt}
-use Rattle.cpu_1401.specs.declared.operation.Operation.TheVariants.{SelectStacker}
+use Rattle.cpu_1401.specs.declared.operation.Operation.TheVariants.{SelectStacker, ReadCard, WriteLine, WriteAndRead}
+use Rattle.cpu_1401.specs.declared.operation.Operation.TheVariants.{PunchCard, ReadAndPunch, WriteAndPunch}
+use Rattle.cpu_1401.specs.declared.operation.Operation.TheVariants.{WriteReadAndPunch, ControlCarriage}
 
 -- the operations, each with its graphic in front
 abbrev pub operations : List (ℕ × Operation)
 operations =
-    zip (codes "AS?!MLDY,)/CZEBVQHN.K") (Add ∷ Subtract ∷ ZeroAdd ∷ ZeroSubtract ∷ Move ∷ Load ∷ MoveDigit ∷ MoveZone
-    ∷ SetWordMark ∷ ClearWordMark ∷ ClearStorage ∷ Compare ∷ ZeroSuppress ∷ Edit ∷ Branch ∷ BranchOnCell ∷ StoreA ∷ StoreB
-    ∷ NoOperation ∷ Halt ∷ SelectStacker ∷ [])
+    zip (codes "AS?!MLDY,)/CZEBVQHN.K1234567F") (Add ∷ Subtract ∷ ZeroAdd ∷ ZeroSubtract ∷ Move ∷ Load ∷ MoveDigit
+    ∷ MoveZone
+    ∷ SetWordMark ∷ ClearWordMark ∷ ClearStorage ∷ Compare ∷ ZeroSuppress ∷ Edit ∷ Branch ∷ BranchOnCell ∷ StoreA
+    ∷ StoreB
+    ∷ NoOperation ∷ Halt ∷ SelectStacker ∷ ReadCard ∷ WriteLine ∷ WriteAndRead ∷ PunchCard ∷ ReadAndPunch
+    ∷ WriteAndPunch ∷ WriteReadAndPunch ∷ ControlCarriage ∷ [])
 
 -- the operation with this graphic, if it is one's
 abbrev pub operation_named : ℕ → Option Operation
@@ -81,6 +86,14 @@ form_of StoreB = form (4 ∷ []) [] eight false
 form_of NoOperation = form (1 ∷ 2 ∷ 3 ∷ 4 ∷ 5 ∷ 6 ∷ 7 ∷ 8 ∷ []) [] eight false
 form_of Halt = form (1 ∷ 4 ∷ []) [] eight false
 form_of SelectStacker = form (2 ∷ 5 ∷ []) [] eight false
+form_of ReadCard = form (1 ∷ 4 ∷ []) (2 ∷ 5 ∷ []) eight false
+form_of WriteLine = form (1 ∷ 2 ∷ 4 ∷ 5 ∷ []) [] eight false
+form_of WriteAndRead = form (1 ∷ 4 ∷ []) (2 ∷ 5 ∷ []) eight false
+form_of PunchCard = form (1 ∷ 4 ∷ []) (2 ∷ 5 ∷ []) eight false
+form_of ReadAndPunch = form (1 ∷ 4 ∷ []) (2 ∷ 5 ∷ []) eight false
+form_of WriteAndPunch = form (1 ∷ 4 ∷ []) (2 ∷ 5 ∷ []) eight false
+form_of WriteReadAndPunch = form (1 ∷ 4 ∷ []) (2 ∷ 5 ∷ []) eight false
+form_of ControlCarriage = form (2 ∷ 5 ∷ []) [] eight false
 
 -- whether an instruction may have this length
 abbrev pub has_length : Operation → ℕ → Bool

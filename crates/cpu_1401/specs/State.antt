@@ -1,8 +1,10 @@
 -- The machine as plain data, and as it is at power-on (own: all off and empty).
-use Rattle.std.specs.Prelude.{ℕ, Bool, false, List, length, replicate, slice_set}
+use Rattle.std.specs.Prelude.{ℕ, ◌<◌, ◌≤◌, Bool, false, List, length, replicate, slice_set}
 use Rattle.bcd_1401.specs.declared.cell.Cell.{Cell}
+use Rattle.core_1401.specs.Address.{addresses}
 use Rattle.core_1401.specs.Storage.{Storage, blanks}
-use Rattle.devices_1401.specs.Devices.{Devices, no_cards, form_of, line_of}
+use Rattle.devices_1401.specs.Carriage.{form_of, line_of, forms, lines_of_form}
+use Rattle.devices_1401.specs.Devices.{Devices, no_cards, most}
 use Rattle.cpu_1401.specs.declared.regs.Regs.{Regs}
 
 -- storage by address, the I, A and B registers, the indicators, the sense switches A to G, and the devices
@@ -44,6 +46,19 @@ regs_of s = record {
   form = form_of s.devices.carriage;
   line = line_of s.devices.carriage;
 }
+
+-- The registers hold addresses, no more cards and lines are there than fit, and the form and the line are those of a
+-- carriage.
+pub record IsInRange (regs : Regs) : Type 0 where
+  pub i : regs.i < addresses
+  pub a : regs.a < addresses
+  pub b : regs.b < addresses
+  pub hopper : regs.hopper ≤ most
+  pub stacker : regs.stacker ≤ most
+  pub paper : regs.paper ≤ most
+  pub form : regs.form < forms
+  pub first_line : 1 ≤ regs.line
+  pub last_line : regs.line ≤ lines_of_form
 
 -- a sense switch turned on or off: 0 is A, 6 is G
 abbrev pub with_switch : State → ℕ → Bool → State

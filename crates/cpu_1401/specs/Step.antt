@@ -1,7 +1,8 @@
 -- One step of the machine: the checks in their order, then what the operation does (A24-1403, the descriptions of the
 -- instructions; the order of the checks is own).
-use Rattle.std.specs.Prelude.{ℕ, ◌==◌, false, Option, None, Some, if◌then◌else◌}
+use Rattle.std.specs.Prelude.{ℕ, ◌==◌, true, false, Option, None, Some, if◌then◌else◌}
 use Rattle.core_1401.specs.Storage.{cell_at}
+use Rattle.devices_1401.specs.Carriage.{controlled}
 use Rattle.fields_1401.specs.Arithmetic.{sum_at, difference_at, zero_sum_at, zero_difference_at}
 use Rattle.fields_1401.specs.Compare.{comparison_at}
 use Rattle.fields_1401.specs.Edit.{edit_at}
@@ -16,6 +17,7 @@ use Rattle.cpu_1401.specs.declared.operation.Operation.TheVariants as op
 use Rattle.cpu_1401.specs.declared.stop.Stop.{Stop}
 use Rattle.cpu_1401.specs.declared.stop.Stop.TheVariants as stop
 use Rattle.cpu_1401.specs.Branch.{after_branch, branch_on_cell, go_on, passes}
+use Rattle.cpu_1401.specs.CardsAndPrinter.{after_cards, after_line, after_control, asks}
 use Rattle.cpu_1401.specs.FieldStep.{after_field, after_comparison, after_clear}
 use Rattle.cpu_1401.specs.Instruction.{begins_at, instruction_of, length_at}
 use Rattle.cpu_1401.specs.Operation.{operation_of, is_unfitted, is_unfitted_length, has_length}
@@ -46,6 +48,14 @@ perform op.StoreB this s = after_store s.b this s
 perform op.NoOperation this s = step_to (go_on false this s)
 perform op.Halt this s = record { state = go_on (this.len == 4) this s; stop = Some stop.Halt }
 perform op.SelectStacker this s = step_to (go_on (this.len == 5) this s)
+perform op.ReadCard this s = after_cards (asks false true false s.storage) 81 this s
+perform op.WriteLine this s = after_line this s
+perform op.WriteAndRead this s = after_cards (asks true true false s.storage) 81 this s
+perform op.PunchCard this s = after_cards (asks false false true s.storage) 181 this s
+perform op.ReadAndPunch this s = after_cards (asks false true true s.storage) 181 this s
+perform op.WriteAndPunch this s = after_cards (asks true false true s.storage) 181 this s
+perform op.WriteReadAndPunch this s = after_cards (asks true true true s.storage) 181 this s
+perform op.ControlCarriage this s = after_control this s (controlled s.devices.carriage this.d)
 
 -- an operation at a length: it must be fitted, and the length must be one of its own
 abbrev pub check_length : Operation → ℕ → State → Stepped

@@ -81,9 +81,10 @@ impl Machine {
         match condition {
             Condition::Unequal => self.unequal,
             Condition::Overflow => self.overflow,
-            Condition::LastCard => self.switches[0],
+            Condition::LastCard => self.switches[0] && self.devices.hopper() == 0,
             Condition::SwitchOn(name) => self.switches[usize::from(name.number())],
-            Condition::ChannelNine | Condition::ChannelTwelve => false,
+            Condition::ChannelNine => self.devices.at_channel(9),
+            Condition::ChannelTwelve => self.devices.at_channel(12),
         }
     }
 

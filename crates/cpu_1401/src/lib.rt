@@ -7,10 +7,13 @@
 //! ```
 #![tactic(auto)]
 
+pub mod asked;
 mod branch_steps;
 pub mod condition;
+mod device_steps;
 mod field_steps;
 pub mod instruction;
+mod loading;
 pub mod machine;
 pub mod operation;
 mod register_steps;

@@ -1,11 +1,12 @@
-//! The machine: core storage, registers, indicators and sense switches.
+//! The machine: core storage, registers, indicators, sense switches, and its devices.
 ghost use Rattle.std.specs.Prelude.{◌≡◌, ◌<◌, ◌↔◌, false, length, IfOk};
 ghost use Rattle.core_1401.specs.Storage.{is_core_size};
-ghost use Rattle.cpu_1401.specs.State.{power_on, regs_of, with_cell, with_switch};
+ghost use Rattle.cpu_1401.specs.State.{IsInRange, power_on, regs_of, with_cell, with_switch};
 
 use crate::regs::Regs;
 use bcd_1401::Cell;
 use core_1401::{Core, CoreFault};
+use devices_1401::Devices;
 use std::alloc::Global;
 use std::marker::Model;
 
@@ -19,12 +20,12 @@ pub struct Machine {
     pub(crate) unequal: bool,
     pub(crate) overflow: bool,
     pub(crate) switches: [bool; 7],
+    pub(crate) devices: Devices,
 }
 
 impl Model for Machine {
     ghost use Rattle.std.specs.Prelude.{◌<◌};
     ghost use Rattle.core_1401.specs.Address.{addresses};
-    ghost use Rattle.devices_1401.specs.Devices.{no_cards};
     ghost use Rattle.cpu_1401.specs.State.{State};
 
     ghost Value = { State };
@@ -37,7 +38,7 @@ impl Model for Machine {
       unequal = m.unequal;
       overflow = m.overflow;
       switches = m.switches;
-      devices = no_cards;
+      devices = m.devices;
     } };
 
     ghost invariant = { λ m. (m.i < addresses) × (m.a < addresses) × (m.b < addresses) };
@@ -54,6 +55,9 @@ impl Machine {
         ensures size { (result ≡ Err CoreFault.Size) ↔ (is_core_size size ≡ false) }
     {
         let core = Core::power_on(alloc, size)?;
+        let Ok(devices) = Devices::power_on(alloc) else {
+            return Err(CoreFault::Memory);
+        };
         Ok(Machine {
             core,
             i: 0,
@@ -62,6 +66,7 @@ impl Machine {
             unequal: false,
             overflow: false,
             switches: [false; 7],
+            devices,
         })
     }
 
@@ -74,7 +79,8 @@ impl Machine {
 
     /// The registers and indicators, and how full the devices are.
     pub fn regs(&self) -> Regs
-        ensures { result ≡ regs_of self.now }
+        ensures value { result ≡ regs_of self.now }
+        ensures range { IsInRange result }
     {
         Regs {
             i: self.i,
@@ -83,11 +89,11 @@ impl Machine {
             unequal: self.unequal,
             overflow: self.overflow,
             switches: self.switches,
-            hopper: 0,
-            stacker: 0,
-            paper: 0,
-            form: 1,
-            line: 1,
+            hopper: self.devices.hopper(),
+            stacker: self.devices.stacker(),
+            paper: self.devices.paper(),
+            form: self.devices.form(),
+            line: self.devices.line(),
         }
     }
 

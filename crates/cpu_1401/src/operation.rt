@@ -49,6 +49,22 @@ pub enum Operation {
     Halt,
     /// `K`: selects a stacker, which moves nothing here; with an address branches.
     SelectStacker,
+    /// `1`: reads a card.
+    ReadCard,
+    /// `2`: writes a line, and with the lozenge the word marks.
+    WriteLine,
+    /// `3`: writes a line and reads a card.
+    WriteAndRead,
+    /// `4`: punches a card.
+    PunchCard,
+    /// `5`: reads a card and punches one.
+    ReadAndPunch,
+    /// `6`: writes a line and punches a card.
+    WriteAndPunch,
+    /// `7`: writes a line, reads a card and punches one.
+    WriteReadAndPunch,
+    /// `F`: spaces or skips the carriage.
+    ControlCarriage,
 }
 
 impl Operation {
@@ -78,6 +94,14 @@ impl Operation {
             b'N' => Some(Operation::NoOperation),
             b'.' => Some(Operation::Halt),
             b'K' => Some(Operation::SelectStacker),
+            b'1' => Some(Operation::ReadCard),
+            b'2' => Some(Operation::WriteLine),
+            b'3' => Some(Operation::WriteAndRead),
+            b'4' => Some(Operation::PunchCard),
+            b'5' => Some(Operation::ReadAndPunch),
+            b'6' => Some(Operation::WriteAndPunch),
+            b'7' => Some(Operation::WriteReadAndPunch),
+            b'F' => Some(Operation::ControlCarriage),
             _ => None,
         }
     }
@@ -109,7 +133,15 @@ impl Operation {
             | Operation::StoreB
             | Operation::NoOperation
             | Operation::Halt
-            | Operation::SelectStacker => 8,
+            | Operation::SelectStacker
+            | Operation::ReadCard
+            | Operation::WriteLine
+            | Operation::WriteAndRead
+            | Operation::PunchCard
+            | Operation::ReadAndPunch
+            | Operation::WriteAndPunch
+            | Operation::WriteReadAndPunch
+            | Operation::ControlCarriage => 8,
         }
     }
 
@@ -138,7 +170,15 @@ impl Operation {
             | Operation::StoreB
             | Operation::NoOperation
             | Operation::Halt
-            | Operation::SelectStacker => false,
+            | Operation::SelectStacker
+            | Operation::ReadCard
+            | Operation::WriteLine
+            | Operation::WriteAndRead
+            | Operation::PunchCard
+            | Operation::ReadAndPunch
+            | Operation::WriteAndPunch
+            | Operation::WriteReadAndPunch
+            | Operation::ControlCarriage => false,
         }
     }
 
@@ -167,7 +207,15 @@ impl Operation {
             | Operation::StoreB
             | Operation::NoOperation
             | Operation::Halt
-            | Operation::SelectStacker => false,
+            | Operation::SelectStacker
+            | Operation::WriteLine
+            | Operation::ControlCarriage => false,
+            Operation::ReadCard
+            | Operation::WriteAndRead
+            | Operation::PunchCard
+            | Operation::ReadAndPunch
+            | Operation::WriteAndPunch
+            | Operation::WriteReadAndPunch => len == 2 || len == 5,
         }
     }
 
@@ -194,8 +242,15 @@ impl Operation {
             Operation::BranchOnCell => len == 8,
             Operation::StoreA | Operation::StoreB => len == 4,
             Operation::NoOperation => 1 <= len && len <= 8,
-            Operation::Halt => len == 1 || len == 4,
-            Operation::SelectStacker => len == 2 || len == 5,
+            Operation::Halt
+            | Operation::ReadCard
+            | Operation::WriteAndRead
+            | Operation::PunchCard
+            | Operation::ReadAndPunch
+            | Operation::WriteAndPunch
+            | Operation::WriteReadAndPunch => len == 1 || len == 4,
+            Operation::SelectStacker | Operation::ControlCarriage => len == 2 || len == 5,
+            Operation::WriteLine => len == 1 || len == 2 || len == 4 || len == 5,
         }
     }
 }

@@ -148,6 +148,14 @@ impl Machine {
             Operation::NoOperation => return self.go_on(false, this),
             Operation::SelectStacker => return self.go_on(this.len == 5, this),
             Operation::Halt => return self.halt(this),
+            Operation::ReadCard => return self.use_cards(this, false, true, false, 81),
+            Operation::WriteLine => return self.write_line(this),
+            Operation::WriteAndRead => return self.use_cards(this, true, true, false, 81),
+            Operation::PunchCard => return self.use_cards(this, false, false, true, 181),
+            Operation::ReadAndPunch => return self.use_cards(this, false, true, true, 181),
+            Operation::WriteAndPunch => return self.use_cards(this, true, false, true, 181),
+            Operation::WriteReadAndPunch => return self.use_cards(this, true, true, true, 181),
+            Operation::ControlCarriage => return self.control_carriage(this),
         };
         self.after_field(this, outcome)
     }

@@ -3,6 +3,7 @@
 use crate::{Machine, Ran, Stop};
 use bcd_1401::{Cell, Char};
 use core_1401::CoreFault;
+use devices_1401::Card;
 use std::process::Abort;
 use std::test::Fail;
 
@@ -85,7 +86,8 @@ fn a_halt_as_the_last_step_answers_halt(rt: HostRuntime) -> Result<(), Fail> {
 }
 
 /// What a character does as an instruction of 1 to 8 characters: `c` is carried out, `h` carried out as a halt, and the
-/// others are stops: an edit of a field by itself overlaps.
+/// others are stops: an edit of a field by itself overlaps, the hopper is empty, and 7 is no lozenge and a channel
+/// without a hole.
 fn outcomes(graphic: u8) -> &'static [u8; 8] {
     match graphic {
         b'A' | b'S' | b'?' | b'!' | b'D' | b'Y' | b')' | b'C' | b'Z' => b"cLLcLLcL",
@@ -98,6 +100,10 @@ fn outcomes(graphic: u8) -> &'static [u8; 8] {
         b'N' => b"cccccccc",
         b'.' => b"hLLhLLLL",
         b'K' => b"LcLLcLLL",
+        b'1' | b'3' | b'5' | b'7' => b"rFLrFLLL",
+        b'2' => b"cdLcdLLL",
+        b'4' | b'6' => b"cFLcFLLL",
+        b'F' => b"LgLLgLLL",
         b'@' | b'%' | b'U' | b'8' | b'9' | b'P' | b'X' | b'W' | b'#' => b"FFFFFFFF",
         _ => b"OOOOOOOO",
     }
@@ -110,6 +116,9 @@ fn stop_of(letter: u8) -> Option<Stop> {
         b'L' => Some(Stop::Length),
         b'F' => Some(Stop::NotFitted),
         b'o' => Some(Stop::Overlap),
+        b'r' => Some(Stop::Reader),
+        b'd' => Some(Stop::DChar),
+        b'g' => Some(Stop::Carriage),
         b'O' => Some(Stop::OpCode),
         _ => None,
     }
@@ -177,6 +186,131 @@ fn switches_are_told_by_their_places(rt: HostRuntime) -> Result<(), Fail> {
     assert_eq!(rt;
         machine.regs().switches,
         [false, true, true, false, false, false, false]
+    );
+    Ok(())
+}
+
+/// A card with this text from its first column on.
+fn card(rt: &impl Abort, text: &[u8]) -> Card {
+    let mut columns = [Char::BLANK; 80];
+    for (i, byte) in text.iter().enumerate() {
+        assert!(rt; i < 80);
+        columns[i] = Char::from_graphic(*byte).expect(rt, "a graphic");
+    }
+    Card(columns)
+}
+
+#[test]
+fn a_card_marks_the_words_of_its_own_program(rt: HostRuntime) -> Result<(), Fail> {
+    let mut machine = Machine::power_on(rt.alloc(), 4_000)?;
+    assert!(rt; machine.load_key().is_err());
+    let bootstrap = card(&rt, b",008015,022026,030034,041,045,053,0570571026");
+    assert!(rt; machine.feed(bootstrap).is_ok());
+    assert!(rt; machine.load_key().is_ok());
+    let ran = Ran {
+        steps: 7,
+        stop: Stop::Reader,
+    };
+    assert_eq!(rt; machine.run(100), ran);
+    let regs = machine.regs();
+    assert_eq!(rt; (regs.i, regs.a, regs.b, regs.hopper), (41, 56, 56, 0));
+    Ok(())
+}
+
+#[test]
+fn lines_are_printed_until_the_paper_is_full(rt: HostRuntime) -> Result<(), Fail> {
+    let mut machine = Machine::power_on(rt.alloc(), 4_000)?;
+    put(&rt, &mut machine, 201, b"HELLO");
+    put(&rt, &mut machine, 600, b"~2600~3~.");
+    assert!(rt; machine.core().in_core(604));
+    machine.set_i(600);
+    let full = Ran {
+        steps: 500,
+        stop: Stop::Forms,
+    };
+    assert_eq!(rt; machine.run(1_000), full);
+    machine.set_i(604);
+    assert_eq!(rt; machine.step(), Some(Stop::Forms));
+    let line = machine.take_line().expect(&rt, "a line");
+    assert_eq!(rt; (line.form, line.line), (1, 1));
+    assert_eq!(rt;
+        line.text[..5]
+            .iter()
+            .map(|char| char.graphic())
+            .eq(*b"HELLO"),
+        true
+    );
+    assert_eq!(rt; machine.step(), Some(Stop::Reader));
+    assert!(rt; machine.feed(card(&rt, b"X")).is_ok());
+    assert_eq!(rt; machine.step(), None);
+    let regs = machine.regs();
+    assert_eq!(rt;
+        (regs.i, regs.paper, regs.form, regs.line),
+        (605, 500, 8, 40)
+    );
+    assert_eq!(rt; machine.core().get(1).char.graphic(), b'X');
+    Ok(())
+}
+
+#[test]
+fn a_skip_waits_for_the_next_print(rt: HostRuntime) -> Result<(), Fail> {
+    let mut machine = Machine::power_on(rt.alloc(), 4_000)?;
+    put(&rt, &mut machine, 201, b"HI");
+    put(&rt, &mut machine, 600, b"~F1~FI~2~2~F2~.");
+    assert!(rt; machine.core().in_core(600));
+    machine.set_i(600);
+    let no_hole = Ran {
+        steps: 4,
+        stop: Stop::Carriage,
+    };
+    assert_eq!(rt; machine.run(9), no_hole);
+    for at in [4, 60] {
+        let line = machine.take_line().expect(&rt, "a line");
+        assert_eq!(rt; (line.form, line.line), (1, at));
+    }
+    assert_eq!(rt; (machine.regs().i, machine.regs().line), (606, 61));
+    assert!(rt; machine.core().in_core(607));
+    put(&rt, &mut machine, 607, b"Q");
+    assert_eq!(rt; machine.step(), Some(Stop::DChar));
+    Ok(())
+}
+
+#[test]
+fn a_card_is_punched_until_the_stacker_is_full(rt: HostRuntime) -> Result<(), Fail> {
+    let mut machine = Machine::power_on(rt.alloc(), 1_400)?;
+    put(&rt, &mut machine, 101, b"PUNCHED");
+    put(&rt, &mut machine, 600, b"~4600~.");
+    assert!(rt; machine.core().in_core(600));
+    machine.set_i(600);
+    let full = Ran {
+        steps: 500,
+        stop: Stop::Stacker,
+    };
+    assert_eq!(rt; machine.run(1_000), full);
+    assert_eq!(rt; machine.take_card(), Some(card(&rt, b"PUNCHED")));
+    assert_eq!(rt; machine.regs().stacker, 499);
+    Ok(())
+}
+
+#[test]
+fn word_marks_are_printed_as_ones(rt: HostRuntime) -> Result<(), Fail> {
+    let mut machine = Machine::power_on(rt.alloc(), 4_000)?;
+    put(&rt, &mut machine, 201, b"~A~BC");
+    put(&rt, &mut machine, 600, b"~2)~.");
+    assert!(rt; machine.core().in_core(600));
+    machine.set_i(600);
+    assert_eq!(rt; machine.step(), None);
+    let line = machine.take_line().expect(&rt, "a line");
+    assert_eq!(rt;
+        line.text[..4]
+            .iter()
+            .map(|char| char.graphic())
+            .eq(*b"11  "),
+        true
+    );
+    assert_eq!(rt;
+        (machine.regs().i, machine.regs().a, machine.regs().b),
+        (602, 0, 333)
     );
     Ok(())
 }

@@ -8,8 +8,8 @@ use Rattle.core_1401.proofs.HeldLemmas.{length_held}
 use Rattle.core_1401.proofs.PlacesLemmas.{AreBlanks, held-cleared}
 use Rattle.core_1401.proofs.storage.Core.clear.Goals as goal
 
-pub returns : goal.returns
-returns c =
+pub returns-clause-value : goal.returns-clause-value
+returns-clause-value c =
     let old : List ℕ = c.deref_mut.result.now in
     let new : List ℕ = c.put_blanks.new.chars in
     let words : List ℕ = c.self.inside.words in
@@ -29,3 +29,16 @@ returns c =
     ∙ ap (λ (s : Storage). with_cells s at n (λ i. blank)) c.self.view_is
     ∙ ap (λ (p : ℕ). with_cells c.args.self.now p n (λ i. blank)) c.from-high.ensures
     ∙ ap (λ (m : ℕ). with_cells c.args.self.now c.args.at m (λ i. blank)) c.from.ensures
+
+pub returns-clause-size : goal.returns-clause-size
+returns-clause-size c =
+    let new : List ℕ = c.put_blanks.new.chars in
+    let words : List ℕ = c.self.inside.words in
+    let marks : List ℕ = c.clear_marks.new.words in
+    ap (λ (l : List ℕ). length (held l marks))
+    (with_items_is c.self.inside.chars new (c.put_blanks.ensures.count ∙ c.deref_mut.ensures.len))
+    ∙ length_held new marks
+    ∙ c.put_blanks.ensures.count
+    ∙ ap length c.deref_mut.ensures.value
+    ∙ sym (length_held c.self.inside.chars.items words)
+    ∙ ap length c.self.view_is

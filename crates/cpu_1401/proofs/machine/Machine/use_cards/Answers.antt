@@ -1,0 +1,20 @@
+-- What is asked for is what the operation asks for.
+use Rattle.std.proofs.Common.{ap, ◌∙◌, ◌≡◌}
+use Rattle.cpu_1401.specs.CardsAndPrinter.{after_cards, asks}
+use Rattle.cpu_1401.specs.State.{State}
+use Rattle.cpu_1401.specs.declared.asked.Asked.{Asked}
+use Rattle.cpu_1401.proofs.machine.Machine.use_cards.Goals as goal
+
+pub returns-clause-stop : goal.returns-clause-stop
+returns-clause-stop c =
+    let wanted : c.of-asked.result ≡ asks c.args.writes c.args.reads c.args.punches c.args.self.now.storage =
+    c.of-asked.ensures ∙ ap (λ (s : State). asks c.args.writes c.args.reads c.args.punches s.storage) c.self.view_is in
+    c.carry_cards.ensures.stop
+    ∙ ap (λ (asked : Asked). (after_cards asked c.args.b c.args.this c.args.self.now).stop) wanted
+
+pub returns-clause-state : goal.returns-clause-state
+returns-clause-state c =
+    let wanted : c.of-asked.result ≡ asks c.args.writes c.args.reads c.args.punches c.args.self.now.storage =
+    c.of-asked.ensures ∙ ap (λ (s : State). asks c.args.writes c.args.reads c.args.punches s.storage) c.self.view_is in
+    c.carry_cards.ensures.state
+    ∙ ap (λ (asked : Asked). (after_cards asked c.args.b c.args.this c.args.self.now).state) wanted

@@ -1,0 +1,190 @@
+//! Cards read and punched, lines printed, and the carriage controlled.
+ghost use Rattle.std.specs.Prelude.{◌≡◌, ◌+◌, ◌^◌, ◌<◌, ◌≤◌, true, false, IsSome, length};
+ghost use Rattle.core_1401.specs.Address.{addresses};
+ghost use Rattle.devices_1401.specs.Carriage.{controlled};
+ghost use Rattle.devices_1401.specs.Devices.{is_full};
+ghost use Rattle.cpu_1401.specs.CardsAndPrinter.{after_cards, after_control, after_line, asks, has_d, hindrance};
+ghost use Rattle.cpu_1401.specs.CardsAndPrinter.{line_alone};
+ghost use Rattle.cpu_1401.specs.CardsAndPrinter.{with_chars_from, with_line, with_punch, with_read};
+
+use crate::asked::{Asked, card_of};
+use crate::instruction::Instruction;
+use crate::machine::Machine;
+use crate::stop::Stop;
+use bcd_1401::Char;
+use core_1401::Core;
+use devices_1401::{ControlFault, MOST};
+
+/// The first place of the area that a card is read into, 001 to 080.
+pub(crate) const READ_AREA: u16 = 1;
+
+/// The code of the lozenge, which asks for word marks to be printed.
+const LOZENGE: u8 = 60;
+
+impl Machine {
+    /// Writes the print area, reads a card and punches one, as far as the operation does. The B register is then the
+    /// place behind the area of the last, unless there is an address to branch to.
+    pub(crate) fn use_cards(
+        &mut self,
+        this: Instruction,
+        writes: bool,
+        reads: bool,
+        punches: bool,
+        b: u16,
+    ) -> Option<Stop>
+        requires a { this.a < addresses }
+        requires next { this.next < addresses }
+        requires b { b < addresses }
+        ensures stop { result ≡ (after_cards (asks writes reads punches self.old.storage) b this self.old).stop }
+        ensures state { self.new ≡ (after_cards (asks writes reads punches self.old.storage) b this self.old).state }
+        ensures size { length self.new.storage ≡ length self.old.storage }
+    {
+        let asked = Asked::of(&self.core, writes, reads, punches);
+        self.carry_cards(this, &asked, b)
+    }
+
+    /// Writes a line: the characters of the print area, or its word marks where the d-character is the lozenge.
+    pub(crate) fn write_line(&mut self, this: Instruction) -> Option<Stop>
+        requires a { this.a < addresses }
+        requires next { this.next < addresses }
+        ensures stop { result ≡ (after_line this self.old).stop }
+        ensures state { self.new ≡ (after_line this self.old).state }
+        ensures size { length self.new.storage ≡ length self.old.storage }
+    {
+        let d = this.d;
+        if !has_d(this.len) {
+            return self.write_alone(this, false);
+        }
+        if d.code() != LOZENGE {
+            return Some(Stop::DChar);
+        }
+        self.write_alone(this, true)
+    }
+
+    /// Writes a line and does nothing else: the word marks of the print area, or its characters.
+    fn write_alone(&mut self, this: Instruction, marks: bool) -> Option<Stop>
+        requires a { this.a < addresses }
+        requires next { this.next < addresses }
+        ensures stop { result ≡ (after_cards (line_alone marks self.old.storage) 333 this self.old).stop }
+        ensures state { self.new ≡ (after_cards (line_alone marks self.old.storage) 333 this self.old).state }
+        ensures size { length self.new.storage ≡ length self.old.storage }
+    {
+        let asked = Asked::to_write(&self.core, marks);
+        self.carry_cards(this, &asked, 333)
+    }
+
+    /// Does what is asked for of the card reader, the punch and the printer, or says what hinders it. Then it branches
+    /// where there is an address, and else leaves this in the B register.
+    fn carry_cards(&mut self, this: Instruction, asked: &Asked, b: u16) -> Option<Stop>
+        requires a { this.a < addresses }
+        requires next { this.next < addresses }
+        requires b { b < addresses }
+        ensures stop { result ≡ (after_cards asked.now b this self.old).stop }
+        ensures state { self.new ≡ (after_cards asked.now b this self.old).state }
+        ensures size { length self.new.storage ≡ length self.old.storage }
+    {
+        if let Some(why) = self.hindrance(asked) {
+            return Some(why);
+        }
+        self.write(asked);
+        self.read(asked);
+        self.punch(asked);
+        if this.len >= 4 {
+            self.branch_if(true, b, this);
+        } else {
+            self.i = this.next;
+            self.b = b;
+        }
+        None
+    }
+
+    /// Spaces or skips the carriage, now or after the next print, as the d-character asks.
+    pub(crate) fn control_carriage(&mut self, this: Instruction) -> Option<Stop>
+        requires a { this.a < addresses }
+        requires next { this.next < addresses }
+        ensures stop { result ≡ (after_control this self.old (controlled self.old.devices.carriage this.d)).stop }
+        ensures state { self.new ≡ (after_control this self.old (controlled self.old.devices.carriage this.d)).state }
+        ensures size { length self.new.storage ≡ length self.old.storage }
+    {
+        match self.devices.control(this.d) {
+            Ok(()) => self.go_on(this.len == 5, this),
+            Err(ControlFault::DChar) => Some(Stop::DChar),
+            Err(ControlFault::Carriage) => Some(Stop::Carriage),
+        }
+    }
+
+    /// What hinders what is asked for: full paper, then an empty hopper, then a full stacker.
+    fn hindrance(&self, asked: &Asked) -> Option<Stop>
+        ensures { result ≡ hindrance asked.now self.now.devices }
+    {
+        if asked.line.is_some() && usize::from(self.devices.paper()) == MOST {
+            return Some(Stop::Forms);
+        }
+        if asked.reads && self.devices.hopper() == 0 {
+            return Some(Stop::Reader);
+        }
+        if asked.punches && usize::from(self.devices.stacker()) == MOST {
+            return Some(Stop::Stacker);
+        }
+        None
+    }
+
+    /// Prints the line that is asked for, if one is. There is room for it.
+    fn write(&mut self, asked: &Asked)
+        requires { IsSome asked.now.line → is_full self.old.devices.paper ≡ false }
+        ensures { self.new ≡ with_line asked.now.line self.old }
+    {
+        if let Some(text) = asked.line {
+            if self.devices.print(text).is_err() {
+                unreachable!();
+            }
+        }
+    }
+
+    /// Reads the first card of the hopper into the read area, if one is asked for and is there.
+    fn read(&mut self, asked: &Asked)
+        ensures state { self.new ≡ with_read asked.now.reads self.old }
+        ensures size { length self.new.storage ≡ length self.old.storage }
+    {
+        if !asked.reads {
+            return;
+        }
+        let size = self.core.size();
+        prove!(size >= 1_400);
+        if let Ok(card) = self.devices.read() {
+            put_chars(&mut self.core, READ_AREA, &card.0);
+        }
+    }
+
+    /// Punches the characters of the punch area, if that is asked for. There is room for the card.
+    fn punch(&mut self, asked: &Asked)
+        requires { asked.now.punches ≡ true → is_full self.old.devices.stacker ≡ false }
+        ensures { self.new ≡ with_punch asked.now.punches self.old }
+    {
+        if asked.punches {
+            let card = card_of(&self.core);
+            let Ok(()) = self.devices.punch(card) else {
+                unreachable!();
+            };
+        }
+    }
+}
+
+/// Whether an instruction of the printer with this length has a d-character.
+fn has_d(len: u16) -> bool
+    ensures { result ≡ has_d len }
+{
+    len == 2 || len == 5
+}
+
+/// Puts characters in the places from one on upwards. The word marks there stay.
+pub(crate) fn put_chars(core: &mut Core, at: u16, chars: &[Char])
+    requires inside { at + length chars.now ≤ length core.old }
+    requires fits { at + length chars.now < 2 ^ 16 }
+    ensures value { core.new ≡ with_chars_from core.old at chars.now }
+    ensures size { length core.new ≡ length core.old }
+{
+    for (i, char) in chars.iter().enumerate() {
+        core.put_char(at + i as u16, *char);
+    }
+}

@@ -1,0 +1,59 @@
+//! The load key, and what an operator does at the devices.
+ghost use Rattle.std.specs.Prelude.{◌≡◌, ◌==◌, not, is_ok, length, slice_get, if◌then◌else◌};
+ghost use Rattle.devices_1401.specs.Devices.{after_card, after_line, fed, is_full};
+ghost use Rattle.cpu_1401.specs.CardsAndPrinter.{load, with_devices};
+
+use crate::device_steps::{READ_AREA, put_chars};
+use crate::machine::Machine;
+use devices_1401::{Card, HopperFull, PrintLine, ReaderEmpty};
+
+impl Machine {
+    /// Reads the first card of the hopper into places 001 to 080, with a word mark at 001 alone, and takes the next
+    /// instruction from there. The A and B registers stay.
+    ///
+    /// # Errors
+    ///
+    /// Where the hopper is empty. The machine is as it was.
+    pub fn load_key(&mut self) -> Result<(), ReaderEmpty>
+        ensures loaded { is_ok result ≡ not (length self.old.devices.hopper == 0) }
+        ensures state { self.new ≡ load self.old }
+        ensures size { length self.new.storage ≡ length self.old.storage }
+    {
+        let size = self.core.size();
+        prove!(size >= 1_400);
+        let card = self.devices.read()?;
+        self.core.clear(80, 80);
+        put_chars(&mut self.core, READ_AREA, &card.0);
+        self.core.put_mark(READ_AREA, true);
+        self.i = READ_AREA;
+        Ok(())
+    }
+
+    /// Puts a card behind those in the hopper.
+    ///
+    /// # Errors
+    ///
+    /// Where the hopper holds 500 cards.
+    pub fn feed(&mut self, card: Card) -> Result<(), HopperFull>
+        ensures refused { is_ok result ≡ not (is_full self.old.devices.hopper) }
+        ensures state { self.new ≡ (if is_ok result then with_devices (fed self.old.devices card) self.old else self.old) }
+    {
+        self.devices.feed(card)
+    }
+
+    /// Takes the oldest printed line; none where all are taken.
+    pub fn take_line(&mut self) -> Option<PrintLine>
+        ensures line { result ≡ slice_get self.old.devices.paper 0 }
+        ensures state { self.new ≡ with_devices (after_line self.old.devices) self.old }
+    {
+        self.devices.take_line()
+    }
+
+    /// Takes the oldest punched card; none where all are taken.
+    pub fn take_card(&mut self) -> Option<Card>
+        ensures card { result ≡ slice_get self.old.devices.stacker 0 }
+        ensures state { self.new ≡ with_devices (after_card self.old.devices) self.old }
+    {
+        self.devices.take_card()
+    }
+}
