@@ -37,7 +37,8 @@ record AreParts (value x y z v w : ℕ) : Type 0 where
   third_zone : value / 4000 ≡ w
   third : value % 10 ≡ z
 
-parts_of : (value x y z v w : ℕ) → value ≡ 100 * x + 10 * y + z + 1000 * v + 4000 * w → x ≤ 9 → y ≤ 9 → z ≤ 9 → v < 4 → AreParts value x y z v w
+parts_of : (value x y z v w : ℕ) → value ≡ 100 * x + 10 * y + z + 1000 * v + 4000 * w → x ≤ 9 → y ≤ 9 → z ≤ 9 → v < 4
+    → AreParts value x y z v w
 parts_of value x y z v w e hx hy hz hv = record {
   first_zone = omega arith;
   first = omega arith;
@@ -50,15 +51,21 @@ same_three : (a b c x y z : ℕ) → a ≡ x → b ≡ y → c ≡ z → x ∷ y
 same_three a b c x y z e f g = cc
 
 -- three characters that spell an address are its spelling
-pub spelled_again : (h t u value : ℕ) → h < 64 → t < 64 → u < 64 → value ≡ value_of h t u → is_spelled h t u ≡ true → h ∷ t ∷ u ∷ [] ≡ spelling_of value
+pub spelled_again : (h t u value : ℕ) → h < 64 → t < 64 → u < 64 → value ≡ value_of h t u → is_spelled h t u ≡ true
+    → h ∷ t ∷ u ∷ [] ≡ spelling_of value
 spelled_again h t u value h_fits t_fits u_fits e spelled =
     let all = and_parts (is_digit h && is_digit t && is_digit u) (zone_of t == 0) spelled in
     let digits = and_parts (is_digit h && is_digit t) (is_digit u) all.0 in
     let front = and_parts (is_digit h) (is_digit t) digits.0 in
     let zone : zone_of t ≡ 0 = no_zone t all.1 in
     let parts : AreParts value (digit_of h) (digit_of t) (digit_of u) (zone_of h) (zone_of u) =
-    parts_of value (digit_of h) (digit_of t) (digit_of u) (zone_of h) (zone_of u) e (digit_at_most h) (digit_at_most t) (digit_at_most u) (omega (arith, h_fits)) in
-    same_three (digit_under (value / 1000 % 4) (value / 100 % 10)) (digit_under 0 (value / 10 % 10)) (digit_under (value / 4000) (value % 10)) h t u
-    (ap (λ (z : ℕ). digit_under z (value / 100 % 10)) parts.first_zone ∙ ap (λ (d : ℕ). digit_under (zone_of h) d) parts.first ∙ char_again h h_fits front.0)
-    (ap (λ (d : ℕ). digit_under 0 d) parts.second ∙ ap (λ (z : ℕ). digit_under z (digit_of t)) (sym zone) ∙ char_again t t_fits front.1)
-    (ap (λ (z : ℕ). digit_under z (value % 10)) parts.third_zone ∙ ap (λ (d : ℕ). digit_under (zone_of u) d) parts.third ∙ char_again u u_fits digits.1)
+    parts_of value (digit_of h) (digit_of t) (digit_of u) (zone_of h) (zone_of u) e (digit_at_most h) (digit_at_most t)
+    (digit_at_most u) (omega (arith, h_fits)) in
+    same_three (digit_under (value / 1000 % 4) (value / 100 % 10)) (digit_under 0 (value / 10 % 10))
+    (digit_under (value / 4000) (value % 10)) h t u
+    (ap (λ (z : ℕ). digit_under z (value / 100 % 10)) parts.first_zone
+    ∙ ap (λ (d : ℕ). digit_under (zone_of h) d) parts.first ∙ char_again h h_fits front.0)
+    (ap (λ (d : ℕ). digit_under 0 d) parts.second ∙ ap (λ (z : ℕ). digit_under z (digit_of t)) (sym zone)
+    ∙ char_again t t_fits front.1)
+    (ap (λ (z : ℕ). digit_under z (value % 10)) parts.third_zone ∙ ap (λ (d : ℕ). digit_under (zone_of u) d) parts.third
+    ∙ char_again u u_fits digits.1)

@@ -10,10 +10,17 @@ pub in_front : (cells front : List Cell) → front ≡ cells → 0 < length cell
     → IsHeld (record { cells = front ++ drop (length cells) (replicate 40 blank); len = length cells })
 in_front cells front e some most =
     let len : length front ≡ length cells = ap length e in
-    let behind : drop (length cells) (replicate 40 blank) ≡ replicate (40 - length cells) blank = drop-replicate (length cells) 40 blank in
+    let behind : drop (length cells) (replicate 40 blank) ≡ replicate (40 - length cells) blank =
+    drop-replicate (length cells) 40 blank in
     record {
       some = some;
       most = most;
-      room = omega (arith, length-append front (drop (length cells) (replicate 40 blank)), ap length behind, length-replicate (40 - length cells) blank, len);
+      room = omega (
+        arith,
+        length-append front (drop (length cells) (replicate 40 blank)),
+        ap length behind,
+        length-replicate (40 - length cells) blank,
+        len,
+      );
       blanks = drop_at front (drop (length cells) (replicate 40 blank)) (length cells) len ∙ behind;
     }

@@ -11,7 +11,8 @@ any_below test n k within passes =
     list_any_at test (range_with_len 0 n) k 0 (omega (arith, length-range_with_len 0 n)) (ap test at ∙ passes)
 
 -- none passes
-pub none_below : (test : ℕ → Bool) (n : ℕ) → ((k : ℕ) → k < n → test k ≡ false) → list_any test (range_with_len 0 n) ≡ false
+pub none_below : (test : ℕ → Bool) (n : ℕ) → ((k : ℕ) → k < n → test k ≡ false)
+    → list_any test (range_with_len 0 n) ≡ false
 none_below test n fails =
     list_any_none test (range_with_len 0 n) (λ k d h.
     let within : k < n = omega (arith, length-range_with_len 0 n) in

@@ -1,7 +1,7 @@
 -- Lengths of fields, computed.
 use Rattle.std.proofs.Common.{◌≡◌, true, [], ◌∷◌, Some, None, refl}
 use Rattle.bcd_1401.specs.declared.cell.Cell.{Cell}
-use Rattle.core_1401.specs.Field.{field_at, field_len_of, pair_len_of}
+use Rattle.core_1401.specs.Field.{field_at, field_len_of, pair_len_of, next_mark_from}
 use Rattle.core_1401.specs.Storage.{Storage, blank}
 
 abbrev marked : Cell
@@ -31,3 +31,9 @@ a_pair_ends_at_the_first_mark = refl
 
 no_pair_where_one_passes_the_first_place : pair_len_of two_marks 3 0 ≡ None
 no_pair_where_one_passes_the_first_place = refl
+
+the_next_mark_stands_three_above : next_mark_from two_marks 1 ≡ 3
+the_next_mark_stands_three_above = refl
+
+past_the_last_mark_it_is_the_end_of_core : next_mark_from two_marks 4 ≡ 2
+past_the_last_mark_it_is_the_end_of_core = refl

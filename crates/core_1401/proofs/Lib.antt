@@ -6,5 +6,7 @@ pub mod CompareLemmas
 mod FieldExamples
 pub mod FieldLemmas
 pub mod HeldLemmas
+mod MarkWordExamples
 pub mod MarkWordLemmas
+mod PlacesExamples
 pub mod PlacesLemmas

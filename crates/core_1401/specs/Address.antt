@@ -18,7 +18,8 @@ is_digit char = nat_le 1 (char % 16) && nat_le (char % 16) 10
 -- the one spelling of an address with the digits 0 to 9 and without an index register
 abbrev pub spelling_of : ℕ → List ℕ
 spelling_of address =
-    digit_under (address / 1000 % 4) (address / 100 % 10) ∷ digit_under 0 (address / 10 % 10) ∷ digit_under (address / 4000) (address % 10) ∷ []
+    digit_under (address / 1000 % 4) (address / 100 % 10) ∷ digit_under 0 (address / 10 % 10) ∷ digit_under
+    (address / 4000) (address % 10) ∷ []
 
 -- three characters that spell an address: digits 0 to 9 with 8-2 for zero, and no zone over the tens
 abbrev pub is_spelled : ℕ → ℕ → ℕ → Bool
@@ -36,4 +37,5 @@ index_register number = 5 * number + 82
 abbrev pub effective_at : Storage → ℕ → ℕ
 effective_at storage at =
     let number = zone_of (cell_at storage (at + 1)).char in
-    if number == 0 then value_at storage at else (value_at storage at + value_at storage (index_register number)) % addresses
+    if number == 0 then value_at storage at else (value_at storage at + value_at storage
+    (index_register number)) % addresses

@@ -1,4 +1,5 @@
--- What each character adds to the value of an address, by its place there, and the tables by code (A24-1403, "Addressing").
+-- What each character adds to the value of an address, by its place there, and the tables by code (A24-1403,
+-- "Addressing").
 use Rattle.std.specs.Prelude.{ℕ, ◌+◌, ◌*◌, List, map}
 use Rattle.std.specs.List.{range_with_len}
 use Rattle.bcd_1401.specs.Character.{digit_of, zone_of}

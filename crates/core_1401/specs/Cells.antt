@@ -27,5 +27,9 @@ holding_again c h =
     let behind : take c.len c.cells ++ replicate (40 - c.len) blank ≡ c.cells =
     ap (λ (more : List Cell). take c.len c.cells ++ more) (sym h.blanks) ∙ take-append-drop c.len c.cells in
     let first : Inside = record { cells = take c.len c.cells ++ replicate (40 - c.len) blank; len = c.len } in
-    ap (λ (n : ℕ). let made : Inside = record { cells = take c.len c.cells ++ replicate (40 - n) blank; len = n } in made) len
+    ap (λ (n : ℕ). let made : Inside = record {
+      cells = take c.len c.cells ++ replicate
+          (40 - n) blank;
+      len = n;
+    } in made) len
     ∙ ap (λ (cells : List Cell). let made : Inside = record { cells = cells; len = c.len } in made) behind

@@ -20,7 +20,8 @@ field_at storage at = option_map (λ n. take n (cells_down storage at)) (field_l
 -- how many pairs of cells there are up to and including the first with a word mark in either
 abbrev pub pair_len_of : Storage → ℕ → ℕ → Option ℕ
 pair_len_of storage a b =
-    option_map (λ i. i + 1) (position (λ (pair : Cell × Cell). pair.0.mark || pair.1.mark) (zip (cells_down storage a) (cells_down storage b)))
+    option_map (λ i. i + 1) (position (λ (pair : Cell × Cell). pair.0.mark || pair.1.mark)
+    (zip (cells_down storage a) (cells_down storage b)))
 
 -- how many places it is from one to the next above it with a word mark, or to the end of core
 abbrev pub next_mark_from : Storage → ℕ → ℕ

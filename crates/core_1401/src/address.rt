@@ -19,7 +19,8 @@ pub fn decode(chars: [Char; 3]) -> (u16, u8)
     ensures addresses { ADDRESSES ≡ addresses }
 
     // An address has one spelling.
-    ensures spelling { is_spelled (slice_index chars 0) (slice_index chars 1) (slice_index chars 2) ≡ true → chars ≡ spelling_of result.0 }
+    ensures spelling { is_spelled (slice_index chars 0) (slice_index chars 1) (slice_index chars 2) ≡ true
+        → chars ≡ spelling_of result.0 }
 {
     let [h, t, u] = chars;
     (value_by_tables(h, t, u), t.zone())

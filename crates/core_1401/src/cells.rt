@@ -34,7 +34,8 @@ impl Model for Cells {
 impl Cells {
     /// These cells; none where there is none of them, or more than 40.
     pub fn from_slice(cells: &[Cell]) -> Option<Cells>
-        ensures { result ≡ (if nat_le 1 (length cells.now) && nat_le (length cells.now) 40 then Some cells.now else None) }
+        ensures { let n = length cells.now in
+            result ≡ (if nat_le 1 n && nat_le n 40 then Some cells.now else None) }
     {
         let len = cells.len();
         if len < 1 || len > MOST_CELLS {

@@ -8,9 +8,9 @@ use crate::address::{ADDRESSES, decode};
 use crate::storage::Core;
 
 impl Core {
-    /// The address that the three characters from this place on stand for, below 16,000: their value, and with a zone over
-    /// the tens the value of that index register added, modulo 16,000. The zone over the register's own tens counts for
-    /// nothing.
+    /// The address that the three characters from this place on stand for, below 16,000: their value, and with a zone
+    /// over the tens the value of that index register added, modulo 16,000. The zone over the register's own tens
+    /// counts for nothing.
     #[inline]
     pub fn effective(&self, at: u16) -> u16
         requires { at + 2 < length self.now }

@@ -6,8 +6,8 @@ use crate::mark_words::{first_mark, first_pair, next_mark};
 use crate::storage::Core;
 
 impl Core {
-    /// The length of the field with its units at this place: up to and including the first word mark; none where there is
-    /// no word mark down to address 0.
+    /// The length of the field with its units at this place: up to and including the first word mark; none where there
+    /// is no word mark down to address 0.
     #[inline]
     #[tactic(auto, using(crate::proofs::HeldLemmas::length_held))]
     pub fn field_len(&self, at: u16) -> Option<u16>
@@ -23,8 +23,8 @@ impl Core {
         }
     }
 
-    /// How many places two fields have, down to and including the first word mark in either; none where one of them comes
-    /// to address 0 first.
+    /// How many places two fields have, down to and including the first word mark in either; none where one of them
+    /// comes to address 0 first.
     #[inline]
     #[tactic(auto, using(crate::proofs::HeldLemmas::length_held))]
     pub fn pair_len(&self, a: u16, b: u16) -> Option<u16>
@@ -42,7 +42,8 @@ impl Core {
         }
     }
 
-    /// How many places it is from one to the next above it with a word mark, or to the end of core; but this most, 1 to 64.
+    /// How many places it is from one to the next above it with a word mark, or to the end of core; but this most, 1 to
+    /// 64.
     #[inline]
     #[tactic(auto, using(crate::proofs::HeldLemmas::length_held))]
     pub fn next_mark(&self, at: u16, most: u16) -> u16

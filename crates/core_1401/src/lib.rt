@@ -1,9 +1,11 @@
-//! Core storage of the IBM 1401: cells by address, their fields, and the three characters of an address.
+//! Core storage of the IBM 1401: cells by address, their fields, their word marks by words, and the three characters of an
+//! address.
 //!
 //! ```text
 //! let mut core = Core::power_on(alloc, 4000)?;
 //! core.put_mark(699, true);
 //! core.field_len(700)                     // Some(2)
+//! core.mark_words()[10] == 1 << 59        // the word mark of 699
 //! decode(encode(3999))                    // (3999, 0): the value, and no index register
 //! ```
 #![tactic(auto)]

@@ -9,8 +9,8 @@ use crate::storage::Core;
 pub(crate) const WORDS: usize = 252;
 
 impl Core {
-    /// The word marks by words of 64 bits: address 0 has the lowest bit of the first word, and no bit at or above the size
-    /// is set.
+    /// The word marks by words of 64 bits: address 0 has the lowest bit of the first word, and no bit at or above the
+    /// size is set.
     #[tactic(auto, using(crate::proofs::HeldLemmas::length_held))]
     pub fn mark_words(&self) -> &[u64]
         ensures { AreMarkWords self.now result.now }
@@ -82,8 +82,8 @@ pub(crate) fn first_mark(words: &[u64], at: usize) -> usize
     at + 1
 }
 
-/// How far below two places the first mark below either stands; more than there are places below one of them where there is
-/// none.
+/// How far below two places the first mark below either stands; more than there are places below one of them where
+/// there is none.
 #[inline(always)]
 pub(crate) fn first_pair(words: &[u64], a: usize, b: usize) -> usize
     requires a_in { a / 64 + 1 < length words.now }

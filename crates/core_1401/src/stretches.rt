@@ -10,8 +10,8 @@ use crate::storage::Core;
 use bcd_1401::Char;
 
 impl Core {
-    /// Copies the characters of the n places from a down to those from b down, all of them read before one is written. Word
-    /// marks stay.
+    /// Copies the characters of the n places from a down to those from b down, all of them read before one is written.
+    /// Word marks stay.
     #[inline]
     #[tactic(auto, using(crate::proofs::HeldLemmas::length_held))]
     pub fn copy_chars(&mut self, a: u16, b: u16, n: u16)

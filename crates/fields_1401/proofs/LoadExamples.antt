@@ -13,7 +13,8 @@ unfolding load_at loaded with_cells
 a_load_brings_its_word_mark = refl
 
 -- the A field begins below the B field: each cell is read before it is written over
-a_load_upwards : load_at (plain 9 ∷ marked 1 ∷ plain 2 ∷ plain 5 ∷ []) 2 3 ≡ Ok (plain 9 ∷ marked 1 ∷ marked 1 ∷ plain 2 ∷ [], registers_at 0 1)
+a_load_upwards : load_at (plain 9 ∷ marked 1 ∷ plain 2 ∷ plain 5 ∷ []) 2 3
+    ≡ Ok (plain 9 ∷ marked 1 ∷ marked 1 ∷ plain 2 ∷ [], registers_at 0 1)
 unfolding load_at loaded with_cells
 a_load_upwards = refl
 

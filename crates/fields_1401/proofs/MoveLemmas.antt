@@ -27,12 +27,15 @@ source-moved : (storage : Storage) (a b i : ℕ) → a < length storage → b < 
 unfolding moved with_chars
 source-moved storage a b i a_in b_in in_a in_b =
     let moved_cell : ℕ → Cell = rewritten_cell storage b (λ k. (cell_at storage (source_of a b k)).char) in
-    let unmoved : is_within b i (a - i) ≡ false → source_of a b i ≡ a - i → (cell_at (moved storage a b i) (a - i)).char ≡ (cell_at storage (source_of a b i)).char =
-    λ out e. ap (λ (cell : Cell). cell.char) (cell_at-outside storage b i moved_cell (a - i) (omega arith) out ∙ ap (cell_at storage) (sym e)) in
+    let unmoved : is_within b i (a - i) ≡ false → source_of a b i ≡ a - i
+    → (cell_at (moved storage a b i) (a - i)).char ≡ (cell_at storage (source_of a b i)).char =
+    λ out e. ap (λ (cell : Cell). cell.char) (cell_at-outside storage b i moved_cell (a - i) (omega arith) out
+    ∙ ap (cell_at storage) (sym e)) in
     elim (cases_lt b a) [
       | inl lt ↦ elim (cases_lt (b + i) a) [
         | inl far ↦ unmoved (is_within-above b i (a - i) (omega arith)) (source_before a b i far)
-        | inr near ↦ ap (λ (cell : Cell). cell.char) (cell_at-within storage b i moved_cell (a - i) (omega arith) (is_within-inside b i (a - i) (omega arith) (omega arith)))
+        | inr near ↦ ap (λ (cell : Cell). cell.char) (cell_at-within storage b i moved_cell (a - i) (omega arith)
+            (is_within-inside b i (a - i) (omega arith) (omega arith)))
             ∙ ap (λ q. (cell_at storage q).char) (source_again a b i (b - (a - i)) lt (omega arith))
       ]
       | inr le ↦ unmoved (is_within-below b i (a - i) (omega arith)) (source_far a b i le)
@@ -67,7 +70,8 @@ own_source a b n i apart within =
     ]
 
 -- so a copy moves the characters
-pub moved_by_copy : (storage : Storage) (a b n : ℕ) → is_overwritten a b n ≡ false → with_chars storage b n (λ i. (cell_at storage (a - i)).char) ≡ moved storage a b n
+pub moved_by_copy : (storage : Storage) (a b n : ℕ) → is_overwritten a b n ≡ false
+    → with_chars storage b n (λ i. (cell_at storage (a - i)).char) ≡ moved storage a b n
 unfolding moved
 moved_by_copy storage a b n apart =
     with_chars_same storage b n (λ i. (cell_at storage (a - i)).char) (λ i. (cell_at storage (source_of a b i)).char)

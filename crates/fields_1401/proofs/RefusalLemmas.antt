@@ -10,7 +10,13 @@ use Rattle.fields_1401.proofs.PlacesLemmas.{is_within-inside}
 pub place_shared : (a u b m : ℕ) → 0 < u → 0 < m → a < b + u → b < a + m → SharePlace a u b m
 place_shared a u b m some_a some_b a_reaches b_reaches =
     elim (cases_lt a b) [
-      | inl below ↦ (a, (is_within-inside a u a (omega arith) (omega arith), is_within-inside b m a (omega arith) b_reaches))
+      | inl below ↦ (
+        a,
+        (
+          is_within-inside a u a (omega arith) (omega arith),
+          is_within-inside b m a (omega arith) b_reaches,
+        ),
+      )
       | inr above ↦ (b, (is_within-inside a u b above a_reaches, is_within-inside b m b (omega arith) (omega arith)))
     ]
 

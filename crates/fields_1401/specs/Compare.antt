@@ -18,7 +18,8 @@ is_unequal storage a b n =
 -- two fields compared over the pairs up to and including the first word mark in either; refused where there is none
 abbrev pub compared : Storage → ℕ → ℕ → Option ℕ → Result Done FieldStop
 compared storage a b None = Err Address
-compared storage a b (Some n) = Ok (record (registers_at (below_by a n) (below_by b n)) { unequal = is_unequal storage a b n })
+compared storage a b (Some n) = Ok (record (registers_at (below_by a n)
+    (below_by b n)) { unequal = is_unequal storage a b n })
 
 -- the fields at both addresses compared
 unfoldable pub comparison_at : Storage → ℕ → ℕ → Result Done FieldStop

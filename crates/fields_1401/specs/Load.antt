@@ -23,7 +23,8 @@ is_overwritten a b n = is_within a n b && nat_lt b a
 abbrev pub load_by : Storage → ℕ → ℕ → Option ℕ → Outcome
 load_by storage a b None = Err Address
 load_by storage a b (Some n) =
-    if has_places storage b n && not (is_overwritten a b n) then Ok (loaded storage a b n, registers_at (below_by a n) (below_by b n)) else Err Address
+    if has_places storage b n && not (is_overwritten a b n) then Ok
+    (loaded storage a b n, registers_at (below_by a n) (below_by b n)) else Err Address
 
 -- the A field loaded to b and the places below it, with its word mark
 unfoldable pub load_at : Storage → ℕ → ℕ → Outcome

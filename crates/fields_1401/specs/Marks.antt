@@ -8,7 +8,10 @@ use Rattle.fields_1401.specs.Places.{with_cells}
 -- both addresses with a word mark, or both without
 abbrev pub marks_at : Storage → ℕ → ℕ → Bool → Outcome
 marks_at storage a b mark =
-    if is_in_core storage a && is_in_core storage b then Ok (with_mark (with_mark storage a mark) b mark, registers_at (below_by a 1) (below_by b 1))
+    if is_in_core storage a && is_in_core storage b then Ok (
+      with_mark (with_mark storage a mark) b mark,
+      registers_at (below_by a 1) (below_by b 1),
+    )
     else Err Address
 
 -- word marks set at both addresses
@@ -30,4 +33,7 @@ cleared storage at n = with_cells storage at n (λ i. blank)
 -- storage cleared from b down to its hundred
 abbrev pub clear_down_at : Storage → ℕ → Outcome
 clear_down_at storage b =
-    if is_in_core storage b then Ok (cleared storage b (b + 1 - hundred_of b), registers_at b (below_by (hundred_of b) 1)) else Err Address
+    if is_in_core storage b then Ok (
+      cleared storage b (b + 1 - hundred_of b),
+      registers_at b (below_by (hundred_of b) 1),
+    ) else Err Address

@@ -7,8 +7,8 @@ use Rattle.fields_1401.specs.Outcome.{Outcome, below_by, registers_at}
 use Rattle.fields_1401.specs.Places.{with_chars}
 
 -- The place whose character comes to the i-th place of the B field, where each character is moved after the one to its
--- right. If the B field begins p places below the A field, what is moved from p places on was moved there before: so the
--- first p characters repeat. The first p themselves stand where they come from, since i % p is i below p.
+-- right. If the B field begins p places below the A field, what is moved from p places on was moved there before: so
+-- the first p characters repeat. The first p themselves stand where they come from, since i % p is i below p.
 abbrev pub source_of : ℕ → ℕ → ℕ → ℕ
 source_of a b i = if nat_lt b a then a - i % (a - b) else a - i
 

@@ -17,8 +17,9 @@ below_by at by = (at + addresses - by) % addresses
 abbrev pub registers_at : ℕ → ℕ → Done
 registers_at a b = record { a = a; b = b; overflow = false; unequal = false }
 
--- A call that found the core old, left it new and gave this result has carried out the operation that has this outcome; or
--- the operation can't be carried out, and the core is as it was. Both registers hold addresses, and the core keeps its size.
+-- A call that found the core old, left it new and gave this result has carried out the operation that has this outcome;
+-- or the operation can't be carried out, and the core is as it was. Both registers hold addresses, and the core keeps
+-- its size.
 pub record CarriesOut (outcome : Outcome) (old new : Storage) (result : Result Done FieldStop) : Type 0 where
   pub done : IfOk result (λ done. outcome ≡ Ok (new, done))
   pub stop : IfErr result (λ stop. outcome ≡ Err stop)

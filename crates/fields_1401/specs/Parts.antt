@@ -12,7 +12,10 @@ digit_under_zone storage low zone = with_zone_of (cell_at storage low).char (zon
 -- a character put at b
 abbrev pub part_moved_at : Storage → ℕ → ℕ → ℕ → Outcome
 part_moved_at storage a b char =
-    if is_in_core storage a && is_in_core storage b then Ok (with_char storage b char, registers_at (below_by a 1) (below_by b 1)) else Err Address
+    if is_in_core storage a && is_in_core storage b then Ok (
+      with_char storage b char,
+      registers_at (below_by a 1) (below_by b 1),
+    ) else Err Address
 
 -- the low bits at a go to b; the zone there stays
 abbrev pub digit_moved_at : Storage → ℕ → ℕ → Outcome

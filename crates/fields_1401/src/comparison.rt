@@ -13,7 +13,8 @@ use core_1401::Core;
 ///
 /// # Errors
 ///
-/// `Address` where one of the addresses isn't in core, or one field comes to address 0 before a word mark stands in either.
+/// `Address` where one of the addresses isn't in core, or one field comes to address 0 before a word mark stands in
+/// either.
 pub fn compare(core: &Core, a: u16, b: u16) -> Result<Done, FieldStop>
     requires a { a < addresses }
     requires b { b < addresses }

@@ -18,8 +18,8 @@ pub(crate) fn field_len(core: &Core, at: u16) -> Option<u16>
     core.field_len(at)
 }
 
-/// How many places two fields have down to the first word mark in either; none where one of them isn't in core, or comes to
-/// address 0 before it.
+/// How many places two fields have down to the first word mark in either; none where one of them isn't in core, or
+/// comes to address 0 before it.
 #[tactic(auto, using(crate::proofs::FieldLemmas::no_pair))]
 pub(crate) fn pair_len(core: &Core, a: u16, b: u16) -> Option<u16>
     ensures value { result ≡ pair_len_of core.now a b }

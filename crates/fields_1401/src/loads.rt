@@ -11,13 +11,13 @@ use crate::refusals::{has_places, is_overwritten};
 use crate::registers::{below, registers};
 use core_1401::Core;
 
-/// Loads the A field with its word mark to b and the places below it, from right to left. The word marks that stood there are
-/// gone (A24-1403, "Load Characters to A Word Mark").
+/// Loads the A field with its word mark to b and the places below it, from right to left. The word marks that stood
+/// there are gone (A24-1403, "Load Characters to A Word Mark").
 ///
 /// # Errors
 ///
-/// `Address` where a isn't in core or its field comes to address 0 before a word mark, where b isn't in core or has too few
-/// places below it, or where the word mark would be written over before it is met.
+/// `Address` where a isn't in core or its field comes to address 0 before a word mark, where b isn't in core or has too
+/// few places below it, or where the word mark would be written over before it is met.
 #[tactic(auto, unfolding(crate::specs::Load::load_at))]
 pub fn load_chars(core: &mut Core, a: u16, b: u16) -> Result<Done, FieldStop>
     requires a { a < addresses }

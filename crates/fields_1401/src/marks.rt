@@ -38,8 +38,8 @@ pub fn clear_marks(core: &mut Core, a: u16, b: u16) -> Result<Done, FieldStop>
     put_marks(core, a, b, false)
 }
 
-/// Clears storage, characters and word marks, from b down to its hundred. The A register afterwards is b itself, and the B
-/// register the place below the hundred (A24-1403, "Clear Storage").
+/// Clears storage, characters and word marks, from b down to its hundred. The A register afterwards is b itself, and
+/// the B register the place below the hundred (A24-1403, "Clear Storage").
 ///
 /// # Errors
 ///

@@ -12,13 +12,13 @@ use crate::refusals::is_overwritten;
 use crate::registers::{below, registers};
 use core_1401::Core;
 
-/// Moves the characters of the A field to the B field, from right to left and down to the first word mark in either. Word
-/// marks stay (A24-1403, "Move Characters to A or B Word Mark").
+/// Moves the characters of the A field to the B field, from right to left and down to the first word mark in either.
+/// Word marks stay (A24-1403, "Move Characters to A or B Word Mark").
 ///
 /// # Errors
 ///
-/// `Address` where one of the addresses isn't in core, or one of the fields comes to address 0 before a word mark stands in
-/// either.
+/// `Address` where one of the addresses isn't in core, or one of the fields comes to address 0 before a word mark
+/// stands in either.
 #[tactic(auto, unfolding(crate::specs::Move::move_at))]
 pub fn move_chars(core: &mut Core, a: u16, b: u16) -> Result<Done, FieldStop>
     requires a { a < addresses }

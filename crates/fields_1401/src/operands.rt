@@ -36,8 +36,8 @@ impl Operands {
     ///
     /// # Errors
     ///
-    /// `Address` where there is no B field, or a place of A that is needed isn't in core; else `Overlap` where the addresses
-    /// differ and a place of A that is used is one of the B field.
+    /// `Address` where there is no B field, or a place of A that is needed isn't in core; else `Overlap` where the
+    /// addresses differ and a place of A that is used is one of the B field.
     #[tactic(auto, unfolding(crate::specs::Refusal::lengths_at))]
     pub(crate) fn at(core: &Core, a: u16, b: u16) -> Result<Operands, FieldStop>
         requires a { a < addresses }
@@ -91,8 +91,8 @@ fn needed(core: &Core, a: u16, b: u16) -> Option<(u16, u16)>
     Some((used, len))
 }
 
-/// How many places of A are used beside a B field of this length: down to its first word mark, but no more than that; none
-/// where one of them isn't in core.
+/// How many places of A are used beside a B field of this length: down to its first word mark, but no more than that;
+/// none where one of them isn't in core.
 pub(crate) fn used_len(core: &Core, a: u16, len: u16) -> Option<u16>
     requires a { a < addresses }
     requires len { 0 < len }

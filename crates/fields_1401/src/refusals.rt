@@ -1,5 +1,5 @@
-//! What an operation is refused for: places that aren't in core, and fields that overlap. All of it is asked before anything
-//! is written.
+//! What an operation is refused for: places that aren't in core, and fields that overlap. All of it is asked before
+//! anything is written.
 ghost use Rattle.std.specs.Prelude.{◌≡◌, ◌≢◌, ◌+◌, ◌<◌, ◌≤◌, ◌&&◌, ◌↔◌, nat_lt, IsTrue};
 ghost use Rattle.core_1401.specs.Address.{addresses};
 ghost use Rattle.core_1401.specs.Storage.{is_in_core};
@@ -30,8 +30,8 @@ pub(crate) fn is_overwritten(a: u16, b: u16, n: u16) -> bool
     b < a && a - b < n
 }
 
-/// Whether two fields that begin at different addresses share a place: this many from a down are used of the one, and the
-/// other has this many from b down.
+/// Whether two fields that begin at different addresses share a place: this many from a down are used of the one, and
+/// the other has this many from b down.
 pub(crate) fn is_overlap(a: u16, used: u16, b: u16, len: u16) -> bool
     requires a { a < addresses }
     requires b { b < addresses }

@@ -1,5 +1,5 @@
-//! Operations worked out by hand from the manual's rules. Cells are written as on the console: `~` before a graphic is its
-//! word mark.
+//! Operations worked out by hand from the manual's rules. Cells are written as on the console: `~` before a graphic is
+//! its word mark.
 ghost use Rattle.std.specs.Prelude.{◌<◌};
 ghost use Rattle.core_1401.specs.Address.{addresses};
 

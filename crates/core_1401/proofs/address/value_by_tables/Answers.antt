@@ -8,4 +8,6 @@ pub returns-clause-spelling : goal.returns-clause-spelling
 returns-clause-spelling c = λ spelled.
     let value : c.hundreds.result + c.tens.result + c.units.result ≡ value_of c.args.h c.args.t c.args.u =
     omega (arith, c.hundreds.ensures.entry, c.tens.ensures.entry, c.units.ensures.entry) in
-    spelled_again c.args.h c.args.t c.args.u (c.hundreds.result + c.tens.result + c.units.result) c.hundreds.ensures.code c.tens.ensures.code c.units.ensures.code value spelled
+    spelled_again c.args.h c.args.t c.args.u
+    (c.hundreds.result + c.tens.result + c.units.result) c.hundreds.ensures.code
+    c.tens.ensures.code c.units.ensures.code value spelled

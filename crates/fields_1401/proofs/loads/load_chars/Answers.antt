@@ -7,4 +7,5 @@ use Rattle.fields_1401.proofs.loads.load_chars.Goals as goal
 pub returns-clause-field : goal.returns-clause-field
 returns-clause-field c =
     ap (λ core. field_at core c.args.b) c.load_places.ensures.loaded
-    ∙ load_brings_the_field c.args.core.now c.args.a c.args.b c.in-Some.n c.in-Some.ensures.in_core (search rules) (search rules) c.in-Some.ensures.value
+    ∙ load_brings_the_field c.args.core.now c.args.a c.args.b c.in-Some.n c.in-Some.ensures.in_core (search rules)
+    (search rules) c.in-Some.ensures.value

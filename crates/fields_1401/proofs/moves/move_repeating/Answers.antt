@@ -10,7 +10,8 @@ loop-i-init c = record { moved = moved_none c.args.core.now c.args.a c.args.b; m
 
 pub loop-i-preserved : goal.loop-i-preserved
 loop-i-preserved c =
-    let more = moved_more c.args.core.now c.args.a c.args.b c.loop-i.i c.requires.a_in c.requires.b_in (omega arith) (omega arith) in
+    let more = moved_more c.args.core.now c.args.a c.args.b c.loop-i.i c.requires.a_in c.requires.b_in (omega arith)
+    (omega arith) in
     record {
       moved = cc;
       marks = ap marks_of c.put_char.ensures ∙ marks_stay _ _ _ ∙ c.loop-i.invariant.marks;

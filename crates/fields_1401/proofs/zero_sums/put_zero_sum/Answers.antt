@@ -10,6 +10,8 @@ returns-clause-number c =
     let old = c.args.core.now in
     let o = c.args.operands in
     let zone = c.zone.ensures.value in
-    let written = c.put_digits.ensures.digits ∙ ap (λ z. with_number old o.b o.len (over_units z) (magnitude_of (places_down old o.a o.used))) zone in
-    zero_sum_read old c.put_digits.new.core o.a o.used o.b o.len c.args.sign (taken_by old o c.requires.a c.requires.b) o.fewer (omega arith)
+    let written = c.put_digits.ensures.digits ∙ ap (λ z. with_number old o.b o.len (over_units z)
+    (magnitude_of (places_down old o.a o.used))) zone in
+    zero_sum_read old c.put_digits.new.core o.a o.used o.b o.len c.args.sign
+    (taken_by old o c.requires.a c.requires.b) o.fewer (omega arith)
     c.requires.field written

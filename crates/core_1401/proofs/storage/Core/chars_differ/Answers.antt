@@ -6,7 +6,8 @@ use Rattle.core_1401.proofs.storage.Core.chars_differ.Goals as goal
 
 pub returns-then-ne : goal.returns-then-ne
 returns-then-ne c =
-    sym (any_below (is_unequal_pair c.args.self.now c.args.a c.args.b) c.args.n c.loop-i.i c.loop-i-test.true (search rules))
+    sym (any_below (is_unequal_pair c.args.self.now c.args.a c.args.b) c.args.n c.loop-i.i c.loop-i-test.true
+    (search rules))
 
 pub returns : goal.returns
 returns c =

@@ -22,9 +22,12 @@ returns-clause-value c =
       below = c.put_blanks.ensures.below;
       above = c.put_blanks.ensures.above;
     } in
-    let size : length old ≡ length c.args.self.now = ap length c.deref_mut.ensures.value ∙ sym (length_held c.self.inside.chars.items words) ∙ ap length c.self.view_is in
-    ap (λ (l : List ℕ). held l marks) (with_items_is c.self.inside.chars new (c.put_blanks.ensures.count ∙ c.deref_mut.ensures.len))
-    ∙ held-cleared old words new marks at n (omega (arith, size, c.from-high.ensures, c.requires.at)) (omega (arith, c.from-high.ensures, c.from.ensures, c.requires.places)) blanks c.clear_marks.ensures
+    let size : length old ≡ length c.args.self.now = ap length c.deref_mut.ensures.value
+    ∙ sym (length_held c.self.inside.chars.items words) ∙ ap length c.self.view_is in
+    ap (λ (l : List ℕ). held l marks) (with_items_is c.self.inside.chars new
+    (c.put_blanks.ensures.count ∙ c.deref_mut.ensures.len))
+    ∙ held-cleared old words new marks at n (omega (arith, size, c.from-high.ensures, c.requires.at))
+    (omega (arith, c.from-high.ensures, c.from.ensures, c.requires.places)) blanks c.clear_marks.ensures
     ∙ ap (λ (l : List ℕ). with_cells (held l words) at n (λ i. blank)) c.deref_mut.ensures.value
     ∙ ap (λ (s : Storage). with_cells s at n (λ i. blank)) c.self.view_is
     ∙ ap (λ (p : ℕ). with_cells c.args.self.now p n (λ i. blank)) c.from-high.ensures

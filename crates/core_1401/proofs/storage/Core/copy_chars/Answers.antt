@@ -23,10 +23,14 @@ returns c =
       above = c.copy_down.ensures.above;
       below = c.copy_down.ensures.below;
     } in
-    let size : length old ≡ length storage = ap length c.deref_mut.ensures.value ∙ sym (length_held c.self.inside.chars.items words) ∙ ap length c.self.view_is in
-    ap (λ (l : List ℕ). held l words) (with_items_is c.self.inside.chars new (c.copy_down.ensures.count ∙ c.deref_mut.ensures.len))
-    ∙ held-copied old new words a b n copy (omega (arith, size, c.from.ensures, c.requires.a_in)) (omega (arith, size, c.from-2.ensures, c.requires.b_in))
-    ∙ ap (λ (l : List ℕ). with_chars (held l words) b n (λ i. (cell_at (held l words) (a - i)).char)) c.deref_mut.ensures.value
+    let size : length old ≡ length storage = ap length c.deref_mut.ensures.value
+    ∙ sym (length_held c.self.inside.chars.items words) ∙ ap length c.self.view_is in
+    ap (λ (l : List ℕ). held l words) (with_items_is c.self.inside.chars new
+    (c.copy_down.ensures.count ∙ c.deref_mut.ensures.len))
+    ∙ held-copied old new words a b n copy (omega (arith, size, c.from.ensures, c.requires.a_in))
+    (omega (arith, size, c.from-2.ensures, c.requires.b_in))
+    ∙ ap (λ (l : List ℕ). with_chars (held l words) b n (λ i. (cell_at (held l words)
+    (a - i)).char)) c.deref_mut.ensures.value
     ∙ ap (λ (s : Storage). with_chars s b n (λ i. (cell_at s (a - i)).char)) c.self.view_is
     ∙ ap (λ (p : ℕ). with_chars storage b n (λ i. (cell_at storage (p - i)).char)) c.from.ensures
     ∙ ap (λ (p : ℕ). with_chars storage p n (λ i. (cell_at storage (c.args.a - i)).char)) c.from-2.ensures

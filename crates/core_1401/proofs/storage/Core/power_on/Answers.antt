@@ -10,4 +10,5 @@ returns-in-Ok-clause-ok c =
     held_blank chars c.no_marks.result c.args.size 252 all c.no_marks.ensures
 
 pub invariant_of-result : goal.invariant_of-result
-invariant_of-result c = record { size = search rules; none_beyond = λ at beyond. none_marked c.no_marks.result 252 at c.no_marks.ensures }
+invariant_of-result c =
+    record { size = search rules; none_beyond = λ at beyond. none_marked c.no_marks.result 252 at c.no_marks.ensures }

@@ -9,8 +9,15 @@ returns c =
     let chars = c.self.inside.chars.items in
     let words = c.self.inside.words in
     let place : ℕ = c.from-place.result in
-    let in_core : place < length chars = omega (arith, ap length c.self.view_is, length_held chars words, c.from-place.ensures, c.requires) in
-    held-mark chars words place c.with_bit.result c.args.mark in_core (omega (arith, in_core, c.self.told, most_places (length chars) c.self.invariant.size)) c.with_bit.ensures
+    let in_core : place < length chars = omega (
+      arith,
+      ap length c.self.view_is,
+      length_held chars words,
+      c.from-place.ensures,
+      c.requires,
+    ) in
+    held-mark chars words place c.with_bit.result c.args.mark in_core
+    (omega (arith, in_core, c.self.told, most_places (length chars) c.self.invariant.size)) c.with_bit.ensures
     ∙ ap (λ (p : ℕ). with_mark (held chars words) p c.args.mark) c.from-place.ensures
     ∙ ap (λ (s : Storage). with_mark s c.args.at c.args.mark) c.self.view_is
 
@@ -19,5 +26,17 @@ invariant_of-self c =
     let chars = c.self.inside.chars.items in
     let words = c.self.inside.words in
     let place : ℕ = c.from-place.result in
-    let in_core : place < length chars = omega (arith, ap length c.self.view_is, length_held chars words, c.from-place.ensures, c.requires) in
-    whole-mark chars words place c.with_bit.result c.args.mark in_core (omega (arith, in_core, c.self.told, most_places (length chars) c.self.invariant.size)) c.with_bit.ensures c.self.invariant
+    let in_core : place < length chars = omega (
+      arith,
+      ap length c.self.view_is,
+      length_held chars words,
+      c.from-place.ensures,
+      c.requires,
+    ) in
+    whole-mark chars words place c.with_bit.result c.args.mark in_core
+    (omega (
+      arith,
+      in_core,
+      c.self.told,
+      most_places (length chars) c.self.invariant.size,
+    )) c.with_bit.ensures c.self.invariant
