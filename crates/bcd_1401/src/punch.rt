@@ -1,11 +1,11 @@
 //! The card code: the rows that are punched in a column for each character, both ways.
-ghost use Rattle.std.specs.Prelude.{ℕ, ◌≡◌, ◌<◌, ◌==◌, Some, IfSome, slice_index, length, position};
+ghost use Rattle.std.specs.Prelude.{ℕ, ◌≡◌, ◌<◌, ◌==◌, Some, IfSome, length, position};
 ghost use Rattle.bcd_1401.specs.CardCode.{column_of, columns};
 
 use crate::character::Char;
 
-/// The column of each character by its code, sixteen of each zone. Row 12 is 2048, row 11 1024, row 0 512, row 1 256, and so
-/// on down to row 9, which is 1.
+/// The column of each character by its code, sixteen of each zone. Row 12 is 2048, row 11 1024, row 0 512, row 1 256,
+/// and so on down to row 9, which is 1.
 static COLUMNS: [u16; 64] = [
     0, 256, 128, 64, 32, 16, 8, 4, 2, 1, 512, 66, 34, 18, 10, 6, 130, 768, 640, 576, 544, 528, 520,
     516, 514, 513, 642, 578, 546, 530, 522, 518, 1024, 1280, 1152, 1088, 1056, 1040, 1032, 1028,
@@ -30,8 +30,8 @@ fn column_place(table: &[u16], column: u16) -> Option<usize>
 }
 
 impl Char {
-    /// The character that is punched as this column, a number of twelve bits; none for a column that is that of no character
-    /// (A24-1403, "Character Code").
+    /// The character that is punched as this column, a number of twelve bits; none for a column that is that of no
+    /// character (A24-1403, "Character Code").
     pub fn from_punch(column: u16) -> Option<Char>
         ensures value { result ≡ position (λ each. each == column) columns }
         ensures column { IfSome result (λ char. column_of char ≡ column) }

@@ -1,7 +1,7 @@
 -- The carriage, worked out by hand: form 1 begins at position 66.
 use Rattle.std.proofs.Common.{◌≡◌, ℕ, Some, None, Ok, Err, true, false, refl}
 use Rattle.devices_1401.specs.Carriage.{Carriage, first_line, form_of, line_of, lines_to, moved, after_print, controlled, is_at_channel}
-use Rattle.devices_1401.specs.Control.{Control, Space, Skip, movement_of}
+use Rattle.devices_1401.specs.Control.{Space, Skip, movement_of}
 use Rattle.devices_1401.specs.declared.fault.ControlFault.TheVariants.{DChar, Carriage as no_hole}
 
 -- a carriage with nothing pending

@@ -1,2 +1,3 @@
 mod CarriageExamples
 mod CarriageLemmas
+mod MovementLemmas

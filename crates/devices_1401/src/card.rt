@@ -1,6 +1,5 @@
 //! A punched card.
-ghost use Rattle.std.specs.Prelude.{ℕ, ◌≡◌, ◌≢◌, ◌<◌, IfSome, OnSome, IfNone, slice_index};
-ghost use Rattle.bcd_1401.specs.CardCode.{column_of};
+ghost use Rattle.std.specs.Prelude.{◌≡◌, IfSome, IfNone};
 ghost use Rattle.devices_1401.specs.Card.{columns_of, NoCard};
 
 use bcd_1401::Char;

@@ -1,7 +1,7 @@
 //! The card reader, the punch and the printer.
-ghost use Rattle.std.specs.Prelude.{◌≡◌, ◌≢◌, ◌<◌, ◌≤◌, not, length, slice_get, is_ok, IfOk, IfErr, OnOk, OnErr, None, Ok, Err, if◌then◌else◌};
+ghost use Rattle.std.specs.Prelude.{◌≡◌, ◌+◌, ◌%◌, ◌<◌, ◌≤◌, not, length, slice_get, is_ok, IfOk, IfErr, OnOk, OnErr, None, Ok, Err, if◌then◌else◌};
 ghost use Rattle.std.specs.Result.{result_ok};
-ghost use Rattle.devices_1401.specs.Carriage.{form_of, line_of, first_line, controlled, is_at_channel, IsMovedOn};
+ghost use Rattle.devices_1401.specs.Carriage.{positions, form_of, line_of, controlled, is_at_channel, IsMovedOn};
 ghost use Rattle.devices_1401.specs.Devices.{no_cards, most, is_full, fed, punched, printed, after_read, after_card, after_line};
 
 use crate::card::Card;
@@ -17,8 +17,8 @@ use std::marker::Model;
 /// How many cards the hopper and the stacker hold, and how many printed lines wait to be taken, at the most.
 pub const MOST: usize = 500;
 
-/// The card reader, the punch and the printer. Contracts see the cards and the printed lines as lists, each oldest first, and
-/// the carriage.
+/// The card reader, the punch and the printer. Contracts see the cards and the printed lines as lists, each oldest
+/// first, and the carriage.
 #[derive(Drop)]
 pub struct Devices {
     hopper: HeapCircularBuffer<Card>,
@@ -47,8 +47,8 @@ impl Model for Devices {
 }
 
 impl Devices {
-    /// The devices as they are at power-on: nothing in the hopper, in the stacker and on the paper, and the carriage at line 1
-    /// of form 1. All the memory that they ever take is taken here.
+    /// The devices as they are at power-on: nothing in the hopper, in the stacker and on the paper, and the carriage
+    /// at line 1 of form 1. All the memory that they ever take is taken here.
     ///
     /// # Errors
     ///
@@ -110,8 +110,8 @@ impl Devices {
         }
     }
 
-    /// Prints a line where the carriage stands, and moves the carriage by the pending movement, which is cleared, or by one line
-    /// where none is pending.
+    /// Prints a line where the carriage stands, and moves the carriage by the pending movement, which is cleared, or
+    /// by one line where none is pending.
     ///
     /// # Errors
     ///
@@ -122,6 +122,10 @@ impl Devices {
 
         // The next line stands from 1 to 66 lines further on, unless the carriage is moved in between.
         ensures on { OnOk result (IsMovedOn self.old.carriage.position self.new.carriage.position) }
+
+        // Where nothing is pending, each line stands one below the line before, and on the next form after 66 of them.
+        ensures count { OnOk result (self.old.carriage.pending ≡ None
+            → self.new.carriage ≡ record { position = (self.old.carriage.position + 1) % positions; pending = None }) }
     {
         let line = PrintLine {
             form: self.form(),
@@ -155,8 +159,8 @@ impl Devices {
         self.paper.pop_front()
     }
 
-    /// Moves the carriage as a d-character asks, now or after the next print. An immediate movement leaves the pending one, and
-    /// a new pending one takes its place (A24-1403, "Control Carriage").
+    /// Moves the carriage as a d-character asks, now or after the next print. An immediate movement leaves the
+    /// pending one, and a new pending one takes its place (A24-1403, "Control Carriage").
     ///
     /// # Errors
     ///

@@ -1,5 +1,5 @@
-//! What the card reader, the punch and the printer of the IBM 1401 do: cards and printed lines in the order in which they
-//! came, and the carriage that moves the paper.
+//! What the card reader, the punch and the printer of the IBM 1401 do: cards and printed lines in the order in which
+//! they came, and the carriage that moves the paper.
 //!
 //! ```text
 //! let mut devices = Devices::power_on(alloc)?;

@@ -77,8 +77,8 @@ is_suppressed word digits i = nat_lt i (before_significant word digits) && nat_l
 abbrev pub taken_char : Bool → ℕ → ℕ
 taken_char suppressed char = if char == zero_char && suppressed then blank_char else char
 
--- whether t characters of A were too few for so many replaceable places, and all places that took one stand right of one that
--- has so many of them behind it
+-- whether a place is left over: the t characters of A were too few for the replaceable places, and t of these or more stand
+-- right of it, so that all that took one do
 abbrev pub is_left_over : ℕ → ℕ → ℕ → Bool
 is_left_over t replaceable behind = nat_lt t replaceable && nat_le t behind
 

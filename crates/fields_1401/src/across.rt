@@ -16,8 +16,8 @@ pub(crate) fn char_across(core: &Core, at: u16, n: u16, i: u16) -> Char
     core.get(at - (n - 1 - i)).char
 }
 
-/// The character of place i, counted from the left, of n places that end at an address: the units, which come last, without
-/// their zone.
+/// The character of place i, counted from the left, of n places that end at an address: the units, which come last,
+/// without their zone.
 #[tactic(auto, using(crate::proofs::AcrossLemmas::unzoned_read))]
 pub(crate) fn unzoned_char(core: &Core, at: u16, n: u16, i: u16) -> Char
     requires at { at < length core.now }

@@ -87,8 +87,8 @@ impl ControlWord {
         }
     }
 
-    /// How many places, from the left, suppress zeros and commas: those left of the first significant one that aren't right of
-    /// the last zero of the control word.
+    /// How many places, from the left, suppress zeros and commas: those left of the first significant one that aren't
+    /// right of the last zero of the control word.
     pub(crate) fn suppressing(self, core: &Core) -> u16
         requires a { self.a < length core.now }
         requires b { self.b < length core.now }
@@ -101,7 +101,8 @@ impl ControlWord {
             .min(limit(core, self.b, self.len))
     }
 
-    /// How many places stand left of the first that takes a character other than zero and blank: all, where none does.
+    /// How many places stand left of the first that takes a character other than zero and blank: all, where none
+    /// does.
     fn before_significant(self, core: &Core) -> u16
         requires a { self.a < length core.now }
         requires b { self.b < length core.now }
@@ -177,7 +178,8 @@ fn taken_len(core: &Core, a: u16, replaceable: u16) -> Option<u16>
     }
 }
 
-/// How many of n places that end at an address there are up to and including the last zero: none, where there is no zero.
+/// How many of n places that end at an address there are up to and including the last zero: none, where there is no
+/// zero.
 fn limit(core: &Core, at: u16, n: u16) -> u16
     requires at { at < length core.now }
     requires n { n ≤ at + 1 }

@@ -1,5 +1,5 @@
 //! A field edited by the control word in the B field.
-ghost use Rattle.std.specs.Prelude.{◌≡◌, ◌+◌, ◌<◌, length, min, nat_lt, IfSome, OnOk, Option};
+ghost use Rattle.std.specs.Prelude.{◌≡◌, ◌+◌, ◌<◌, length, min, nat_lt, IfSome, OnOk};
 ghost use Rattle.core_1401.specs.Address.{addresses};
 ghost use Rattle.core_1401.specs.Field.{field_len_of};
 ghost use Rattle.fields_1401.specs.Across.{chars_across, units_unzoned, with_across, IsUnmarked, IsSameOutside};
@@ -49,10 +49,12 @@ struct Spot {
     behind: u16,
 }
 
-/// Edits the A field by the control word in the B field (A24-1403, "Move Characters and Edit"). From the right, the blanks and
-/// zeros of the control word are replaced by the characters of A, the units without their zone. Zeros and commas left of the
-/// first figure become blank up to the last zero of the control word; ampersands become blank, commas and the parts of a sign
-/// (`C`, `R`, `-`) behind the last replaced place too, unless A is minus. All word marks of the B field are cleared.
+/// Edits the A field by the control word in the B field (A24-1403, "Move Characters and Edit"). From the right, the
+/// blanks and zeros of the control word are replaced by the characters of A, the units without their zone; those for
+/// which none is left become blank, with the commas among them. Zeros and commas left of the first character of A
+/// that is neither zero nor blank become blank, up to the last zero of the control word. Ampersands become blank, and
+/// right of all blanks and zeros of the control word commas, too, and, unless A is minus, `C`, `R` and `-`. All word
+/// marks of the B field are cleared.
 ///
 /// # Errors
 ///
@@ -154,7 +156,8 @@ impl Rules {
             || (is_sign_char(own) && self.is_sign_blanked(spot))
     }
 
-    /// Whether a comma becomes blank: with what is left over, behind all replaceable places, and where zeros are suppressed.
+    /// Whether a comma becomes blank: with what is left over, behind all replaceable places, and where zeros are
+    /// suppressed.
     fn is_comma_blanked(self, spot: Spot) -> bool
         ensures { result ≡ is_comma_blanked self.taken self.replaceable spot.behind (nat_lt spot.place self.suppressing) }
     {
@@ -171,7 +174,8 @@ impl Rules {
         }
     }
 
-    /// Whether the characters of A were too few for the replaceable places, and all places that took one stand right of this.
+    /// Whether the characters of A were too few for the replaceable places, and all places that took one stand right
+    /// of this.
     fn is_left_over(self, spot: Spot) -> bool
         ensures { result ≡ is_left_over self.taken self.replaceable spot.behind }
     {

@@ -22,9 +22,9 @@ pub(crate) const ZERO: u8 = 10;
 /// The code of a comma.
 pub(crate) const COMMA: u8 = 27;
 
-/// Moves the characters of the A field, the units without their zone, to b and the places below it, with blanks in place of
-/// the zeros and commas left of the first character that is none of zero, blank and comma. The word marks at the places
-/// written are cleared (A24-1403, "Move Characters and Suppress Zeros").
+/// Moves the characters of the A field, the units without their zone, to b and the places below it, with blanks in
+/// place of the zeros and commas left of the first character that is none of zero, blank and comma. The word marks at
+/// the places written are cleared (A24-1403, "Move Characters and Suppress Zeros").
 ///
 /// # Errors
 ///
@@ -64,8 +64,8 @@ fn is_figure(char: Char) -> bool
     !(code == ZERO || code == 0 || code == COMMA)
 }
 
-/// How many of n characters that end at an address, the units without their zone, stand left of the first that stops the
-/// suppression.
+/// How many of n characters that end at an address, the units without their zone, stand left of the first that stops
+/// the suppression.
 fn before_figures(core: &Core, at: u16, n: u16) -> u16
     requires at { at < length core.now }
     requires n { n ≤ at + 1 }
@@ -80,8 +80,8 @@ fn before_figures(core: &Core, at: u16, n: u16) -> u16
     n
 }
 
-/// Puts the n characters of the A field, the units without their zone, to b and the places below it without word marks, with
-/// so many blanks on the left.
+/// Puts the n characters of the A field, the units without their zone, to b and the places below it without word
+/// marks, with so many blanks on the left.
 fn put_suppressed(core: &mut Core, a: u16, b: u16, n: u16, blanks: u16)
     requires a_in { a < length core.old }
     requires b_in { b < length core.old }
