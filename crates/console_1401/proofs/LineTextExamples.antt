@@ -8,7 +8,7 @@ use Rattle.bcd_1401.specs.Graphic.{graphics}
 use Rattle.cpu_1401.specs.declared.switch_name.SwitchName.TheVariants.{C}
 use Rattle.room_1401.specs.declared.command.Command.TheVariants.{Deposit, Examine, Switch}
 use Rattle.console_1401.specs.declared.line.Line.TheVariants.{Empty, Command}
-use Rattle.console_1401.specs.LineText.{IsLineOf}
+use Rattle.console_1401.specs.LineText.{IsLineOf, IsExamineOf}
 use Rattle.console_1401.specs.ReplyText.{cells_text}
 
 -- blanks in front, between and behind, and zeros in front of numbers
@@ -78,3 +78,19 @@ a_text_begins_behind_one_blank = record {
 
 nothing_but_blanks : IsLineOf Empty (codes "   ")
 nothing_but_blanks = record { can_be = tt; short = omega arith; typed = (3, refl) }
+
+examine_of_one_cell : IsExamineOf 15999 (codes "EXAMINE 15999 ")
+unfolding digits
+examine_of_one_cell = record {
+  in_range = omega arith;
+  short = omega arith;
+  typed = (
+    0,
+    codes "EXAMINE",
+    codes " 15999 ",
+    refl,
+    refl,
+    refl,
+    (1, codes "15999", codes " ", refl, (0, refl, omega arith), refl, (1, refl)),
+  );
+}

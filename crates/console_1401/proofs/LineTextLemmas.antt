@@ -4,7 +4,7 @@ use Rattle.std.proofs.lemmas.Bool.{cases_lt, eqb-true}
 use Rattle.std.proofs.lemmas.Bool.Decides.{nat_tests}
 use Rattle.std.proofs.lemmas.List.Elements.{All-head, All-tail}
 use Rattle.std.specs.List.{list_all, flat_map}
-use Rattle.std.specs.Prelude.{All, Ok, is_some, position, slice_index}
+use Rattle.std.specs.Prelude.{codes, All, Ok, is_some, position, slice_index}
 use Rattle.bcd_1401.specs.declared.cell.Cell.{Cell}
 use Rattle.bcd_1401.specs.Graphic.{graphics}
 use Rattle.core_1401.specs.Address.{addresses}
@@ -19,12 +19,12 @@ use Rattle.console_1401.specs.declared.words.Keyword.TheVariants as keyword
 use Rattle.console_1401.specs.Bytes.{blank}
 use Rattle.console_1401.specs.ConsoleLine.{said_in_words, said_with, ended, spelled, cells_of, deposit_of, examine_of, start_of, switch_said, run_of}
 use Rattle.console_1401.specs.Limits.{most_digits}
-use Rattle.console_1401.specs.LineText.{Part, IsTyped, IsTypedBehind, IsParted, CanBeSaid, text_of, setting_text}
+use Rattle.console_1401.specs.LineText.{Part, IsTyped, IsTypedBehind, IsParted, CanBeSaid, text_of, setting_text, one_cell}
 use Rattle.console_1401.specs.LineText.Part.{Name, Numeral}
 use Rattle.console_1401.specs.ReplyText.{cell_text, cells_text}
 use Rattle.console_1401.specs.Words.{word_in, behind_word, name_of, keyword_of, number_of, address_of, count_of, letter_of, switch_named, switch_of, setting_of}
 use Rattle.console_1401.proofs.SpelledLemmas.{second, first, cell_again, spelled-append, cells_of-some}
-use Rattle.console_1401.proofs.WordLemmas.{Stands, IsNumeral, in_word, numeral, word_in-typed, behind_word-typed, word_in-blanks}
+use Rattle.console_1401.proofs.WordLemmas.{Stands, IsNumeral, in_word, numeral, word_in-typed, behind_word-typed, word_in-blanks, behind_word-blanks}
 
 -- A word is one of a line's.
 pub record IsWord (word : List ℕ) : Type 0 where
@@ -259,3 +259,21 @@ in_words (Command (command.Switch switch on)) line can t =
 in_words (Command (command.Run limit)) line can t =
     by_keyword keyword.Run [] (Numeral limit ∷ []) line _ t (run_says limit t.2 can t.6)
 in_words Quit line can t = by_keyword keyword.Quit [] [] line _ t (ended_by_blanks _ t.6.0 t.2 t.6.1)
+
+-- an address alone
+one_says : (address : ℕ) (line : List ℕ) → address < addresses → IsTyped (Numeral address ∷ []) [] line
+    → examine_of line ≡ Ok (one_cell address)
+unfolding examine_of count_of
+one_says address line in_range t =
+    let n = numeral address t.1 (omega arith) t.4 in
+    let s = split_number address t.0 t.1 t.2 line n t.3 t.5 in
+    let word = word_in-blanks t.6.0 t.2 t.6.1 in
+    let behind = behind_word-blanks t.6.0 t.2 t.6.1 in
+    rw (s.word_is, s.rest_is, address_is address t.1 in_range n.says, word, behind) (ended_by_blanks _ 0 [] refl)
+
+-- EXAMINE and an address are what its words say
+pub in_words-one : (address : ℕ) (line : List ℕ) → address < addresses
+    → IsTyped (Name (codes "EXAMINE") ∷ Numeral address ∷ []) [] line → said_in_words line ≡ Ok (one_cell address)
+unfolding said_with
+in_words-one address line in_range t =
+    by_keyword keyword.Examine [] (Numeral address ∷ []) line _ t (one_says address t.2 in_range t.6)

@@ -81,13 +81,20 @@ behind_word-typed blanks word rest line s =
     let end = passing in_word word rest s.whole (parted rest s.rest_parted) in
     rw (s.line_is, all, end, drop-append_seam)
 
--- among blanks alone there is no word
+none_left : (blanks : ℕ) → drop blanks (replicate {A = ℕ} blanks blank) ≡ []
+none_left blanks =
+    drop_of_length-le (replicate {A = ℕ} blanks blank) (omega (arith, length-replicate {A = ℕ} blanks blank))
+
+-- among blanks alone there is no word, and nothing behind it
 pub word_in-blanks : (blanks : ℕ) (line : List ℕ) → line ≡ replicate blanks blank → word_in line ≡ []
 unfolding word_in
 word_in-blanks blanks line is =
-    let none : drop blanks (replicate {A = ℕ} blanks blank) ≡ [] =
-    drop_of_length-le (replicate {A = ℕ} blanks blank) (omega (arith, length-replicate {A = ℕ} blanks blank)) in
-    rw (is, prefix_len-replicate is_blank blanks blank refl, none) refl
+    rw (is, prefix_len-replicate is_blank blanks blank refl, none_left blanks) refl
+
+pub behind_word-blanks : (blanks : ℕ) (line : List ℕ) → line ≡ replicate blanks blank → behind_word line ≡ []
+unfolding behind_word
+behind_word-blanks blanks line is =
+    rw (is, prefix_len-replicate is_blank blanks blank refl, none_left blanks) refl
 
 -- zeros in front don't count
 value_of-zeros : (zeros : ℕ) (digits : List ℕ) → value_of (replicate zeros 48 ++ digits) ≡ value_of digits

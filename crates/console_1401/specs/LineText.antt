@@ -84,3 +84,13 @@ pub record IsLineOf (said : Line) (line : List ℕ) : Type 0 where
   pub can_be : CanBeSaid said
   pub short : length line ≤ most_line_bytes
   pub typed : IsTyped (text_of said).parts (text_of said).cells line
+
+-- what EXAMINE says where no number says how many cells
+abbrev pub one_cell : ℕ → Line
+one_cell address = line.Command (command.Examine address 1)
+
+-- The line is EXAMINE and an address.
+pub record IsExamineOf (address : ℕ) (line : List ℕ) : Type 0 where
+  pub in_range : address < addresses
+  pub short : length line ≤ most_line_bytes
+  pub typed : IsTyped (Name (codes "EXAMINE") ∷ Numeral address ∷ []) [] line

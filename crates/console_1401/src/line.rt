@@ -1,8 +1,8 @@
 //! What a line at the console says.
-ghost use Rattle.std.specs.Prelude.{◌≡◌, ◌<◌, [], ◌∷◌, length, MatchOption};
+ghost use Rattle.std.specs.Prelude.{◌≡◌, ℕ, ◌<◌, [], ◌∷◌, length, MatchOption};
 ghost use Rattle.console_1401.specs.declared.line.Line.{Line};
 ghost use Rattle.console_1401.specs.ConsoleLine.{cell_of, spelled, cells_of, ended, deposit_of, examine_of, start_of, switch_said, run_of, said_with, said_in_words, said_by};
-ghost use Rattle.console_1401.specs.LineText.{IsLineOf};
+ghost use Rattle.console_1401.specs.LineText.{IsLineOf, IsExamineOf, one_cell};
 
 use crate::words::{Keyword, address, count, number, setting, split_word, switch};
 use bcd_1401::{Cell, Char};
@@ -49,6 +49,9 @@ pub fn parse_line(line: &[u8]) -> Result<Line, LineFault>
 
     // What is typed for a line is read as that line, whatever blanks stand between its words.
     ensures typed { (said : Line) → IsLineOf said line.now → result ≡ Ok said }
+
+    // EXAMINE without a number asks for one cell.
+    ensures one { (address : ℕ) → IsExamineOf address line.now → result ≡ Ok (one_cell address) }
 {
     if line.len() > LINE_LIMIT {
         return Err(LineFault::Length);
