@@ -5,6 +5,7 @@ mod branches;
 mod command_line;
 mod editing;
 mod faults;
+mod loading;
 mod moves;
 mod programs;
 mod recorder;

@@ -31,7 +31,9 @@ header_text version size = name_of version ++ number_text (address_digits versio
 -- the line of a segment: its address, how many cells it has, and the cells
 unfoldable pub segment_text : Version → Segment → List ℕ
 segment_text version segment =
-    number_text (address_digits version) segment.address ++ codes " " ++ number_text 2 (length segment.cells) ++ codes " " ++ cells_text segment.cells
+    number_text (address_digits version) segment.address
+    ++ codes " " ++ number_text 2 (length segment.cells)
+    ++ codes " " ++ cells_text segment.cells
 
 -- the last line: the entry
 unfoldable pub end_text : Version → ℕ → List ℕ
@@ -48,7 +50,9 @@ segments_text version segments = flat_map (λ segment. line_of (segment_text ver
 -- all lines, in order
 unfoldable pub image_text : Version → Image → List ℕ
 image_text version image =
-    line_of (header_text version image.size) ++ segments_text version image.segments ++ line_of (end_text version image.start)
+    line_of (header_text version image.size)
+    ++ segments_text version image.segments
+    ++ line_of (end_text version image.start)
 
 -- whether this is the character
 abbrev pub is_char : Option ℕ → ℕ → Bool

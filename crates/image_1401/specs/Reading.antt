@@ -38,7 +38,9 @@ number_in digits = if list_all is_digit digits then Some (value_of digits) else 
 -- a number of so many digits at the front
 unfoldable pub number_at : ℕ → List ℕ → Option (ℕ × List ℕ)
 number_at places text =
-    if nat_le places (length text) then option_map (λ number. (number, drop places text)) (number_in (take places text)) else None
+    if nat_le places (length text)
+    then option_map (λ number. (number, drop places text)) (number_in (take places text))
+    else None
 
 -- the cell with this graphic
 abbrev pub cell_in : Bool → ℕ → Option Cell
@@ -53,7 +55,9 @@ unfoldable pub cells_in : List ℕ → Option (List Cell)
 cells_in [] = Some []
 cells_in (byte ∷ []) = in_front (cell_in false byte) (Some [])
 cells_in (byte ∷ next ∷ text) =
-    if byte == 126 then in_front (cell_in true next) (cells_in text) else in_front (cell_in false byte) (cells_in (next ∷ text))
+    if byte == 126
+    then in_front (cell_in true next) (cells_in text)
+    else in_front (cell_in false byte) (cells_in (next ∷ text))
 
 -- 1 to 40 of them
 abbrev pub if_few : List Cell → Option (List Cell)
@@ -87,6 +91,10 @@ segment_in version line = do
 -- a segment as its line spells it
 abbrev pub as_segment : Spelled → Segment
 as_segment spelled = record { address = spelled.address; cells = spelled.cells }
+
+-- a segment that lies in core storage of this size
+abbrev pub inside_of : ℕ → Segment → Result Segment ImageFault
+inside_of size segment = if is_inside size segment then Ok segment else Err Range
 
 -- the entry
 unfoldable pub end_in : Version → List ℕ → Option ℕ
@@ -123,11 +131,14 @@ entry_alone (Err fault) = Err fault
 -- by the entry that a line names, if it does, and what is left behind that line
 abbrev pub entry_by : ℕ → Option ℕ → List (List ℕ) → Result ℕ ImageFault
 entry_by size None parts = Err BadRecord
-entry_by size (Some start) parts = if nat_lt start size then (if is_done parts then Ok start else Err BadRecord) else Err Range
+entry_by size (Some start) parts =
+    if nat_lt start size then (if is_done parts then Ok start else Err BadRecord) else Err Range
 
 -- by the segment that a line is, if it is one, what is read behind it, and what is read where it isn't
-abbrev pub contents_by : ℕ → Option Segment → Result Contents ImageFault → Result ℕ ImageFault → Result Contents ImageFault
-contents_by size (Some segment) more entry = if is_inside size segment then with_segments (segment ∷ []) more else Err Range
+abbrev pub contents_by : ℕ → Option Segment → Result Contents ImageFault → Result ℕ ImageFault
+    → Result Contents ImageFault
+contents_by size (Some segment) more entry =
+    if is_inside size segment then with_segments (segment ∷ []) more else Err Range
 contents_by size None more entry = entry_alone entry
 
 -- behind the header
@@ -135,7 +146,8 @@ unfoldable pub contents_in : Version → ℕ → List (List ℕ) → Result Cont
 contents_in version size [] = Err Truncated
 contents_in version size (part ∷ []) = Err Truncated
 contents_in version size (line ∷ next ∷ parts) =
-    contents_by size (segment_in version line) (contents_in version size (next ∷ parts)) (entry_by size (end_in version line) (next ∷ parts))
+    contents_by size (segment_in version line) (contents_in version size (next ∷ parts))
+    (entry_by size (end_in version line) (next ∷ parts))
 
 -- an image of this size
 abbrev pub image_of : ℕ → Result Contents ImageFault → Result Image ImageFault

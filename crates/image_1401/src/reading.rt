@@ -1,10 +1,11 @@
 //! The image of a text.
-ghost use Rattle.std.specs.Prelude.{◌≡◌, ◌<◌, ◌≤◌, ◌^◌, ◌∷◌, [], length, ◌==◌, position, Some, None, Ok, Err, if◌then◌else◌, IfOk, IfErr, MatchOption};
+ghost use Rattle.std.specs.Prelude.{◌≡◌, ◌<◌, ◌≤◌, ◌==◌, ◌∷◌, [], length, position, Some, None, Ok, Err};
+ghost use Rattle.std.specs.Prelude.{if◌then◌else◌, IfOk, IfErr, MatchOption};
 ghost use Rattle.std.specs.Option.{option_map};
-ghost use Rattle.image_1401.specs.Image.{is_inside};
 ghost use Rattle.image_1401.specs.ImageText.{IsTextOf, IsOrMemory};
 ghost use Rattle.image_1401.specs.Refusal.{IsRefused};
-ghost use Rattle.image_1401.specs.Reading.{cell_in, cells_in, in_front, few_cells_in, number_in, number_at, header_with, header_in, segment_in, end_in, parts_of, entry_by, contents_in, image_of, image_in, as_segment, Gives, IsOfText};
+ghost use Rattle.image_1401.specs.Reading.{cell_in, cells_in, in_front, few_cells_in, number_in, number_at, header_with, header_in, segment_in, end_in};
+ghost use Rattle.image_1401.specs.Reading.{parts_of, entry_by, contents_in, image_of, image_in, as_segment, Gives, IsOfText, inside_of};
 
 use crate::fault::ImageFault;
 use crate::image::{Image, Segment, Segments};
@@ -18,10 +19,10 @@ use std::alloc::Global;
 ///
 /// # Errors
 ///
-/// The fault of the text's first wrong line: `Truncated` where a line is due and no line feed follows; `Header` where the
-/// first line names no version and size that there are; `BadRecord` where a later line is neither a segment nor the last
-/// line, or a byte stands behind the last line; `Range` where a segment or the entry doesn't lie in core storage of the
-/// image's size. `Memory` where the text is an image's, and the memory for it is refused.
+/// The fault of the text's first wrong line: `Truncated` where a line is due and no line feed follows; `Header` where
+/// the first line names no version and size that there are; `BadRecord` where a later line is neither a segment nor the
+/// last line, or a byte stands behind the last line; `Range` where a segment or the entry doesn't lie in core storage of
+/// the image's size. `Memory` where the text is an image's, and the memory for it is refused.
 pub fn read_image(alloc: Global, text: &[u8]) -> Result<Image, ImageFault>
     // What is read is the image whose text this is.
     ensures found { IfOk result (IsTextOf text.now) }
@@ -56,8 +57,8 @@ fn image(alloc: Global, text: &[u8]) -> Result<Image, ImageFault>
     contents(alloc, version, size, behind)
 }
 
-/// The image of a size whose segments and entry a text spells. Want of memory is told last: the lines behind it are looked
-/// at first.
+/// The image of a size whose segments and entry a text spells. Want of memory is told last: the lines behind it are
+/// looked at first.
 fn contents(alloc: Global, version: Version, size: u16, text: &[u8]) -> Result<Image, ImageFault>
     ensures { Gives result (image_of size (contents_in version size (parts_of text.now))) }
 {
@@ -86,7 +87,7 @@ fn contents(alloc: Global, version: Version, size: u16, text: &[u8]) -> Result<I
 
 /// A segment that lies in core storage of this size.
 fn segment_inside(size: u16, spelled: &Spelled) -> Result<Segment, ImageFault>
-    ensures { result ≡ (if is_inside size (as_segment spelled.now) then Ok (as_segment spelled.now) else Err ImageFault.Range) }
+    ensures { result ≡ inside_of size (as_segment spelled.now) }
 {
     let cells = spelled.cells;
     let end = u64::from(spelled.address) + cells.as_slice().len() as u64;
@@ -99,7 +100,8 @@ fn segment_inside(size: u16, spelled: &Spelled) -> Result<Segment, ImageFault>
     })
 }
 
-/// The entry that a line names, if it does, where it lies in core storage of this size and nothing stands behind the line.
+/// The entry that a line names, if it does, where it lies in core storage of this size and nothing stands behind the
+/// line.
 fn last_entry(size: u16, entry: Option<u32>, behind: &[u8]) -> Result<u16, ImageFault>
     ensures value { result ≡ entry_by size entry (parts_of behind.now) }
     ensures fault { IfErr result IsOfText }
@@ -230,8 +232,8 @@ fn cells(text: &[u8]) -> Option<Cells>
     Cells::from_slice(&cells[..count])
 }
 
-/// The first cell that a text spells, which is none where a graphic is missed, and what stands behind it; none at the end
-/// of the text.
+/// The first cell that a text spells, which is none where a graphic is missed, and what stands behind it; none at the
+/// end of the text.
 #[tactic(auto, unfolding(crate::specs::Reading::cells_in))]
 fn split_cell(text: &[u8]) -> Option<(Option<Cell>, &[u8])>
     ensures { MatchOption result (text.now ≡ []) (λ first.

@@ -152,3 +152,17 @@ fn the_largest_segment_at_the_last_places(rt: HostRuntime) -> Result<(), Fail> {
     );
     Ok(())
 }
+
+#[test]
+fn a_large_image_is_written_as_it_was_read(rt: HostRuntime) -> Result<(), Fail> {
+    let mut text = Vec::from_slice(rt.alloc(), b"IMAGE1 4000\n")?;
+    for _ in 0..99_000 {
+        text.extend_from_slice(b"0400 24 ~?423420~A423420~.414~   ~HI~E\n")?;
+    }
+    text.extend_from_slice(b"END 0400\n")?;
+    let image = read_image(rt.alloc(), text.as_slice())?;
+    assert_eq!(rt; image.segments.as_slice().len(), 99_000);
+    let again = write_image(rt.alloc(), &image)?;
+    assert!(rt; again == text);
+    Ok(())
+}

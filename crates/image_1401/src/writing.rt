@@ -2,7 +2,8 @@
 ghost use Rattle.std.specs.Prelude.{◌≡◌, ◌++◌, true, length, IfOk, OnOk};
 ghost use Rattle.std.specs.List.{flat_map, list_all};
 ghost use Rattle.image_1401.specs.Image.{IsInCore};
-ghost use Rattle.image_1401.specs.ImageText.{number_text, cell_text, cells_text, header_text, segment_text, end_text, segments_text, image_text, line_of, is_character, is_segment, IsTextOf};
+ghost use Rattle.image_1401.specs.ImageText.{number_text, cell_text, cells_text, header_text, segment_text, end_text};
+ghost use Rattle.image_1401.specs.ImageText.{segments_text, image_text, line_of, is_character, is_segment, IsTextOf};
 
 use crate::image::{Image, Segment};
 use crate::version::Version;
