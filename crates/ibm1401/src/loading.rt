@@ -45,8 +45,8 @@ fn bytes_of(rt: &(impl Files + AllocGlobal), name: &str) -> io::Result<Option<Ve
 ///
 /// # Errors
 ///
-/// `Image` where the text is no image's; `Memory` or `JournalFull` where the image isn't loaded; or what ended the session
-/// but QUIT and the end of the input.
+/// `Image` where the text is no image's; `Memory` or `JournalFull` where the image isn't loaded; or what ended the
+/// session but QUIT and the end of the input.
 pub fn load<R: Source, W: Sink>(
     alloc: Global,
     text: &[u8],
