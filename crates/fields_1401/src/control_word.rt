@@ -3,7 +3,7 @@ ghost use Rattle.std.specs.Prelude.{◌≡◌, ◌+◌, ◌<◌, ◌≤◌, fals
 ghost use Rattle.core_1401.specs.Address.{addresses};
 ghost use Rattle.core_1401.specs.Field.{field_len_of};
 ghost use Rattle.fields_1401.specs.Across.{chars_across, units_unzoned};
-ghost use Rattle.fields_1401.specs.Edit.{is_replaceable, replaceable_in, taken_from, is_significant, before_significant, limit_of, is_shared, edit_lengths_at};
+ghost use Rattle.fields_1401.specs.Edit.{is_replaceable, replaceable_in, taken_from, is_significant, before_significant, limit_of, taken_at, is_shared, edit_lengths_at};
 ghost use Rattle.fields_1401.specs.Refusal.{used_len_of};
 
 use crate::across::{char_across, unzoned_char};
