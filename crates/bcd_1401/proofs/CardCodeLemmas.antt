@@ -1,5 +1,5 @@
 -- Each of the 64 characters has a column of its own.
-use Rattle.std.proofs.Common.{◌≡◌, ℕ, ◌<◌, ◌==◌, Bool, true, Some, get_or, length, refl, arith, sym, ap, ◌∙◌, subst, position}
+use Rattle.std.proofs.Common.{◌≡◌, ℕ, ◌<◌, ◌==◌, Bool, true, List, Some, get_or, length, refl, arith, sym, ap, ◌∙◌, subst, position}
 use Rattle.std.specs.List.{position_or_len, range_with_len, list_all}
 use Rattle.std.specs.Prelude.{nat_lt}
 use Rattle.std.proofs.lemmas.Bool.{eqb-true, lt-ltb, ltb-true}
@@ -63,3 +63,7 @@ pub one_character : (char other column : ℕ) → char < 64 → other < 64 → c
 one_character char other column h h_other e e_other =
     let both : Some other ≡ Some char = sym (own_column other column h_other e_other) ∙ own_column char column h e in
     cc
+
+-- a character's column is read at its code
+pub column_read : (table : List ℕ) (place char : ℕ) → table ≡ columns → place ≡ char → char < 64 → get_or table place 0 ≡ column_of char
+column_read table place char e_table e_place h = ap (λ each. get_or each place 0) e_table ∙ ap (λ k. get_or columns k 0) e_place ∙ column_at char 0 h
