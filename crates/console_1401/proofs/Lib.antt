@@ -7,6 +7,7 @@ pub mod LineTextLemmas
 pub mod NumberLemmas
 pub mod ReadingLemmas
 mod ReplyTextExamples
+mod SessionEndExamples
 mod SessionExamples
 pub mod SessionLemmas
 pub mod SpelledLemmas

@@ -24,7 +24,15 @@ examine_with_blanks_and_zeros = record {
     refl,
     refl,
     refl,
-    (3, codes "0500", codes " 02  ", refl, (1, refl, omega arith), refl, (1, codes "02", codes "  ", refl, (1, refl, omega arith), refl, (2, refl))),
+    (
+      3,
+      codes "0500",
+      codes " 02  ",
+      refl,
+      (1, refl, omega arith),
+      refl,
+      (1, codes "02", codes "  ", refl, (1, refl, omega arith), refl, (2, refl)),
+    ),
   );
 }
 
