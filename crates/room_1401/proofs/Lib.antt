@@ -1,4 +1,10 @@
-pub mod ReplayLemmas
 mod CarryOutExamples
-mod JournalExamples
 pub mod CellsLemmas
+pub mod ClosingLemmas
+pub mod HistoryLemmas
+mod JournalExamples
+pub mod PrefixLemmas
+pub mod PublishLemmas
+pub mod ReplayLemmas
+pub mod RuleLemmas
+pub mod SeenLemmas
