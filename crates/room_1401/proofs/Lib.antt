@@ -7,4 +7,5 @@ pub mod PrefixLemmas
 pub mod PublishLemmas
 pub mod ReplayLemmas
 pub mod RuleLemmas
+mod SeenExamples
 pub mod SeenLemmas
