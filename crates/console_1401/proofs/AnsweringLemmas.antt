@@ -8,12 +8,16 @@ use Rattle.console_1401.specs.Answering.{Response, AnsweredAll}
 
 pub answered_one : {S : Type 0} (responds : Response S) (before after : S) (said : Said) (reply : Option Reply)
     → responds before said reply after → AnsweredAll responds before (said ∷ []) (bytes_of reply) after
-answered_one responds before after said reply t = (after, reply, [], t, sym (append-nil (bytes_of reply)), (refl, refl))
+answered_one responds before after said reply t =
+    (after, reply, [], t, sym (append-nil (bytes_of reply)), (refl, refl))
 
-pub AnsweredAll-append : {S : Type 0} (responds : Response S) (before middle after : S) (lines more : List Said) (written rest : List ℕ)
-    → AnsweredAll responds before lines written middle → AnsweredAll responds middle more rest after → AnsweredAll responds before (lines ++ more) (written ++ rest) after
+pub AnsweredAll-append : {S : Type 0} (responds : Response S) (before middle after : S) (lines more : List Said)
+    (written rest : List ℕ)
+    → AnsweredAll responds before lines written middle → AnsweredAll responds middle more rest after
+    → AnsweredAll responds before (lines ++ more) (written ++ rest) after
 AnsweredAll-append {S} responds before middle after [] more written rest a b =
-    subst (λ (front : List ℕ). AnsweredAll responds before more (front ++ rest) after) (sym a.0) (subst (λ (s : S). AnsweredAll responds s more rest after) a.1 b)
+    subst (λ (front : List ℕ). AnsweredAll responds before more (front ++ rest) after) (sym a.0)
+    (subst (λ (s : S). AnsweredAll responds s more rest after) a.1 b)
 AnsweredAll-append responds before middle after (said ∷ lines) more written rest a b = (
   a.0,
   a.1,
@@ -24,7 +28,10 @@ AnsweredAll-append responds before middle after (said ∷ lines) more written re
 )
 
 -- one line more
-pub answered_more : {S : Type 0} (responds : Response S) (before middle after : S) (lines : List Said) (written : List ℕ) (said : Said) (reply : Option Reply)
-    → AnsweredAll responds before lines written middle → responds middle said reply after → AnsweredAll responds before (lines ++ said ∷ []) (written ++ bytes_of reply) after
+pub answered_more : {S : Type 0} (responds : Response S) (before middle after : S) (lines : List Said)
+    (written : List ℕ) (said : Said) (reply : Option Reply)
+    → AnsweredAll responds before lines written middle → responds middle said reply after
+    → AnsweredAll responds before (lines ++ said ∷ []) (written ++ bytes_of reply) after
 answered_more responds before middle after lines written said reply a t =
-    AnsweredAll-append responds before middle after lines (said ∷ []) written (bytes_of reply) a (answered_one responds middle after said reply t)
+    AnsweredAll-append responds before middle after lines (said ∷ []) written (bytes_of reply) a
+    (answered_one responds middle after said reply t)

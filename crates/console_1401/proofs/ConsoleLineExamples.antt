@@ -88,7 +88,8 @@ no_switch_or_neither_on_nor_off_is_no_word : AllSay (
 unfolding says
 no_switch_or_neither_on_nor_off_is_no_word = refl
 
-a_tilde_marks_the_next_cell : said_by (codes "DEPOSIT 0500 ~0K~A") ≡ Ok (Command (Deposit 500 (marked 10 ∷ plain 34 ∷ marked 49 ∷ [])))
+a_tilde_marks_the_next_cell :
+    said_by (codes "DEPOSIT 0500 ~0K~A") ≡ Ok (Command (Deposit 500 (marked 10 ∷ plain 34 ∷ marked 49 ∷ [])))
 unfolding says
 a_tilde_marks_the_next_cell = refl
 
@@ -105,7 +106,9 @@ forty_cells_are_the_most : AllSay (
 unfolding says
 forty_cells_are_the_most = refl
 
-forty_marked_cells_are_the_most : said_by (codes "DEPOSIT 0 ~A~A~A~A~A~A~A~A~A~A~A~A~A~A~A~A~A~A~A~A~A~A~A~A~A~A~A~A~A~A~A~A~A~A~A~A~A~A~A~A") ≡ Ok (Command (Deposit 0 (replicate 40 (marked 49))))
+forty_marked_cells_are_the_most :
+    said_by (codes "DEPOSIT 0 ~A~A~A~A~A~A~A~A~A~A~A~A~A~A~A~A~A~A~A~A~A~A~A~A~A~A~A~A~A~A~A~A~A~A~A~A~A~A~A~A")
+    ≡ Ok (Command (Deposit 0 (replicate 40 (marked 49))))
 unfolding says
 forty_marked_cells_are_the_most = refl
 

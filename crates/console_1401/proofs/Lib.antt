@@ -1,10 +1,14 @@
+pub mod AnsweringLemmas
 mod ConsoleLineExamples
 pub mod DigitLemmas
+pub mod ImageLoadingLemmas
+mod LineTextExamples
+pub mod LineTextLemmas
 pub mod NumberLemmas
 pub mod ReadingLemmas
 mod ReplyTextExamples
 mod SessionExamples
 pub mod SessionLemmas
 pub mod SpelledLemmas
-pub mod AnsweringLemmas
 pub mod TextLemmas
+pub mod WordLemmas

@@ -61,7 +61,8 @@ registers_have_their_widths : AllRead ((
   answer.Regs power_on,
   codes "I=00000 A=00000 B=00000 UNEQUAL=0 OVERFLOW=0 SWITCHES=------- HOPPER=000 STACKER=000 PAPER=000 FORM=0001 LINE=01",
 ) ∷ (
-  answer.Regs (record power_on { i = 41; a = 56; b = 15999; unequal = true; hopper = 3; paper = 500; form = 8; line = 40 }),
+  answer.Regs
+      (record power_on { i = 41; a = 56; b = 15999; unequal = true; hopper = 3; paper = 500; form = 8; line = 40 }),
   codes "I=00041 A=00056 B=15999 UNEQUAL=1 OVERFLOW=0 SWITCHES=------- HOPPER=003 STACKER=000 PAPER=500 FORM=0008 LINE=40",
 ) ∷ (
   answer.Regs (record power_on { overflow = true; stacker = 12; form = 9999; line = 66 }),

@@ -46,11 +46,13 @@ a_return_at_the_end_of_input_stays : lines_of true (codes "QUIT" ++ 13 ∷ []) �
 unfolding lines_in
 a_return_at_the_end_of_input_stays = refl
 
-an_unfinished_line_counts_at_the_end : lines_of true (10 ∷ codes "EXAMINE 7" ++ 10 ∷ codes "QUIT") ≡ Ok Empty ∷ Ok (Command (Examine 7 1)) ∷ Ok Quit ∷ []
+an_unfinished_line_counts_at_the_end :
+    lines_of true (10 ∷ codes "EXAMINE 7" ++ 10 ∷ codes "QUIT") ≡ Ok Empty ∷ Ok (Command (Examine 7 1)) ∷ Ok Quit ∷ []
 unfolding lines_in
 an_unfinished_line_counts_at_the_end = refl
 
-and_before_the_end_it_does_not : lines_of false (10 ∷ codes "EXAMINE 7" ++ 10 ∷ codes "QUIT") ≡ Ok Empty ∷ Ok (Command (Examine 7 1)) ∷ []
+and_before_the_end_it_does_not :
+    lines_of false (10 ∷ codes "EXAMINE 7" ++ 10 ∷ codes "QUIT") ≡ Ok Empty ∷ Ok (Command (Examine 7 1)) ∷ []
 unfolding lines_in
 and_before_the_end_it_does_not = refl
 
@@ -58,7 +60,8 @@ nothing_comes_after_a_line_feed_at_the_end : lines_of true (codes "QUIT" ++ 10 �
 unfolding lines_in
 nothing_comes_after_a_line_feed_at_the_end = refl
 
-a_line_of_201_bytes_is_too_long : lines_of false (replicate 200 32 ++ 13 ∷ 10 ∷ replicate 201 32 ++ 10 ∷ []) ≡ Ok Empty ∷ Err Length ∷ []
+a_line_of_201_bytes_is_too_long :
+    lines_of false (replicate 200 32 ++ 13 ∷ 10 ∷ replicate 201 32 ++ 10 ∷ []) ≡ Ok Empty ∷ Err Length ∷ []
 unfolding lines_in
 a_line_of_201_bytes_is_too_long = refl
 
@@ -74,18 +77,22 @@ refused : Said → Turn
 refused said = record { said = said; memory_refused = true }
 
 each_line_has_its_reply :
-    replies_to 20 [] (good (Ok (Command (Deposit 5 two_cells))) ∷ good (Ok Empty) ∷ good (Ok (Command (Examine 5 2))) ∷ good (Err Word) ∷ good (Ok Quit) ∷ [])
+    replies_to 20 []
+    (good (Ok (Command (Deposit 5 two_cells))) ∷ good (Ok Empty) ∷ good (Ok (Command (Examine 5 2)))
+    ∷ good (Err Word) ∷ good (Ok Quit) ∷ [])
     ≡ codes "OK" ++ 10 ∷ codes "~0K" ++ 10 ∷ codes "ERROR 1 WORD" ++ 10 ∷ codes "BYE" ++ 10 ∷ []
 unfolding replies_in two_cells good
 each_line_has_its_reply = refl
 
 a_refused_growth_leaves_the_machine :
-    replies_to 20 [] (refused (Ok (Command (Deposit 5 two_cells))) ∷ good (Ok (Command (Examine 5 2))) ∷ []) ≡ codes "FAULT 1 MEMORY" ++ 10 ∷ codes "  " ++ 10 ∷ []
+    replies_to 20 [] (refused (Ok (Command (Deposit 5 two_cells))) ∷ good (Ok (Command (Examine 5 2))) ∷ [])
+    ≡ codes "FAULT 1 MEMORY" ++ 10 ∷ codes "  " ++ 10 ∷ []
 unfolding replies_in two_cells good refused
 a_refused_growth_leaves_the_machine = refl
 
 a_refused_command_is_recorded :
-    length (journal_after 20 [] (good (Ok (Command (Examine 20 1))) ∷ good (Err Word) ∷ refused (Ok (Command (Examine 0 1))) ∷ [])) ≡ 1
+    length (journal_after 20 []
+    (good (Ok (Command (Examine 20 1))) ∷ good (Err Word) ∷ refused (Ok (Command (Examine 0 1))) ∷ [])) ≡ 1
 unfolding replies_in good refused
 a_refused_command_is_recorded = refl
 
@@ -144,7 +151,8 @@ examine_answered = record {
 }
 
 -- a room that has answered it answers it once more
-examine_answered_again : Answered (room_with (examined ∷ [])) (examine ∷ []) shown (room_with (examined ∷ examined ∷ []))
+examine_answered_again : Answered (room_with (examined ∷ [])) (examine ∷ []) shown
+    (room_with (examined ∷ examined ∷ []))
 unfolding replies_in good
 examine_answered_again = record {
   turns = good examine ∷ [];
@@ -283,7 +291,7 @@ ends_at_the_bound : (n : ℕ) → n ≡ most_bytes → SessionDid Answered end.B
     (Some (replicate n 32 ++ codes "QUIT")) (Some (codes "QUIT")) (Some []) (Some []) (room_with []) (room_with [])
 ends_at_the_bound n all =
     let none : lines_of false (replicate n 32) ≡ [] =
-        ap (λ (cut : Cut). map said_finished cut.finished) (blanks_alone n) in
+    ap (λ (cut : Cut). map said_finished cut.finished) (blanks_alone n) in
     record {
       read = replicate n 32;
       written = [];

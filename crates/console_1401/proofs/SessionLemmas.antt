@@ -17,9 +17,12 @@ use Rattle.console_1401.specs.Answering.{AnsweredAll}
 
 -- lines answered in the one way are answered in the other
 abbrev pub Gives : {S : Type 0} → Exchange S → Exchange S → Type 0
-Gives {S} one other = (before : S) (lines : List Said) (written : List ℕ) (after : S) → one before lines written after → other before lines written after
+Gives {S} one other =
+    (before : S) (lines : List Said) (written : List ℕ) (after : S) → one before lines written after
+    → other before lines written after
 
-broken_off_as : {S : Type 0} (one other : Exchange S) (gives : Gives one other) (before : S) (front : List Said) (last : Said) (written : List ℕ) (after : S)
+broken_off_as : {S : Type 0} (one other : Exchange S) (gives : Gives one other) (before : S) (front : List Said)
+    (last : Said) (written : List ℕ) (after : S)
     → BrokenOff one before front last written after → BrokenOff other before front last written after
 broken_off_as one other gives before front last written after b = record {
   replies = b.replies;
@@ -33,18 +36,22 @@ broken_off_as one other gives before front last written after b = record {
   written_is = b.written_is;
 }
 
-ended_as : {S : Type 0} (one other : Exchange S) (gives : Gives one other) (last : SessionEnd) (left : Option (List ℕ)) (before : S) (read written : List ℕ) (after : S)
+ended_as : {S : Type 0} (one other : Exchange S) (gives : Gives one other) (last : SessionEnd) (left : Option (List ℕ))
+    (before : S) (read written : List ℕ) (after : S)
     → HasEnded one last left before read written after → HasEnded other last left before read written after
 unfolding broken_off_as
 ended_as one other gives end.Quit left before read written after s = (s.0, s.1, s.2, gives before _ written after s.3)
 ended_as one other gives end.EndOfInput left before read written after s = (s.0, s.1, gives before _ written after s.2)
 ended_as one other gives end.Read left before read written after s = (s.0, s.1, gives before _ written after s.2)
 ended_as one other gives end.Bound left before read written after s = (s.0, s.1, gives before _ written after s.2)
-ended_as one other gives end.Write left before read written after s = (s.0, s.1, s.2, s.3, broken_off_as one other gives before s.1 s.2 written after s.4)
-ended_as one other gives end.Memory left before read written after s = (s.0, s.1, s.2, s.3, broken_off_as one other gives before s.1 s.2 written after s.4, s.5)
+ended_as one other gives end.Write left before read written after s =
+    (s.0, s.1, s.2, s.3, broken_off_as one other gives before s.1 s.2 written after s.4)
+ended_as one other gives end.Memory left before read written after s =
+    (s.0, s.1, s.2, s.3, broken_off_as one other gives before s.1 s.2 written after s.4, s.5)
 
 -- a session whose lines were answered in the one way, said in the other
-pub session_as : {S : Type 0} (one other : Exchange S) → Gives one other → (last : SessionEnd) (l0 l1 t0 t1 : Option (List ℕ)) (before after : S)
+pub session_as : {S : Type 0} (one other : Exchange S) → Gives one other
+    → (last : SessionEnd) (l0 l1 t0 t1 : Option (List ℕ)) (before after : S)
     → SessionDid one last l0 l1 t0 t1 before after → SessionDid other last l0 l1 t0 t1 before after
 session_as one other gives last l0 l1 t0 t1 before after did = record {
   read = did.read;
@@ -72,7 +79,8 @@ none_in_front (suc spare) left turn turns here few none =
 
 -- one line in front, which is a command or isn't
 none_with : (said : Said) (memory_refused : Bool) (spare left : ℕ) (turns : List Turn)
-    → (0 < spare → memory_refused ≡ false) → spare ≤ left + entries_of said → NoneRefused (take left (commands_in turns))
+    → (0 < spare → memory_refused ≡ false) → spare ≤ left + entries_of said
+    → NoneRefused (take left (commands_in turns))
     → NoneRefused (take spare (commands_in (record { said = said; memory_refused = memory_refused } ∷ turns)))
 none_with (Ok line.Empty) memory_refused spare left turns here few none =
     none_of_fewer spare left (commands_in turns) (omega arith) none
@@ -94,7 +102,8 @@ spare_with (Ok line.Quit) memory_refused spare middle left turns here rest = ome
 spare_with (Err fault) memory_refused spare middle left turns here rest = omega arith
 
 -- at a room, the lines answered are turns, each with its flag
-pub answered_at_room : (before : Account) (lines : List Said) (written : List ℕ) (after : Account) → AnsweredAll RoomResponds before lines written after → Answered before lines written after
+pub answered_at_room : (before : Account) (lines : List Said) (written : List ℕ) (after : Account)
+    → AnsweredAll RoomResponds before lines written after → Answered before lines written after
 answered_at_room before [] written after a = record {
   turns = [];
   lines_are = refl;
@@ -112,14 +121,16 @@ answered_at_room before (said ∷ lines) written after a =
       turns = record { said = said; memory_refused = took.memory_refused } ∷ more.turns;
       lines_are = ap (λ (rest : List Said). said ∷ rest) more.lines_are;
       reserved =
-          none_with said took.memory_refused before.spare a.0.spare more.turns took.reserved took.spare_is more.reserved;
+          none_with said took.memory_refused before.spare a.0.spare more.turns
+          took.reserved took.spare_is more.reserved;
       spare_is =
           spare_with said took.memory_refused before.spare a.0.spare after.spare more.turns took.spare_is more.spare_is;
       written_is =
           a.4
           ∙ ap (λ (reply : Option Reply). bytes_of reply ++ a.2) took.reply_is
           ∙ ap (λ (rest : List ℕ). bytes_of (reply_of before.size before.journal said took.memory_refused) ++ rest)
-          (more.written_is ∙ ap (λ (size : ℕ). replies_to size a.0.journal more.turns) took.size_is ∙ ap (λ (journal : List Entry). replies_to before.size journal more.turns) took.journal_is);
+          (more.written_is ∙ ap (λ (size : ℕ). replies_to size a.0.journal more.turns) took.size_is
+          ∙ ap (λ (journal : List Entry). replies_to before.size journal more.turns) took.journal_is);
       journal_is =
           more.journal_is
           ∙ ap (λ (size : ℕ). journal_after size a.0.journal more.turns) took.size_is
@@ -127,7 +138,8 @@ answered_at_room before (said ∷ lines) written after a =
       size_is = more.size_is ∙ took.size_is;
     }
 
-size_by_end : (last : SessionEnd) (left : Option (List ℕ)) (before : Account) (read written : List ℕ) (after : Account) → HasEnded Answered last left before read written after → after.size ≡ before.size
+size_by_end : (last : SessionEnd) (left : Option (List ℕ)) (before : Account) (read written : List ℕ) (after : Account)
+    → HasEnded Answered last left before read written after → after.size ≡ before.size
 size_by_end end.Quit left before read written after s = s.3.size_is
 size_by_end end.EndOfInput left before read written after s = s.2.size_is
 size_by_end end.Read left before read written after s = s.2.size_is
@@ -136,5 +148,6 @@ size_by_end end.Write left before read written after s = s.4.last_answered.size_
 size_by_end end.Memory left before read written after s = s.4.last_answered.size_is ∙ s.4.front_answered.size_is
 
 -- a session leaves the room's size
-pub size_stays : (last : SessionEnd) (l0 l1 t0 t1 : Option (List ℕ)) (before after : Account) → SessionDid Answered last l0 l1 t0 t1 before after → after.size ≡ before.size
+pub size_stays : (last : SessionEnd) (l0 l1 t0 t1 : Option (List ℕ)) (before after : Account)
+    → SessionDid Answered last l0 l1 t0 t1 before after → after.size ≡ before.size
 size_stays last l0 l1 t0 t1 before after did = size_by_end last l1 before did.read did.written after did.session

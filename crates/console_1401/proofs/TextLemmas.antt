@@ -15,23 +15,28 @@ fed cut = record { finished = cut.finished ++ cut.rest ∷ []; rest = [] }
 abbrev pub added : ℕ → Cut → Cut
 added byte cut = record { finished = cut.finished; rest = cut.rest ++ byte ∷ [] }
 
-onto-fed : (byte : ℕ) (lines : List (List ℕ)) (rest : List ℕ) → onto_lines byte (lines ++ rest ∷ []) [] ≡ fed (onto_lines byte lines rest)
+onto-fed : (byte : ℕ) (lines : List (List ℕ)) (rest : List ℕ)
+    → onto_lines byte (lines ++ rest ∷ []) [] ≡ fed (onto_lines byte lines rest)
 onto-fed byte [] rest = refl
 onto-fed byte (line ∷ lines) rest = refl
 
-onto-added : (byte next : ℕ) (lines : List (List ℕ)) (rest : List ℕ) → onto_lines byte lines (rest ++ next ∷ []) ≡ added next (onto_lines byte lines rest)
+onto-added : (byte next : ℕ) (lines : List (List ℕ)) (rest : List ℕ)
+    → onto_lines byte lines (rest ++ next ∷ []) ≡ added next (onto_lines byte lines rest)
 onto-added byte next [] rest = refl
 onto-added byte next (line ∷ lines) rest = refl
 
 -- in front of a text, by whether the byte is a line feed
 abbrev front_by : Bool → ℕ → Cut → Cut
-front_by is_feed byte cut = cond {A = Cut} is_feed (record { finished = [] ∷ cut.finished; rest = cut.rest }) (onto_lines byte cut.finished cut.rest)
+front_by is_feed byte cut =
+    cond {A = Cut} is_feed (record { finished = [] ∷ cut.finished; rest = cut.rest })
+    (onto_lines byte cut.finished cut.rest)
 
 front-fed : (is_feed : Bool) (byte : ℕ) (cut : Cut) → front_by is_feed byte (fed cut) ≡ fed (front_by is_feed byte cut)
 front-fed true byte cut = refl
 front-fed false byte cut = onto-fed byte cut.finished cut.rest
 
-front-added : (is_feed : Bool) (byte next : ℕ) (cut : Cut) → front_by is_feed byte (added next cut) ≡ added next (front_by is_feed byte cut)
+front-added : (is_feed : Bool) (byte next : ℕ) (cut : Cut)
+    → front_by is_feed byte (added next cut) ≡ added next (front_by is_feed byte cut)
 front-added true byte next cut = refl
 front-added false byte next cut = onto-added byte next cut.finished cut.rest
 
@@ -40,27 +45,34 @@ unfolding cut_of
 cut_of-feed [] = refl
 cut_of-feed (byte ∷ bytes) = ap (in_front byte) (cut_of-feed bytes) ∙ front-fed (byte == 10) byte (cut_of bytes)
 
-single : (is_feed : Bool) (byte : ℕ) → is_feed ≡ false → front_by is_feed byte (record { finished = []; rest = [] }) ≡ record { finished = []; rest = byte ∷ [] }
+single : (is_feed : Bool) (byte : ℕ) → is_feed ≡ false
+    → front_by is_feed byte (record { finished = []; rest = [] }) ≡ record { finished = []; rest = byte ∷ [] }
 single true byte h = cc
 single false byte h = refl
 
-pub cut_of-byte : (text : List ℕ) (next : ℕ) → (next == 10) ≡ false → cut_of (text ++ next ∷ []) ≡ added next (cut_of text)
+pub cut_of-byte : (text : List ℕ) (next : ℕ) → (next == 10) ≡ false
+    → cut_of (text ++ next ∷ []) ≡ added next (cut_of text)
 unfolding cut_of
 cut_of-byte [] next h = single (next == 10) next h
-cut_of-byte (byte ∷ bytes) next h = ap (in_front byte) (cut_of-byte bytes next h) ∙ front-added (byte == 10) byte next (cut_of bytes)
+cut_of-byte (byte ∷ bytes) next h =
+    ap (in_front byte) (cut_of-byte bytes next h) ∙ front-added (byte == 10) byte next (cut_of bytes)
 
 -- one line more
-pub lines_of-feed : (text : List ℕ) → lines_of false (text ++ 10 ∷ []) ≡ lines_of false text ++ said_finished (cut_of text).rest ∷ []
+pub lines_of-feed : (text : List ℕ)
+    → lines_of false (text ++ 10 ∷ []) ≡ lines_of false text ++ said_finished (cut_of text).rest ∷ []
 lines_of-feed text =
-    ap (λ (cut : Cut). map said_finished cut.finished) (cut_of-feed text) ∙ map-append said_finished (cut_of text).finished ((cut_of text).rest ∷ [])
+    ap (λ (cut : Cut). map said_finished cut.finished) (cut_of-feed text)
+    ∙ map-append said_finished (cut_of text).finished ((cut_of text).rest ∷ [])
 
-pub lines_of-byte : (text : List ℕ) (next : ℕ) → (next == 10) ≡ false → lines_of false (text ++ next ∷ []) ≡ lines_of false text
+pub lines_of-byte : (text : List ℕ) (next : ℕ) → (next == 10) ≡ false
+    → lines_of false (text ++ next ∷ []) ≡ lines_of false text
 lines_of-byte text next h = ap (λ (cut : Cut). map said_finished cut.finished) (cut_of-byte text next h)
 
 pub rest-feed : (text : List ℕ) → (cut_of (text ++ 10 ∷ [])).rest ≡ []
 rest-feed text = ap (λ (cut : Cut). cut.rest) (cut_of-feed text)
 
-pub rest-byte : (text : List ℕ) (next : ℕ) → (next == 10) ≡ false → (cut_of (text ++ next ∷ [])).rest ≡ (cut_of text).rest ++ next ∷ []
+pub rest-byte : (text : List ℕ) (next : ℕ) → (next == 10) ≡ false
+    → (cut_of (text ++ next ∷ [])).rest ≡ (cut_of text).rest ++ next ∷ []
 rest-byte text next h = ap (λ (cut : Cut). cut.rest) (cut_of-byte text next h)
 
 -- the first 202 bytes of a line and one more
@@ -70,7 +82,8 @@ kept-byte line next =
       | inl h ↦
           let full : 202 ≤ length (take 202 line) = omega (arith, length-take 202 line) in
           let long : 202 ≤ length line = omega arith in
-          take-append-le 202 (take 202 line) (next ∷ []) full ∙ take-take 202 202 line (omega arith) ∙ sym (take-append-le 202 line (next ∷ []) long)
+          take-append-le 202 (take 202 line) (next ∷ []) full ∙ take-take 202 202 line (omega arith)
+          ∙ sym (take-append-le 202 line (next ∷ []) long)
       | inr h ↦ ap (λ (kept : List ℕ). take 202 (kept ++ next ∷ [])) (take_all 202 line h)
     ]
 
@@ -83,25 +96,29 @@ said_by-long : (line : List ℕ) → 200 < length line → said_by line ≡ Err 
 unfolding said_by
 said_by-long line h = cond-true (ltb 200 (length line)) (Err Length) _ (lt-ltb 200 (length line) h)
 
-shorter_by_one : (is_return : Bool) (line : List ℕ) → length line - 1 ≤ length (cond {A = List ℕ} is_return (take (length line - 1) line) line)
+shorter_by_one : (is_return : Bool) (line : List ℕ)
+    → length line - 1 ≤ length (cond {A = List ℕ} is_return (take (length line - 1) line) line)
 shorter_by_one true line = omega (arith, length-take (length line - 1) line)
 shorter_by_one false line = omega arith
 
 said_finished-long : (line : List ℕ) → 201 < length line → said_finished line ≡ Err Length
 unfolding without_return
-said_finished-long line h = said_by-long (without_return line) (omega (arith, shorter_by_one (get_or line (length line - 1) 0 == 13) line))
+said_finished-long line h =
+    said_by-long (without_return line) (omega (arith, shorter_by_one (get_or line (length line - 1) 0 == 13) line))
 
 -- what the kept bytes say is what the line says
 pub said_by-kept : (line : List ℕ) → said_by (take 202 line) ≡ said_by line
 said_by-kept line =
     elim (cases_lt 202 (length line)) [
-      | inl h ↦ said_by-long (take 202 line) (omega (arith, length-take 202 line)) ∙ sym (said_by-long line (omega arith))
+      | inl h ↦ said_by-long (take 202 line) (omega (arith, length-take 202 line))
+          ∙ sym (said_by-long line (omega arith))
       | inr h ↦ ap said_by (take_all 202 line h)
     ]
 
 pub said_finished-kept : (line : List ℕ) → said_finished (take 202 line) ≡ said_finished line
 said_finished-kept line =
     elim (cases_lt 202 (length line)) [
-      | inl h ↦ said_finished-long (take 202 line) (omega (arith, length-take 202 line)) ∙ sym (said_finished-long line (omega arith))
+      | inl h ↦ said_finished-long (take 202 line) (omega (arith, length-take 202 line))
+          ∙ sym (said_finished-long line (omega arith))
       | inr h ↦ ap said_finished (take_all 202 line h)
     ]

@@ -4,6 +4,7 @@ use Rattle.std.specs.Option.{option_map}
 use Rattle.std.specs.List.{list_all}
 use Rattle.bcd_1401.specs.declared.cell.Cell.{Cell}
 use Rattle.bcd_1401.specs.Graphic.{graphics}
+use Rattle.room_1401.specs.CarryOut.{most_cells}
 use Rattle.room_1401.specs.declared.command.Command.TheVariants as command
 use Rattle.console_1401.specs.declared.line.Line.{Line}
 use Rattle.console_1401.specs.declared.line.Line.TheVariants.{Empty, Command, Quit}
@@ -13,7 +14,7 @@ use Rattle.console_1401.specs.declared.words.Keyword.{Keyword}
 use Rattle.console_1401.specs.declared.words.Keyword.TheVariants as keyword
 use Rattle.console_1401.specs.Words.{◌>>=◌, word_in, behind_word, keyword_of, number_of, address_of, count_of, switch_of, setting_of}
 use Rattle.console_1401.specs.Bytes.{tilde}
-use Rattle.console_1401.specs.Limits.{most_line_bytes, most_cells}
+use Rattle.console_1401.specs.Limits.{most_line_bytes}
 
 -- what a line says, or its first fault from left to right
 abbrev pub Said : Type 0
@@ -23,8 +24,8 @@ Said = Result Line LineFault
 abbrev pub cell_of : Bool → ℕ → Option Cell
 cell_of mark byte = option_map (λ char. record { char = char; mark = mark }) (position (λ each. each == byte) graphics)
 
--- the cells that a text spells, each by its graphic, and one with a word mark by a tilde in front of it; where there is no
--- graphic there is no cell
+-- the cells that a text spells, each by its graphic, and one with a word mark by a tilde in front of it; where there is
+-- no graphic there is no cell
 unfoldable pub spelled : List ℕ → List (Option Cell)
 spelled [] = []
 spelled (byte ∷ []) = cell_of false byte ∷ []
@@ -35,7 +36,8 @@ spelled (byte ∷ next ∷ more) =
 unfoldable pub cells_of : List (Option Cell) → Result (List Cell) LineFault
 cells_of cells =
     if list_all is_some (take most_cells cells)
-    then (if nat_le 1 (length cells) && nat_le (length cells) most_cells then Ok (filter_map (λ cell. cell) cells) else Err Length)
+    then (if nat_le 1 (length cells) && nat_le (length cells) most_cells
+    then Ok (filter_map (λ cell. cell) cells) else Err Length)
     else Err Graphic
 
 -- nothing but blanks stands behind what is said
@@ -88,7 +90,8 @@ said_with (Some keyword.Quit) operands = ended operands Quit
 
 -- a line of blanks alone is empty
 unfoldable pub said_in_words : List ℕ → Said
-said_in_words line = if length (word_in line) == 0 then Ok Empty else said_with (keyword_of (word_in line)) (behind_word line)
+said_in_words line =
+    if length (word_in line) == 0 then Ok Empty else said_with (keyword_of (word_in line)) (behind_word line)
 
 -- more than 200 bytes are a fault before all else
 unfoldable pub said_by : List ℕ → Said

@@ -1,7 +1,9 @@
 pub mod Answering
 pub mod Bytes
 pub mod ConsoleLine
+pub mod ImageLoading
 pub mod Limits
+pub mod LineText
 pub mod ReplyText
 pub mod Session
 pub mod Sink

@@ -16,7 +16,3 @@ most_bytes = 16777216
 -- how many digits a number has at the most
 abbrev pub most_digits : ℕ
 most_digits = 7
-
--- how many cells a text spells at the most
-abbrev pub most_cells : ℕ
-most_cells = 40

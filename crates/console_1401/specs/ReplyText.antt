@@ -44,15 +44,16 @@ switch_text on letter = if on then letter else 45
 unfoldable pub switches_text : List Bool → List ℕ
 switches_text switches = map (λ (switch : Bool × ℕ). switch_text switch.0 switch.1) (zip switches (codes "ABCDEFG"))
 
--- the registers: five digits for an address, three for cards and lines, of which there are 500 at the most, four for the
--- form and two for the line
+-- the registers: five digits for an address, three for cards and lines, of which there are 500 at the most, four for
+-- the form and two for the line
 unfoldable pub regs_text : Regs → List ℕ
 regs_text regs =
     codes "I=" ++ digits_in 5 regs.i ++ codes " A=" ++ digits_in 5 regs.a ++ codes " B=" ++ digits_in 5 regs.b
     ++ codes " UNEQUAL=" ++ indicator_text regs.unequal ++ codes " OVERFLOW=" ++ indicator_text regs.overflow
     ++ codes " SWITCHES=" ++ switches_text regs.switches
     ++ codes " HOPPER=" ++ digits_in 3 regs.hopper ++ codes " STACKER=" ++ digits_in 3 regs.stacker
-    ++ codes " PAPER=" ++ digits_in 3 regs.paper ++ codes " FORM=" ++ digits_in 4 regs.form ++ codes " LINE=" ++ digits_in 2 regs.line
+    ++ codes " PAPER=" ++ digits_in 3 regs.paper ++ codes " FORM=" ++ digits_in 4 regs.form
+    ++ codes " LINE=" ++ digits_in 2 regs.line
 
 -- a run: the stop by number and name, how many instructions were carried out, and the I register
 unfoldable pub ran_text : ℕ → Stop → ℕ → List ℕ

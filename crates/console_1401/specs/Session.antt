@@ -9,8 +9,8 @@ use Rattle.console_1401.specs.Sink.{BeginsWith}
 use Rattle.console_1401.specs.Text.{cut_of, lines_of}
 use Rattle.console_1401.specs.Limits.{most_bytes}
 
--- how lines are answered at a console: `answered before lines written after` says that from before these lines are answered
--- by these bytes, and leave after
+-- how lines are answered at a console: `answered before lines written after` says that from before these lines are
+-- answered by these bytes, and leave after
 abbrev pub Exchange : Type 0 → Type 1
 Exchange S = S → List Said → List ℕ → S → Type 0
 
@@ -32,13 +32,15 @@ EndsWithLine true left read = IsAllRead left read
 EndsWithLine false left read = (cut_of read).rest ≡ []
 
 -- The lines read are those in front and the last one, and QUIT is none but perhaps the last.
-pub record LastLine (ended : Bool) (left : Option (List ℕ)) (read : List ℕ) (front : List Said) (last : Said) : Type 0 where
+pub record LastLine (ended : Bool) (left : Option (List ℕ)) (read : List ℕ) (front : List Said)
+    (last : Said) : Type 0 where
   pub lines_are : lines_of ended read ≡ front ++ last ∷ []
   pub no_quit : NoQuit front
   pub ends : EndsWithLine ended left read
 
 -- The lines in front were answered, then the last one was, which has a reply, and a part of that was written.
-pub record BrokenOff {S : Type 0} (answered : Exchange S) (before : S) (front : List Said) (last : Said) (written : List ℕ) (after : S) : Type 0 where
+pub record BrokenOff {S : Type 0} (answered : Exchange S) (before : S) (front : List Said) (last : Said)
+    (written : List ℕ) (after : S) : Type 0 where
   pub replies : List ℕ
   pub middle : S
   pub front_answered : answered before front replies middle
@@ -52,7 +54,8 @@ pub record BrokenOff {S : Type 0} (answered : Exchange S) (before : S) (front : 
 -- from the bytes read, what was written and what is left, by how the session ended
 abbrev pub HasEnded : {S : Type 0} → Exchange S → SessionEnd → Option (List ℕ) → S → List ℕ → List ℕ → S → Type 0
 HasEnded answered end.Quit left before read written after =
-    (ended : Bool) × (front : List Said) × LastLine ended left read front (Ok Quit) × answered before (lines_of ended read) written after
+    (ended : Bool) × (front : List Said) × LastLine ended left read front (Ok Quit)
+    × answered before (lines_of ended read) written after
 HasEnded answered end.EndOfInput left before read written after =
     IsAllRead left read × NoQuit (lines_of true read) × answered before (lines_of true read) written after
 HasEnded answered end.Read left before read written after =
@@ -60,13 +63,15 @@ HasEnded answered end.Read left before read written after =
 HasEnded answered end.Bound left before read written after =
     (length read ≡ most_bytes) × NoQuit (lines_of false read) × answered before (lines_of false read) written after
 HasEnded answered end.Write left before read written after =
-    (ended : Bool) × (front : List Said) × (last : Said) × LastLine ended left read front last × BrokenOff answered before front last written after
+    (ended : Bool) × (front : List Said) × (last : Said) × LastLine ended left read front last
+    × BrokenOff answered before front last written after
 HasEnded answered end.Memory left before read written after =
     (ended : Bool) × (front : List Said) × (last : Said) × LastLine ended left read front last
     × (broken : BrokenOff answered before front last written after) × (broken.part ≡ [])
 
 -- What a session did: the bytes that it read, those that it wrote, and how these go together.
-pub record SessionDid {S : Type 0} (answered : Exchange S) (last : SessionEnd) (left_before left_after received_before received_after : Option (List ℕ)) (before after : S) : Type 0 where
+pub record SessionDid {S : Type 0} (answered : Exchange S) (last : SessionEnd)
+    (left_before left_after received_before received_after : Option (List ℕ)) (before after : S) : Type 0 where
   pub read : List ℕ
   pub written : List ℕ
   pub consumed : Consumes left_before left_after read

@@ -16,7 +16,8 @@ onto_lines byte (line ∷ lines) rest = record { finished = (byte ∷ line) ∷ 
 -- the byte in front of a text that is cut so: a line feed ends a line of its own
 abbrev pub in_front : ℕ → Cut → Cut
 in_front byte cut =
-    if byte == line_feed then record { finished = [] ∷ cut.finished; rest = cut.rest } else onto_lines byte cut.finished cut.rest
+    if byte == line_feed then record { finished = [] ∷ cut.finished; rest = cut.rest }
+    else onto_lines byte cut.finished cut.rest
 
 -- the text, cut
 unfoldable pub cut_of : List ℕ → Cut
@@ -25,7 +26,8 @@ cut_of (byte ∷ bytes) = in_front byte (cut_of bytes)
 
 -- a line without one carriage return at its end
 unfoldable pub without_return : List ℕ → List ℕ
-without_return line = if slice_index line (length line - 1) == carriage_return then take (length line - 1) line else line
+without_return line =
+    if slice_index line (length line - 1) == carriage_return then take (length line - 1) line else line
 
 -- what a finished line says
 abbrev pub said_finished : List ℕ → Said

@@ -25,14 +25,16 @@ command_reply size journal command memory_refused =
 -- what a line is answered after these entries: an empty one has no reply
 abbrev pub reply_of : ℕ → List Entry → Said → Bool → Option Reply
 reply_of size journal (Ok line.Empty) memory_refused = None
-reply_of size journal (Ok (line.Command command)) memory_refused = Some (command_reply size journal command memory_refused)
+reply_of size journal (Ok (line.Command command)) memory_refused =
+    Some (command_reply size journal command memory_refused)
 reply_of size journal (Ok line.Quit) memory_refused = Some reply.Bye
 reply_of size journal (Err fault) memory_refused = Some (reply.LineFault fault)
 
 -- the journal after a line: a command that was carried out is recorded for seat 0, with its answer
 abbrev pub journal_with : ℕ → List Entry → Said → Bool → List Entry
 journal_with size journal (Ok (line.Command command)) memory_refused =
-    if is_full journal || memory_refused then journal else journal ++ entry 0 command (answer_to size journal command) ∷ []
+    if is_full journal || memory_refused then journal
+    else journal ++ entry 0 command (answer_to size journal command) ∷ []
 journal_with size journal (Ok line.Empty) memory_refused = journal
 journal_with size journal (Ok line.Quit) memory_refused = journal
 journal_with size journal (Err fault) memory_refused = journal
@@ -44,8 +46,8 @@ entries_of (Ok (line.Command command)) = 1
 entries_of (Ok line.Quit) = 0
 entries_of (Err fault) = 0
 
--- One line was answered at a room, where memory for the journal was refused or wasn't: it never is while there are spare
--- entries.
+-- One line was answered at a room, where memory for the journal was refused or wasn't: it never is while there are
+-- spare entries.
 pub record RoomResponds (before : Account) (said : Said) (reply : Option Reply) (after : Account) : Type 0 where
   pub memory_refused : Bool
   pub reserved : 0 < before.spare → memory_refused ≡ false
@@ -66,16 +68,18 @@ NoneRefused turns = All (λ (turn : Turn). turn.memory_refused ≡ false) turns
 -- the journal after these lines
 abbrev pub journal_after : ℕ → List Entry → List Turn → List Entry
 journal_after size journal [] = journal
-journal_after size journal (turn ∷ turns) = journal_after size (journal_with size journal turn.said turn.memory_refused) turns
+journal_after size journal (turn ∷ turns) =
+    journal_after size (journal_with size journal turn.said turn.memory_refused) turns
 
 -- the replies to these lines, joined
 abbrev pub replies_to : ℕ → List Entry → List Turn → List ℕ
 replies_to size journal [] = []
 replies_to size journal (turn ∷ turns) =
-    bytes_of (reply_of size journal turn.said turn.memory_refused) ++ replies_to size (journal_with size journal turn.said turn.memory_refused) turns
+    bytes_of (reply_of size journal turn.said turn.memory_refused)
+    ++ replies_to size (journal_with size journal turn.said turn.memory_refused) turns
 
--- These lines were answered at a room, given those at which memory was refused, which are none of the first commands, as
--- many as there were spare entries: what was written, and the room afterwards.
+-- These lines were answered at a room, given those at which memory was refused, which are none of the first commands,
+-- as many as there were spare entries: what was written, and the room afterwards.
 pub record Answered (before : Account) (lines : List Said) (written : List ℕ) (after : Account) : Type 0 where
   pub turns : List Turn
   pub lines_are : map (λ (turn : Turn). turn.said) turns ≡ lines

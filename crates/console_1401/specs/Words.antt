@@ -64,7 +64,8 @@ value_of (digit ∷ digits) = (digit - 48) * 10 ^ length digits + value_of digit
 -- a number is a word of one to seven digits
 unfoldable pub number_of : List ℕ → Result ℕ LineFault
 number_of word =
-    if nat_le 1 (length word) && nat_le (length word) most_digits && list_all is_digit word then Ok (value_of word) else Err Number
+    if nat_le 1 (length word) && nat_le (length word) most_digits && list_all is_digit word then Ok (value_of word)
+    else Err Number
 
 -- an address is a number below 16,000
 unfoldable pub address_of : List ℕ → Result ℕ LineFault

@@ -89,7 +89,7 @@ fn ran_reply(alloc: Global, steps: u32, stop: Stop, i: u16) -> Result<Vec<u8>, A
     Ok(text)
 }
 
-/// Adds a name, and behind it a number in at least so many digits.
+/// Adds a name, and behind it a number, with zeros in front where it has fewer digits than the width.
 fn put_number(text: &mut Vec<u8>, name: &[u8], width: u8, number: u32) -> Result<(), AllocError>
     ensures { OnOk result (text.new.items ≡ text.old.items ++ name.now ++ digits_in width number) }
 {
@@ -97,7 +97,7 @@ fn put_number(text: &mut Vec<u8>, name: &[u8], width: u8, number: u32) -> Result
     put_digits(text, width, number)
 }
 
-/// Adds a number in at least so many digits.
+/// Adds a number, with zeros in front where it has fewer digits than the width.
 fn put_digits(text: &mut Vec<u8>, width: u8, number: u32) -> Result<(), AllocError>
     ensures { OnOk result (text.new.items ≡ text.old.items ++ digits_in width number) }
 {

@@ -39,7 +39,8 @@ fn answer_line<T: Responder, W: Sink>(
     number: u64,
     said: Result<Line, LineFault>,
 ) -> Option<SessionEnd>
-    ensures line { AnswersLine T.responds result said responder.old responder.new (W.received writer.old) (W.received writer.new) }
+    ensures line { AnswersLine T.responds result said responder.old responder.new
+        (W.received writer.old) (W.received writer.new) }
     ensures write { result ≡ Some SessionEnd.Write → IsTrue (W.has_failed writer.new) }
     ensures good { result ≢ Some SessionEnd.Write → W.has_failed writer.new ≡ W.has_failed writer.old }
 {
@@ -64,7 +65,8 @@ fn answer_last<T: Responder, W: Sink>(
     writer: &mut W,
     line: &LineBuffer,
 ) -> SessionEnd
-    ensures line { AnswersLast T.responds result line.now responder.old responder.new (W.received writer.old) (W.received writer.new) }
+    ensures line { AnswersLast T.responds result line.now responder.old responder.new
+        (W.received writer.old) (W.received writer.new) }
     ensures write { result ≡ SessionEnd.Write → IsTrue (W.has_failed writer.new) }
     ensures good { result ≢ SessionEnd.Write → W.has_failed writer.new ≡ W.has_failed writer.old }
 {
@@ -78,8 +80,8 @@ fn answer_last<T: Responder, W: Sink>(
     }
 }
 
-/// Enters one byte: a line feed ends a line, which is answered; any other byte is kept. Gives the session's end, if that
-/// was it.
+/// Enters one byte: a line feed ends a line, which is answered; any other byte is kept. Gives the session's end, if
+/// that was it.
 fn enter_byte<T: Responder, W: Sink>(
     alloc: Global,
     responder: &mut T,
@@ -87,7 +89,8 @@ fn enter_byte<T: Responder, W: Sink>(
     line: &mut LineBuffer,
     byte: u8,
 ) -> Option<SessionEnd>
-    ensures byte { EntersByte T.responds (byte == line_feed) byte result line.old line.new responder.old responder.new (W.received writer.old) (W.received writer.new) }
+    ensures byte { EntersByte T.responds (byte == line_feed) byte result line.old line.new responder.old responder.new
+        (W.received writer.old) (W.received writer.new) }
     ensures write { result ≡ Some SessionEnd.Write → IsTrue (W.has_failed writer.new) }
     ensures good { result ≢ Some SessionEnd.Write → W.has_failed writer.new ≡ W.has_failed writer.old }
 {
@@ -109,7 +112,8 @@ pub(crate) fn answer_lines<R: Source, T: Responder, W: Sink>(
     reader: &mut R,
     writer: &mut W,
 ) -> SessionEnd
-    ensures session { SessionDid (AnsweredAll T.responds) result (R.left reader.old) (R.left reader.new) (W.received writer.old) (W.received writer.new) responder.old responder.new }
+    ensures session { SessionDid (AnsweredAll T.responds) result (R.left reader.old) (R.left reader.new)
+        (W.received writer.old) (W.received writer.new) responder.old responder.new }
     ensures read { result ≡ SessionEnd.Read → IsTrue (R.has_failed reader.new) }
     ensures write { result ≡ SessionEnd.Write → IsTrue (W.has_failed writer.new) }
 

@@ -6,8 +6,8 @@ use crate::source::Source;
 use std::io;
 use std::io::Read;
 
-/// Asks a reader for one byte with each read, and so never for more than was asked of it. An interrupted read is a failed
-/// one.
+/// Asks a reader for one byte with each read, and so never for more than was asked of it. An interrupted read is a
+/// failed one.
 #[derive(Drop)]
 pub struct FromReader<R> {
     reader: R,

@@ -1,6 +1,8 @@
 //! What a line at the console says.
 ghost use Rattle.std.specs.Prelude.{◌≡◌, ◌<◌, [], ◌∷◌, length, MatchOption};
+ghost use Rattle.console_1401.specs.declared.line.Line.{Line};
 ghost use Rattle.console_1401.specs.ConsoleLine.{cell_of, spelled, cells_of, ended, deposit_of, examine_of, start_of, switch_said, run_of, said_with, said_in_words, said_by};
+ghost use Rattle.console_1401.specs.LineText.{IsLineOf};
 
 use crate::words::{Keyword, address, count, number, setting, split_word, switch};
 use bcd_1401::{Cell, Char};
@@ -43,7 +45,10 @@ pub enum LineFault {
 /// The first fault from left to right; `Length` before all else where there are more bytes.
 #[tactic(auto, unfolding(crate::specs::ConsoleLine::said_by))]
 pub fn parse_line(line: &[u8]) -> Result<Line, LineFault>
-    ensures { result ≡ said_by line.now }
+    ensures said { result ≡ said_by line.now }
+
+    // What is typed for a line is read as that line, whatever blanks stand between its words.
+    ensures typed { (said : Line) → IsLineOf said line.now → result ≡ Ok said }
 {
     if line.len() > LINE_LIMIT {
         return Err(LineFault::Length);
@@ -170,8 +175,8 @@ fn cells(text: &[u8]) -> Result<Cells, LineFault>
     Cells::from_slice(&cells[..count]).ok_or(LineFault::Length)
 }
 
-/// The first cell that a text spells, which is none where a graphic is missed, and what stands behind it; none at the end
-/// of the text.
+/// The first cell that a text spells, which is none where a graphic is missed, and what stands behind it; none at the
+/// end of the text.
 #[tactic(auto, unfolding(crate::specs::ConsoleLine::spelled))]
 fn split_cell(text: &[u8]) -> Option<(Option<Cell>, &[u8])>
     ensures { MatchOption result (text.now ≡ []) (λ first.

@@ -4,8 +4,8 @@ ghost use Rattle.console_1401.specs.Limits.{kept_bytes};
 
 use std::marker::Model;
 
-/// How many bytes of a line are kept: as many as it has at the most, a carriage return, and one more, which says that it is
-/// too long.
+/// How many bytes of a line are kept: as many as it has at the most, a carriage return, and one more, which says that
+/// it is too long.
 const KEPT_BYTES: usize = 202;
 
 /// What is kept of a line, and its number. Contracts see the list of the bytes kept.

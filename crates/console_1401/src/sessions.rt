@@ -36,15 +36,16 @@ impl Responder for Room {
     fn after(&mut self, _line: u64) {}
 }
 
-/// Answers lines at the console of a room, as seat 0, until QUIT, the end of input, a failure or the bound. A byte is read
-/// only when the reply to the line before it is written.
+/// Answers lines at the console of a room, as seat 0, until QUIT, the end of input, a failure or the bound. A byte is
+/// read only when the reply to the line before it is written.
 pub fn session<R: Source, W: Sink>(
     alloc: Global,
     room: &mut Room,
     reader: &mut R,
     writer: &mut W,
 ) -> SessionEnd
-    ensures session { SessionDid Answered result (R.left reader.old) (R.left reader.new) (W.received writer.old) (W.received writer.new) room.old room.new }
+    ensures session { SessionDid Answered result (R.left reader.old) (R.left reader.new)
+        (W.received writer.old) (W.received writer.new) room.old room.new }
 
     // A session says that a read or a write failed only where it did.
     ensures read { result ≡ SessionEnd.Read → IsTrue (R.has_failed reader.new) }

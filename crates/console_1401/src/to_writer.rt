@@ -51,7 +51,7 @@ impl<W: Write> Sink for ToWriter<W> {
     }
 }
 
-/// How many bytes a write took of so many.
+/// How many bytes a write took of those given.
 ///
 /// # Errors
 ///

@@ -23,7 +23,7 @@ pub(crate) enum Keyword {
     Start,
     /// SWITCH: a sense switch, on or off.
     Switch,
-    /// RUN: so many instructions.
+    /// RUN: instructions, up to a number of them.
     Run,
     /// QUIT: the end of the session.
     Quit,

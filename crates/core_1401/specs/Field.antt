@@ -1,7 +1,7 @@
 -- Fields: from their units place down to the first word mark (A24-1403, "Word Mark").
-use Rattle.std.specs.Prelude.{ℕ, ◌+◌, ◌||◌, List, [], take, reverse, Option, position, if◌then◌else◌}
+use Rattle.std.specs.Prelude.{ℕ, ◌+◌, ◌||◌, List, [], drop, take, reverse, Option, position, if◌then◌else◌}
 use Rattle.std.specs.Option.{option_map}
-use Rattle.std.specs.List.{zip}
+use Rattle.std.specs.List.{position_or_len, zip}
 use Rattle.bcd_1401.specs.declared.cell.Cell.{Cell}
 use Rattle.core_1401.specs.Storage.{Storage, is_in_core}
 
@@ -21,3 +21,7 @@ field_at storage at = option_map (λ n. take n (cells_down storage at)) (field_l
 abbrev pub pair_len_of : Storage → ℕ → ℕ → Option ℕ
 pair_len_of storage a b =
     option_map (λ i. i + 1) (position (λ (pair : Cell × Cell). pair.0.mark || pair.1.mark) (zip (cells_down storage a) (cells_down storage b)))
+
+-- how many places it is from one to the next above it with a word mark, or to the end of core
+abbrev pub next_mark_from : Storage → ℕ → ℕ
+next_mark_from storage at = position_or_len (λ (cell : Cell). cell.mark) (drop (at + 1) storage) + 1

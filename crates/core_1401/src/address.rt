@@ -3,12 +3,14 @@ ghost use Rattle.std.specs.Prelude.{◌≡◌, ◌<◌, ◌∷◌, [], true, sli
 ghost use Rattle.bcd_1401.specs.Character.{zone_of};
 ghost use Rattle.core_1401.specs.Address.{addresses, value_of, spelling_of, is_spelled};
 
+use crate::address_tables::{hundreds, tens, units};
 use bcd_1401::Char;
 
 /// How many addresses there are: they go from 0 to 15,999, whatever the size of core storage.
 pub const ADDRESSES: u16 = 16_000;
 
 /// The value of an address before indexing, below 16,000, and the number of its index register, 0 for none.
+#[inline]
 pub fn decode(chars: [Char; 3]) -> (u16, u8)
     ensures value { result.0 ≡ value_of (slice_index chars 0) (slice_index chars 1) (slice_index chars 2) }
     ensures index { result.1 ≡ zone_of (slice_index chars 1) }
@@ -20,11 +22,17 @@ pub fn decode(chars: [Char; 3]) -> (u16, u8)
     ensures spelling { is_spelled (slice_index chars 0) (slice_index chars 1) (slice_index chars 2) ≡ true → chars ≡ spelling_of result.0 }
 {
     let [h, t, u] = chars;
-    let digits = 100 * u16::from(h.digit_value())
-        + 10 * u16::from(t.digit_value())
-        + u16::from(u.digit_value());
-    let zones = 1_000 * u16::from(h.zone()) + 4_000 * u16::from(u.zone());
-    (digits + zones, t.zone())
+    (value_by_tables(h, t, u), t.zone())
+}
+
+/// The value of three characters: what each adds at its place.
+#[inline(always)]
+fn value_by_tables(h: Char, t: Char, u: Char) -> u16
+    ensures value { result ≡ value_of h t u }
+    ensures range { result < addresses }
+    ensures spelling { is_spelled h t u ≡ true → h ∷ t ∷ u ∷ [] ≡ spelling_of result }
+{
+    hundreds(h) + tens(t) + units(u)
 }
 
 /// The one spelling of an address below 16,000 with the digits 0 to 9 and without an index register.

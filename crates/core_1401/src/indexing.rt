@@ -6,40 +6,48 @@ ghost use Rattle.core_1401.specs.Storage.{cell_at};
 
 use crate::address::{ADDRESSES, decode};
 use crate::storage::Core;
-use bcd_1401::Cell;
 
 impl Core {
     /// The address that the three characters from this place on stand for, below 16,000: their value, and with a zone over
     /// the tens the value of that index register added, modulo 16,000. The zone over the register's own tens counts for
     /// nothing.
+    #[inline]
     pub fn effective(&self, at: u16) -> u16
         requires { at + 2 < length self.now }
         ensures value { result ≡ effective_at self.now at }
         ensures range { result < addresses }
     {
-        let (value, number) = decode_at(&self.cells, usize::from(at));
+        // Core storage of any size has the index registers.
+        let _ = self.size();
+        let (value, number) = self.decode_at(at);
         if number == 0 {
             return value;
         }
-        let (index, _) = decode_at(&self.cells, index_register(number));
+        let (index, _) = self.decode_at(index_register(number));
         (value + index) % ADDRESSES
+    }
+
+    /// The value and the index register of the three characters from a place on.
+    #[inline]
+    fn decode_at(&self, at: u16) -> (u16, u8)
+        requires inside { at + 2 < length self.now }
+        requires fits { at < addresses }
+        ensures value { result.0 ≡ value_at self.now at }
+        ensures index { result.1 ≡ zone_of (cell_at self.now (at + 1)).char }
+        ensures range { result.0 < addresses }
+        ensures registers { result.1 < 4 }
+    {
+        decode([
+            self.get(at).char,
+            self.get(at + 1).char,
+            self.get(at + 2).char,
+        ])
     }
 }
 
 /// The first place of index register 1, 2 or 3: 087, 092 or 097.
-fn index_register(number: u8) -> usize
+fn index_register(number: u8) -> u16
     ensures { result ≡ 5 * number + 82 }
 {
-    5 * usize::from(number) + 82
-}
-
-/// The value and the index register of the three characters from a place on.
-fn decode_at(cells: &[Cell], at: usize) -> (u16, u8)
-    requires { at + 2 < length cells.now }
-    ensures value { result.0 ≡ value_at cells.now at }
-    ensures index { result.1 ≡ zone_of (cell_at cells.now (at + 1)).char }
-    ensures range { result.0 < addresses }
-    ensures registers { result.1 < 4 }
-{
-    decode([cells[at].char, cells[at + 1].char, cells[at + 2].char])
+    5 * u16::from(number) + 82
 }

@@ -9,11 +9,14 @@
 #![tactic(auto)]
 
 pub mod address;
+mod address_tables;
 pub mod cells;
 pub mod fault;
 pub mod indexing;
 pub mod lengths;
+pub mod mark_words;
 pub mod storage;
+pub mod stretches;
 
 pub use address::{ADDRESSES, decode, encode};
 pub use cells::{Cells, MOST_CELLS};

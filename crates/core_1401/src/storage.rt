@@ -4,6 +4,7 @@ ghost use Rattle.core_1401.specs.Address.{addresses};
 ghost use Rattle.core_1401.specs.Storage.{cell_at, with_char, with_mark, blanks, is_in_core, is_core_size};
 
 use crate::fault::CoreFault;
+use crate::mark_words::{WORDS, has_bit, no_marks, with_bit};
 use bcd_1401::{Cell, Char};
 use std::alloc::Global;
 use std::marker::Model;
@@ -14,19 +15,20 @@ const SIZES: [u16; 3] = [1_400, 2_000, 4_000];
 /// Core storage. Contracts see it as the list of its cells by address.
 #[derive(Drop)]
 pub struct Core {
-    pub(crate) cells: Vec<Cell>,
+    pub(crate) chars: Vec<Char>,
+    pub(crate) words: [u64; WORDS],
 }
 
 impl Model for Core {
-    ghost use Rattle.std.specs.Prelude.{◌≡◌, true, List, length};
+    ghost use Rattle.std.specs.Prelude.{List};
     ghost use Rattle.bcd_1401.specs.declared.cell.Cell.{Cell};
-    ghost use Rattle.core_1401.specs.Storage.{is_core_size};
+    ghost use Rattle.core_1401.specs.MarkWords.{held, IsWhole};
 
     ghost Value = { List Cell };
 
-    ghost view = { λ core. core.cells.items };
+    ghost view = { λ core. held core.chars.items core.words };
 
-    ghost invariant = { λ core. is_core_size (length core.cells.items) ≡ true };
+    ghost invariant = { λ core. IsWhole core.chars.items core.words };
 }
 
 impl Core {
@@ -42,6 +44,7 @@ impl Core {
     /// # Errors
     ///
     /// `Size` where no core storage of that size is made, else `Memory` where there is no room for it.
+    #[tactic(auto, using(crate::proofs::HeldLemmas::held_blank))]
     pub fn power_on(alloc: Global, size: u16) -> Result<Core, CoreFault>
         ensures ok { IfOk result (λ core. core ≡ blanks size) }
         ensures size { (result ≡ Err CoreFault.Size) ↔ (is_core_size size ≡ false) }
@@ -49,23 +52,29 @@ impl Core {
         if !Core::is_size(size) {
             return Err(CoreFault::Size);
         }
-        match vec![in alloc; Cell::BLANK; usize::from(size)] {
-            Ok(cells) => Ok(Core { cells }),
+        match vec![in alloc; Char::BLANK; usize::from(size)] {
+            Ok(chars) => Ok(Core {
+                chars,
+                words: no_marks(),
+            }),
             Err(_) => Err(CoreFault::Memory),
         }
     }
 
     /// How many places there are.
+    #[inline]
+    #[tactic(auto, using(crate::proofs::HeldLemmas::length_held))]
     pub fn size(&self) -> u16
         ensures value { result ≡ length self.now }
         ensures core { is_core_size result ≡ true }
         ensures least { 1400 ≤ result }
         ensures most { result ≤ addresses }
     {
-        self.cells.len() as u16
+        self.chars.len() as u16
     }
 
     /// Whether the address is that of a place.
+    #[inline]
     pub fn in_core(&self, at: u16) -> bool
         ensures { result ≡ is_in_core self.now at }
     {
@@ -73,27 +82,37 @@ impl Core {
     }
 
     /// What stands at a place.
+    #[inline]
+    #[tactic(auto, using(crate::proofs::HeldLemmas::length_held))]
     pub fn get(&self, at: u16) -> Cell
         requires { at < length self.now }
         ensures { result ≡ cell_at self.now at }
     {
         let place = usize::from(at);
-        self.cells[place]
+        Cell {
+            char: self.chars[place],
+            mark: has_bit(self.words[place / 64 + 1], place % 64),
+        }
     }
 
     /// Puts a character at a place. The word mark there stays.
+    #[inline]
+    #[tactic(auto, using(crate::proofs::HeldLemmas::length_held))]
     pub fn put_char(&mut self, at: u16, char: Char)
         requires { at < length self.old }
         ensures { self.new ≡ with_char self.old at char }
     {
-        self.cells[usize::from(at)].char = char;
+        self.chars[usize::from(at)] = char;
     }
 
     /// Sets or clears the word mark of a place. The character there stays.
+    #[inline]
+    #[tactic(auto, using(crate::proofs::HeldLemmas::length_held))]
     pub fn put_mark(&mut self, at: u16, mark: bool)
         requires { at < length self.old }
         ensures { self.new ≡ with_mark self.old at mark }
     {
-        self.cells[usize::from(at)].mark = mark;
+        let place = usize::from(at);
+        self.words[place / 64 + 1] = with_bit(self.words[place / 64 + 1], place % 64, mark);
     }
 }

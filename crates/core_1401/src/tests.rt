@@ -1,4 +1,6 @@
 //! Core storage, fields and addresses at places worked out by hand.
+ghost use Rattle.std.specs.Prelude.{◌<◌, length};
+ghost use Rattle.core_1401.specs.Address.{addresses};
 
 use crate::{Cells, Core, CoreFault, MOST_CELLS, decode, encode};
 use bcd_1401::{Cell, Char};
@@ -91,4 +93,67 @@ fn cells_are_one_to_forty(rt: HostRuntime) {
         Cells::from_slice(&many[..40]).map(|cells| cells.as_slice().len()),
         Some(MOST_CELLS)
     );
+}
+
+#[test]
+fn a_mark_is_found_across_words(rt: HostRuntime) -> Result<(), Fail> {
+    for (mark, at, len) in [
+        (0, 3_999, Some(4_000)),
+        (63, 64, Some(2)),
+        (64, 64, Some(1)),
+        (64, 127, Some(64)),
+        (64, 63, None),
+    ] {
+        let mut core = Core::power_on(rt.alloc(), 4_000)?;
+        assert!(rt; mark < core.size() && at < core.size());
+        core.put_mark(mark, true);
+        assert_eq!(rt; core.field_len(at), len, "{mark} and {at}");
+    }
+    for (mark, a, b, len) in [
+        (63, 64, 127, Some(2)),
+        (0, 130, 10, Some(11)),
+        (100, 10, 130, None),
+    ] {
+        let mut core = Core::power_on(rt.alloc(), 4_000)?;
+        assert!(rt; mark < core.size() && a < core.size() && b < core.size());
+        core.put_mark(mark, true);
+        assert_eq!(rt; core.pair_len(a, b), len, "{mark}, {a} and {b}");
+    }
+    Ok(())
+}
+
+/// The length of a field by a walk over its places.
+fn walked_len(core: &Core, at: u16) -> Option<u16>
+    requires inside { at < length core.now }
+    requires fits { at < addresses }
+{
+    for i in 0..at + 1 {
+        if core.get(at - i).mark {
+            return Some(i + 1);
+        }
+    }
+    None
+}
+
+#[test]
+fn each_field_is_as_long_as_a_walk_finds_it(rt: HostRuntime) -> Result<(), Fail> {
+    for (mark, word) in [(0, 0), (63, 0), (64, 1), (127, 1), (128, 2), (1_399, 21)] {
+        let mut core = Core::power_on(rt.alloc(), 1_400)?;
+        assert!(rt; mark < core.size());
+        core.put_mark(mark, true);
+        for at in 0..core.size() {
+            assert!(rt; at < core.size());
+            assert_eq!(rt;
+                core.field_len(at),
+                walked_len(&core, at),
+                "{mark} and {at}"
+            );
+        }
+        let words = core.mark_words();
+        assert_eq!(rt; words.len(), 22);
+        for (place, bits) in words.iter().enumerate() {
+            assert_eq!(rt; *bits != 0, place == word, "{mark} and {place}");
+        }
+    }
+    Ok(())
 }

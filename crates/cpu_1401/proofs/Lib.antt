@@ -1,5 +1,4 @@
 mod BranchExamples
-pub mod DistanceLemmas
 pub mod ExampleCells
 mod RegisterExamples
 pub mod RunLemmas

@@ -2,7 +2,7 @@
 use Rattle.std.proofs.Common.{◌≡◌, ℕ, ◌+◌, ◌-◌, ◌<◌, suc, Option, None, Some, sym, ◌∙◌, ap, arith}
 use Rattle.cpu_1401.specs.declared.stop.Stop.{Stop}
 use Rattle.cpu_1401.specs.declared.stop.Stop.TheVariants as stop
-use Rattle.cpu_1401.specs.Run.{Finished, one_more, carried_out_at, run_on, run_for}
+use Rattle.cpu_1401.specs.Run.{Finished, one_more, carried_out_by, run_on, run_for}
 use Rattle.cpu_1401.specs.State.{State}
 use Rattle.cpu_1401.specs.Step.{step}
 
@@ -52,7 +52,7 @@ goes_on limit steps first now next h s none e =
 -- the step stops the machine
 pub stops : (limit steps : ℕ) (first now next : State) (why : Stop) → steps < limit → SoFar limit first now steps
     → (step now).stop ≡ Some why → next ≡ (step now).state → run_for limit first
-    ≡ record { state = next; steps = steps + carried_out_at why; stop = why }
+    ≡ record { state = next; steps = steps + carried_out_by why; stop = why }
 stops limit steps first now next why h s some e =
     let more = run_for (limit - (steps + 1)) in
     left limit steps first now h s

@@ -17,7 +17,7 @@ use Rattle.cpu_1401.specs.declared.instruction.Instruction.{Instruction}
 use Rattle.cpu_1401.specs.declared.stop.Stop.TheVariants as stop
 use Rattle.cpu_1401.specs.declared.switch_name.SwitchName.TheVariants.{B, C, D, E, F, G}
 use Rattle.cpu_1401.specs.State.{State}
-use Rattle.cpu_1401.specs.Stepped.{Stepped, step_to, stop_at}
+use Rattle.cpu_1401.specs.Stepped.{Stepped, step_to, stopped}
 use Rattle.cpu_1401.specs.SwitchName.{switch_number}
 
 -- a branch that is taken: its address goes into the A register, and the next instruction's place into the B register
@@ -77,7 +77,7 @@ branch_on (Some condition) this s = branch_if (is_so s condition) this.b this (a
 abbrev pub branch_on_cell : (Cell → Bool) → Instruction → State → Stepped
 branch_on_cell test this s =
     if is_in_core s.storage this.b then step_to (branch_if (test (cell_at s.storage this.b)) (below_by this.b 1) this s)
-    else stop_at stop.Address s
+    else stopped stop.Address s
 
 -- whether a cell has this character
 abbrev pub has_char : ℕ → Cell → Bool

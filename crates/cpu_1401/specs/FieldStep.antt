@@ -6,7 +6,7 @@ use Rattle.fields_1401.specs.Outcome.{Outcome}
 use Rattle.cpu_1401.specs.declared.instruction.Instruction.{Instruction}
 use Rattle.cpu_1401.specs.Branch.{branch_to}
 use Rattle.cpu_1401.specs.State.{State}
-use Rattle.cpu_1401.specs.Stepped.{Stepped, step_to, stop_at}
+use Rattle.cpu_1401.specs.Stepped.{Stepped, step_to, stopped}
 use Rattle.cpu_1401.specs.Stop.{stop_of}
 
 -- after an operation on fields: its core and its registers, and the next instruction; a sum that was too large turns
@@ -20,7 +20,7 @@ after_field this s (Ok done) =
       b = done.1.b;
       overflow = s.overflow || done.1.overflow;
     })
-after_field this s (Err why) = stop_at (stop_of why) s
+after_field this s (Err why) = stopped (stop_of why) s
 
 -- after a comparison: one without an address leaves an unequal result unequal
 abbrev pub after_comparison : Instruction → State → Result Done FieldStop → Stepped
@@ -31,11 +31,11 @@ after_comparison this s (Ok done) =
       b = done.b;
       unequal = done.unequal || ((this.len == 1) && s.unequal);
     })
-after_comparison this s (Err why) = stop_at (stop_of why) s
+after_comparison this s (Err why) = stopped (stop_of why) s
 
 -- after storage was cleared: with two addresses a branch is taken, else the A register stays
 abbrev pub after_clear : Instruction → State → Outcome → Stepped
 after_clear this s (Ok done) =
     if this.len == 7 then step_to (branch_to this (record s { storage = done.0 }))
     else step_to (record s { storage = done.0; i = this.next; a = this.a; b = done.1.b })
-after_clear this s (Err why) = stop_at (stop_of why) s
+after_clear this s (Err why) = stopped (stop_of why) s

@@ -1,9 +1,8 @@
 -- The instruction at the I register, by the place of the next word mark (A24-1403, "Instruction Format", "Address
 -- Registers").
-use Rattle.std.specs.Prelude.{ℕ, ◌+◌, ◌-◌, ◌%◌, ◌&&◌, nat_le, Bool, drop, min, if◌then◌else◌}
-use Rattle.std.specs.List.{position_or_len}
-use Rattle.bcd_1401.specs.declared.cell.Cell.{Cell}
+use Rattle.std.specs.Prelude.{ℕ, ◌+◌, ◌-◌, ◌%◌, ◌&&◌, nat_le, Bool, min, if◌then◌else◌}
 use Rattle.core_1401.specs.Address.{addresses, effective_at}
+use Rattle.core_1401.specs.Field.{next_mark_from}
 use Rattle.core_1401.specs.Storage.{Storage, is_in_core, cell_at}
 use Rattle.cpu_1401.specs.declared.instruction.Instruction.{Instruction}
 use Rattle.cpu_1401.specs.declared.operation.Operation.{Operation}
@@ -14,17 +13,13 @@ use Rattle.cpu_1401.specs.State.{State}
 abbrev pub begins_at : Storage → ℕ → Bool
 begins_at storage at = is_in_core storage at && (cell_at storage at).mark
 
--- how many places it is from one to the next with a word mark, or to the end of core
-abbrev pub distance_from : Storage → ℕ → ℕ
-distance_from storage at = position_or_len (λ (cell : Cell). cell.mark) (drop (at + 1) storage) + 1
-
 -- how many characters of the instruction at a place are looked at
 abbrev pub most_at : Storage → Operation → ℕ → ℕ
 most_at storage operation at = (form_of operation).most (cell_at storage (at + 4)).char
 
 -- how many characters the instruction at a place has
 abbrev pub length_at : Storage → Operation → ℕ → ℕ
-length_at storage operation at = min (most_at storage operation at) (distance_from storage at)
+length_at storage operation at = min (most_at storage operation at) (next_mark_from storage at)
 
 -- an instruction of this length: without an address it takes the registers as they stand, with one it loads both or the
 -- A register alone, with two each has its own

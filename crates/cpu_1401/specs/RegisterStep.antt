@@ -9,7 +9,7 @@ use Rattle.fields_1401.specs.Outcome.{below_by}
 use Rattle.cpu_1401.specs.declared.instruction.Instruction.{Instruction}
 use Rattle.cpu_1401.specs.declared.stop.Stop.TheVariants as stop
 use Rattle.cpu_1401.specs.State.{State}
-use Rattle.cpu_1401.specs.Stepped.{Stepped, step_to, stop_at}
+use Rattle.cpu_1401.specs.Stepped.{Stepped, step_to, stopped}
 
 -- an address put in the three places that end at one: the word marks there stay, and so does the zone over the tens
 abbrev pub stored : Storage → ℕ → ℕ → Storage
@@ -25,4 +25,4 @@ abbrev pub after_store : ℕ → Instruction → State → Stepped
 after_store address this s =
     if has_places s.storage this.a 3
     then step_to (record s { storage = stored s.storage this.a address; i = this.next; a = below_by this.a 3 })
-    else stop_at stop.Address s
+    else stopped stop.Address s

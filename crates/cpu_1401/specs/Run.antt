@@ -5,6 +5,10 @@ use Rattle.cpu_1401.specs.declared.stop.Stop.TheVariants as stop
 use Rattle.cpu_1401.specs.State.{State}
 use Rattle.cpu_1401.specs.Step.{step}
 
+-- how many instructions a run carries out at the most
+abbrev pub most_steps : ℕ
+most_steps = 1000000
+
 -- how a run ends: the machine, how many instructions were carried out, and why it ends
 pub record Finished : Type 0 where
   pub state : State
@@ -16,16 +20,16 @@ abbrev pub one_more : Finished → Finished
 one_more run = record run { steps = run.steps + 1 }
 
 -- how many instructions a step that stops the machine has carried out: a halt is carried out, and nothing else is
-abbrev pub carried_out_at : Stop → ℕ
-carried_out_at stop.Halt = 1
-carried_out_at why = 0
+abbrev pub carried_out_by : Stop → ℕ
+carried_out_by stop.Halt = 1
+carried_out_by why = 0
 
 -- a run goes on after a step that doesn't stop the machine
 abbrev pub run_on : Option Stop → State → (State → Finished) → Finished
 run_on None s more = one_more (more s)
-run_on (Some why) s more = record { state = s; steps = carried_out_at why; stop = why }
+run_on (Some why) s more = record { state = s; steps = carried_out_by why; stop = why }
 
--- steps until the first stop, but at most so many
+-- steps until the first stop, or until the limit
 unfoldable pub run_for : ℕ → State → Finished
 run_for zero s = record { state = s; steps = 0; stop = stop.Limit }
 run_for (suc limit) s = run_on (step s).stop (step s).state (run_for limit)

@@ -21,7 +21,7 @@ use Rattle.cpu_1401.specs.Instruction.{begins_at, instruction_of, length_at}
 use Rattle.cpu_1401.specs.Operation.{operation_of, is_unfitted, is_unfitted_length, has_length}
 use Rattle.cpu_1401.specs.RegisterStep.{after_store}
 use Rattle.cpu_1401.specs.State.{State}
-use Rattle.cpu_1401.specs.Stepped.{Stepped, step_to, stop_at}
+use Rattle.cpu_1401.specs.Stepped.{Stepped, step_to, stopped}
 
 -- what an operation does
 abbrev pub perform : Operation → Instruction → State → Stepped
@@ -50,19 +50,19 @@ perform op.SelectStacker this s = step_to (go_on (this.len == 5) this s)
 -- an operation at a length: it must be fitted, and the length must be one of its own
 abbrev pub check_length : Operation → ℕ → State → Stepped
 check_length operation len s =
-    if is_unfitted_length operation len then stop_at stop.NotFitted s
+    if is_unfitted_length operation len then stopped stop.NotFitted s
     else (
     if has_length operation len then perform operation (instruction_of operation len s) s
-    else stop_at stop.Length s
+    else stopped stop.Length s
     )
 
 -- the character must be an operation; one of a feature that this machine hasn't got isn't fitted at any length
 abbrev pub check_operation : Option Operation → ℕ → State → Stepped
-check_operation None char s = stop_at (if is_unfitted char then stop.NotFitted else stop.OpCode) s
+check_operation None char s = stopped (if is_unfitted char then stop.NotFitted else stop.OpCode) s
 check_operation (Some operation) char s = check_length operation (length_at s.storage operation s.i) s
 
 -- one step: an instruction must begin at the I register
 unfoldable pub step : State → Stepped
 step s =
     let char = (cell_at s.storage s.i).char in
-    if begins_at s.storage s.i then check_operation (operation_of char) char s else stop_at stop.NoMark s
+    if begins_at s.storage s.i then check_operation (operation_of char) char s else stopped stop.NoMark s

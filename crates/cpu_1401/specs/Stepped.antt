@@ -13,5 +13,5 @@ abbrev pub step_to : State → Stepped
 step_to s = record { state = s; stop = None }
 
 -- the step can't be carried out, and the machine is as it was
-abbrev pub stop_at : Stop → State → Stepped
-stop_at why s = record { state = s; stop = Some why }
+abbrev pub stopped : Stop → State → Stepped
+stopped why s = record { state = s; stop = Some why }

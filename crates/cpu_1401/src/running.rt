@@ -1,6 +1,6 @@
 //! Steps until the machine stops.
 ghost use Rattle.std.specs.Prelude.{◌≡◌, ◌<◌, ◌≤◌, length};
-ghost use Rattle.cpu_1401.specs.Run.{carried_out_at, run_for};
+ghost use Rattle.cpu_1401.specs.Run.{carried_out_by, most_steps, run_for};
 
 use crate::machine::Machine;
 use crate::stop::Stop;
@@ -19,7 +19,7 @@ impl Machine {
     /// That is the stop LIMIT, unless the last one was a halt.
     pub fn run(&mut self, limit: u32) -> Ran
         requires some { 0 < limit }
-        requires most { limit ≤ 1000000 }
+        requires most { limit ≤ most_steps }
         ensures run { run_for limit self.old ≡ record { state = self.new; steps = result.steps; stop = result.stop } }
 
         ensures size { length self.new.storage ≡ length self.old.storage }
@@ -45,7 +45,7 @@ impl Machine {
 
 /// How many instructions a step that stops the machine has carried out: a halt is carried out, and nothing else is.
 fn carried_out(stop: Stop) -> u32
-    ensures value { result ≡ carried_out_at stop }
+    ensures value { result ≡ carried_out_by stop }
     ensures most { result ≤ 1 }
 {
     match stop {

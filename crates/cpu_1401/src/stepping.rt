@@ -5,7 +5,7 @@ ghost use Rattle.core_1401.specs.Storage.{cell_at};
 ghost use Rattle.cpu_1401.specs.Instruction.{begins_at, instruction_of, length_at};
 ghost use Rattle.cpu_1401.specs.Step.{perform, step};
 
-use crate::instruction::{Instruction, distance};
+use crate::instruction::Instruction;
 use crate::machine::Machine;
 use crate::operation::{Operation, is_unfitted};
 use crate::stop::Stop;
@@ -69,7 +69,7 @@ impl Machine {
         ensures inside { self.now.i + result ≤ length self.now.storage }
     {
         let fifth = self.char_at(self.i + 4);
-        distance(&self.core, self.i, operation.most(fifth))
+        self.core.next_mark(self.i, operation.most(fifth))
     }
 
     /// The character at a place, and a blank past the end of core.
@@ -106,7 +106,11 @@ impl Machine {
             self.b
         };
         let d = self.core.get(self.i + len - 1).char;
-        let next = (self.i + len) % ADDRESSES;
+        let next = if self.i + len < ADDRESSES {
+            self.i + len
+        } else {
+            self.i + len - ADDRESSES
+        };
         Instruction { len, a, b, d, next }
     }
 

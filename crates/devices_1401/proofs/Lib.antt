@@ -1,0 +1,2 @@
+mod CarriageExamples
+mod CarriageLemmas

@@ -1,17 +1,11 @@
--- The card reader, the punch and the printer as lists (A24-1403, "IBM 1402 Card Read-Punch", "IBM 1403 Printer").
-use Rattle.std.specs.Prelude.{ℕ, ◌+◌, ◌/◌, ◌%◌, List, [], Option, None}
+-- The card reader, the punch and the printer as lists (A24-1403, "IBM 1402 Card Read-Punch", "IBM 1403 Printer"; how much they
+-- hold is own).
+use Rattle.std.specs.Prelude.{ℕ, List, [], ◌∷◌, ◌++◌, Bool, length, drop, nat_le}
+pub use Rattle.devices_1401.specs.Control.{Control, Space, Skip}
+pub use Rattle.devices_1401.specs.Carriage.{Carriage, first_line, form_of, line_of}
+use Rattle.devices_1401.specs.Carriage.{after_print}
 use Rattle.devices_1401.specs.declared.card.Card.{Card}
 use Rattle.devices_1401.specs.declared.print_line.PrintLine.{PrintLine}
-
--- a movement of the carriage that waits for the next print: so many spaces, or to the hole of a channel
-pub data Control : Type 0 where
-  Space : ℕ → Control
-  Skip : ℕ → Control
-
--- where the carriage stands, as 66 times the form and the line less one, and what it does after the next print
-pub record Carriage : Type 0 where
-  pub position : ℕ
-  pub pending : Option Control
 
 -- the cards to be read, the cards punched and the lines printed, each oldest first, and the carriage
 pub record Devices : Type 0 where
@@ -20,18 +14,45 @@ pub record Devices : Type 0 where
   pub paper : List PrintLine
   pub carriage : Carriage
 
--- the first line of form 1
-abbrev pub first_line : Carriage
-first_line = record { position = 66; pending = None }
-
 -- nothing in the hopper, in the stacker and on the paper
 abbrev pub no_cards : Devices
 no_cards = record { hopper = []; stacker = []; paper = []; carriage = first_line }
 
--- the form of a position, 0 to 9,999
-abbrev pub form_of : Carriage → ℕ
-form_of carriage = carriage.position / 66
+-- how many cards the hopper and the stacker hold, and how many printed lines wait to be taken, at the most
+abbrev pub most : ℕ
+most = 500
 
--- the line of a position, 1 to 66
-abbrev pub line_of : Carriage → ℕ
-line_of carriage = carriage.position % 66 + 1
+-- whether a list has no room for one more
+abbrev pub is_full : {X : Type 0} → List X → Bool
+is_full xs = nat_le most (length xs)
+
+-- a card put behind those in the hopper
+abbrev pub fed : Devices → Card → Devices
+fed devices card = record devices { hopper = devices.hopper ++ card ∷ [] }
+
+-- a card punched behind those in the stacker
+abbrev pub punched : Devices → Card → Devices
+punched devices card = record devices { stacker = devices.stacker ++ card ∷ [] }
+
+-- the line that is printed where the carriage stands
+abbrev pub line_at : Carriage → List ℕ → PrintLine
+line_at carriage text = record { form = form_of carriage; line = line_of carriage; text = text }
+
+-- a line printed behind those on the paper, and the carriage moved
+abbrev pub printed : Devices → List ℕ → Devices
+printed devices text = record devices {
+  paper = devices.paper ++ line_at devices.carriage text ∷ [];
+  carriage = after_print devices.carriage;
+}
+
+-- without the first card of the hopper
+abbrev pub after_read : Devices → Devices
+after_read devices = record devices { hopper = drop 1 devices.hopper }
+
+-- without the first card of the stacker
+abbrev pub after_card : Devices → Devices
+after_card devices = record devices { stacker = drop 1 devices.stacker }
+
+-- without the first line of the paper
+abbrev pub after_line : Devices → Devices
+after_line devices = record devices { paper = drop 1 devices.paper }

@@ -1,1 +1,5 @@
+pub mod Card
+pub mod Carriage
+pub mod Control
 pub mod Devices
+pub mod Movement

@@ -1,7 +1,39 @@
 //! A punched card.
+ghost use Rattle.std.specs.Prelude.{ℕ, ◌≡◌, ◌≢◌, ◌<◌, IfSome, OnSome, IfNone, slice_index};
+ghost use Rattle.bcd_1401.specs.CardCode.{column_of};
+ghost use Rattle.devices_1401.specs.Card.{columns_of, NoCard};
 
 use bcd_1401::Char;
+
+/// How many columns a card has.
+const COLUMNS: usize = 80;
 
 /// A card by the characters of its 80 columns.
 #[derive(Clone, Copy, Debug, PartialEq, Eq)]
 pub struct Card(pub [Char; 80]);
+
+impl Card {
+    /// The card with these columns, each a number of twelve bits; none where one of them is that of no character.
+    pub fn from_columns(columns: &[u16; 80]) -> Option<Card>
+        ensures card { IfSome result (λ card. columns_of card ≡ columns.now) }
+        ensures none { IfNone result (NoCard columns.now) }
+    {
+        let mut chars = [Char::BLANK; 80];
+        for i in 0..COLUMNS {
+            let char = Char::from_punch(columns[i])?;
+            chars[i] = char;
+        }
+        Some(Card(chars))
+    }
+
+    /// The columns, each a number of twelve bits.
+    pub fn columns(self) -> [u16; 80]
+        ensures { result ≡ columns_of self }
+    {
+        let mut columns = [0; 80];
+        for i in 0..COLUMNS {
+            columns[i] = self.0[i].punch();
+        }
+        columns
+    }
+}

@@ -1,8 +1,26 @@
-//! What the card reader, the punch and the printer of the IBM 1401 handle: cards and printed lines.
+//! What the card reader, the punch and the printer of the IBM 1401 do: cards and printed lines in the order in which they
+//! came, and the carriage that moves the paper.
+//!
+//! ```text
+//! let mut devices = Devices::power_on(alloc)?;
+//! devices.feed(card)?;
+//! let card = devices.read()?;                     // the first card of the hopper
+//! devices.print(text)?;                           // at the line where the carriage stands
+//! let line = devices.take_line();                 // the oldest, with its form and line
+//! ```
 #![tactic(auto)]
 
 pub mod card;
+mod carriage;
+mod control;
+pub mod devices;
+pub mod fault;
 pub mod print_line;
 
 pub use card::Card;
+pub use devices::{Devices, MOST};
+pub use fault::{ControlFault, FormsFull, HopperFull, ReaderEmpty, StackerFull};
 pub use print_line::PrintLine;
+
+#[cfg(test)]
+mod tests;

@@ -24,7 +24,7 @@ get_or-cells_down storage at i in_core le =
     rw (lt-ltb at (length storage) in_core) (get_or-reverse (take (at + 1) storage) i blank (omega arith)
     ∙ ap (λ q. get_or (take (at + 1) storage) q blank) place ∙ get_or-take (at + 1) storage (at - i) blank (omega arith))
 
--- so many of them
+-- n of them
 pub length-places_down : (s : Storage) (at n : ℕ) → n ≤ at + 1 → at < length s → length (places_down s at n) ≡ n
 unfolding places_down
 length-places_down s at n above in_core = length-take-le n (cells_down s at) (omega (arith, length-cells_down s at in_core))

@@ -1,7 +1,6 @@
 mod AcrossLemmas
 mod ArithmeticExamples
 mod ArithmeticLemmas
-mod CompareLemmas
 mod EditExamples
 mod EditLemmas
 mod ExampleCells
@@ -10,13 +9,13 @@ mod FieldLemmas
 mod LoadExamples
 mod LoadLemmas
 mod MarksExamples
-mod MarksLemmas
 mod MoveExamples
 mod MoveLemmas
 mod NumberLemmas
 mod PartsExamples
 mod PartsLemmas
 mod PlacesLemmas
+mod PlainLemmas
 mod RefusalLemmas
 mod SuppressExamples
 mod SuppressLemmas

@@ -1,33 +1,14 @@
--- What a load has loaded so far, and that after it the field at b is the field that stood at a.
-use Rattle.std.proofs.Common.{◌≡◌, ℕ, ◌+◌, ◌-◌, ◌<◌, ◌≤◌, false, length, set, ap, sym, ◌∙◌, arith, List, Option, Some, None, get_or, take, position, refl}
-use Rattle.std.proofs.lemmas.Bool.Decides.{nat_tests}
+-- After a load the field at b is the field that stood at a.
+use Rattle.std.proofs.Common.{◌≡◌, ℕ, ◌+◌, ◌-◌, ◌<◌, ◌≤◌, length, ap, sym, ◌∙◌, arith, List, Option, Some, None, get_or, take, position, refl}
 use Rattle.std.proofs.lemmas.List.{ext_get_or, get_or-take, length-take-le}
 use Rattle.std.proofs.lemmas.List.Quantifiers.{position-Some}
 use Rattle.std.specs.Option.{option_map}
 use Rattle.bcd_1401.specs.declared.cell.Cell.{Cell}
 use Rattle.core_1401.specs.Storage.{Storage, cell_at, blank}
 use Rattle.core_1401.specs.Field.{cells_down, field_len_of, field_at}
-use Rattle.fields_1401.specs.Places.{is_within}
-use Rattle.fields_1401.proofs.PlacesLemmas.{length-with_cells, cell_at-within, cell_at-outside, is_within-inside, with_cells_none, with_cells_more}
+use Rattle.fields_1401.proofs.PlacesLemmas.{length-with_cells, cell_at-within, is_within-inside}
 use Rattle.fields_1401.proofs.FieldLemmas.{length-cells_down, get_or-cells_down, same_first_mark}
-use Rattle.fields_1401.specs.Load.{loaded, is_overwritten}
-
--- before a load nothing is loaded
-pub loaded_none : (storage : Storage) (a b : ℕ) → storage ≡ loaded storage a b 0
-unfolding loaded
-loaded_none storage a b = with_cells_none storage b (λ i. cell_at storage (a - i))
-
--- a place of the A field that is loaded wasn't written before
-source_kept : (a b n i : ℕ) → is_overwritten a b n ≡ false → i < n → i ≤ a → is_within b i (a - i) ≡ false
-source_kept a b n i kept lt in_a = grind (arith, nat_tests)
-
--- one cell more is loaded
-pub loaded_more : (storage : Storage) (a b n i : ℕ) → a < length storage → b < length storage → is_overwritten a b n ≡ false → i < n → i ≤ a → i ≤ b
-    → set (loaded storage a b i) (b - i) (cell_at (loaded storage a b i) (a - i)) ≡ loaded storage a b (i + 1)
-unfolding loaded
-loaded_more storage a b n i a_in b_in kept lt in_a in_b =
-    with_cells_more storage b i (λ k. cell_at storage (a - k)) (cell_at (loaded storage a b i) (a - i)) b_in in_b
-    (cell_at-outside storage b i (λ k. cell_at storage (a - k)) (a - i) (omega arith) (source_kept a b n i kept lt in_a))
+use Rattle.fields_1401.specs.Load.{loaded}
 
 -- after a load the core is as large as before
 pub length-loaded : (storage : Storage) (a b n : ℕ) → length (loaded storage a b n) ≡ length storage

@@ -6,7 +6,8 @@ use Rattle.std.proofs.lemmas.Bool.Decides.{nat_tests}
 use Rattle.bcd_1401.specs.declared.cell.Cell.{Cell}
 use Rattle.core_1401.specs.Storage.{Storage, cell_at, with_char}
 use Rattle.fields_1401.specs.Places.{is_within, with_chars, rewritten_cell}
-use Rattle.fields_1401.proofs.PlacesLemmas.{cell_at-within, cell_at-outside, is_within-inside, is_within-above, is_within-below, with_chars_none, with_chars_more}
+use Rattle.fields_1401.proofs.PlacesLemmas.{with_chars_same, cell_at-within, cell_at-outside, is_within-inside, is_within-above, is_within-below, with_chars_none, with_chars_more}
+use Rattle.fields_1401.specs.Load.{is_overwritten}
 use Rattle.fields_1401.specs.Move.{source_of, moved}
 
 -- where the B field begins above the A field, or further below it than the i-th place, a character is its own source
@@ -49,3 +50,25 @@ unfolding moved
 moved_more storage a b i a_in b_in in_a in_b =
     ap (with_char (moved storage a b i) (b - i)) (source-moved storage a b i a_in b_in in_a in_b)
     ∙ with_chars_more storage b i (λ k. (cell_at storage (source_of a b k)).char) b_in in_b
+
+-- a field that begins below another within its length is written over it
+overlaps : (a b n : ℕ) → b < a → a < b + n → is_overwritten a b n ≡ false → ⊥
+overlaps a b n lt near apart = grind (arith, nat_tests)
+
+-- where nothing is written over before it is read, each character is its own source
+own_source : (a b n i : ℕ) → is_overwritten a b n ≡ false → i < n → source_of a b i ≡ a - i
+own_source a b n i apart within =
+    elim (cases_lt b a) [
+      | inr le ↦ source_far a b i le
+      | inl lt ↦ elim (cases_lt a (b + n)) [
+        | inl near ↦ absurd (overlaps a b n lt near apart)
+        | inr far ↦ source_before a b i (omega arith)
+      ]
+    ]
+
+-- so a copy moves the characters
+pub moved_by_copy : (storage : Storage) (a b n : ℕ) → is_overwritten a b n ≡ false → with_chars storage b n (λ i. (cell_at storage (a - i)).char) ≡ moved storage a b n
+unfolding moved
+moved_by_copy storage a b n apart =
+    with_chars_same storage b n (λ i. (cell_at storage (a - i)).char) (λ i. (cell_at storage (source_of a b i)).char)
+    (λ i within. ap (λ p. (cell_at storage p).char) (sym (own_source a b n i apart within)))

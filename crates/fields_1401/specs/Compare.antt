@@ -1,16 +1,13 @@
 -- Fields compared (A24-1403, "Compare").
-use Rattle.std.specs.Prelude.{ℕ, ◌+◌, ◌-◌, ◌==◌, ◌&&◌, ◌||◌, not, Bool, Option, Some, None, Result, Ok, Err}
+use Rattle.std.specs.Prelude.{ℕ, ◌+◌, ◌-◌, ◌&&◌, ◌||◌, not, Bool, Option, Some, None, Result, Ok, Err}
 use Rattle.std.specs.List.{list_any, range_with_len}
 use Rattle.core_1401.specs.Field.{pair_len_of}
+use Rattle.core_1401.specs.Places.{is_unequal_pair}
 use Rattle.core_1401.specs.Storage.{Storage, cell_at}
 use Rattle.fields_1401.specs.declared.done.Done.{Done}
 use Rattle.fields_1401.specs.declared.done.FieldStop.{FieldStop}
 use Rattle.fields_1401.specs.declared.done.FieldStop.TheVariants.{Address}
 use Rattle.fields_1401.specs.Outcome.{below_by, registers_at}
-
--- whether the characters of pair i differ, counted from the units
-abbrev pub is_unequal_pair : Storage → ℕ → ℕ → ℕ → Bool
-is_unequal_pair storage a b i = not ((cell_at storage (a - i)).char == (cell_at storage (b - i)).char)
 
 -- whether n pairs are unequal: two characters differ, or the A field ends before the B field
 abbrev pub is_unequal : Storage → ℕ → ℕ → ℕ → Bool

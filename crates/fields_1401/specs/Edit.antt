@@ -1,7 +1,7 @@
 -- A field edited by the control word in the B field (A24-1403, "Move Characters and Edit"; the order of the rules, where a
 -- comma or a sign becomes blank, and the refusals are own). The control word and the characters of A are lists from left to
 -- right, and their places are counted from the left.
-use Rattle.std.specs.Prelude.{ℕ, ◌+◌, ◌-◌, ◌==◌, ◌&&◌, ◌||◌, not, nat_le, nat_lt, max, Bool, false, List, length, map, drop, slice_index, Option, Some, None, Result, Ok, Err, option_map, option_and_then, if◌then◌else◌}
+use Rattle.std.specs.Prelude.{ℕ, ◌≡◌, ◌<◌, ◌≤◌, ◌++◌, ◌+◌, ◌-◌, ◌==◌, ◌&&◌, ◌||◌, not, nat_le, nat_lt, max, Bool, true, false, List, length, map, drop, replicate, slice_index, Option, Some, None, Result, Ok, Err, option_map, option_and_then, if◌then◌else◌}
 use Rattle.std.specs.List.{count_by, position_or_len, suffix_len, range_with_len}
 use Rattle.bcd_1401.specs.Character.{zone_of}
 use Rattle.core_1401.specs.Field.{field_len_of}
@@ -159,3 +159,14 @@ with_edited storage a t b m = (
 -- the A field edited by the control word at b
 unfoldable pub edit_at : Storage → ℕ → ℕ → Outcome
 edit_at storage a b = on_lengths (edit_lengths_at storage a b) (λ t m. with_edited storage a t b m)
+
+-- whether each place of a control word is replaceable
+abbrev pub IsPlain : List ℕ → Type 0
+IsPlain word = (i : ℕ) → i < length word → is_replaceable (slice_index word i) ≡ true
+
+-- These characters are those of A with blanks in front. So many of the first aren't shown: each of them is a zero or a blank.
+pub record ShowsWithBlanks (shown digits : List ℕ) : Type 0 where
+  pub hidden : ℕ
+  pub fewer : hidden ≤ length digits
+  pub shows : shown ≡ replicate (length shown - (length digits - hidden)) blank_char ++ drop hidden digits
+  pub zeros : (k : ℕ) → k < hidden → is_replaceable (slice_index digits k) ≡ true

@@ -9,7 +9,7 @@ use Rattle.fields_1401.specs.declared.done.FieldStop.{FieldStop}
 abbrev pub Outcome : Type 0
 Outcome = Result (Storage × Done) FieldStop
 
--- the address so many places below, modulo 16,000
+-- the address that many places below, modulo 16,000
 abbrev pub below_by : ℕ → ℕ → ℕ
 below_by at by = (at + addresses - by) % addresses
 

@@ -1,8 +1,7 @@
 //! Fields compared.
-ghost use Rattle.std.specs.Prelude.{◌≡◌, ◌+◌, ◌≤◌, ◌<◌, length, IfOk};
-ghost use Rattle.std.specs.List.{list_any, range_with_len};
+ghost use Rattle.std.specs.Prelude.{◌≡◌, ◌<◌, IfOk};
 ghost use Rattle.core_1401.specs.Address.{addresses};
-ghost use Rattle.fields_1401.specs.Compare.{comparison_at, is_unequal_pair};
+ghost use Rattle.fields_1401.specs.Compare.{comparison_at};
 
 use crate::done::{Done, FieldStop};
 use crate::lengths::pair_len;
@@ -26,21 +25,7 @@ pub fn compare(core: &Core, a: u16, b: u16) -> Result<Done, FieldStop>
     };
     let ends_first = core.get(a + 1 - n).mark && !core.get(b + 1 - n).mark;
     Ok(Done {
-        unequal: differ(core, a, b, n) || ends_first,
+        unequal: core.chars_differ(a, b, n) || ends_first,
         ..registers(below(a, n), below(b, n))
     })
-}
-
-/// Whether two characters of so many pairs differ.
-fn differ(core: &Core, a: u16, b: u16, n: u16) -> bool
-    requires a { (n ≤ a + 1) × (a < length core.now) }
-    requires b { (n ≤ b + 1) × (b < length core.now) }
-    ensures { result ≡ list_any (is_unequal_pair core.now a b) (range_with_len 0 n) }
-{
-    for i in 0..n {
-        if core.get(a - i).char != core.get(b - i).char {
-            return true;
-        }
-    }
-    false
 }

@@ -3,7 +3,7 @@ ghost use Rattle.std.specs.Prelude.{◌≡◌, ◌+◌, ◌<◌, ◌≤◌, fals
 ghost use Rattle.core_1401.specs.Address.{addresses};
 ghost use Rattle.core_1401.specs.Field.{field_len_of};
 ghost use Rattle.fields_1401.specs.Across.{chars_across, units_unzoned};
-ghost use Rattle.fields_1401.specs.Edit.{is_replaceable, replaceable_in, taken_from, is_significant, before_significant, limit_of, taken_at, read_of, is_shared, refuse_shared, edit_lengths_at};
+ghost use Rattle.fields_1401.specs.Edit.{is_replaceable, replaceable_in, taken_from, is_significant, before_significant, limit_of, taken_at, is_shared, edit_lengths_at};
 ghost use Rattle.fields_1401.specs.Refusal.{used_len_of};
 
 use crate::across::{char_across, unzoned_char};
@@ -50,6 +50,7 @@ impl ControlWord {
         requires b { b < addresses }
         ensures ok { IfOk result (λ word. edit_lengths_at core.now a b ≡ Ok (word.taken, word.len)) }
         ensures err { IfErr result (λ stop. edit_lengths_at core.now a b ≡ Err stop) }
+        ensures taken { IfOk result (λ word. taken_at core.now a b ≡ Some (word.taken, word.len)) }
         ensures field { IfOk result (λ word. field_len_of core.now b ≡ Some word.len) }
         ensures at_a { IfOk result (λ word. (word.a ≡ a) × (a < length core.now)) }
         ensures at_b { IfOk result (λ word. (word.b ≡ b) × (b < length core.now)) }

@@ -1,9 +1,9 @@
 //! A field edited by the control word in the B field.
-ghost use Rattle.std.specs.Prelude.{◌≡◌, ◌+◌, ◌<◌, ◌≤◌, length, min, nat_lt, IfSome, OnOk, Option, Bool};
+ghost use Rattle.std.specs.Prelude.{◌≡◌, ◌+◌, ◌<◌, length, min, nat_lt, IfSome, OnOk, Option};
 ghost use Rattle.core_1401.specs.Address.{addresses};
 ghost use Rattle.core_1401.specs.Field.{field_len_of};
 ghost use Rattle.fields_1401.specs.Across.{chars_across, units_unzoned, with_across, IsUnmarked, IsSameOutside};
-ghost use Rattle.fields_1401.specs.Edit.{replaceable_in, before_significant, limit_of, is_left_over, is_comma_blanked, is_sign_char, is_sign_blanked, is_blanked, taken_char, kept_char, shown, edited, sign_at, edit_at};
+ghost use Rattle.fields_1401.specs.Edit.{replaceable_in, before_significant, limit_of, is_left_over, is_comma_blanked, is_sign_char, is_sign_blanked, is_blanked, taken_char, kept_char, shown, edited, sign_at, taken_at, edit_at, IsPlain, ShowsWithBlanks};
 ghost use Rattle.fields_1401.specs.Outcome.{CarriesOut};
 
 use crate::control_word::{ControlWord, is_replaceable};
@@ -65,6 +65,10 @@ pub fn edit(core: &mut Core, a: u16, b: u16) -> Result<Done, FieldStop>
     ensures outcome { CarriesOut (edit_at core.old a b) core.old core.new result }
     ensures marks { OnOk result (IfSome (field_len_of core.old b) (λ n. IsUnmarked core.new b n)) }
     ensures outside { IfSome (field_len_of core.old b) (λ n. IsSameOutside core.old core.new b n) }
+
+    // A control word of blanks and zeros shows what it takes of A with blanks in front.
+    ensures plain { OnOk result (IfSome (taken_at core.old a b) (λ taken. IsPlain (chars_across core.old b taken.1)
+        → ShowsWithBlanks (chars_across core.new b taken.1) (units_unzoned (chars_across core.old a taken.0)))) }
 {
     let word = ControlWord::at(core, a, b)?;
     let rules = Rules {

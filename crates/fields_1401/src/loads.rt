@@ -1,13 +1,12 @@
 //! Fields loaded.
-ghost use Rattle.std.specs.Prelude.{◌≡◌, ◌+◌, ◌<◌, ◌≤◌, false, IfOk, length};
+ghost use Rattle.std.specs.Prelude.{◌≡◌, ◌+◌, ◌<◌, ◌≤◌, Some, IfOk, length};
 ghost use Rattle.core_1401.specs.Address.{addresses};
-ghost use Rattle.core_1401.specs.Field.{field_at};
-ghost use Rattle.fields_1401.specs.Load.{loaded, load_at, is_overwritten};
+ghost use Rattle.core_1401.specs.Field.{field_at, field_len_of};
+ghost use Rattle.fields_1401.specs.Load.{loaded, load_at};
 ghost use Rattle.fields_1401.specs.Outcome.{CarriesOut};
 
 use crate::done::{Done, FieldStop};
 use crate::lengths::field_len;
-use crate::places::put_cell;
 use crate::refusals::{has_places, is_overwritten};
 use crate::registers::{below, registers};
 use core_1401::Core;
@@ -36,18 +35,17 @@ pub fn load_chars(core: &mut Core, a: u16, b: u16) -> Result<Done, FieldStop>
     Ok(registers(below(a, n), below(b, n)))
 }
 
-/// Loads n cells, each after the one to its right.
+/// Loads the n cells of the A field.
+#[tactic(auto, unfolding(crate::specs::Load::loaded), using(crate::proofs::PlacesLemmas::sizes))]
 fn load_places(core: &mut Core, a: u16, b: u16, n: u16)
     requires a_in { a < length core.old }
     requires b_in { b < length core.old }
+    requires some { 0 < n }
     requires a_places { n ≤ a + 1 }
     requires b_places { n ≤ b + 1 }
-    requires kept { is_overwritten a b n ≡ false }
+    requires field { field_len_of core.old a ≡ Some n }
     ensures loaded { core.new ≡ loaded core.old a b n }
     ensures size { length core.new ≡ length core.old }
 {
-    for i in 0..n {
-        let cell = core.get(a - i);
-        put_cell(core, b - i, cell);
-    }
+    core.copy_field(a, b, n);
 }

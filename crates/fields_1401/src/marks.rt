@@ -6,10 +6,8 @@ ghost use Rattle.fields_1401.specs.Outcome.{CarriesOut};
 ghost use Rattle.fields_1401.specs.Places.{chars_of};
 
 use crate::done::{Done, FieldStop};
-use crate::places::put_cell;
 use crate::refusals::are_in_core;
 use crate::registers::{below, registers};
-use bcd_1401::Cell;
 use core_1401::Core;
 
 /// Sets the word marks at both addresses (A24-1403, "Set Word Mark").
@@ -75,13 +73,13 @@ fn put_marks(core: &mut Core, a: u16, b: u16, mark: bool) -> Result<Done, FieldS
 }
 
 /// Clears n places from an address down.
+#[tactic(auto, unfolding(crate::specs::Marks::cleared), using(crate::proofs::PlacesLemmas::sizes))]
 fn clear_places(core: &mut Core, at: u16, n: u16)
     requires in_core { at < length core.old }
+    requires some { 0 < n }
     requires places { n ≤ at + 1 }
     ensures cleared { core.new ≡ cleared core.old at n }
     ensures size { length core.new ≡ length core.old }
 {
-    for i in 0..n {
-        put_cell(core, at - i, Cell::BLANK);
-    }
+    core.clear(at, n);
 }

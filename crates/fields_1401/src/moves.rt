@@ -1,12 +1,14 @@
 //! Fields moved.
-ghost use Rattle.std.specs.Prelude.{◌≡◌, ◌+◌, ◌<◌, ◌≤◌, length};
+ghost use Rattle.std.specs.Prelude.{◌≡◌, ◌+◌, ◌<◌, ◌≤◌, false, length};
 ghost use Rattle.core_1401.specs.Address.{addresses};
+ghost use Rattle.fields_1401.specs.Load.{is_overwritten};
 ghost use Rattle.fields_1401.specs.Move.{moved, move_at};
 ghost use Rattle.fields_1401.specs.Outcome.{CarriesOut};
 ghost use Rattle.fields_1401.specs.Places.{marks_of};
 
 use crate::done::{Done, FieldStop};
 use crate::lengths::pair_len;
+use crate::refusals::is_overwritten;
 use crate::registers::{below, registers};
 use core_1401::Core;
 
@@ -31,8 +33,39 @@ pub fn move_chars(core: &mut Core, a: u16, b: u16) -> Result<Done, FieldStop>
     Ok(registers(below(a, n), below(b, n)))
 }
 
-/// Moves n characters, each after the one to its right.
+/// Moves n characters, each after the one to its right: a copy, but where some of them repeat.
 fn move_places(core: &mut Core, a: u16, b: u16, n: u16)
+    requires a_in { a < length core.old }
+    requires b_in { b < length core.old }
+    requires a_places { n ≤ a + 1 }
+    requires b_places { n ≤ b + 1 }
+    ensures moved { core.new ≡ moved core.old a b n }
+    ensures marks { marks_of core.new ≡ marks_of core.old }
+    ensures size { length core.new ≡ length core.old }
+{
+    if is_overwritten(a, b, n) {
+        move_repeating(core, a, b, n);
+    } else {
+        copy_places(core, a, b, n);
+    }
+}
+
+/// Moves n characters, none of which is written over before it is read.
+fn copy_places(core: &mut Core, a: u16, b: u16, n: u16)
+    requires a_in { a < length core.old }
+    requires b_in { b < length core.old }
+    requires a_places { n ≤ a + 1 }
+    requires b_places { n ≤ b + 1 }
+    requires apart { is_overwritten a b n ≡ false }
+    ensures moved { core.new ≡ moved core.old a b n }
+    ensures marks { marks_of core.new ≡ marks_of core.old }
+    ensures size { length core.new ≡ length core.old }
+{
+    core.copy_chars(a, b, n);
+}
+
+/// Moves n characters place by place, so that some may repeat.
+fn move_repeating(core: &mut Core, a: u16, b: u16, n: u16)
     requires a_in { a < length core.old }
     requires b_in { b < length core.old }
     requires a_places { n ≤ a + 1 }

@@ -91,8 +91,8 @@ fn needed(core: &Core, a: u16, b: u16) -> Option<(u16, u16)>
     Some((used, len))
 }
 
-/// How many places of A are used beside so many of B: down to its first word mark, but no more than those; none where one of
-/// them isn't in core.
+/// How many places of A are used beside a B field of this length: down to its first word mark, but no more than that; none
+/// where one of them isn't in core.
 pub(crate) fn used_len(core: &Core, a: u16, len: u16) -> Option<u16>
     requires a { a < addresses }
     requires len { 0 < len }

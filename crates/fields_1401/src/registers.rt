@@ -6,7 +6,7 @@ ghost use Rattle.fields_1401.specs.Outcome.{below_by, registers_at};
 use crate::done::Done;
 use core_1401::ADDRESSES;
 
-/// The address so many places below, modulo 16,000.
+/// The address that many places below, modulo 16,000.
 pub fn below(at: u16, by: u16) -> u16
     requires at { at < addresses }
     requires by { by ≤ addresses }

@@ -19,12 +19,17 @@ Lines, each with one reply:
   QUIT            ends the session, of which nothing is kept";
 
 /// What the command line asks for.
-#[derive(Clone, Copy, Debug, PartialEq, Eq)]
+#[derive(Debug, Drop, PartialEq, Eq)]
 pub enum Call {
     /// A session of standard input and output.
     Console {
         /// How many places core storage has.
         size: u16,
+    },
+    /// The same on a room that has an image loaded.
+    Load {
+        /// The name of the image's file.
+        file: String,
     },
 }
 
@@ -44,11 +49,27 @@ pub fn read_call(alloc: Global, words: &[impl AsStr]) -> Result<Call, Error> {
         .about("Carries out the lines of standard input, and writes their replies")
         .after_help(LINES)
         .arg(size)?;
+    let file = Arg::new(alloc, "file")
+        .value_name("FILE")
+        .help("The file of the image; - is a name like any other")
+        .required(true);
+    let load = Command::new(alloc, "load")
+        .about("Loads a core image, and then does as console does")
+        .after_help(LINES)
+        .arg(file)?;
     let program = Command::new(alloc, "ibm1401")
         .about("An IBM 1401 card system, each operation of it proved")
         .subcommand_required(true)
-        .subcommand(console)?;
+        .subcommand(console)?
+        .subcommand(load)?;
     let matches = program.try_get_matches_from(words)?;
+    if let Some(file) = matches
+        .subcommand_matches("load")
+        .and_then(|load| load.get_str("file"))
+    {
+        let file = String::from_str(alloc, file)?;
+        return Ok(Call::Load { file });
+    }
     let size = matches
         .subcommand_matches("console")
         .and_then(|console| console.get_one::<u16>("size"))

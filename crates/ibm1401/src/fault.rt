@@ -4,6 +4,7 @@ ghost use Rattle.ibm1401.specs.Status.{outcome_of, run_status, status_of};
 
 use clap::Error as Refusal;
 use console_1401::SessionEnd;
+use image_1401::ImageFault;
 use thiserror::Error;
 
 /// The status of a command line that can't be read.
@@ -27,6 +28,15 @@ pub enum Fault {
     /// No core storage of the size named is made.
     #[error("size refused")]
     Size,
+    /// The file of this name can't be read, or is longer than any image.
+    #[error("cannot read {0}")]
+    Unread(String),
+    /// The file has no image's text.
+    #[error("image refused: {0}")]
+    Image(ImageFault),
+    /// The journal has no place for all commands that load the image.
+    #[error("journal full")]
+    JournalFull,
     /// Memory was refused before the session.
     #[error("memory refused")]
     Memory,
@@ -52,6 +62,7 @@ impl Fault {
         match self {
             Fault::Text | Fault::Usage(_) => MISUSED,
             Fault::Output | Fault::Size | Fault::Memory => FAILED,
+            Fault::Unread(_) | Fault::Image(_) | Fault::JournalFull => FAILED,
             Fault::Read | Fault::Write | Fault::Bound | Fault::Reply => FAILED,
         }
     }
@@ -83,7 +94,7 @@ pub fn report(rt: &impl Eprint, outcome: Result<(), Fault>) -> u8
         return 0;
     };
     let status = fault.status();
-    let _ = match fault {
+    let _ = match &fault {
         Fault::Usage(refusal) => rt.eprint(refusal),
         fault => eprintln!(rt; "ibm1401: {fault}"),
     };

@@ -3,16 +3,18 @@
 
 mod args;
 mod fault;
+mod loading;
 mod subcommands;
 #[cfg(test)]
 mod tests;
 
 use crate::args::{Call, read_call};
 use crate::fault::{Fault, report};
+use crate::loading::{load, read_file};
 use crate::subcommands::{console, tell};
 use console_1401::{FromReader, ToWriter};
 use std::process::ExitCode;
-use std::rt::Env;
+use std::rt::{Env, Files};
 use std::{env, io};
 
 fn main(rt: HostRuntime) -> ExitCode {
@@ -25,13 +27,19 @@ fn main(rt: HostRuntime) -> ExitCode {
 ///
 /// `Text`, `Usage` or `Memory` where the command line can't be read, `Output` where its help can't be written, else
 /// what the subcommand fails by.
-fn run(rt: &(impl Env + Input + Print + AllocGlobal)) -> Result<(), Fault> {
+fn run(rt: &(impl Env + Files + Input + Print + AllocGlobal)) -> Result<(), Fault> {
     let words = command_line(rt)?;
     match read_call(rt.alloc(), words.as_slice()) {
         Ok(Call::Console { size }) => {
             let mut reader = FromReader::new(rt.reader());
             let mut writer = ToWriter::new(io::writer(rt));
             console(rt.alloc(), size, &mut reader, &mut writer)
+        }
+        Ok(Call::Load { file }) => {
+            let text = read_file(rt, file)?;
+            let mut reader = FromReader::new(rt.reader());
+            let mut writer = ToWriter::new(io::writer(rt));
+            load(rt.alloc(), text.as_slice(), &mut reader, &mut writer)
         }
         Err(error) => tell(rt, error),
     }

@@ -1,8 +1,10 @@
 -- The text of an image (own).
-use Rattle.std.specs.Prelude.{◌≡◌, ℕ, zero, suc, ◌+◌, ◌/◌, ◌%◌, Bool, true, ◌&&◌, if◌then◌else◌, List, [], ◌∷◌, ◌++◌, length, slice_index, nat_le, nat_lt, codes}
+use Rattle.std.specs.Prelude.{◌≡◌, ℕ, zero, suc, ◌+◌, ◌/◌, ◌%◌, ◌==◌, Bool, true, false, Option, None, Some, position, Result, Ok, Err, ◌&&◌, if◌then◌else◌, List, [], ◌∷◌, ◌++◌, length, slice_index, nat_le, nat_lt, codes}
 use Rattle.std.specs.List.{flat_map, list_all}
 use Rattle.bcd_1401.specs.declared.cell.Cell.{Cell}
 use Rattle.bcd_1401.specs.Graphic.{graphics}
+use Rattle.image_1401.specs.declared.fault.ImageFault.{ImageFault}
+use Rattle.image_1401.specs.declared.fault.ImageFault.TheVariants.{Memory, Header, BadRecord, Range, Truncated}
 use Rattle.image_1401.specs.declared.image.Image.{Image}
 use Rattle.image_1401.specs.declared.image.Segment.{Segment}
 use Rattle.image_1401.specs.declared.version.Version.{Version}
@@ -48,9 +50,14 @@ unfoldable pub image_text : Version → Image → List ℕ
 image_text version image =
     line_of (header_text version image.size) ++ segments_text version image.segments ++ line_of (end_text version image.start)
 
--- whether a cell has one of the 64 characters
+-- whether this is the character
+abbrev pub is_char : Option ℕ → ℕ → Bool
+is_char None char = false
+is_char (Some found) char = found == char
+
+-- whether a cell's character is the one that its graphic stands for, as each of the 64 is
 abbrev pub is_character : Cell → Bool
-is_character cell = nat_lt cell.char 64
+is_character cell = is_char (position (λ each. each == slice_index graphics cell.char) graphics) cell.char
 
 -- whether it has 1 to 40 cells, as every segment of the machine has
 abbrev pub is_segment : Segment → Bool
@@ -63,3 +70,18 @@ pub record HasText (version : Version) (image : Image) : Type 0 where
   pub cells : list_all is_segment image.segments ≡ true
   pub segments : list_all (is_inside image.size) image.segments ≡ true
   pub start : nat_lt image.start image.size ≡ true
+
+-- the text is the image's, in one of the versions
+pub record IsTextOf (text : List ℕ) (image : Image) : Type 0 where
+  pub version : Version
+  pub has_text : HasText version image
+  pub text_is : text ≡ image_text version image
+
+-- what is answered for the text of an image: the image, or that memory was refused
+abbrev pub IsOrMemory : Result Image ImageFault → Image → Type 0
+IsOrMemory (Ok found) image = found ≡ image
+IsOrMemory (Err Memory) image = Unit {0}
+IsOrMemory (Err Header) image = ⊥
+IsOrMemory (Err BadRecord) image = ⊥
+IsOrMemory (Err Range) image = ⊥
+IsOrMemory (Err Truncated) image = ⊥

@@ -1,4 +1,5 @@
 pub mod Image
 pub mod ImageText
 pub mod Reading
+pub mod Refusal
 pub mod Version

@@ -1,5 +1,7 @@
 //! Why a text is no image.
 
+use std::fmt;
+
 /// Why a text is read as no image, by number. The first wrong line decides; memory comes last.
 #[derive(Clone, Copy, Debug, PartialEq, Eq)]
 pub enum ImageFault {
@@ -13,4 +15,16 @@ pub enum ImageFault {
     Range,
     /// 5: the text ends before its last line does.
     Truncated,
+}
+
+impl fmt::Display for ImageFault {
+    fn fmt<W: fmt::Write>(&self, f: &mut fmt::Formatter<W>) -> fmt::Result {
+        f.write_str(match self {
+            ImageFault::Memory => "1 MEMORY",
+            ImageFault::Header => "2 HEADER",
+            ImageFault::BadRecord => "3 RECORD",
+            ImageFault::Range => "4 RANGE",
+            ImageFault::Truncated => "5 TRUNCATED",
+        })
+    }
 }

@@ -1,4 +1,11 @@
-//! Core images of the IBM 1401: what stands in core storage before a program is started.
+//! Core images of the IBM 1401: what stands in core storage before a program is started, and the text in which it is
+//! kept.
+//!
+//! ```text
+//! let image = read_image(alloc, b"IMAGE1 4000\n0400 02 ~HI\nEND 0400\n")?;
+//! image.segments.as_slice()               // one segment: H with a word mark at 400, I at 401
+//! write_image(alloc, &image)?             // the same text
+//! ```
 #![tactic(auto)]
 
 pub mod fault;
@@ -9,4 +16,8 @@ pub mod writing;
 
 pub use fault::ImageFault;
 pub use image::{Image, Segment, Segments};
+pub use reading::read_image;
 pub use writing::write_image;
+
+#[cfg(test)]
+mod tests;

@@ -2,7 +2,8 @@
 ghost use Rattle.std.specs.Prelude.{◌≡◌, ◌<◌, ◌≤◌, ◌^◌, ◌∷◌, [], length, ◌==◌, position, Some, None, Ok, Err, if◌then◌else◌, IfOk, IfErr, MatchOption};
 ghost use Rattle.std.specs.Option.{option_map};
 ghost use Rattle.image_1401.specs.Image.{is_inside};
-ghost use Rattle.image_1401.specs.ImageText.{HasText, image_text};
+ghost use Rattle.image_1401.specs.ImageText.{IsTextOf, IsOrMemory};
+ghost use Rattle.image_1401.specs.Refusal.{IsRefused};
 ghost use Rattle.image_1401.specs.Reading.{cell_in, cells_in, in_front, few_cells_in, number_in, number_at, header_with, header_in, segment_in, end_in, parts_of, entry_by, contents_in, image_of, image_in, as_segment, Gives, IsOfText};
 
 use crate::fault::ImageFault;
@@ -12,6 +13,27 @@ use crate::writing::COUNT_DIGITS;
 use bcd_1401::{Cell, Char};
 use core_1401::{Cells, MOST_CELLS};
 use std::alloc::Global;
+
+/// The image of a text.
+///
+/// # Errors
+///
+/// The fault of the text's first wrong line: `Truncated` where a line is due and no line feed follows; `Header` where the
+/// first line names no version and size that there are; `BadRecord` where a later line is neither a segment nor the last
+/// line, or a byte stands behind the last line; `Range` where a segment or the entry doesn't lie in core storage of the
+/// image's size. `Memory` where the text is an image's, and the memory for it is refused.
+pub fn read_image(alloc: Global, text: &[u8]) -> Result<Image, ImageFault>
+    // What is read is the image whose text this is.
+    ensures found { IfOk result (IsTextOf text.now) }
+
+    // An image's text is read as the image, unless memory is refused.
+    ensures again { (image : Image) → IsTextOf text.now image → IsOrMemory result image }
+
+    // Any other text is refused for its first wrong line.
+    ensures fault { IfErr result (IsRefused text.now) }
+{
+    image(alloc, text)
+}
 
 /// A segment as its line spells it, wherever it lies.
 #[derive(Clone, Copy)]

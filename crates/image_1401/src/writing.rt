@@ -2,7 +2,7 @@
 ghost use Rattle.std.specs.Prelude.{◌≡◌, ◌++◌, true, length, IfOk, OnOk};
 ghost use Rattle.std.specs.List.{flat_map, list_all};
 ghost use Rattle.image_1401.specs.Image.{IsInCore};
-ghost use Rattle.image_1401.specs.ImageText.{number_text, cell_text, cells_text, header_text, segment_text, end_text, segments_text, image_text, line_of, is_character, is_segment, HasText};
+ghost use Rattle.image_1401.specs.ImageText.{number_text, cell_text, cells_text, header_text, segment_text, end_text, segments_text, image_text, line_of, is_character, is_segment, IsTextOf};
 
 use crate::image::{Image, Segment};
 use crate::version::Version;
@@ -22,8 +22,8 @@ pub fn write_image(alloc: Global, image: &Image) -> Result<Vec<u8>, AllocError>
     requires { IsInCore image.now }
     ensures text { IfOk result (λ text. text.items ≡ image_text Version.One image.now) }
 
-    // It is a text that is read again.
-    ensures again { OnOk result (HasText Version.One image.now) }
+    // It is a text that is read as the image.
+    ensures again { IfOk result (λ text. IsTextOf text.items image.now) }
 {
     let version = Version::One;
     let mut text = Vec::new(alloc);
@@ -116,10 +116,10 @@ fn put_cell(text: &mut Vec<u8>, cell: Cell) -> Result<(), AllocError>
     ensures text { OnOk result (text.new.items ≡ text.old.items ++ cell_text cell) }
     ensures character { is_character cell ≡ true }
 {
-    let _code = cell.char.code();
+    let graphic = cell.char.graphic();
     if cell.mark {
         text.push(b'~')?;
     }
-    text.push(cell.char.graphic())?;
+    text.push(graphic)?;
     Ok(())
 }

@@ -3,7 +3,7 @@ use Rattle.std.specs.Prelude.{ℕ, ◌+◌, ◌&&◌, Bool, List, ◌++◌}
 use Rattle.std.specs.Prelude.{length, take, drop, nat_le, if◌then◌else◌, Option, Some, None}
 use Rattle.bcd_1401.specs.declared.cell.Cell.{Cell}
 use Rattle.core_1401.specs.Storage.{Storage, is_in_core}
-use Rattle.cpu_1401.specs.Run.{Finished, run_for}
+use Rattle.cpu_1401.specs.Run.{Finished, most_steps, run_for}
 use Rattle.cpu_1401.specs.State.{State, regs_of, with_switch}
 use Rattle.cpu_1401.specs.SwitchName.{switch_number}
 use Rattle.room_1401.specs.declared.answer.Answer.{Answer}
@@ -16,10 +16,6 @@ use Rattle.room_1401.specs.declared.command.Command.TheVariants.{Deposit, Examin
 -- how many cells a command takes or shows at the most
 abbrev pub most_cells : ℕ
 most_cells = 40
-
--- how many instructions a run has at the most
-abbrev pub most_steps : ℕ
-most_steps = 1000000
 
 -- what a command leaves: the machine, and the answer
 pub record Carried : Type 0 where

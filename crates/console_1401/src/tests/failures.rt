@@ -32,7 +32,7 @@ impl Source for BreaksOff<'_> {
     }
 }
 
-// Takes so many bytes at the most with each put, and fails once it has all that it may have.
+// Takes `width` bytes at the most with each put, and fails once it has `limit` bytes.
 #[derive(Drop)]
 struct Narrow {
     received: Vec<u8>,

@@ -11,8 +11,8 @@ use std::io;
 use std::io::{ErrorKind, Read, Write};
 use std::test::Fail;
 
-/// What a reader and a writer were asked, in order: each byte that was read stands as it is, the end of input as `.`, the
-/// bytes of a write in brackets, and what failed as `!`.
+/// What a reader and a writer were asked, in order: each byte that was read stands as it is, the end of input as `.`,
+/// the bytes of a write in brackets, and what failed as `!`.
 type Record = RefCell<Vec<u8>>;
 
 /// Adds to a record.
@@ -31,7 +31,7 @@ fn is_record(record: &Record, expected: &str) -> bool {
     }
 }
 
-/// Gives its bytes, and would give as many at once as it is asked for. Fails once, where so many are left.
+/// Gives its bytes, and would give as many at once as it is asked for. Fails once, where `fails_at` bytes are left.
 #[derive(Drop)]
 struct Typed<'a> {
     bytes: &'a [u8],
@@ -56,7 +56,7 @@ impl Read for Typed<'_> {
     }
 }
 
-/// Takes bytes, so many at the most with each write. Fails once, where it has taken so many.
+/// Takes `width` bytes at the most with each write. Fails once, where it has taken `fails_at` bytes.
 #[derive(Drop)]
 struct Paper<'a> {
     width: usize,
@@ -89,7 +89,7 @@ impl Write for Paper<'_> {
 /// A place that isn't reached.
 const NEVER: usize = usize::MAX;
 
-/// The lines, on a reader that fails once where so many bytes are left.
+/// The lines, on a reader that fails once where `fails_at` bytes are left.
 fn type_lines<'a>(record: &'a Record, lines: &'a str, fails_at: usize) -> Typed<'a> {
     Typed {
         bytes: lines.as_bytes(),
@@ -99,7 +99,7 @@ fn type_lines<'a>(record: &'a Record, lines: &'a str, fails_at: usize) -> Typed<
     }
 }
 
-/// A writer that takes so many bytes at once, and fails once where it has taken so many.
+/// A writer that takes `width` bytes at once, and fails once where it has taken `fails_at` bytes.
 fn load_paper(record: &Record, width: usize, fails_at: usize) -> Paper<'_> {
     Paper {
         width,

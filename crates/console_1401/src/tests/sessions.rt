@@ -40,7 +40,9 @@ fn each_line_has_its_reply(rt: HostRuntime) -> Result<(), Fail> {
         (
             "SWITCH C ON\nSWITCH G ON\nSWITCH C OFF\nREGS\nSWITCH H ON\n",
             SessionEnd::EndOfInput,
-            "OK\nOK\nOK\nI=00000 A=00000 B=00000 UNEQUAL=0 OVERFLOW=0 SWITCHES=------G HOPPER=000 STACKER=000 PAPER=000 FORM=0001 LINE=01\nERROR 1 WORD\n",
+            "OK\nOK\nOK\n\
+             I=00000 A=00000 B=00000 UNEQUAL=0 OVERFLOW=0 SWITCHES=------G \
+             HOPPER=000 STACKER=000 PAPER=000 FORM=0001 LINE=01\nERROR 1 WORD\n",
             4,
         ),
         ("QUIT", SessionEnd::Quit, "BYE\n", 0),
@@ -91,7 +93,7 @@ fn endless_input_ends_at_the_bound(rt: HostRuntime) -> Result<(), Fail> {
 }
 
 #[test]
-fn the_longest_reply_is_that_of_forty_marked_cells(rt: HostRuntime) -> Result<(), Fail> {
+fn forty_marked_cells_are_shown(rt: HostRuntime) -> Result<(), Fail> {
     let cells = "~A~B~C~D~E~F~G~H~I~J~K~L~M~N~O~P~Q~R~S~T~U~V~W~X~Y~Z~0~1~2~3~4~5~6~7~8~9~,~.~-~ ";
     let lines = format!(in rt.alloc(); "DEPOSIT 0500 {cells}\nEXAMINE 0500 40\nQUIT\n")?;
     let replies = format!(in rt.alloc(); "OK\n{cells}\nBYE\n")?;

@@ -7,10 +7,12 @@ fn an_amount_is_edited_by_its_control_word(rt: HostRuntime) {
     expect_replies(
         &rt,
         rt.alloc(),
-        "DEPOSIT 0700 ~00257426\nDEPOSIT 0720 ~   ,  0.  &CR\nDEPOSIT 0600 ~E707732~.\nSTART 0600\nRUN 1\nEXAMINE 0720 13\n\
+        "DEPOSIT 0700 ~00257426\nDEPOSIT 0720 ~   ,  0.  &CR\nDEPOSIT 0600 ~E707732~.\nSTART 0600\nRUN 1\n\
+         EXAMINE 0720 13\n\
          REGS\n",
         "OK\nOK\nOK\nOK\nSTOP 01 LIMIT STEPS 1 I 00607\n  2,574.26   \n\
-         I=00607 A=00699 B=00719 UNEQUAL=0 OVERFLOW=0 SWITCHES=------- HOPPER=000 STACKER=000 PAPER=000 FORM=0001 LINE=01\n",
+         I=00607 A=00699 B=00719 UNEQUAL=0 OVERFLOW=0 SWITCHES=------- \
+         HOPPER=000 STACKER=000 PAPER=000 FORM=0001 LINE=01\n",
         7,
     );
 }
@@ -20,7 +22,8 @@ fn zeros_are_suppressed_up_to_the_zero_of_the_control_word(rt: HostRuntime) {
     expect_replies(
         &rt,
         rt.alloc(),
-        "DEPOSIT 0700 ~00000005\nDEPOSIT 0720 ~   ,  0.  &CR\nDEPOSIT 0600 ~E707732~.\nSTART 0600\nRUN 1\nEXAMINE 0720 13\n",
+        "DEPOSIT 0700 ~00000005\nDEPOSIT 0720 ~   ,  0.  &CR\nDEPOSIT 0600 ~E707732~.\nSTART 0600\nRUN 1\n\
+         EXAMINE 0720 13\n",
         "OK\nOK\nOK\nOK\nSTOP 01 LIMIT STEPS 1 I 00607\n       .05   \n",
         6,
     );
@@ -31,7 +34,8 @@ fn a_minus_amount_keeps_its_credit_sign(rt: HostRuntime) {
     expect_replies(
         &rt,
         rt.alloc(),
-        "DEPOSIT 0700 ~0025742O\nDEPOSIT 0720 ~   ,  0.  &CR\nDEPOSIT 0600 ~E707732~.\nSTART 0600\nRUN 1\nEXAMINE 0720 13\n",
+        "DEPOSIT 0700 ~0025742O\nDEPOSIT 0720 ~   ,  0.  &CR\nDEPOSIT 0600 ~E707732~.\nSTART 0600\nRUN 1\n\
+         EXAMINE 0720 13\n",
         "OK\nOK\nOK\nOK\nSTOP 01 LIMIT STEPS 1 I 00607\n  2,574.26 CR\n",
         6,
     );

@@ -8,8 +8,11 @@ use Rattle.console_1401.proofs.answer_text.+put_digits.Goals.{then-width-gt1+in_
 pub returns : goal.returns
 returns t c = elim c.if-width-gt1.branch [
   | then-width-gt1+in_ok-put_digits w ↦ elim w.then-width-gt1.branch [
-    | then-width-gt1-via-then-width-gt1 w' ↦ grind (arith, common_steps, digits_more c.args.width c.args.number (omega arith) (omega arith))
-    | then-width-gt1-via-else-width-gt1+then-number-gt9 w' ↦ grind (arith, common_steps, digits_more c.args.width c.args.number (omega arith) (omega arith))
+    | then-width-gt1-via-then-width-gt1 w' ↦ grind
+        (arith, common_steps, digits_more c.args.width c.args.number (omega arith) (omega arith))
+    | then-width-gt1-via-else-width-gt1+then-number-gt9 w' ↦ grind
+        (arith, common_steps, digits_more c.args.width c.args.number (omega arith) (omega arith))
   ]
-  | else-width-gt1+else-number-gt9 w ↦ grind (arith, common_steps, one_digit c.args.width c.args.number (omega arith) (omega arith))
+  | else-width-gt1+else-number-gt9 w ↦ grind
+      (arith, common_steps, one_digit c.args.width c.args.number (omega arith) (omega arith))
 ]

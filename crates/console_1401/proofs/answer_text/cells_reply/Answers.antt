@@ -15,8 +15,11 @@ loop-cell-preserved c =
     let cells = c.args.cells.now in
     let cell = c.cell-item.result in
     let i = c.loop-cell.cell-index in
-    let more : take (i + 1) cells ≡ take i cells ++ cell ∷ [] = take_more cells i cell (omega arith) ∙ ap (λ each. take i cells ++ each ∷ []) (sym c.cell-item.is) in
+    let more : take (i + 1) cells ≡ take i cells ++ cell ∷ [] =
+    take_more cells i cell (omega arith) ∙ ap (λ each. take i cells ++ each ∷ []) (sym c.cell-item.is) in
     record {
       text = grind (arith, common_steps);
-      again = rw (c.in_ok-put_cell.ensures.text, more) (cells_again _ _ (take i cells) cell c.loop-cell.invariant.again c.in_ok-put_cell.ensures.again);
+      again =
+          rw (c.in_ok-put_cell.ensures.text, more)
+          (cells_again _ _ (take i cells) cell c.loop-cell.invariant.again c.in_ok-put_cell.ensures.again);
     }

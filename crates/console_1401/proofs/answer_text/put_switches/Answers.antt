@@ -12,6 +12,7 @@ unfolding switches_text
 returns c =
     let letters = items_from_extend c.extend.result c.extend.ensures.ran
     (YieldsList-from_map _ (λ (switch : Bool × ℕ). switch_text switch.0 switch.1)
-    (YieldsList-at c.map.ensures.source (YieldsList-from_zip (YieldsList-from_slice c.args.switches cc) (YieldsList-from_slice (codes "ABCDEFG") cc)))
+    (YieldsList-at c.map.ensures.source (YieldsList-from_zip (YieldsList-from_slice c.args.switches cc)
+    (YieldsList-from_slice (codes "ABCDEFG") cc)))
     c.map.ensures.closure (λ x r q k. search (rules, tests, k.met))) in
     search rules

@@ -1,6 +1,6 @@
 -- Before each byte every finished line is answered, and nothing has failed since the first.
 use Rattle.std.proofs.Common.{◌≡◌, Bool, false}
-use Rattle.console_1401.proofs.ReadingLemmas.{SoFar}
+use Rattle.console_1401.proofs.ReadingLemmas.{SoFar, moment}
 use Rattle.console_1401.proofs.answering.answer_lines.Given as goal
 
 -- what was answered so far, and that neither a read nor a write has failed by it
@@ -12,6 +12,7 @@ pub record NoneFailed (Answered : Type 0) (read_new write_old write_new : Bool) 
 abbrev pub invariant-loop-read : goal.invariant-loop-read
 invariant-loop-read g l =
     NoneFailed
-    (SoFar g.T.Responder.responds (record { left = g.R.Source.left l.initial.reader; received = g.W.Sink.received l.initial.writer; state = l.initial.responder })
-    (record { left = g.R.Source.left l.reader; received = g.W.Sink.received l.writer; state = l.responder }) l._read l.line)
+    (SoFar g.T.Responder.responds
+    (moment (g.R.Source.left l.initial.reader) (g.W.Sink.received l.initial.writer) l.initial.responder)
+    (moment (g.R.Source.left l.reader) (g.W.Sink.received l.writer) l.responder) l._read l.line)
     (g.R.Source.has_failed l.reader) (g.W.Sink.has_failed l.initial.writer) (g.W.Sink.has_failed l.writer)

@@ -8,7 +8,9 @@ use Rattle.console_1401.specs.Answering.{AnsweredAll}
 use Rattle.console_1401.proofs.SessionLemmas.{session_as, answered_at_room, size_stays}
 use Rattle.console_1401.proofs.sessions.session.Goals as goal
 
-at_room : (last : SessionEnd) (l0 l1 t0 t1 : Option (List ℕ)) (before after : Account) → SessionDid (AnsweredAll RoomResponds) last l0 l1 t0 t1 before after → SessionDid Answered last l0 l1 t0 t1 before after
+at_room : (last : SessionEnd) (l0 l1 t0 t1 : Option (List ℕ)) (before after : Account)
+    → SessionDid (AnsweredAll RoomResponds) last l0 l1 t0 t1 before after
+    → SessionDid Answered last l0 l1 t0 t1 before after
 at_room = session_as (AnsweredAll RoomResponds) Answered answered_at_room
 
 pub returns-clause-session : goal.returns-clause-session

@@ -1,4 +1,4 @@
--- What was received of the rest is added, and what is left of it is the rest.
+-- What the sink received of the rest is added, and what is left of it is the rest.
 use Rattle.std.proofs.Common.{ℕ, List, ◌++◌, take, drop, sym, ◌∙◌, ap, append_assoc, take-append-drop}
 use Rattle.std.proofs.lemmas.List.{take_rest}
 use Rattle.std.proofs.KnownBytes.{Appends-trans}
@@ -16,7 +16,9 @@ loop-rest-preserved g c =
           ∙ ap (λ (r : List ℕ). inv.part ++ r) (sym (take-append-drop n rest))
           ∙ sym (append_assoc inv.part (take n rest) (drop n rest))
           ∙ ap (λ (r : List ℕ). (inv.part ++ take n rest) ++ r) (sym (take_rest rest n));
-      appended = Appends-trans (g.W.Sink.received c.args.writer.now) (g.W.Sink.received c.loop-rest.writer) (g.W.Sink.received c.put.new.self) inv.part (take n rest) inv.appended c.in-Ok.ensures.received;
+      appended =
+          Appends-trans (g.W.Sink.received c.args.writer.now) (g.W.Sink.received c.loop-rest.writer)
+          (g.W.Sink.received c.put.new.self) inv.part (take n rest) inv.appended c.in-Ok.ensures.received;
       good = c.in-Ok.ensures.good ∙ sym inv.working ∙ inv.good;
       working = c.in-Ok.ensures.good;
     }

@@ -13,7 +13,8 @@ pub record PutSoFar (old new : Option (List ℕ)) (failed_old failed_new : Bool)
 
 abbrev pub invariant-loop-rest : goal.invariant-loop-rest
 invariant-loop-rest g l =
-    PutSoFar (g.W.Sink.received l.initial.writer) (g.W.Sink.received l.writer) (g.W.Sink.has_failed l.initial.writer) (g.W.Sink.has_failed l.writer) l.bytes l.rest
+    PutSoFar (g.W.Sink.received l.initial.writer) (g.W.Sink.received l.writer) (g.W.Sink.has_failed l.initial.writer)
+    (g.W.Sink.has_failed l.writer) l.bytes l.rest
 
 abbrev pub decreases-loop-rest : goal.decreases-loop-rest
 decreases-loop-rest g l = length l.rest

@@ -1,0 +1,7 @@
+-- What is typed for a line says it.
+use Rattle.std.proofs.Common.{◌∙◌}
+use Rattle.console_1401.proofs.LineTextLemmas.{in_words}
+use Rattle.console_1401.proofs.line.parse_line.Goals as goal
+
+pub returns-clause-typed : goal.returns-clause-typed
+returns-clause-typed c = λ said is. c.parse_words.ensures ∙ in_words said c.args.line.now is.can_be is.typed

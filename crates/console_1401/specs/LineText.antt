@@ -1,0 +1,86 @@
+-- How a line may be typed (own): its words and numbers, whatever blanks stand between them.
+use Rattle.std.specs.Prelude.{◌≡◌, ℕ, ◌^◌, ◌<◌, ◌≤◌, Bool, true, false, All, List, [], ◌∷◌, ◌++◌, length, replicate, codes}
+use Rattle.std.specs.Fmt.{decimal}
+use Rattle.bcd_1401.specs.declared.cell.Cell.{Cell}
+use Rattle.core_1401.specs.Address.{addresses}
+use Rattle.room_1401.specs.CarryOut.{most_cells}
+use Rattle.room_1401.specs.declared.command.Command.TheVariants as command
+use Rattle.console_1401.specs.declared.line.Line.{Line}
+use Rattle.console_1401.specs.declared.line.Line.TheVariants as line
+use Rattle.console_1401.specs.Bytes.{blank}
+use Rattle.console_1401.specs.Limits.{most_line_bytes, most_digits}
+use Rattle.console_1401.specs.ReplyText.{cells_text}
+use Rattle.console_1401.specs.Words.{letter_of}
+
+-- a word that is typed as it stands, or a number
+pub data Part : Type 0 where
+  Name : List ℕ → Part
+  Numeral : ℕ → Part
+
+-- what is typed: its parts, and behind them a blank and cells, where there are any
+pub record LineText : Type 0 where
+  pub parts : List Part
+  pub cells : List Cell
+
+abbrev pub words_alone : List Part → LineText
+words_alone parts = record { parts = parts; cells = [] }
+
+-- ON, or OFF
+abbrev pub setting_text : Bool → List ℕ
+setting_text true = codes "ON"
+setting_text false = codes "OFF"
+
+-- what is typed for a line
+abbrev pub text_of : Line → LineText
+text_of line.Empty = words_alone []
+text_of (line.Command (command.Deposit address cells)) =
+    record { parts = Name (codes "DEPOSIT") ∷ Numeral address ∷ []; cells = cells }
+text_of (line.Command (command.Examine address count)) =
+    words_alone (Name (codes "EXAMINE") ∷ Numeral address ∷ Numeral count ∷ [])
+text_of (line.Command command.Registers) = words_alone (Name (codes "REGS") ∷ [])
+text_of (line.Command (command.SetI address)) = words_alone (Name (codes "START") ∷ Numeral address ∷ [])
+text_of (line.Command (command.Switch n on)) =
+    words_alone (Name (codes "SWITCH") ∷ Name (letter_of n) ∷ Name (setting_text on) ∷ [])
+text_of (line.Command (command.Run limit)) = words_alone (Name (codes "RUN") ∷ Numeral limit ∷ [])
+text_of line.Quit = words_alone (Name (codes "QUIT") ∷ [])
+
+-- how a part is typed: a number in seven digits at the most, with as many zeros in front as one likes
+abbrev pub IsTypedAs : Part → List ℕ → Type 0
+IsTypedAs (Name name) word = word ≡ name
+IsTypedAs (Numeral number) word =
+    (zeros : ℕ) × (word ≡ replicate zeros 48 ++ decimal number) × (length word ≤ most_digits)
+
+-- the line ends here, or goes on with a blank
+abbrev pub IsParted : List ℕ → Type 0
+IsParted [] = Unit {0}
+IsParted (byte ∷ bytes) = byte ≡ blank
+
+-- behind its parts a line has blanks alone, or one blank and cells by their graphics
+abbrev pub IsTypedBehind : List Cell → List ℕ → Type 0
+IsTypedBehind [] line = (blanks : ℕ) × (line ≡ replicate blanks blank)
+IsTypedBehind (cell ∷ cells) line = line ≡ blank ∷ cells_text (cell ∷ cells)
+
+-- these parts are typed, each behind blanks, and parted from what follows; then come the cells
+abbrev pub IsTyped : List Part → List Cell → List ℕ → Type 0
+IsTyped [] cells line = IsTypedBehind cells line
+IsTyped (part ∷ parts) cells line =
+    (blanks : ℕ) × (word : List ℕ) × (rest : List ℕ) × (line ≡ replicate blanks blank ++ (word ++ rest))
+    × IsTypedAs part word × IsParted rest × IsTyped parts cells rest
+
+-- what a line can say: an address below 16,000, 1 to 40 cells of the 64 characters, a number of up to seven digits
+abbrev pub CanBeSaid : Line → Type 0
+CanBeSaid line.Empty = Unit {0}
+CanBeSaid (line.Command (command.Deposit address cells)) =
+    (address < addresses) × (1 ≤ length cells) × (length cells ≤ most_cells) × All (λ cell. cell.char < 64) cells
+CanBeSaid (line.Command (command.Examine address count)) = (address < addresses) × (count < 10 ^ most_digits)
+CanBeSaid (line.Command command.Registers) = Unit {0}
+CanBeSaid (line.Command (command.SetI address)) = address < addresses
+CanBeSaid (line.Command (command.Switch n on)) = Unit {0}
+CanBeSaid (line.Command (command.Run limit)) = limit < 10 ^ most_digits
+CanBeSaid line.Quit = Unit {0}
+
+-- The line is what is typed for what it says.
+pub record IsLineOf (said : Line) (line : List ℕ) : Type 0 where
+  pub can_be : CanBeSaid said
+  pub short : length line ≤ most_line_bytes
+  pub typed : IsTyped (text_of said).parts (text_of said).cells line

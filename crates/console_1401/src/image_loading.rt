@@ -1,0 +1,68 @@
+//! Loading an image.
+ghost use Rattle.std.specs.Prelude.{◌≡◌, ◌++◌, ◌↔◌, ◌∷◌, [], true, nat_lt, IfErr, OnOk, OnErr};
+ghost use Rattle.std.specs.List.{list_all};
+ghost use Rattle.image_1401.specs.Image.{is_inside};
+ghost use Rattle.room_1401.specs.Journal.{answer_to, entry, is_full};
+ghost use Rattle.console_1401.specs.ImageLoading.{segment_entry, start_entry, load_entries, WentOnByFewer};
+
+use image_1401::{Image, Segment};
+use room_1401::{Answer, Command, Room, RoomFault};
+
+/// The seat of a console that shares its room with nobody.
+const SEAT: u8 = 0;
+
+/// Loads an image: the console deposits each segment in order, and sets the I register to the entry. Each command is
+/// recorded as one of seat 0, answered `Done`.
+///
+/// # Errors
+///
+/// `JournalFull` where the commands before have filled the journal, or `Memory` where there is no room for one more of
+/// them. Those before are carried out and recorded.
+pub fn put_image(room: &mut Room, image: &Image) -> Result<(), RoomFault>
+    requires size { image.now.size ≡ room.old.size }
+    requires segments { list_all (is_inside image.now.size) image.now.segments ≡ true }
+    requires start { nat_lt image.now.start image.now.size ≡ true }
+    ensures loaded { OnOk result (room.new.journal ≡ room.old.journal ++ load_entries image.now) }
+    ensures stopped { OnErr result (WentOnByFewer room.old.journal room.new.journal (load_entries image.now)) }
+    ensures full { IfErr result (λ fault. (fault ≡ RoomFault.JournalFull) ↔ (is_full room.new.journal ≡ true)) }
+    ensures size { room.new.size ≡ room.old.size }
+{
+    for segment in image.segments.as_slice() {
+        deposit(room, segment)?;
+    }
+    start(room, image.start)
+}
+
+/// Deposits a segment that lies in core storage.
+#[tactic(auto, unfolding(room_1401::specs::CarryOut::carry_out))]
+fn deposit(room: &mut Room, segment: &Segment) -> Result<(), RoomFault>
+    requires { is_inside room.old.size segment.now ≡ true }
+    ensures done { OnOk result (room.new.journal ≡ room.old.journal ++ segment_entry segment.now ∷ []) }
+    ensures err { OnErr result (room.new.journal ≡ room.old.journal) }
+    ensures full { IfErr result (λ fault. (fault ≡ RoomFault.JournalFull) ↔ (is_full room.old.journal ≡ true)) }
+    ensures size { room.new.size ≡ room.old.size }
+{
+    // The machine has as many places as the room says.
+    let _machine = room.machine();
+    let command = Command::Deposit {
+        address: segment.address,
+        cells: segment.cells,
+    };
+    room.carry(SEAT, command)?;
+    Ok(())
+}
+
+/// Sets the I register to an entry that lies in core storage.
+#[tactic(auto, unfolding(room_1401::specs::CarryOut::carry_out))]
+fn start(room: &mut Room, address: u16) -> Result<(), RoomFault>
+    requires { nat_lt address room.old.size ≡ true }
+    ensures done { OnOk result (room.new.journal ≡ room.old.journal ++ start_entry address ∷ []) }
+    ensures err { OnErr result (room.new.journal ≡ room.old.journal) }
+    ensures full { IfErr result (λ fault. (fault ≡ RoomFault.JournalFull) ↔ (is_full room.old.journal ≡ true)) }
+    ensures size { room.new.size ≡ room.old.size }
+{
+    // The machine has as many places as the room says.
+    let _machine = room.machine();
+    room.carry(SEAT, Command::SetI { address })?;
+    Ok(())
+}

@@ -1,0 +1,29 @@
+-- The places of a field written at once (own).
+use Rattle.std.specs.Prelude.{ℕ, ◌+◌, ◌-◌, ◌==◌, ◌&&◌, not, Bool, length, map, nat_le, nat_lt, if◌then◌else◌}
+use Rattle.std.specs.List.{range_with_len}
+use Rattle.bcd_1401.specs.declared.cell.Cell.{Cell}
+use Rattle.core_1401.specs.Storage.{Storage, cell_at}
+
+-- whether a place is one of the n from an address down
+abbrev pub is_within : ℕ → ℕ → ℕ → Bool
+is_within at n place = nat_le place at && nat_lt at (place + n)
+
+-- what a place holds where these cells, units first, stand at the n places from an address down
+abbrev pub written_cell : Storage → ℕ → ℕ → (ℕ → Cell) → ℕ → Cell
+written_cell storage at n cell_of place = if is_within at n place then cell_of (at - place) else cell_at storage place
+
+-- these cells, units first, at the n places from an address down; each other place is as it was
+unfoldable pub with_cells : Storage → ℕ → ℕ → (ℕ → Cell) → Storage
+with_cells storage at n cell_of = map (written_cell storage at n cell_of) (range_with_len 0 (length storage))
+
+-- the i-th place below an address with another character, and with the word mark that was there
+abbrev pub rewritten_cell : Storage → ℕ → (ℕ → ℕ) → ℕ → Cell
+rewritten_cell storage at char_of i = record (cell_at storage (at - i)) { char = char_of i }
+
+-- these characters, units first, at the n places from an address down; word marks and other places are as they were
+unfoldable pub with_chars : Storage → ℕ → ℕ → (ℕ → ℕ) → Storage
+with_chars storage at n char_of = with_cells storage at n (rewritten_cell storage at char_of)
+
+-- whether the characters of pair i differ, counted from the units
+abbrev pub is_unequal_pair : Storage → ℕ → ℕ → ℕ → Bool
+is_unequal_pair storage a b i = not ((cell_at storage (a - i)).char == (cell_at storage (b - i)).char)

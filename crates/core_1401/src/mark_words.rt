@@ -1,0 +1,178 @@
+//! Word marks as bits, 64 to a word: the first below an address, the next above it, and marks set and cleared.
+ghost use Rattle.std.specs.Prelude.{◌≡◌, ◌==◌, ℕ, ◌+◌, ◌-◌, ◌*◌, ◌/◌, ◌^◌, ◌<◌, ◌≤◌, length, drop, replicate, slice_index_or, take};
+ghost use Rattle.std.specs.Int.{bit_at};
+ghost use Rattle.core_1401.specs.MarkWords.{IsWindowDown, IsWindowUp, IsFirstMark, IsFirstPair, IsNextMark, IsWithBit, IsCleared, AreCleared, AreMarkWords};
+
+use crate::storage::Core;
+
+/// How many words there are: one for every 64 addresses, one before the first and one behind the last.
+pub(crate) const WORDS: usize = 252;
+
+impl Core {
+    /// The word marks by words of 64 bits: address 0 has the lowest bit of the first word, and no bit at or above the size
+    /// is set.
+    #[tactic(auto, using(crate::proofs::HeldLemmas::length_held))]
+    pub fn mark_words(&self) -> &[u64]
+        ensures { AreMarkWords self.now result.now }
+    {
+        behind_first(&self.words, (self.chars.len() + 63) / 64)
+    }
+}
+
+/// This many words behind the first.
+#[inline(always)]
+fn behind_first(words: &[u64], count: usize) -> &[u64]
+    requires { count < length words.now }
+    ensures lent { result.now ≡ take count (drop 1 words.now) }
+    ensures within { count < length words.now }
+{
+    &words[1..1 + count]
+}
+
+/// Words without a mark.
+#[inline(always)]
+pub(crate) fn no_marks() -> [u64; WORDS]
+    ensures { result ≡ replicate 252 0 }
+{
+    [0; WORDS]
+}
+
+/// Two words as one number.
+#[inline(always)]
+fn joined(high: u64, low: u64) -> u128
+    ensures { result ≡ high * 2 ^ 64 + low }
+{
+    (u128::from(high) << 64) | u128::from(low)
+}
+
+/// The marks of the 64 places from one down: its own is the highest bit.
+#[inline(always)]
+fn window_down(words: &[u64], at: usize) -> u64
+    requires { at / 64 + 1 < length words.now }
+    ensures { IsWindowDown words.now at result }
+{
+    let both = joined(words[at / 64 + 1], words[at / 64]);
+    ((both << (63 - at % 64)) >> 64) as u64
+}
+
+/// The marks of the 64 places from one up: its own is the lowest bit.
+#[inline(always)]
+fn window_up(words: &[u64], at: usize) -> u64
+    requires { at / 64 + 2 < length words.now }
+    ensures { IsWindowUp words.now at result }
+{
+    let both = joined(words[at / 64 + 2], words[at / 64 + 1]);
+    ((both >> (at % 64)) & u128::from(u64::MAX)) as u64
+}
+
+/// How far below a place the first mark stands; more than there are places where there is none.
+#[inline(always)]
+pub(crate) fn first_mark(words: &[u64], at: usize) -> usize
+    requires within { at / 64 + 1 < length words.now }
+    requires fits { at < 65536 }
+    ensures first { IsFirstMark words.now at result }
+    ensures range { result ≤ at + 64 }
+{
+    for turn in 0..at / 64 + 1 {
+        let word = window_down(words, at - 64 * turn);
+        if word != 0 {
+            return 64 * turn + word.leading_zeros() as usize;
+        }
+    }
+    at + 1
+}
+
+/// How far below two places the first mark below either stands; more than there are places below one of them where there is
+/// none.
+#[inline(always)]
+pub(crate) fn first_pair(words: &[u64], a: usize, b: usize) -> usize
+    requires a_in { a / 64 + 1 < length words.now }
+    requires b_in { b / 64 + 1 < length words.now }
+    requires a_fits { a < 65536 }
+    requires b_fits { b < 65536 }
+    ensures first { IsFirstPair words.now a b result }
+{
+    let least = if a < b { a } else { b };
+    for turn in 0..least / 64 + 1 {
+        let word = window_down(words, a - 64 * turn) | window_down(words, b - 64 * turn);
+        if word != 0 {
+            return 64 * turn + word.leading_zeros() as usize;
+        }
+    }
+    least + 1
+}
+
+/// How far above a place the next mark stands; this most where there is none so near.
+#[inline(always)]
+pub(crate) fn next_mark(words: &[u64], at: usize, most: usize) -> usize
+    requires within { at / 64 + 2 < length words.now }
+    requires some { 0 < most }
+    requires most { most ≤ 64 }
+    ensures next { IsNextMark words.now at most result }
+{
+    let ahead = (window_up(words, at) >> 1) | (1 << (most - 1));
+    ahead.trailing_zeros() as usize + 1
+}
+
+/// Whether a bit is set.
+#[inline(always)]
+pub(crate) fn has_bit(word: u64, bit: usize) -> bool
+    requires { bit < 64 }
+    ensures { result ≡ (bit_at word bit == 1) }
+{
+    (word >> bit) & 1 == 1
+}
+
+/// A word with one bit set or cleared.
+#[inline(always)]
+pub(crate) fn with_bit(word: u64, bit: usize, mark: bool) -> u64
+    requires { bit < 64 }
+    ensures { IsWithBit word bit mark result }
+{
+    if mark {
+        word | (1 << bit)
+    } else {
+        word & !(1 << bit)
+    }
+}
+
+/// A word with the bits from low to high cleared.
+#[inline(always)]
+fn with_cleared(word: u64, low: usize, high: usize) -> u64
+    requires order { low ≤ high }
+    requires range { high < 64 }
+    ensures { IsCleared word low high result }
+{
+    word & !((u64::MAX << low) & (u64::MAX >> (63 - high)))
+}
+
+/// Clears the words from one up to another.
+#[inline(always)]
+fn clear_words(words: &mut [u64], from: usize, to: usize)
+    requires order { from ≤ to }
+    requires within { to ≤ length words.old }
+    ensures count { length words.new ≡ length words.old }
+    ensures inside { (i : ℕ) → from ≤ i → i < to → slice_index_or words.new i 0 ≡ 0 }
+    ensures below { (i : ℕ) → i < from → slice_index_or words.new i 0 ≡ slice_index_or words.old i 0 }
+    ensures above { (i : ℕ) → to ≤ i → slice_index_or words.new i 0 ≡ slice_index_or words.old i 0 }
+{
+    words[from..to].fill(0);
+}
+
+/// Clears the marks of the places from low to high.
+#[inline(always)]
+pub(crate) fn clear_marks(words: &mut [u64], low: usize, high: usize)
+    requires order { low ≤ high }
+    requires within { high / 64 + 1 < length words.old }
+    ensures { AreCleared words.old low high words.new }
+{
+    let first = low / 64 + 1;
+    let last = high / 64 + 1;
+    if first == last {
+        words[first] = with_cleared(words[first], low % 64, high % 64);
+    } else {
+        words[first] = with_cleared(words[first], low % 64, 63);
+        clear_words(words, first + 1, last);
+        words[last] = with_cleared(words[last], 0, high % 64);
+    }
+}

@@ -1,0 +1,230 @@
+//! The card reader, the punch and the printer.
+ghost use Rattle.std.specs.Prelude.{◌≡◌, ◌≢◌, ◌<◌, ◌≤◌, not, length, slice_get, is_ok, IfOk, IfErr, OnOk, OnErr, None, Ok, Err, if◌then◌else◌};
+ghost use Rattle.std.specs.Result.{result_ok};
+ghost use Rattle.devices_1401.specs.Carriage.{form_of, line_of, first_line, controlled, is_at_channel, IsMovedOn};
+ghost use Rattle.devices_1401.specs.Devices.{no_cards, most, is_full, fed, punched, printed, after_read, after_card, after_line};
+
+use crate::card::Card;
+use crate::carriage::{LINES_OF_FORM, POSITIONS, moved};
+use crate::control::{Control, Hole, Movement, Spaces};
+use crate::fault::{ControlFault, FormsFull, HopperFull, ReaderEmpty, StackerFull};
+use crate::print_line::PrintLine;
+use bcd_1401::Char;
+use circular_buffer::HeapCircularBuffer;
+use std::alloc::{AllocError, Global};
+use std::marker::Model;
+
+/// How many cards the hopper and the stacker hold, and how many printed lines wait to be taken, at the most.
+pub const MOST: usize = 500;
+
+/// The card reader, the punch and the printer. Contracts see the cards and the printed lines as lists, each oldest first, and
+/// the carriage.
+#[derive(Drop)]
+pub struct Devices {
+    hopper: HeapCircularBuffer<Card>,
+    stacker: HeapCircularBuffer<Card>,
+    paper: HeapCircularBuffer<PrintLine>,
+    position: u32,
+    pending: Option<Movement>,
+}
+
+impl Model for Devices {
+    ghost use Rattle.std.specs.Prelude.{◌≡◌, ◌<◌, ◌≤◌, length};
+    ghost use Rattle.devices_1401.specs.Carriage.{positions};
+    ghost use Rattle.devices_1401.specs.Devices.{Devices, most};
+    ghost use Rattle.devices_1401.specs.Movement.{pending_of};
+
+    ghost Value = { Devices };
+
+    ghost view = { λ d. record {
+      hopper = d.hopper.items;
+      stacker = d.stacker.items;
+      paper = d.paper.items;
+      carriage = record { position = d.position; pending = pending_of d.pending };
+    } };
+
+    ghost invariant = { λ d. (d.hopper.capacity ≡ most) × (d.stacker.capacity ≡ most) × (d.paper.capacity ≡ most) × (d.position < positions) };
+}
+
+impl Devices {
+    /// The devices as they are at power-on: nothing in the hopper, in the stacker and on the paper, and the carriage at line 1
+    /// of form 1. All the memory that they ever take is taken here.
+    ///
+    /// # Errors
+    ///
+    /// Where there is no room for the cards and the lines.
+    pub fn power_on(alloc: Global) -> Result<Devices, AllocError>
+        ensures { IfOk result (λ devices. devices ≡ no_cards) }
+    {
+        Ok(Devices {
+            hopper: HeapCircularBuffer::with_capacity(alloc, MOST)?,
+            stacker: HeapCircularBuffer::with_capacity(alloc, MOST)?,
+            paper: HeapCircularBuffer::with_capacity(alloc, MOST)?,
+            position: LINES_OF_FORM,
+            pending: None,
+        })
+    }
+
+    /// Puts a card behind those in the hopper.
+    ///
+    /// # Errors
+    ///
+    /// Where the hopper holds 500 cards.
+    pub fn feed(&mut self, card: Card) -> Result<(), HopperFull>
+        ensures refused { is_ok result ≡ not (is_full self.old.hopper) }
+        ensures devices { self.new ≡ (if is_ok result then fed self.old card else self.old) }
+    {
+        match self.hopper.try_push_back(Card(card.0)) {
+            Ok(()) => Ok(()),
+            Err(_) => Err(HopperFull),
+        }
+    }
+
+    /// Takes the first card of the hopper.
+    ///
+    /// # Errors
+    ///
+    /// Where the hopper is empty.
+    pub fn read(&mut self) -> Result<Card, ReaderEmpty>
+        ensures card { result_ok result ≡ slice_get self.old.hopper 0 }
+        ensures devices { self.new ≡ after_read self.old }
+    {
+        match self.hopper.pop_front() {
+            Some(card) => Ok(card),
+            None => Err(ReaderEmpty),
+        }
+    }
+
+    /// Puts a card behind those in the stacker.
+    ///
+    /// # Errors
+    ///
+    /// Where the stacker holds 500 cards.
+    pub fn punch(&mut self, card: Card) -> Result<(), StackerFull>
+        ensures refused { is_ok result ≡ not (is_full self.old.stacker) }
+        ensures devices { self.new ≡ (if is_ok result then punched self.old card else self.old) }
+    {
+        match self.stacker.try_push_back(Card(card.0)) {
+            Ok(()) => Ok(()),
+            Err(_) => Err(StackerFull),
+        }
+    }
+
+    /// Prints a line where the carriage stands, and moves the carriage by the pending movement, which is cleared, or by one line
+    /// where none is pending.
+    ///
+    /// # Errors
+    ///
+    /// Where 500 printed lines wait to be taken.
+    pub fn print(&mut self, text: [Char; 132]) -> Result<(), FormsFull>
+        ensures refused { is_ok result ≡ not (is_full self.old.paper) }
+        ensures devices { self.new ≡ (if is_ok result then printed self.old text else self.old) }
+
+        // The next line stands from 1 to 66 lines further on, unless the carriage is moved in between.
+        ensures on { OnOk result (IsMovedOn self.old.carriage.position self.new.carriage.position) }
+    {
+        let line = PrintLine {
+            form: self.form(),
+            line: self.line(),
+            text,
+        };
+        match self.paper.try_push_back(line) {
+            Ok(()) => {
+                let movement = self.pending.unwrap_or(Movement::SpaceBy(Spaces::One));
+                self.position = moved(self.position, movement);
+                self.pending = None;
+                Ok(())
+            }
+            Err(_) => Err(FormsFull),
+        }
+    }
+
+    /// Takes the oldest card of the stacker; none where it is empty.
+    pub fn take_card(&mut self) -> Option<Card>
+        ensures card { result ≡ slice_get self.old.stacker 0 }
+        ensures devices { self.new ≡ after_card self.old }
+    {
+        self.stacker.pop_front()
+    }
+
+    /// Takes the oldest line of the paper; none where there is none.
+    pub fn take_line(&mut self) -> Option<PrintLine>
+        ensures line { result ≡ slice_get self.old.paper 0 }
+        ensures devices { self.new ≡ after_line self.old }
+    {
+        self.paper.pop_front()
+    }
+
+    /// Moves the carriage as a d-character asks, now or after the next print. An immediate movement leaves the pending one, and
+    /// a new pending one takes its place (A24-1403, "Control Carriage").
+    ///
+    /// # Errors
+    ///
+    /// `DChar` where the character asks for nothing; `Carriage` where it asks for a skip to a channel without a hole.
+    #[tactic(auto, unfolding(crate::specs::Carriage::controlled))]
+    pub fn control(&mut self, char: Char) -> Result<(), ControlFault>
+        ensures ok { OnOk result (controlled self.old.carriage char ≡ Ok self.new.carriage) }
+        ensures err { IfErr result (λ fault. controlled self.old.carriage char ≡ Err fault) }
+        ensures devices { self.new ≡ record self.old { carriage = self.new.carriage } }
+        ensures unchanged { OnErr result (self.new ≡ self.old) }
+    {
+        let control = Control::of(char)?;
+        if control.immediate {
+            self.position = moved(self.position, control.movement);
+        } else {
+            self.pending = Some(control.movement);
+        }
+        Ok(())
+    }
+
+    /// Whether the carriage stands at the line of a channel's hole; never where the channel has no hole.
+    pub fn at_channel(&self, channel: u8) -> bool
+        ensures { result ≡ is_at_channel self.now.carriage channel }
+    {
+        match Hole::of_channel(channel) {
+            Some(hole) => u32::from(self.line()) == hole.line(),
+            None => false,
+        }
+    }
+
+    /// How many cards are in the hopper, 500 at the most.
+    pub fn hopper(&self) -> u16
+        ensures value { result ≡ length self.now.hopper }
+        ensures bound { result ≤ most }
+    {
+        self.hopper.len() as u16
+    }
+
+    /// How many cards are in the stacker, 500 at the most.
+    pub fn stacker(&self) -> u16
+        ensures value { result ≡ length self.now.stacker }
+        ensures bound { result ≤ most }
+    {
+        self.stacker.len() as u16
+    }
+
+    /// How many printed lines wait to be taken, 500 at the most.
+    pub fn paper(&self) -> u16
+        ensures value { result ≡ length self.now.paper }
+        ensures bound { result ≤ most }
+    {
+        self.paper.len() as u16
+    }
+
+    /// The form at which the carriage stands, 1 to 9,999, and 0 after that.
+    pub fn form(&self) -> u16
+        ensures value { result ≡ form_of self.now.carriage }
+        ensures bound { result < 10000 }
+    {
+        (self.position / LINES_OF_FORM) as u16
+    }
+
+    /// The line of the form, 1 to 66.
+    pub fn line(&self) -> u8
+        ensures value { result ≡ line_of self.now.carriage }
+        ensures least { 1 ≤ result }
+        ensures bound { result ≤ 66 }
+    {
+        (self.position % LINES_OF_FORM + 1) as u8
+    }
+}

@@ -1,0 +1,64 @@
+-- What a call that loads an image has read, written and told, once the file is read (own).
+use Rattle.std.specs.Prelude.{◌≡◌, ◌<◌, ◌⊎◌, ℕ, ⊤, List, length, Result, Err}
+use Rattle.console_1401.specs.declared.session_end.SessionEnd.{SessionEnd}
+use Rattle.console_1401.specs.ImageLoading.{load_entries}
+use Rattle.console_1401.specs.Session.{SessionDid}
+use Rattle.console_1401.specs.Turns.{Answered}
+use Rattle.image_1401.specs.declared.image.Image.{Image}
+use Rattle.image_1401.specs.ImageText.{IsTextOf}
+use Rattle.image_1401.specs.Refusal.{IsRefused}
+use Rattle.room_1401.specs.Account.{Account}
+use Rattle.room_1401.specs.Journal.{most_entries}
+use Rattle.ibm1401.specs.declared.fault.Fault.{Fault}
+use Rattle.ibm1401.specs.declared.fault.Fault.TheVariants as fault
+use Rattle.ibm1401.specs.Console.{Streams}
+use Rattle.ibm1401.specs.Status.{outcome_of}
+
+-- a room of an image's size, whose journal is that of loading the image
+pub record IsLoadedRoom (text : List ℕ) (room : Account) : Type 0 where
+  pub image : Image
+  pub text_is : IsTextOf text image
+  pub size_is : room.size ≡ image.size
+  pub journal_is : room.journal ≡ load_entries image
+
+-- an image whose commands are more than a journal has entries
+pub record IsTooLong (text : List ℕ) : Type 0 where
+  pub image : Image
+  pub text_is : IsTextOf text image
+  pub more : most_entries < length (load_entries image)
+
+-- why no image was loaded: the text's own fault; too many segments; or want of memory
+abbrev pub IsWhyNotLoaded : List ℕ → Fault → Type 0
+IsWhyNotLoaded text fault.Text = ⊥
+IsWhyNotLoaded text (fault.Usage refusal) = ⊥
+IsWhyNotLoaded text fault.Output = ⊥
+IsWhyNotLoaded text fault.Size = ⊥
+IsWhyNotLoaded text (fault.Unread name) = ⊥
+IsWhyNotLoaded text (fault.Image why) = IsRefused text why
+IsWhyNotLoaded text fault.JournalFull = IsTooLong text
+IsWhyNotLoaded text fault.Memory = (image : Image) × IsTextOf text image
+IsWhyNotLoaded text fault.Read = ⊥
+IsWhyNotLoaded text fault.Write = ⊥
+IsWhyNotLoaded text fault.Bound = ⊥
+IsWhyNotLoaded text fault.Reply = ⊥
+
+-- No image was loaded: nothing was read, and nothing written.
+pub record NotLoaded (text : List ℕ) (old new : Streams) (outcome : Result ⊤ Fault) : Type 0 where
+  pub why : Fault
+  pub told : outcome ≡ Err why
+  pub reason : IsWhyNotLoaded text why
+  pub unread : new.left ≡ old.left
+  pub unwritten : new.received ≡ old.received
+
+-- One session was held at a room with the image loaded, and all that was read and written is that session's.
+pub record HeldLoaded (text : List ℕ) (old new : Streams) (outcome : Result ⊤ Fault) : Type 0 where
+  pub end : SessionEnd
+  pub told : outcome ≡ outcome_of end
+  pub before : Account
+  pub loaded : IsLoadedRoom text before
+  pub after : Account
+  pub session : SessionDid Answered end old.left new.left old.received new.received before after
+
+-- what a call did: no session, or one
+abbrev pub LoadDid : List ℕ → Streams → Streams → Result ⊤ Fault → Type 0
+LoadDid text old new outcome = NotLoaded text old new outcome ⊎ HeldLoaded text old new outcome
