@@ -95,6 +95,7 @@ fault_text line_fault.Extra = codes "ERROR 5 EXTRA"
 abbrev pub room_fault_text : RoomFault → List ℕ
 room_fault_text room_fault.Memory = codes "FAULT 1 MEMORY"
 room_fault_text room_fault.JournalFull = codes "FAULT 2 JOURNAL FULL"
+room_fault_text room_fault.NoReading = codes "FAULT 3 NO READING"
 
 -- the text of a reply
 unfoldable pub text_of_reply : Reply → List ℕ

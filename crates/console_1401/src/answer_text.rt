@@ -167,5 +167,6 @@ pub(crate) fn room_fault_reply(fault: RoomFault) -> &'static [u8]
     match fault {
         RoomFault::Memory => b"FAULT 1 MEMORY",
         RoomFault::JournalFull => b"FAULT 2 JOURNAL FULL",
+        RoomFault::NoReading => b"FAULT 3 NO READING",
     }
 }

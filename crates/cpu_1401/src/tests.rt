@@ -314,3 +314,15 @@ fn word_marks_are_printed_as_ones(rt: HostRuntime) -> Result<(), Fail> {
     );
     Ok(())
 }
+
+/// Whether threads may share what is lent, and hand it over: true, where this compiles.
+fn is_shared<T: Send + Sync>(_lent: &T) -> bool {
+    true
+}
+
+#[test]
+fn a_machine_may_be_handed_to_another_thread(rt: HostRuntime) -> Result<(), Fail> {
+    let machine = Machine::power_on(rt.alloc(), 4_000)?;
+    assert!(rt; is_shared(&machine));
+    Ok(())
+}

@@ -1,6 +1,6 @@
 -- What a command does to the machine, and what it is answered (own).
 use Rattle.std.specs.Prelude.{ℕ, ◌+◌, ◌&&◌, Bool, List, ◌++◌}
-use Rattle.std.specs.Prelude.{length, take, drop, nat_le, if◌then◌else◌}
+use Rattle.std.specs.Prelude.{length, take, drop, nat_le, if◌then◌else◌, Option, Some, None}
 use Rattle.bcd_1401.specs.declared.cell.Cell.{Cell}
 use Rattle.core_1401.specs.Storage.{Storage, is_in_core}
 use Rattle.cpu_1401.specs.Run.{Finished, most_steps, run_for}
@@ -83,3 +83,8 @@ carry_out s Registers = tell (Regs (regs_of s)) s
 carry_out s (SetI address) = set_i address s
 carry_out s (Switch n on) = change_to (with_switch s (switch_number n) on)
 carry_out s (Run limit) = run limit s
+
+-- the machine after a command, if there is one
+abbrev pub moved : State → Option Command → State
+moved s None = s
+moved s (Some command) = (carry_out s command).state

@@ -1,10 +1,12 @@
 -- The journal: each command with its seat and its answer, oldest first (own).
-use Rattle.std.specs.Prelude.{◌≡◌, ℕ, Bool, List, length, map, nat_le}
+use Rattle.std.specs.Prelude.{◌≡◌, ℕ, Bool, List, length, map, nat_le, if◌then◌else◌}
 use Rattle.cpu_1401.specs.State.{State}
 use Rattle.room_1401.specs.declared.answer.Answer.{Answer}
 use Rattle.room_1401.specs.declared.command.Command.{Command}
 use Rattle.room_1401.specs.declared.entry.Entry.{Entry}
 use Rattle.room_1401.specs.declared.entry.Pair.{Pair}
+use Rattle.room_1401.specs.declared.fault.RoomFault.{RoomFault}
+use Rattle.room_1401.specs.declared.fault.RoomFault.TheVariants.{Memory, JournalFull}
 use Rattle.room_1401.specs.Replay.{pair, replay, answers_of, reply_to}
 
 -- an entry of the journal
@@ -42,3 +44,7 @@ most_entries = 100000
 -- whether a journal takes no entry more
 abbrev pub is_full : List Entry → Bool
 is_full journal = nat_le most_entries (length journal)
+
+-- why a journal takes no entry more: it is full, or else the memory for one was refused
+abbrev pub refusal_at : List Entry → RoomFault
+refusal_at journal = if is_full journal then JournalFull else Memory

@@ -1,4 +1,9 @@
 pub mod Account
 pub mod CarryOut
+pub mod Closing
+pub mod History
 pub mod Journal
+pub mod Opening
 pub mod Replay
+pub mod Rule
+pub mod Seen

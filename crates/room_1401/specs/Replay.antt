@@ -1,5 +1,7 @@
 -- The sequential machine that carries out commands in turn from power-on (own).
 use Rattle.std.specs.Prelude.{ℕ, List, [], ◌∷◌}
+use Rattle.bcd_1401.specs.declared.cell.Cell.{Cell}
+use Rattle.core_1401.specs.Storage.{cell_at}
 use Rattle.cpu_1401.specs.State.{State, power_on}
 use Rattle.room_1401.specs.declared.answer.Answer.{Answer}
 use Rattle.room_1401.specs.declared.command.Command.{Command}
@@ -32,3 +34,7 @@ answers_of size pairs = answers_after (power_on size) pairs
 -- what the machine of this size answers to a command after these commands
 abbrev pub reply_to : ℕ → List Pair → Command → Answer
 reply_to size pairs command = (carry_out (replay size pairs) command).answer
+
+-- what stands at a place after these commands
+abbrev pub cell_after : ℕ → List Pair → ℕ → Cell
+cell_after size pairs address = cell_at (replay size pairs).storage address

@@ -13,6 +13,20 @@ pub struct Pair {
     pub command: Command,
 }
 
+impl Pair {
+    ghost use Rattle.room_1401.specs.Replay.{pair};
+
+    /// A command of a seat.
+    pub fn new(seat: u8, command: &Command) -> Pair
+        ensures { result ≡ pair seat command.now }
+    {
+        Pair {
+            seat,
+            command: *command,
+        }
+    }
+}
+
 /// A command with the seat that gave it and the answer that it got.
 #[derive(Clone, Copy, Debug, PartialEq, Eq)]
 pub struct Entry {

@@ -5,21 +5,45 @@
 //! room.carry(0, Command::Run { limit: 1 })?   // Answer::Ran { steps: 0, stop: Stop::NoMark, i: 0 }
 //! room.journal()                              // one entry: the command and its answer
 //! ```
+//!
+//! Operators share a room by its seats, each from a thread of its own. A glance waits for nobody.
+//!
+//! ```text
+//! let (room, mut seats) = SharedRoom::<J, &R>::power_on(rt, alloc, 4000, 2, opened)?;
+//! room.command(rt, &mut seats[0], Command::Registers)?   // as `carry` of a room, for seat 1
+//! seats[1].glance(500)?                                  // what stands at 500, after 0 commands or 1
+//! room.close(seats)                                      // the room, whose journal explains every answer
+//! ```
 #![tactic(auto)]
 
 pub mod answer;
 pub mod carrying;
+mod closing;
 pub mod command;
 pub mod entry;
 pub mod fault;
+pub mod history;
+mod locked;
+pub mod naming;
+mod published;
+mod publisher;
 pub mod room;
+mod rule;
+pub mod seat;
+pub mod shared_room;
 
 pub use answer::{Answer, Refusal};
 pub use carrying::carry_out;
 pub use command::Command;
 pub use entry::{Entry, Pair};
-pub use fault::RoomFault;
+pub use fault::{CloseFault, GlanceFault, RoomFault, StartFault};
+pub use history::Opened;
+pub use naming::Naming;
 pub use room::Room;
+pub use seat::{Glance, Seat, Told};
+pub use shared_room::SharedRoom;
 
+#[cfg(test)]
+mod shared_room_tests;
 #[cfg(test)]
 mod tests;

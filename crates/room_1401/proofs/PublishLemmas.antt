@@ -1,0 +1,106 @@
+-- What one command changes under the lock.
+use Rattle.std.proofs.Common.{◌≡◌, ℕ, List, [], ◌∷◌, ◌++◌, length, fold}
+use Rattle.std.proofs.Common.{refl, ap, sym, ◌∙◌, subst, arith, length-append}
+use Rattle.std.specs.Prelude.{Some, Option, ltb, if◌then◌else◌}
+use mathlib.Core.List.{IsPrefix}
+use Rattle.logbook.specs.Pages.{Book}
+use Rattle.cpu_1401.specs.State.{State, power_on}
+use Rattle.room_1401.specs.declared.command.Command.{Command}
+use Rattle.room_1401.specs.declared.entry.Pair.{Pair}
+use Rattle.room_1401.specs.declared.published.Shown.{Shown}
+use Rattle.room_1401.specs.declared.published.Change.{Change}
+use Rattle.room_1401.specs.CarryOut.{carry_out, moved}
+use Rattle.room_1401.specs.Replay.{pair, replay}
+use Rattle.room_1401.specs.Rule.{IsReplay, Publishes, changed}
+use Rattle.room_1401.proofs.PrefixLemmas.{prefix_self, prefix_trans}
+use Rattle.room_1401.proofs.ReplayLemmas.{state_after-append}
+use Rattle.room_1401.proofs.SeenLemmas.{caught_up}
+
+fold-append : {A B : Type 0} (f : B → A → B) (first : B) (xs ys : List A)
+    → fold f first (xs ++ ys) ≡ fold f (fold f first xs) ys
+fold-append f first [] ys = refl
+fold-append f first (x ∷ xs) ys = fold-append f (f first x) xs ys
+
+-- The change is that of one command more.
+pub record IsNext (book : Book) (size : ℕ) (change : Change) (pairs : List Pair) (seat : ℕ) (command : Command)
+    : Type 0 where
+  pub of_command : change.command ≡ Some command
+  pub count : change.count ≡ length change.front.log
+  pub list : change.front.log ≡ pairs ++ pair seat command ∷ []
+  pub of_book : change.front.book ≡ book
+  pub storage : length (replay size (pairs ++ pair seat command ∷ [])).storage ≡ size
+
+-- behind the pending changes it leads to the replay of one command more
+next_publishes : (book : Book) (size : ℕ) (shown : Shown) (change : Change) (pending : List Change) (pairs : List Pair)
+    (seat : ℕ) (command : Command)
+    → Publishes book size shown pending pairs → IsNext book size change pairs seat command
+    → Publishes book size shown (pending ++ change ∷ []) (pairs ++ pair seat command ∷ [])
+next_publishes book size shown change pending pairs seat command was next =
+    let before : Shown = fold changed shown pending in
+    let after : Shown = changed before change in
+    let more : List Pair = pairs ++ pair seat command ∷ [] in
+    let last : fold changed shown (pending ++ change ∷ []) ≡ after = fold-append changed shown pending (change ∷ []) in
+    let machine : moved before.machine change.command ≡ replay size more =
+    ap (λ (one : Option Command). moved before.machine one) next.of_command
+    ∙ ap (λ (s : State). (carry_out s command).state)
+    (was.follows.0.machine ∙ ap (λ (list : List Pair). replay size list) was.list)
+    ∙ sym (state_after-append (power_on size) pairs (pair seat command)) in
+    let is_replay : IsReplay book size after = record {
+      of_book = next.of_book;
+      machine = machine ∙ ap (λ (list : List Pair). replay size list) (sym next.list);
+      storage = ap (λ (s : State). length s.storage) machine ∙ next.storage;
+      count = next.count;
+    } in
+    let one_more : IsPrefix before.front.log after.front.log = (
+      pair seat command ∷ [],
+      ap (λ (list : List Pair). list ++ pair seat command ∷ []) was.list ∙ sym next.list,
+    ) in
+    let grows : IsPrefix shown.front.log after.front.log =
+    prefix_trans shown.front.log before.front.log after.front.log was.follows.1 one_more in
+    record {
+      follows = subst (λ (s : Shown). IsReplay book size s × IsPrefix shown.front.log s.front.log) (sym last)
+          (is_replay, grows);
+      list = ap (λ (s : Shown). s.front.log) last ∙ next.list;
+    }
+
+-- so does what an append leaves
+pub follows : (book : Book) (size : ℕ) (shown now : Shown) (change : Change) (pending more : List Change)
+    (pairs : List Pair) (seat : ℕ) (command : Command)
+    → Publishes book size shown pending pairs → IsNext book size change pairs seat command
+    → now ≡ shown → more ≡ pending ++ change ∷ []
+    → Publishes book size now more (pairs ++ pair seat command ∷ [])
+follows book size shown now change pending more pairs seat command was next same one =
+    let all : List Pair = pairs ++ pair seat command ∷ [] in
+    subst (λ (changes : List Change). Publishes book size now changes all) (sym one)
+    (subst (λ (s : Shown). Publishes book size s (pending ++ change ∷ []) all) (sym same)
+    (next_publishes book size shown change pending pairs seat command was next))
+
+-- what was published, with nothing pending
+pub published : (book : Book) (size : ℕ) (shown now : Shown) (pending left : List Change) (pairs : List Pair)
+    → Publishes book size shown pending pairs → now ≡ fold changed shown pending → left ≡ []
+    → Publishes book size now left pairs
+published book size shown now pending left pairs was is none =
+    let last : Shown = fold changed shown pending in
+    subst (λ (changes : List Change). Publishes book size now changes pairs) (sym none)
+    (subst (λ (s : Shown). Publishes book size s [] pairs) (sym is)
+    (record { follows = (was.follows.0, prefix_self last.front.log); list = was.list }))
+
+-- a seat that had seen all commands, and then sees one more
+pub seat_follows : (seen pairs front after : List Pair) (seat : ℕ) (command : Command)
+    → seen ≡ pairs → front ≡ pairs ++ pair seat command ∷ []
+    → after ≡ (if ltb (length seen) (length front) then front else seen) → IsPrefix front after
+    → after ≡ pairs ++ pair seat command ∷ []
+seat_follows seen pairs front after seat command same grown is that =
+    let more = length-append pairs (pair seat command ∷ []) in
+    caught_up seen front after is (omega (arith, ap length same, ap length grown, more)) that ∙ grown
+
+-- the replay's storage is as long as that of the room's machine
+pub storage_of : (size of_room : ℕ) (machine : State) (pairs more : List Pair)
+    → machine ≡ replay of_room pairs → length machine.storage ≡ of_room → of_room ≡ size → pairs ≡ more
+    → length (replay size more).storage ≡ size
+storage_of size of_room machine pairs more is len same list =
+    ap (λ n. length (replay n more).storage) (sym same)
+    ∙ ap (λ (all : List Pair). length (replay of_room all).storage) (sym list)
+    ∙ ap (λ (s : State). length s.storage) (sym is)
+    ∙ len
+    ∙ same

@@ -1,0 +1,18 @@
+-- The exchange is over the word of this history, and adds to what was seen.
+use Rattle.std.proofs.Common.{sym, ◌∙◌, ap}
+use Rattle.room_1401.proofs.HistoryLemmas.{adds_moves}
+use Rattle.room_1401.proofs.history.Front.extend.Goals as goal
+
+pub compare_exchange-found-requires : goal.compare_exchange-found-requires
+compare_exchange-found-requires g c =
+    let head = c.args.head.now.head_is in
+    let offer = c.plain-offer.ensures in
+    let pen = c.no_pen-pen.ensures in
+    let seen = c.self.inside.seen.log in
+    let moves = adds_moves seen c.args.pair c.self.inside.count (sym c.self.invariant.0) in (
+      ap (λ word. word.tracked) head,
+      c.self.invariant.1 ∙ sym (ap (λ word. word.book) head),
+      pen.0 ∙ (c.self.invariant.1 ∙ sym (ap (λ word. word.book) head)),
+      offer.0,
+      rw (ap (λ word. word.key) head, pen.1, offer.1, offer.3) moves,
+    )

@@ -1,0 +1,18 @@
+-- All parts of the ledger are back, so what the seats made together is the total, which is the journal's length.
+use Rattle.std.proofs.Common.{◌≡◌, ◌≤◌, ap, sym, ◌∙◌, arith, length}
+use Rattle.room_1401.specs.Account.{Account}
+use Rattle.room_1401.specs.Closing.{made_of}
+use Rattle.room_1401.proofs.ClosingLemmas.{all_once, settled}
+use Rattle.room_1401.proofs.locked.LockedRoom.settle.Goals as goal
+
+pub returns-clause-settled : goal.returns-clause-settled
+returns-clause-settled g c =
+    let seats = c.args.seats.items in
+    let n = g.J.Naming.seats in
+    let merged = c.merge_all-all.ensures in
+    let few : length seats ≤ n = omega (arith, merged.parts.0, merged.parts.1, c.requires.parts) in
+    let parts = merged.parts.0 ∙ (all_once n seats c.requires.back few ∙ sym c.requires.parts) in
+    let len = ap (λ (account : Account). length account.journal) c.self.view_is in
+    let made : made_of seats ≡ length c.args.self.journal =
+    sym merged.amount ∙ (c.audit.ensures.whole parts ∙ (c.self.invariant.2 ∙ len)) in
+    settled n c.args.self.journal seats c.requires.back few c.requires.fit made

@@ -1,0 +1,217 @@
+//! A seat: what one operator holds of a shared room.
+ghost use Rattle.std.specs.Prelude.{◌≡◌, ◌+◌, ◌<◌, ◌≤◌, ◌↔◌, true, ltb, length, IfOk, OnOk, OnErr, if◌then◌else◌};
+ghost use mathlib.Core.List.{IsPrefix};
+ghost use Rattle.room_1401.specs.Replay.{cell_after};
+ghost use Rattle.room_1401.specs.Seen.{own};
+
+use crate::fault::GlanceFault;
+use crate::history::Front;
+use crate::naming::Naming;
+use crate::rule::{RoomReader, look};
+use bcd_1401::Cell;
+use core::mem::replace_with;
+use std::marker::Model;
+use std::sync::ledger::{Book, Share};
+
+/// What stands at a place after some of the room's commands.
+#[derive(Clone, Copy, Debug, PartialEq, Eq)]
+pub struct Glance {
+    /// After how many commands.
+    pub after: u64,
+    /// The cell that stands there then.
+    pub cell: Cell,
+}
+
+/// A note of what a seat has seen, for another seat of the same room. Contracts see those commands, oldest first.
+#[derive(Drop)]
+pub struct Told<J: Naming> {
+    front: Front<J>,
+}
+
+impl<J: Naming> Model for Told<J> {
+    ghost use Rattle.std.specs.Prelude.{List};
+    ghost use Rattle.room_1401.specs.declared.entry.Pair.{Pair};
+
+    ghost Value = { List Pair };
+
+    ghost view = { λ told. told.front };
+}
+
+impl<J: Naming> Told<J> {
+    /// The note of these commands.
+    pub(crate) fn new(front: Front<J>) -> Told<J>
+        ensures { result ≡ front }
+    {
+        Told { front }
+    }
+}
+
+/// A seat. Contracts see its number, how many of its commands were carried out, and the commands that it has seen.
+#[derive(Drop)]
+pub struct Seat<J: Naming> {
+    number: u8,
+    size: u16,
+    made: u64,
+    share: Share<J>,
+    front: Front<J>,
+    reader: RoomReader<J>,
+}
+
+impl<J: Naming> Model for Seat<J> {
+    ghost use Rattle.std.specs.Prelude.{◌≡◌, ◌≤◌};
+    ghost use Rattle.room_1401.specs.Seen.{Knows, own};
+
+    ghost Value = { Knows };
+
+    ghost view = { λ seat. record { number = seat.number; made = seat.made; list = seat.front } };
+
+    ghost invariant = { λ seat.
+        (seat.share.amount ≡ seat.made)
+        × (seat.share.parts ≡ 1)
+        × (seat.size ≡ J.size)
+        × (seat.made ≤ own seat.number seat.front) };
+}
+
+impl<J: Naming> Seat<J> {
+    /// A seat that made nothing.
+    pub(crate) fn new(
+        number: u8,
+        size: u16,
+        share: Share<J>,
+        front: Front<J>,
+        reader: RoomReader<J>,
+    ) -> Seat<J>
+        requires share { (share.amount ≡ 0) × (share.parts ≡ 1) }
+        requires size { size ≡ J.size }
+        ensures { (result.number ≡ number) × (result.made ≡ 0) × (result.list ≡ front) }
+    {
+        Seat {
+            number,
+            size,
+            made: 0,
+            share,
+            front,
+            reader,
+        }
+    }
+
+    /// Its number, from 1.
+    pub fn number(&self) -> u8
+        ensures { result ≡ self.now.number }
+    {
+        self.number
+    }
+
+    /// How many of its commands were carried out.
+    pub fn made(&self) -> u64
+        ensures made { result ≡ self.now.made }
+        ensures own { self.now.made ≤ own self.now.number self.now.list }
+    {
+        let _share = &self.share;
+        self.made
+    }
+
+    /// How many commands it has seen.
+    pub(crate) fn len(&self) -> u64
+        ensures { result ≡ length self.now.list }
+    {
+        self.front.len()
+    }
+
+    /// The seat has then seen these commands too.
+    pub(crate) fn see(&mut self, front: &Front<J>)
+        ensures same { (self.new.number ≡ self.old.number) × (self.new.made ≡ self.old.made) }
+        ensures is { self.new.list
+            ≡ (if ltb (length self.old.list) (length front.now) then front.now else self.old.list) }
+        ensures this { IsPrefix self.old.list self.new.list }
+        ensures that { IsPrefix front.now self.new.list }
+        ensures own { self.new.made ≤ own self.new.number self.new.list }
+    {
+        self.front = self.front.longer(front);
+    }
+
+    /// The seat has then seen what the note says too. It waits for nobody.
+    pub fn learn(&mut self, told: Told<J>)
+        ensures number { self.new.number ≡ self.old.number }
+        ensures made { self.new.made ≡ self.old.made }
+
+        // What it has seen goes on from its own list and from the note's.
+        ensures grows { IsPrefix self.old.list self.new.list }
+        ensures learnt { IsPrefix told self.new.list }
+    {
+        self.see(&told.front);
+    }
+
+    /// What stands at an address in the machine that is published, which is no older than what this seat has seen. It
+    /// waits for nobody, and isn't recorded.
+    ///
+    /// # Errors
+    ///
+    /// `Range` where the address isn't in core, else `Gone` where nothing is published any more.
+    pub fn glance(&mut self, address: u16) -> Result<Glance, GlanceFault>
+        ensures range { (result ≡ Err GlanceFault.Range) ↔ (J.size ≤ address) }
+        ensures number { self.new.number ≡ self.old.number }
+        ensures made { self.new.made ≡ self.old.made }
+
+        // It shows the cell after a list of commands that goes on from what the seat had seen.
+        ensures grows { OnOk result (IsPrefix self.old.list self.new.list) }
+        ensures after { IfOk result (λ glance. glance.after ≡ length self.new.list) }
+        ensures cell { IfOk result (λ glance. glance.cell ≡ cell_after J.size self.new.list address) }
+        ensures err { OnErr result (self.new ≡ self.old) }
+    {
+        if address >= self.size {
+            return Err(GlanceFault::Range);
+        }
+        let Some(found) = replace_with(&mut self.reader, address, look::<J>) else {
+            return Err(GlanceFault::Gone);
+        };
+        if found.count < self.front.len() {
+            return Err(GlanceFault::Gone);
+        }
+        let front = Front::of_token(found.count, &found.front);
+        self.front = self.front.longer(&front);
+        Ok(Glance {
+            after: found.count,
+            cell: found.cell,
+        })
+    }
+
+    /// One more of its commands, which it has seen, was carried out.
+    pub(crate) fn credit(&mut self, total: &mut Book<J>)
+        requires { self.old.made < own self.old.number self.old.list }
+        ensures same { (self.new.number ≡ self.old.number) × (self.new.list ≡ self.old.list) }
+        ensures made { self.new.made ≡ self.old.made + 1 }
+        ensures total { total.new.total ≡ total.old.total + 1 }
+    {
+        let _len = self.front.len();
+        total.add(&mut self.share, 1);
+        self.made += 1;
+    }
+
+    /// Whether what it has seen is no longer than these commands; it is a prefix of them then.
+    pub(crate) fn fits(&self, front: &Front<J>) -> bool
+        ensures { result ≡ true → IsPrefix self.now.list front.now × (self.now.made ≤ own self.now.number front.now) }
+    {
+        let _both = self.front.longer(front);
+        if self.front.len() > front.len() {
+            return false;
+        }
+        true
+    }
+
+    /// Its part of the ledger, which has what it made.
+    pub(crate) fn into_share(self) -> Share<J>
+        ensures share { (result.amount ≡ self.made) × (result.parts ≡ 1) }
+        ensures own { self.made ≤ own self.number self.list }
+    {
+        let Seat {
+            number: _,
+            size: _,
+            made: _,
+            share,
+            front: _,
+            reader: _,
+        } = self;
+        share
+    }
+}

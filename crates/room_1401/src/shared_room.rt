@@ -1,0 +1,259 @@
+//! A room that operators share.
+ghost use Rattle.std.specs.Prelude.{◌≡◌, ◌+◌, ◌<◌, ◌≤◌, ◌↔◌, ◌⊎◌, [], ◌∷◌, ◌++◌, true, false};
+ghost use Rattle.std.specs.Prelude.{length, drop, vec_capacity, IfOk, IfErr, OnOk, OnErr};
+ghost use mathlib.Core.List.{IsPrefix};
+ghost use Rattle.core_1401.specs.Storage.{is_core_size};
+ghost use Rattle.cpu_1401.specs.State.{power_on};
+ghost use Rattle.room_1401.specs.Closing.{ClosesBy, IsSettled, back_of};
+ghost use Rattle.room_1401.specs.Journal.{IsLegal, most_entries};
+ghost use Rattle.room_1401.specs.Rule.{Publishes};
+ghost use Rattle.room_1401.specs.Seen.{Carries, most_seats, newcomers, own};
+
+use crate::answer::Answer;
+use crate::closing::count_back;
+use crate::command::Command;
+use crate::fault::{CloseFault, RoomFault, StartFault};
+use crate::history::{Front, Opened, Reached};
+use crate::locked::LockedRoom;
+use crate::naming::Naming;
+use crate::published::{Change, Shown};
+use crate::publisher::Publisher;
+use crate::room::Room;
+use crate::seat::{Seat, Told};
+use core_1401::CoreFault;
+use cpu_1401::Machine;
+use std::alloc::Global;
+use std::sync::ledger::Share;
+use std::sync::{Mutex, Wait};
+
+/// How many seats a shared room has at the most.
+const MOST_SEATS: u8 = 8;
+
+/// A room behind a lock, which operators share by its seats. `J` names it, and `R` is the handle by which its end waits
+/// for those that still read what it shows.
+#[derive(Drop)]
+pub struct SharedRoom<J: Naming, R: Wait + Drop> {
+    locked: Mutex<LockedRoom<J, R>>,
+}
+
+impl<J: Naming, R: Wait + Drop> SharedRoom<J, R> {
+    /// A room with a machine of this size at power-on and an empty journal, and its seats, numbered from 1 in order. It
+    /// is made of what `Opened::new` opened for as many seats.
+    ///
+    /// # Errors
+    ///
+    /// `Size` where no core storage of that size is made, else `Seats` where there aren't from 1 to 8 of them, else
+    /// `Memory` or `NoReader` where there is no room for it or for a seat's reader.
+    pub fn power_on(
+        rt: R,
+        alloc: Global,
+        size: u16,
+        seats: u8,
+        opened: Opened,
+    ) -> Result<(SharedRoom<J, R>, Vec<Seat<J>>), StartFault>
+        // The call picks `J` so that it names this room.
+        requires history { opened.book ≡ J.book }
+        requires ledger { (opened.ledger ≡ J.name) × (opened.parts ≡ J.parts) × (J.parts ≡ J.seats) }
+        requires named { (size ≡ J.size) × (seats ≡ J.seats) }
+        ensures seats { IfOk result (λ made. made.1.items ≡ newcomers seats) }
+        ensures size { (result ≡ Err StartFault.Size) ↔ (is_core_size size ≡ false) }
+        ensures count { (result ≡ Err StartFault.Seats)
+            ↔ ((is_core_size size ≡ true) × ((seats ≡ 0) ⊎ (most_seats < seats))) }
+    {
+        let room = match Room::power_on(alloc, size) {
+            Ok(room) => Some(room),
+            Err(CoreFault::Size) => return Err(StartFault::Size),
+            Err(CoreFault::Memory) => None,
+        };
+        if seats < 1 || MOST_SEATS < seats {
+            return Err(StartFault::Seats);
+        }
+        let Some(room) = room else {
+            return Err(StartFault::Memory);
+        };
+        let (head, front, total, mut whole) = opened.named::<J>();
+        let publisher = open_publisher::<J, R>(rt, alloc, size, front.token(), seats)?;
+        let Ok(mut made) = Vec::with_capacity(alloc, usize::from(seats)) else {
+            return Err(StartFault::Memory);
+        };
+        if !fill_seats(&mut made, &publisher, &front, &mut whole, size, seats) {
+            return Err(StartFault::NoReader);
+        }
+        let locked = Mutex::new(LockedRoom::new(room, total, head, front, publisher, whole, seats));
+        Ok((SharedRoom { locked }, made))
+    }
+
+    /// Carries a command out for a seat, and records it with its answer. The seat has then seen the journal up to it.
+    ///
+    /// # Errors
+    ///
+    /// `NoReading` where what the seat has seen isn't the journal's length, which doesn't happen while seats and room
+    /// are of one `power_on`; else `JournalFull` where the journal has its 100,000 entries, else `Memory` where there
+    /// is no room for one more. The room's journal and machine are as they were.
+    pub fn command<W: Wait>(
+        &self,
+        wait: &W,
+        seat: &mut Seat<J>,
+        command: Command,
+    ) -> Result<Answer, RoomFault>
+        ensures carried { IfOk result (λ answer.
+            Carries J.size seat.old.list seat.new.list seat.old.number command answer) }
+        ensures made { OnOk result (seat.new.made ≡ seat.old.made + 1) }
+        ensures own { OnOk result (seat.new.made ≤ own seat.new.number seat.new.list) }
+        ensures number { seat.new.number ≡ seat.old.number }
+
+        // After a refusal the seat made no more, and it has seen no less.
+        ensures err { OnErr result (seat.new.made ≡ seat.old.made) }
+        ensures grows { OnErr result (IsPrefix seat.old.list seat.new.list) }
+        ensures full { result ≡ Err RoomFault.JournalFull → length seat.new.list ≡ most_entries }
+    {
+        let answer = self.locked.lock(wait).carry(seat, command);
+        let _made = seat.made();
+        answer
+    }
+
+    /// A note of what the seat has then seen: all that the journal has.
+    ///
+    /// # Errors
+    ///
+    /// `NoReading`, as in `command`.
+    pub fn tell<W: Wait>(&self, wait: &W, seat: &mut Seat<J>) -> Result<Told<J>, RoomFault>
+        ensures number { seat.new.number ≡ seat.old.number }
+        ensures made { seat.new.made ≡ seat.old.made }
+        ensures grows { IsPrefix seat.old.list seat.new.list }
+        ensures told { IfOk result (λ told. told ≡ seat.new.list) }
+        ensures err { OnErr result (result ≡ Err RoomFault.NoReading) }
+    {
+        self.locked.lock(wait).note(seat)
+    }
+
+    /// The room, without its seats. Those that are kept back may still glance, until nothing is shown any more.
+    pub fn abandon(self) -> Room
+        ensures size { result.size ≡ J.size }
+        ensures legal { IsLegal J.size result.journal }
+    {
+        let SharedRoom { locked } = self;
+        locked.into_inner().into_room()
+    }
+
+    /// The room, with all its seats back.
+    ///
+    /// # Errors
+    ///
+    /// `Unreturned` where a number of the room's seats has no seat among them, else `NoReading`, as in `command`. The
+    /// room comes back, with the seats as they were.
+    pub fn close(
+        self,
+        seats: Vec<Seat<J>>,
+    ) -> Result<Room, (SharedRoom<J, R>, Vec<Seat<J>>, CloseFault)>
+        requires { J.parts ≡ J.seats }
+        ensures size { IfOk result (λ room. room.size ≡ J.size) }
+        ensures legal { IfOk result (λ room. IsLegal J.size room.journal) }
+        ensures settled { IfOk result (λ room. IsSettled room.journal seats.items) }
+        ensures back { OnOk result (back_of J.seats seats.items ≡ J.seats) }
+        ensures seats { IfErr result (λ back. back.1.items ≡ seats.items) }
+        ensures fault { IfErr result (λ back. ClosesBy J.seats seats.items back.2) }
+    {
+        let SharedRoom { locked } = self;
+        let locked = locked.into_inner();
+        let total = locked.seats();
+        let back = count_back(seats.as_slice(), total);
+        if back < total {
+            let fault = CloseFault::Unreturned { back, total };
+            return Err((
+                SharedRoom {
+                    locked: Mutex::new(locked),
+                },
+                seats,
+                fault,
+            ));
+        }
+        if !locked.knows(seats.as_slice()) {
+            let fault = CloseFault::NoReading;
+            return Err((
+                SharedRoom {
+                    locked: Mutex::new(locked),
+                },
+                seats,
+                fault,
+            ));
+        }
+        Ok(locked.settle(seats))
+    }
+}
+
+/// The writer over two machines at power-on, with a change that does nothing pending. So its list of changes has grown,
+/// and no command grows it again.
+fn open_publisher<J: Naming, R: Wait + Drop>(
+    rt: R,
+    alloc: Global,
+    size: u16,
+    token: Reached,
+    readers: u8,
+) -> Result<Publisher<J, R>, StartFault>
+    requires token { (token.log ≡ []) × (token.book ≡ J.book) }
+    requires size { size ≡ J.size }
+    requires readers { 0 < readers }
+    ensures published { IfOk result (λ publisher. Publishes J.book J.size publisher.writer.desk.shown.value
+        (drop publisher.writer.behind publisher.writer.log.items) []) }
+    ensures err { OnErr result (result ≡ Err StartFault.Memory) }
+{
+    let Ok(first) = at_power_on(alloc, size, &token) else {
+        return Err(StartFault::Memory);
+    };
+    let Ok(second) = at_power_on(alloc, size, &token) else {
+        return Err(StartFault::Memory);
+    };
+    let Ok(mut publisher) = Publisher::new(rt, alloc, first, second, readers) else {
+        return Err(StartFault::Memory);
+    };
+    let change = Change {
+        command: None,
+        count: 0,
+        front: token,
+    };
+    let Ok(()) = publisher.append(change) else {
+        return Err(StartFault::Memory);
+    };
+    Ok(publisher)
+}
+
+/// A machine at power-on, as readers are shown it.
+fn at_power_on(alloc: Global, size: u16, token: &Reached) -> Result<Shown, CoreFault>
+    ensures machine { IfOk result (λ shown. shown.machine ≡ power_on size) }
+    ensures count { IfOk result (λ shown. shown.count ≡ 0) }
+    ensures front { IfOk result (λ shown. shown.front ≡ token.now) }
+{
+    Ok(Shown {
+        machine: Machine::power_on(alloc, size)?,
+        count: 0,
+        front: token.again(),
+    })
+}
+
+/// Fills in the seats of a new room, each with a part of the ledger and a reader. False where there is no place for a
+/// reader.
+fn fill_seats<J: Naming, R: Wait + Drop>(
+    seats: &mut Vec<Seat<J>>,
+    publisher: &Publisher<J, R>,
+    front: &Front<J>,
+    whole: &mut Share<J>,
+    size: u16,
+    total: u8,
+) -> bool
+    requires seats { (seats.old.items ≡ []) × (total ≤ vec_capacity seats.old) }
+    requires front { front.now ≡ [] }
+    requires whole { (whole.old.parts ≡ total) × (whole.old.amount ≡ 0) }
+    requires size { size ≡ J.size }
+    ensures seats { result ≡ true → seats.new.items ≡ newcomers total }
+    ensures whole { result ≡ true → (whole.new.parts ≡ 0) × (whole.new.amount ≡ 0) }
+{
+    for number in 0..total {
+        let Ok(reader) = publisher.reader() else {
+            return false;
+        };
+        let share = whole.split_off(1, 0);
+        seats.push_reserved(Seat::new(number + 1, size, share, front.again(), reader));
+    }
+    true
+}
