@@ -29,6 +29,13 @@ impl Model for Core {
 }
 
 impl Core {
+    /// Whether core storage is made in this size.
+    pub fn is_size(size: u16) -> bool
+        ensures { result ≡ is_core_size size }
+    {
+        SIZES.contains(&size)
+    }
+
     /// Core storage as it is at power-on: blank, and without a word mark.
     ///
     /// # Errors
@@ -38,7 +45,7 @@ impl Core {
         ensures ok { IfOk result (λ core. core ≡ blanks size) }
         ensures size { (result ≡ Err CoreFault.Size) ↔ (is_core_size size ≡ false) }
     {
-        if !SIZES.contains(&size) {
+        if !Core::is_size(size) {
             return Err(CoreFault::Size);
         }
         match vec![in alloc; Cell::BLANK; usize::from(size)] {

@@ -1,0 +1,65 @@
+-- The text of an image (own).
+use Rattle.std.specs.Prelude.{◌≡◌, ℕ, zero, suc, ◌+◌, ◌/◌, ◌%◌, Bool, true, ◌&&◌, if◌then◌else◌, List, [], ◌∷◌, ◌++◌, length, slice_index, nat_le, nat_lt, codes}
+use Rattle.std.specs.List.{flat_map, list_all}
+use Rattle.bcd_1401.specs.declared.cell.Cell.{Cell}
+use Rattle.bcd_1401.specs.Graphic.{graphics}
+use Rattle.image_1401.specs.declared.image.Image.{Image}
+use Rattle.image_1401.specs.declared.image.Segment.{Segment}
+use Rattle.image_1401.specs.declared.version.Version.{Version}
+use Rattle.image_1401.specs.Image.{is_inside}
+use Rattle.image_1401.specs.Version.{name_of, address_digits, has_size}
+
+-- a number in so many decimal digits
+unfoldable pub number_text : ℕ → ℕ → List ℕ
+number_text zero number = []
+number_text (suc places) number = number_text places (number / 10) ++ (48 + number % 10) ∷ []
+
+-- a cell by its graphic, with a tilde in front of it where it has a word mark
+abbrev pub cell_text : Cell → List ℕ
+cell_text cell = if cell.mark then 126 ∷ slice_index graphics cell.char ∷ [] else slice_index graphics cell.char ∷ []
+
+-- cells, one behind the other
+unfoldable pub cells_text : List Cell → List ℕ
+cells_text cells = flat_map cell_text cells
+
+-- the first line: the version, and the size
+unfoldable pub header_text : Version → ℕ → List ℕ
+header_text version size = name_of version ++ number_text (address_digits version) size
+
+-- the line of a segment: its address, how many cells it has, and the cells
+unfoldable pub segment_text : Version → Segment → List ℕ
+segment_text version segment =
+    number_text (address_digits version) segment.address ++ codes " " ++ number_text 2 (length segment.cells) ++ codes " " ++ cells_text segment.cells
+
+-- the last line: the entry
+unfoldable pub end_text : Version → ℕ → List ℕ
+end_text version start = codes "END " ++ number_text (address_digits version) start
+
+-- a line with the line feed that ends it
+abbrev pub line_of : List ℕ → List ℕ
+line_of line = line ++ codes "\n"
+
+-- the lines of segments
+unfoldable pub segments_text : Version → List Segment → List ℕ
+segments_text version segments = flat_map (λ segment. line_of (segment_text version segment)) segments
+
+-- all lines, in order
+unfoldable pub image_text : Version → Image → List ℕ
+image_text version image =
+    line_of (header_text version image.size) ++ segments_text version image.segments ++ line_of (end_text version image.start)
+
+-- whether a cell has one of the 64 characters
+abbrev pub is_character : Cell → Bool
+is_character cell = nat_lt cell.char 64
+
+-- whether it has 1 to 40 cells, as every segment of the machine has
+abbrev pub is_segment : Segment → Bool
+is_segment segment =
+    nat_le 1 (length segment.cells) && nat_le (length segment.cells) 40 && list_all is_character segment.cells
+
+-- an image that has a text of this version
+pub record HasText (version : Version) (image : Image) : Type 0 where
+  pub size : has_size version image.size ≡ true
+  pub cells : list_all is_segment image.segments ≡ true
+  pub segments : list_all (is_inside image.size) image.segments ≡ true
+  pub start : nat_lt image.start image.size ≡ true

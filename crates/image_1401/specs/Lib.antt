@@ -1,0 +1,4 @@
+pub mod Image
+pub mod ImageText
+pub mod Reading
+pub mod Version

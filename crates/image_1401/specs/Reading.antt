@@ -1,0 +1,171 @@
+-- Reading the text of an image from left to right (own): each part is a value and what stands behind it.
+use Rattle.std.specs.Prelude.{◌≡◌, ℕ, ◌+◌, ◌-◌, ◌*◌, ◌==◌, nat_le, nat_lt, Bool, true, false, ◌&&◌, if◌then◌else◌, List, [], ◌∷◌, ◌++◌, length, take, drop, fold, position, Option, None, Some, Result, Ok, Err, IsOk, option_and_then, codes}
+use Rattle.std.specs.Option.{option_map}
+use Rattle.std.specs.List.{list_all, slice_split}
+use Rattle.std.specs.Str.{bytes_eq}
+use Rattle.bcd_1401.specs.declared.cell.Cell.{Cell}
+use Rattle.bcd_1401.specs.Graphic.{graphics}
+use Rattle.image_1401.specs.declared.fault.ImageFault.{ImageFault}
+use Rattle.image_1401.specs.declared.fault.ImageFault.TheVariants.{Memory, Header, BadRecord, Range, Truncated}
+use Rattle.image_1401.specs.declared.image.Image.{Image}
+use Rattle.image_1401.specs.declared.image.Segment.{Segment}
+use Rattle.image_1401.specs.declared.reading.Spelled.{Spelled}
+use Rattle.image_1401.specs.declared.version.Version.{Version}
+use Rattle.image_1401.specs.declared.version.Version.TheVariants.{One}
+use Rattle.image_1401.specs.Image.{is_inside}
+use Rattle.image_1401.specs.Version.{name_of, address_digits, has_size}
+
+infixl 10 ◌>>=◌
+abbrev pub ◌>>=◌ : {A B : Type 0} → Option A → (A → Option B) → Option B
+o >>= f = option_and_then f o
+
+-- what stands behind these bytes, where the text begins with them
+abbrev pub behind : List ℕ → List ℕ → Option (List ℕ)
+behind front text = if bytes_eq (take (length front) text) front then Some (drop (length front) text) else None
+
+-- the digits 0 to 9 are the bytes 48 to 57
+abbrev pub is_digit : ℕ → Bool
+is_digit byte = nat_le 48 byte && nat_le byte 57
+
+-- the number that digits stand for, highest first
+abbrev pub value_of : List ℕ → ℕ
+value_of digits = fold (λ number digit. 10 * number + (digit - 48)) 0 digits
+
+-- a number that is all of the text
+unfoldable pub number_in : List ℕ → Option ℕ
+number_in digits = if list_all is_digit digits then Some (value_of digits) else None
+
+-- a number of so many digits at the front
+unfoldable pub number_at : ℕ → List ℕ → Option (ℕ × List ℕ)
+number_at places text =
+    if nat_le places (length text) then option_map (λ number. (number, drop places text)) (number_in (take places text)) else None
+
+-- the cell with this graphic
+abbrev pub cell_in : Bool → ℕ → Option Cell
+cell_in mark byte = option_map (λ char. record { char = char; mark = mark }) (position (λ each. each == byte) graphics)
+
+-- a cell in front of others
+abbrev pub in_front : Option Cell → Option (List Cell) → Option (List Cell)
+in_front cell cells = cell >>= λ first. option_map (λ more. first ∷ more) cells
+
+-- the cells that all of the text spells, a tilde in front of each one with a word mark
+unfoldable pub cells_in : List ℕ → Option (List Cell)
+cells_in [] = Some []
+cells_in (byte ∷ []) = in_front (cell_in false byte) (Some [])
+cells_in (byte ∷ next ∷ text) =
+    if byte == 126 then in_front (cell_in true next) (cells_in text) else in_front (cell_in false byte) (cells_in (next ∷ text))
+
+-- 1 to 40 of them
+abbrev pub if_few : List Cell → Option (List Cell)
+if_few cells = if nat_le 1 (length cells) && nat_le (length cells) 40 then Some cells else None
+
+-- the 1 to 40 cells that all of the text spells
+unfoldable pub few_cells_in : List ℕ → Option (List Cell)
+few_cells_in text = cells_in text >>= if_few
+
+-- the size that a header of this version names
+unfoldable pub header_with : Version → List ℕ → Option ℕ
+header_with version line = do
+  text ← behind (name_of version) line
+  size ← number_at (address_digits version) text
+  if nat_le (length size.1) 0 && has_size version size.0 then Some size.0 else None
+
+-- the version and the size that a header names
+unfoldable pub header_in : List ℕ → Option (Version × ℕ)
+header_in line = option_map (λ size. (One, size)) (header_with One line)
+
+-- a segment
+unfoldable pub segment_in : Version → List ℕ → Option Segment
+segment_in version line = do
+  address ← number_at (address_digits version) line
+  text ← behind (codes " ") address.1
+  count ← number_at 2 text
+  text ← behind (codes " ") count.1
+  cells ← few_cells_in text
+  if length cells == count.0 then Some (record { address = address.0; cells = cells }) else None
+
+-- a segment as its line spells it
+abbrev pub as_segment : Spelled → Segment
+as_segment spelled = record { address = spelled.address; cells = spelled.cells }
+
+-- the entry
+unfoldable pub end_in : Version → List ℕ → Option ℕ
+end_in version line = do
+  text ← behind (codes "END ") line
+  start ← number_at (address_digits version) text
+  if nat_le (length start.1) 0 then Some start.0 else None
+
+-- the parts of a text between its line feeds: its lines, and last what stands behind the last line feed
+abbrev pub parts_of : List ℕ → List (List ℕ)
+parts_of text = slice_split (λ byte. byte == 10) text
+
+-- whether no byte is left
+abbrev pub is_done : List (List ℕ) → Bool
+is_done [] = true
+is_done ([] ∷ []) = true
+is_done ([] ∷ part ∷ parts) = false
+is_done ((byte ∷ bytes) ∷ parts) = false
+
+-- segments and an entry
+abbrev pub Contents : Type 0
+Contents = List Segment × ℕ
+
+-- the contents with segments in front
+abbrev pub with_segments : List Segment → Result Contents ImageFault → Result Contents ImageFault
+with_segments segments (Ok contents) = Ok (segments ++ contents.0, contents.1)
+with_segments segments (Err fault) = Err fault
+
+-- an entry by itself
+abbrev pub entry_alone : Result ℕ ImageFault → Result Contents ImageFault
+entry_alone (Ok start) = Ok ([], start)
+entry_alone (Err fault) = Err fault
+
+-- by the entry that a line names, if it does, and what is left behind that line
+abbrev pub entry_by : ℕ → Option ℕ → List (List ℕ) → Result ℕ ImageFault
+entry_by size None parts = Err BadRecord
+entry_by size (Some start) parts = if nat_lt start size then (if is_done parts then Ok start else Err BadRecord) else Err Range
+
+-- by the segment that a line is, if it is one, what is read behind it, and what is read where it isn't
+abbrev pub contents_by : ℕ → Option Segment → Result Contents ImageFault → Result ℕ ImageFault → Result Contents ImageFault
+contents_by size (Some segment) more entry = if is_inside size segment then with_segments (segment ∷ []) more else Err Range
+contents_by size None more entry = entry_alone entry
+
+-- behind the header
+unfoldable pub contents_in : Version → ℕ → List (List ℕ) → Result Contents ImageFault
+contents_in version size [] = Err Truncated
+contents_in version size (part ∷ []) = Err Truncated
+contents_in version size (line ∷ next ∷ parts) =
+    contents_by size (segment_in version line) (contents_in version size (next ∷ parts)) (entry_by size (end_in version line) (next ∷ parts))
+
+-- an image of this size
+abbrev pub image_of : ℕ → Result Contents ImageFault → Result Image ImageFault
+image_of size (Ok contents) = Ok (record { size = size; segments = contents.0; start = contents.1 })
+image_of size (Err fault) = Err fault
+
+-- by the header, and what stands behind it
+abbrev pub image_by : Option (Version × ℕ) → List (List ℕ) → Result Image ImageFault
+image_by None parts = Err Header
+image_by (Some header) parts = image_of header.1 (contents_in header.0 header.1 parts)
+
+-- all of the text
+unfoldable pub image_in : List (List ℕ) → Result Image ImageFault
+image_in [] = Err Truncated
+image_in (part ∷ []) = Err Truncated
+image_in (header ∷ next ∷ parts) = image_by (header_in header) (next ∷ parts)
+
+-- what a call answers for what is read: that, or where an image is read, that memory was refused
+abbrev pub Gives : {X : Type 0} → Result X ImageFault → Result X ImageFault → Type 0
+Gives (Ok found) read = read ≡ Ok found
+Gives (Err Memory) read = IsOk read
+Gives (Err Header) read = read ≡ Err Header
+Gives (Err BadRecord) read = read ≡ Err BadRecord
+Gives (Err Range) read = read ≡ Err Range
+Gives (Err Truncated) read = read ≡ Err Truncated
+
+-- a fault that is the text's own
+abbrev pub IsOfText : ImageFault → Type 0
+IsOfText Memory = ⊥
+IsOfText Header = Unit {0}
+IsOfText BadRecord = Unit {0}
+IsOfText Range = Unit {0}
+IsOfText Truncated = Unit {0}

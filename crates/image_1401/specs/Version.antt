@@ -1,0 +1,17 @@
+-- What sets the versions of an image's text apart (own).
+use Rattle.std.specs.Prelude.{ℕ, Bool, List, codes}
+use Rattle.core_1401.specs.Storage.{is_core_size}
+use Rattle.image_1401.specs.declared.version.Version.{Version}
+use Rattle.image_1401.specs.declared.version.Version.TheVariants.{One}
+
+-- what the header begins with
+abbrev pub name_of : Version → List ℕ
+name_of One = codes "IMAGE1 "
+
+-- how many digits a size and an address have
+abbrev pub address_digits : Version → ℕ
+address_digits One = 4
+
+-- the sizes that an image can have
+abbrev pub has_size : Version → ℕ → Bool
+has_size One size = is_core_size size

@@ -1,0 +1,57 @@
+//! What an image holds.
+ghost use Rattle.std.specs.Prelude.{◌≡◌};
+
+use core_1401::Cells;
+use std::marker::Model;
+
+/// A few cells, and where they go.
+#[derive(Clone, Copy, Debug, PartialEq, Eq)]
+pub struct Segment {
+    /// The place of the first cell; each other goes to the next place.
+    pub address: u16,
+    /// The cells with their word marks, which take the place of all that stood there.
+    pub cells: Cells,
+}
+
+/// Segments, one behind the other. Contracts see the list of them.
+#[derive(Debug, Drop)]
+pub struct Segments {
+    segments: Vec<Segment>,
+}
+
+impl Model for Segments {
+    ghost use Rattle.std.specs.Prelude.{List};
+    ghost use Rattle.image_1401.specs.declared.image.Segment.{Segment};
+
+    ghost Value = { List Segment };
+
+    ghost view = { λ segments. segments.segments.items };
+}
+
+impl Segments {
+    /// The segments of this list. It takes no memory.
+    pub fn from_vec(segments: Vec<Segment>) -> Segments
+        ensures { result ≡ segments.items }
+    {
+        Segments { segments }
+    }
+
+    /// The segments.
+    pub fn as_slice(&self) -> &[Segment]
+        ensures { result.now ≡ self.now }
+    {
+        self.segments.as_slice()
+    }
+}
+
+/// What stands in core storage before a program is started: each segment in its order, so that a later one goes over an
+/// earlier one, and where the program begins.
+#[derive(Debug, Drop)]
+pub struct Image {
+    /// How many places the core storage has.
+    pub size: u16,
+    /// The segments.
+    pub segments: Segments,
+    /// The entry: the address of the first instruction.
+    pub start: u16,
+}

@@ -1,0 +1,230 @@
+//! The image of a text.
+ghost use Rattle.std.specs.Prelude.{◌≡◌, ◌<◌, ◌≤◌, ◌^◌, ◌∷◌, [], length, ◌==◌, position, Some, None, Ok, Err, if◌then◌else◌, IfOk, IfErr, MatchOption};
+ghost use Rattle.std.specs.Option.{option_map};
+ghost use Rattle.image_1401.specs.Image.{is_inside};
+ghost use Rattle.image_1401.specs.ImageText.{HasText, image_text};
+ghost use Rattle.image_1401.specs.Reading.{cell_in, cells_in, in_front, few_cells_in, number_in, number_at, header_with, header_in, segment_in, end_in, parts_of, entry_by, contents_in, image_of, image_in, as_segment, Gives, IsOfText};
+
+use crate::fault::ImageFault;
+use crate::image::{Image, Segment, Segments};
+use crate::version::Version;
+use crate::writing::COUNT_DIGITS;
+use bcd_1401::{Cell, Char};
+use core_1401::{Cells, MOST_CELLS};
+use std::alloc::Global;
+
+/// A segment as its line spells it, wherever it lies.
+#[derive(Clone, Copy)]
+struct Spelled {
+    address: u32,
+    cells: Cells,
+}
+
+/// The image of a text, or the fault of its first wrong line.
+#[tactic(auto, unfolding(crate::specs::Reading::image_in))]
+fn image(alloc: Global, text: &[u8]) -> Result<Image, ImageFault>
+    ensures { Gives result (image_in (parts_of text.now)) }
+{
+    let Some((line, behind)) = split_line(text) else {
+        return Err(ImageFault::Truncated);
+    };
+    let Some((version, size)) = header(line) else {
+        return Err(ImageFault::Header);
+    };
+    contents(alloc, version, size, behind)
+}
+
+/// The image of a size whose segments and entry a text spells. Want of memory is told last: the lines behind it are looked
+/// at first.
+fn contents(alloc: Global, version: Version, size: u16, text: &[u8]) -> Result<Image, ImageFault>
+    ensures { Gives result (image_of size (contents_in version size (parts_of text.now))) }
+{
+    let mut segments = Vec::new(alloc);
+    let mut refused = false;
+    let mut rest = text;
+    while let Some((line, behind)) = split_line(rest) {
+        let Some(spelled) = segment(version, line) else {
+            let start = last_entry(size, entry(version, line), behind)?;
+            if refused {
+                return Err(ImageFault::Memory);
+            }
+            let segments = Segments::from_vec(segments);
+            return Ok(Image {
+                size,
+                segments,
+                start,
+            });
+        };
+        let segment = segment_inside(size, &spelled)?;
+        refused = refused || segments.push(segment).is_err();
+        rest = behind;
+    }
+    Err(ImageFault::Truncated)
+}
+
+/// A segment that lies in core storage of this size.
+fn segment_inside(size: u16, spelled: &Spelled) -> Result<Segment, ImageFault>
+    ensures { result ≡ (if is_inside size (as_segment spelled.now) then Ok (as_segment spelled.now) else Err ImageFault.Range) }
+{
+    let cells = spelled.cells;
+    let end = u64::from(spelled.address) + cells.as_slice().len() as u64;
+    if end > u64::from(size) {
+        return Err(ImageFault::Range);
+    }
+    Ok(Segment {
+        address: spelled.address as u16,
+        cells,
+    })
+}
+
+/// The entry that a line names, if it does, where it lies in core storage of this size and nothing stands behind the line.
+fn last_entry(size: u16, entry: Option<u32>, behind: &[u8]) -> Result<u16, ImageFault>
+    ensures value { result ≡ entry_by size entry (parts_of behind.now) }
+    ensures fault { IfErr result IsOfText }
+{
+    let Some(start) = entry else {
+        return Err(ImageFault::BadRecord);
+    };
+    if start >= u32::from(size) {
+        return Err(ImageFault::Range);
+    }
+    if !behind.is_empty() {
+        return Err(ImageFault::BadRecord);
+    }
+    Ok(start as u16)
+}
+
+/// The first line of a text, and what stands behind its line feed; none where there is no line feed.
+fn split_line(text: &[u8]) -> Option<(&[u8], &[u8])>
+    ensures { MatchOption result (parts_of text.now ≡ text.now ∷ []) (λ first.
+        (parts_of text.now ≡ first.0.now ∷ parts_of first.1.now) × (length first.1.now < length text.now)) }
+{
+    let end = line_feed_in(text)?;
+    Some((&text[..end], &text[end + 1..]))
+}
+
+/// The place of the first line feed, if there is one.
+fn line_feed_in(text: &[u8]) -> Option<usize>
+    ensures { result ≡ position (λ byte. byte == 10) text.now }
+{
+    text.iter().position(|byte| *byte == b'\n')
+}
+
+/// The version and the size that a header names.
+#[tactic(auto, unfolding(crate::specs::Reading::header_in))]
+fn header(line: &[u8]) -> Option<(Version, u16)>
+    ensures { result ≡ header_in line.now }
+{
+    let size = header_with(Version::One, line)?;
+    Some((Version::One, size))
+}
+
+/// The size that a header of this version names.
+#[tactic(auto, unfolding(crate::specs::Reading::header_with))]
+fn header_with(version: Version, line: &[u8]) -> Option<u16>
+    ensures { result ≡ header_with version line.now }
+{
+    let text = line.strip_prefix(version.name())?;
+    let (number, rest) = split_number(text, version.address_digits())?;
+    if rest.is_empty() {
+        version.size(number)
+    } else {
+        None
+    }
+}
+
+/// What a segment's line spells, if the line is one.
+#[tactic(auto, unfolding(crate::specs::Reading::segment_in))]
+fn segment(version: Version, line: &[u8]) -> Option<Spelled>
+    ensures { segment_in version line.now ≡ option_map as_segment result }
+{
+    let (address, text) = split_number(line, version.address_digits())?;
+    let text = text.strip_prefix(b" ")?;
+    let (count, text) = split_number(text, COUNT_DIGITS)?;
+    let cells = cells(text.strip_prefix(b" ")?)?;
+    if cells.as_slice().len() as u32 == count {
+        Some(Spelled { address, cells })
+    } else {
+        None
+    }
+}
+
+/// The entry, if the line is the last one.
+#[tactic(auto, unfolding(crate::specs::Reading::end_in))]
+fn entry(version: Version, line: &[u8]) -> Option<u32>
+    ensures { result ≡ end_in version line.now }
+{
+    let text = line.strip_prefix(b"END ")?;
+    let (start, rest) = split_number(text, version.address_digits())?;
+    if rest.is_empty() { Some(start) } else { None }
+}
+
+/// The number of so many digits that a text begins with, and what stands behind it.
+#[tactic(auto, unfolding(crate::specs::Reading::number_at))]
+fn split_number(text: &[u8], digits: usize) -> Option<(u32, &[u8])>
+    requires { digits ≤ 5 }
+    ensures { MatchOption result (number_at digits text.now ≡ None) (λ first.
+        number_at digits text.now ≡ Some (first.0, first.1.now)) }
+{
+    if text.len() < digits {
+        return None;
+    }
+    let (digits, rest) = text.split_at(digits);
+    Some((number(digits)?, rest))
+}
+
+/// The number that digits stand for, if all of them are digits.
+#[tactic(auto, unfolding(crate::specs::Reading::number_in))]
+fn number(digits: &[u8]) -> Option<u32>
+    requires { length digits.now ≤ 5 }
+    ensures { result ≡ number_in digits.now }
+{
+    let mut number = 0;
+    for digit in digits {
+        if !digit.is_ascii_digit() {
+            return None;
+        }
+        number = 10 * number + u32::from(*digit - b'0');
+    }
+    Some(number)
+}
+
+/// The 1 to 40 cells that a text spells.
+#[tactic(auto, unfolding(crate::specs::Reading::few_cells_in))]
+fn cells(text: &[u8]) -> Option<Cells>
+    ensures { result ≡ few_cells_in text.now }
+{
+    let mut cells = [Cell::BLANK; MOST_CELLS];
+    let mut count = 0;
+    let mut rest = text;
+    while let Some((cell, behind)) = split_cell(rest) {
+        if count == MOST_CELLS {
+            return None;
+        }
+        cells[count] = cell?;
+        count += 1;
+        rest = behind;
+    }
+    Cells::from_slice(&cells[..count])
+}
+
+/// The first cell that a text spells, which is none where a graphic is missed, and what stands behind it; none at the end
+/// of the text.
+#[tactic(auto, unfolding(crate::specs::Reading::cells_in))]
+fn split_cell(text: &[u8]) -> Option<(Option<Cell>, &[u8])>
+    ensures { MatchOption result (text.now ≡ []) (λ first.
+        (cells_in text.now ≡ in_front first.0 (cells_in first.1.now)) × (length first.1.now < length text.now)) }
+{
+    match text {
+        [] => None,
+        [b'~', graphic, rest @ ..] => Some((cell(true, *graphic), rest)),
+        [graphic, rest @ ..] => Some((cell(false, *graphic), rest)),
+    }
+}
+
+/// The cell with this graphic, if it is one.
+fn cell(mark: bool, graphic: u8) -> Option<Cell>
+    ensures { result ≡ cell_in mark graphic }
+{
+    Char::from_graphic(graphic).map(|char| Cell { char, mark })
+}

@@ -1,0 +1,125 @@
+//! The text of an image.
+ghost use Rattle.std.specs.Prelude.{◌≡◌, ◌++◌, true, length, IfOk, OnOk};
+ghost use Rattle.std.specs.List.{flat_map, list_all};
+ghost use Rattle.image_1401.specs.Image.{IsInCore};
+ghost use Rattle.image_1401.specs.ImageText.{number_text, cell_text, cells_text, header_text, segment_text, end_text, segments_text, image_text, line_of, is_character, is_segment, HasText};
+
+use crate::image::{Image, Segment};
+use crate::version::Version;
+use bcd_1401::Cell;
+use std::alloc::{AllocError, Global};
+
+/// How many digits a segment's count of cells has.
+pub(crate) const COUNT_DIGITS: usize = 2;
+
+/// The text of an image, in version 1.
+///
+/// # Errors
+///
+/// Where the memory for the text is refused.
+#[tactic(auto, unfolding(crate::specs::ImageText::image_text))]
+pub fn write_image(alloc: Global, image: &Image) -> Result<Vec<u8>, AllocError>
+    requires { IsInCore image.now }
+    ensures text { IfOk result (λ text. text.items ≡ image_text Version.One image.now) }
+
+    // It is a text that is read again.
+    ensures again { OnOk result (HasText Version.One image.now) }
+{
+    let version = Version::One;
+    let mut text = Vec::new(alloc);
+    put_header(&mut text, version, image.size)?;
+    put_segments(&mut text, version, image.segments.as_slice())?;
+    put_end(&mut text, version, image.start)?;
+    Ok(text)
+}
+
+/// Adds the first line.
+#[tactic(auto, unfolding(crate::specs::ImageText::header_text))]
+fn put_header(text: &mut Vec<u8>, version: Version, size: u16) -> Result<(), AllocError>
+    ensures { OnOk result (text.new.items ≡ text.old.items ++ line_of (header_text version size)) }
+{
+    text.extend_from_slice(version.name())?;
+    put_number(text, version.address_digits(), size)?;
+    text.push(b'\n')?;
+    Ok(())
+}
+
+/// Adds the lines of segments.
+#[tactic(auto, unfolding(crate::specs::ImageText::segments_text))]
+fn put_segments(
+    text: &mut Vec<u8>,
+    version: Version,
+    segments: &[Segment],
+) -> Result<(), AllocError>
+    ensures text { OnOk result (text.new.items ≡ text.old.items ++ segments_text version segments.now) }
+    ensures cells { OnOk result (list_all is_segment segments.now ≡ true) }
+{
+    for segment in segments {
+        put_segment(text, version, segment)?;
+    }
+    Ok(())
+}
+
+/// Adds the line of a segment.
+#[tactic(auto, unfolding(crate::specs::ImageText::segment_text))]
+fn put_segment(text: &mut Vec<u8>, version: Version, segment: &Segment) -> Result<(), AllocError>
+    ensures text { OnOk result (text.new.items ≡ text.old.items ++ line_of (segment_text version segment.now)) }
+    ensures cells { OnOk result (is_segment segment.now ≡ true) }
+{
+    let cells = segment.cells.as_slice();
+    put_number(text, version.address_digits(), segment.address)?;
+    text.push(b' ')?;
+    put_number(text, COUNT_DIGITS, cells.len() as u16)?;
+    text.push(b' ')?;
+    put_cells(text, cells)?;
+    text.push(b'\n')?;
+    Ok(())
+}
+
+/// Adds the last line.
+#[tactic(auto, unfolding(crate::specs::ImageText::end_text))]
+fn put_end(text: &mut Vec<u8>, version: Version, start: u16) -> Result<(), AllocError>
+    ensures { OnOk result (text.new.items ≡ text.old.items ++ line_of (end_text version start)) }
+{
+    text.extend_from_slice(b"END ")?;
+    put_number(text, version.address_digits(), start)?;
+    text.push(b'\n')?;
+    Ok(())
+}
+
+/// Adds a number in so many digits.
+#[tactic(auto, unfolding(crate::specs::ImageText::number_text))]
+fn put_number(text: &mut Vec<u8>, digits: usize, number: u16) -> Result<(), AllocError>
+    ensures { OnOk result (text.new.items ≡ text.old.items ++ number_text digits number) }
+{
+    if digits > 0 {
+        put_number(text, digits - 1, number / 10)?;
+        text.push(b'0' + (number % 10) as u8)?;
+    }
+    Ok(())
+}
+
+/// Adds cells, one behind the other.
+#[tactic(auto, unfolding(crate::specs::ImageText::cells_text))]
+fn put_cells(text: &mut Vec<u8>, cells: &[Cell]) -> Result<(), AllocError>
+    ensures text { OnOk result (text.new.items ≡ text.old.items ++ cells_text cells.now) }
+    ensures characters { OnOk result (list_all is_character cells.now ≡ true) }
+{
+    for cell in cells {
+        put_cell(text, *cell)?;
+    }
+    Ok(())
+}
+
+/// Adds a cell by its graphic, with a tilde in front of it where it has a word mark.
+fn put_cell(text: &mut Vec<u8>, cell: Cell) -> Result<(), AllocError>
+    ensures text { OnOk result (text.new.items ≡ text.old.items ++ cell_text cell) }
+    ensures character { is_character cell ≡ true }
+{
+    let _code = cell.char.code();
+    if cell.mark {
+        text.push(b'~')?;
+    }
+    text.push(cell.char.graphic())?;
+    Ok(())
+}
