@@ -1,0 +1,3 @@
+pub mod CharactersLemmas
+pub mod FirstFaultLemmas
+pub mod LowestLemmas

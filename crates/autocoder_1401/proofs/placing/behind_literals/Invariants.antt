@@ -1,0 +1,7 @@
+-- The place so far, with what is left behind it, is the place behind all.
+use Rattle.std.proofs.Common.{◌≡◌, drop}
+use Rattle.autocoder_1401.specs.Placement.{behind_literals}
+use Rattle.autocoder_1401.proofs.placing.behind_literals.Given as goal
+
+abbrev pub invariant-loop-characters : goal.invariant-loop-characters
+invariant-loop-characters l = behind_literals l.next (drop l.characters-index l.literals) ≡ behind_literals l.from l.literals

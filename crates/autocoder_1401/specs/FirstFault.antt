@@ -1,0 +1,253 @@
+-- The faults of a line, and the first line of a source that has one, with its lowest kind (own).
+use Rattle.std.specs.Prelude.{◌≡◌, ℕ, ◌+◌, ◌<◌, Bool, true, false, not, ◌&&◌, ◌||◌, nat_lt, if◌then◌else◌, List, [], ◌∷◌, length, take, fold, slice_get, slice_index_or, Option, Some, None, is_none, is_some}
+use Rattle.std.specs.Option.{option_map, option_map_or}
+use Rattle.std.specs.List.{list_any}
+use Rattle.source_1401.specs.Statement.{has_bad_label, has_bad_operands, is_end}
+use Rattle.source_1401.specs.declared.label.Label.{Label}
+use Rattle.source_1401.specs.declared.label.LabelField.{LabelField}
+use Rattle.source_1401.specs.declared.label.LabelField.TheVariants as labels
+use Rattle.source_1401.specs.declared.address.Base.{Base}
+use Rattle.source_1401.specs.declared.address.Base.TheVariants as bases
+use Rattle.source_1401.specs.declared.operands.Operand.{Operand}
+use Rattle.source_1401.specs.declared.operands.Operand.TheVariants as operands
+use Rattle.source_1401.specs.declared.operands.OperandField.{OperandField}
+use Rattle.source_1401.specs.declared.operands.OperandField.TheVariants as fields
+use Rattle.source_1401.specs.declared.statement.Areas.{Areas}
+use Rattle.source_1401.specs.declared.statement.Span.{Span}
+use Rattle.source_1401.specs.declared.statement.Body.{Body}
+use Rattle.source_1401.specs.declared.statement.Body.TheVariants as bodies
+use Rattle.source_1401.specs.declared.statement.Bytes.{Bytes}
+use Rattle.source_1401.specs.declared.statement.Bytes.TheVariants as bytes
+use Rattle.source_1401.specs.declared.statement.Statement.{Statement}
+use Rattle.source_1401.specs.declared.statement.Line.{Line}
+use Rattle.autocoder_1401.specs.Fault.{rank}
+use Rattle.autocoder_1401.specs.Symbols.{Declared, is_before, declared_at}
+use Rattle.autocoder_1401.specs.declared.fault.AsmKind.{AsmKind}
+use Rattle.autocoder_1401.specs.declared.fault.AsmKind.TheVariants as kinds
+use Rattle.autocoder_1401.specs.declared.fault.AsmFault.{AsmFault}
+use Rattle.autocoder_1401.specs.declared.first_fault.Place.{Place}
+
+-- the length of the areas that a field behind these lines would divide: those of a DA, with nothing but its fields and
+-- comments behind it
+abbrev pub areas_with : Option ℕ → Body → Option ℕ
+areas_with areas bodies.Unknown = None
+areas_with areas (bodies.Instruction instruction operands) = None
+areas_with areas (bodies.MarkedConstant constant) = None
+areas_with areas (bodies.Constant constant) = None
+areas_with areas (bodies.Space places) = None
+areas_with areas (bodies.Areas made) = option_map (λ (of : Areas). of.length) made
+areas_with areas (bodies.Field span) = areas
+areas_with areas (bodies.Equate operands) = None
+areas_with areas (bodies.Origin operands) = None
+areas_with areas (bodies.Execute operands) = None
+areas_with areas (bodies.End operands) = None
+
+abbrev pub areas_behind : Option ℕ → Line → Option ℕ
+areas_behind areas line = option_map_or (λ (statement : Statement). areas_with areas statement.body) line.statement areas
+
+-- the place of the first line of a source
+abbrev pub first_place : Place
+first_place = record { number = 1; is_ended = false; areas = None }
+
+-- the place behind a line
+abbrev pub place_behind : Place → Line → Place
+place_behind this line =
+    record { number = this.number + 1; is_ended = this.is_ended || is_end line; areas = areas_behind this.areas line }
+
+-- a field divides areas
+abbrev pub is_field_of : Option ℕ → Body → Bool
+is_field_of areas bodies.Unknown = false
+is_field_of areas (bodies.Instruction instruction operands) = false
+is_field_of areas (bodies.MarkedConstant constant) = false
+is_field_of areas (bodies.Constant constant) = false
+is_field_of areas (bodies.Space places) = false
+is_field_of areas (bodies.Areas made) = false
+is_field_of areas (bodies.Field span) = is_some areas
+is_field_of areas (bodies.Equate operands) = false
+is_field_of areas (bodies.Origin operands) = false
+is_field_of areas (bodies.Execute operands) = false
+is_field_of areas (bodies.End operands) = false
+
+abbrev pub is_absent : LabelField → Bool
+is_absent labels.Absent = true
+is_absent labels.Malformed = false
+is_absent (labels.Label label) = false
+
+-- a field needs a label
+abbrev pub bad_label : Option ℕ → Statement → Bool
+bad_label areas this = has_bad_label this || (is_absent this.label && is_field_of areas this.body)
+
+abbrev pub double_label : Declared → ℕ → LabelField → Bool
+double_label declared number labels.Absent = false
+double_label declared number labels.Malformed = false
+double_label declared number (labels.Label label) = is_before number (declared label)
+
+-- a field under no areas is no operation
+abbrev pub bad_operation : Option ℕ → Body → Bool
+bad_operation areas bodies.Unknown = true
+bad_operation areas (bodies.Instruction instruction operands) = false
+bad_operation areas (bodies.MarkedConstant constant) = false
+bad_operation areas (bodies.Constant constant) = false
+bad_operation areas (bodies.Space places) = false
+bad_operation areas (bodies.Areas made) = false
+bad_operation areas (bodies.Field span) = is_none areas
+bad_operation areas (bodies.Equate operands) = false
+bad_operation areas (bodies.Origin operands) = false
+bad_operation areas (bodies.Execute operands) = false
+bad_operation areas (bodies.End operands) = false
+
+-- the symbol that an operand names
+abbrev pub symbol_in_base : Base → Option Label
+symbol_in_base (bases.Number number) = None
+symbol_in_base (bases.Symbol label) = Some label
+symbol_in_base bases.Here = None
+
+abbrev pub symbol_in : OperandField → Option Label
+symbol_in fields.Absent = None
+symbol_in fields.Malformed = None
+symbol_in (fields.Operand (operands.Address address)) = symbol_in_base address.base
+symbol_in (fields.Operand (operands.Literal constant)) = None
+
+-- a symbol that no line declares
+abbrev pub is_undefined : Declared → OperandField → Bool
+is_undefined declared field = option_map_or (λ label. is_none (declared label)) (symbol_in field) false
+
+-- a symbol that no earlier line declares
+abbrev pub is_undefined_before : Declared → ℕ → OperandField → Bool
+is_undefined_before declared number field = option_map_or (λ label. not (is_before number (declared label))) (symbol_in field) false
+
+-- EQU and ORG take the labels of earlier lines alone
+abbrev pub undefined : Declared → ℕ → Body → Bool
+undefined declared number bodies.Unknown = false
+undefined declared number (bodies.Instruction instruction of) = is_undefined declared of.a || is_undefined declared of.b
+undefined declared number (bodies.MarkedConstant constant) = false
+undefined declared number (bodies.Constant constant) = false
+undefined declared number (bodies.Space places) = false
+undefined declared number (bodies.Areas made) = false
+undefined declared number (bodies.Field span) = false
+undefined declared number (bodies.Equate of) = is_undefined_before declared number of.a
+undefined declared number (bodies.Origin of) = is_undefined_before declared number of.a
+undefined declared number (bodies.Execute of) = is_undefined declared of.a
+undefined declared number (bodies.End of) = is_undefined declared of.a
+
+-- a field that ends behind its area
+abbrev pub is_past : Option ℕ → Option Span → Bool
+is_past (Some length) (Some span) = nat_lt length span.last
+is_past (Some length) None = false
+is_past None span = false
+
+abbrev pub is_past_areas : Option ℕ → Body → Bool
+is_past_areas areas bodies.Unknown = false
+is_past_areas areas (bodies.Instruction instruction operands) = false
+is_past_areas areas (bodies.MarkedConstant constant) = false
+is_past_areas areas (bodies.Constant constant) = false
+is_past_areas areas (bodies.Space places) = false
+is_past_areas areas (bodies.Areas made) = false
+is_past_areas areas (bodies.Field span) = is_past areas span
+is_past_areas areas (bodies.Equate operands) = false
+is_past_areas areas (bodies.Origin operands) = false
+is_past_areas areas (bodies.Execute operands) = false
+is_past_areas areas (bodies.End operands) = false
+
+abbrev pub bad_operands : Option ℕ → Body → Bool
+bad_operands areas body = has_bad_operands body || is_past_areas areas body
+
+abbrev pub is_long : Bytes → Bool
+is_long bytes.Good = false
+is_long bytes.Long = true
+is_long bytes.Foreign = false
+
+abbrev pub is_foreign : Bytes → Bool
+is_foreign bytes.Good = false
+is_foreign bytes.Long = false
+is_foreign bytes.Foreign = true
+
+-- what only a statement up to END is looked at for
+abbrev pub up_to_end_has : Place → Line → (Statement → Bool) → Bool
+up_to_end_has at line test = not at.is_ended && option_map_or test line.statement false
+
+-- a line has a fault of this kind
+abbrev pub has_fault : Declared → Place → Line → AsmKind → Bool
+has_fault declared at line kinds.Memory = false
+has_fault declared at line kinds.LongLine = is_long line.bytes
+has_fault declared at line kinds.Graphic = is_foreign line.bytes
+has_fault declared at line kinds.Label = up_to_end_has at line (bad_label at.areas)
+has_fault declared at line kinds.DoubleLabel = up_to_end_has at line (λ (this : Statement). double_label declared at.number this.label)
+has_fault declared at line kinds.Operation = up_to_end_has at line (λ (this : Statement). bad_operation at.areas this.body)
+has_fault declared at line kinds.Undefined = up_to_end_has at line (λ (this : Statement). undefined declared at.number this.body)
+has_fault declared at line kinds.Operand = up_to_end_has at line (λ (this : Statement). bad_operands at.areas this.body)
+has_fault declared at line kinds.OutOfCore = false
+has_fault declared at line kinds.NoEnd = false
+has_fault declared at line kinds.AfterEnd = at.is_ended && is_some line.statement
+
+-- the first for which the test holds
+abbrev pub first_of : {X : Type 0} → (X → Bool) → List X → Option X
+first_of test [] = None
+first_of test (x ∷ xs) = if test x then Some x else first_of test xs
+
+-- the kinds that lines are looked at for, the lowest first
+abbrev pub scanned : List AsmKind
+scanned =
+    kinds.LongLine ∷ kinds.Graphic ∷ kinds.Label ∷ kinds.DoubleLabel ∷ kinds.Operation ∷ kinds.Undefined ∷ kinds.Operand ∷ kinds.AfterEnd ∷ []
+
+-- the lowest kind of a line's faults
+abbrev pub lowest : Declared → Place → Line → Option AsmKind
+lowest declared at line = first_of (has_fault declared at line) scanned
+
+-- the lowest kind that a statement up to END has
+abbrev pub lowest_in : Declared → Place → Statement → Option AsmKind
+lowest_in declared at this =
+    if bad_label at.areas this then Some kinds.Label
+    else if double_label declared at.number this.label then Some kinds.DoubleLabel
+    else if bad_operation at.areas this.body then Some kinds.Operation
+    else if undefined declared at.number this.body then Some kinds.Undefined
+    else if bad_operands at.areas this.body then Some kinds.Operand
+    else None
+
+-- a line's fault if it has one, and else that of the lines behind it
+abbrev pub or_behind : ℕ → Option AsmKind → Option AsmFault → Option AsmFault
+or_behind number None behind = behind
+or_behind number (Some kind) behind = Some (record { line = number; kind = kind })
+
+-- the first line with a fault, with its lowest kind; the end of a source without END is one
+abbrev pub first_fault_from : Declared → Place → List Line → Option AsmFault
+first_fault_from declared at [] = if at.is_ended then None else Some (record { line = at.number; kind = kinds.NoEnd })
+first_fault_from declared at (line ∷ lines) =
+    or_behind at.number (lowest declared at line) (first_fault_from declared (place_behind at line) lines)
+
+abbrev pub first_fault : List Line → Option AsmFault
+first_fault lines = first_fault_from (declared_at lines) first_place lines
+
+-- the place of the line with this index: its number, whether one of those before it is an END, and the areas before it
+abbrev pub place_at : List Line → ℕ → Place
+place_at lines k =
+    record { number = k + 1; is_ended = list_any is_end (take k lines); areas = fold areas_behind None (take k lines) }
+
+-- a line has no fault
+abbrev pub IsClean : Declared → Place → Line → Type 0
+IsClean declared at line = (kind : AsmKind) → has_fault declared at line kind ≡ false
+
+-- a line has this fault, and none of a lower kind
+abbrev pub IsLowest : Declared → Place → Line → AsmKind → Type 0
+IsLowest declared at line kind =
+    (has_fault declared at line kind ≡ true) × ((lower : AsmKind) → rank lower < rank kind → has_fault declared at line lower ≡ false)
+
+-- each line below this index is without fault
+abbrev pub AreClean : Declared → List Line → ℕ → Type 0
+AreClean declared lines n = (k : ℕ) → k < n → (d : Line) → IsClean declared (place_at lines k) (slice_index_or lines k d)
+
+-- the fault of the line with this index: its lowest, or that there was no END up to the last line
+abbrev pub IsFaultAt : Declared → List Line → ℕ → Option Line → AsmKind → Type 0
+IsFaultAt declared lines n None kind = (n ≡ length lines) × (kind ≡ kinds.NoEnd) × (list_any is_end lines ≡ false)
+IsFaultAt declared lines n (Some line) kind = IsLowest declared (place_at lines n) line kind
+
+-- the fault of the first line that has one
+pub record IsFirstFault (declared : Declared) (lines : List Line) (fault : AsmFault) : Type 0 where
+  pub index : ℕ
+  pub numbered : fault.line ≡ index + 1
+  pub earlier : AreClean declared lines index
+  pub here : IsFaultAt declared lines index (slice_get lines index) fault.kind
+
+-- no line has a fault, and there is an END
+abbrev pub IsFaultless : Declared → List Line → Type 0
+IsFaultless declared lines = AreClean declared lines (length lines) × (list_any is_end lines ≡ true)

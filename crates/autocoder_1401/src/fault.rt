@@ -1,0 +1,66 @@
+//! Why a source is refused.
+ghost use Rattle.std.specs.Prelude.{◌≡◌};
+ghost use Rattle.autocoder_1401.specs.declared.fault.AsmKind.TheVariants.{Memory};
+
+use std::alloc::{AllocError, AllocFailed};
+
+/// The kinds of a fault, the lowest first. Kinds 2 to 8, 10 and 11 are looked for over the whole source first; only a source
+/// without any of them is placed, and then looked at for kind 9.
+#[derive(Clone, Copy, Debug, PartialEq, Eq)]
+pub enum AsmKind {
+    /// 1: memory was refused, or the source has more than 4,294,967,295 lines.
+    Memory,
+    /// 2: a line has more than 80 bytes.
+    LongLine,
+    /// 3: a byte can't stand in its column.
+    Graphic,
+    /// 4: columns 6 to 15 hold no label, or lack one, or hold one where there is none.
+    Label,
+    /// 5: an earlier line has the same label.
+    DoubleLabel,
+    /// 6: columns 16 to 20 hold no operation, or a field stands under no areas.
+    Operation,
+    /// 7: a symbol is the label of no line, or for EQU and ORG of no earlier one.
+    Undefined,
+    /// 8: the operands aren't as the operation asks.
+    Operand,
+    /// 9: a place or an address isn't in core.
+    OutOfCore,
+    /// 10: there is no END.
+    NoEnd,
+    /// 11: a line behind END is no comment.
+    AfterEnd,
+}
+
+/// The first line with a fault, counted from 1, and its lowest kind. With Memory the line is 0.
+#[derive(Clone, Copy, Debug, PartialEq, Eq)]
+pub struct AsmFault {
+    /// The line.
+    pub line: u64,
+    /// What is wrong with it.
+    pub kind: AsmKind,
+}
+
+impl AsmFault {
+    /// Memory was refused.
+    pub(crate) const MEMORY: AsmFault = AsmFault {
+        line: 0,
+        kind: AsmKind::Memory,
+    };
+}
+
+impl From<AllocError> for AsmFault {
+    ghost from_gives = { λ _ e. (e.line ≡ 0) × (e.kind ≡ Memory) };
+
+    fn from(_: AllocError) -> AsmFault {
+        AsmFault::MEMORY
+    }
+}
+
+impl<T: Drop> From<AllocFailed<T>> for AsmFault {
+    ghost from_gives = { λ _ e. (e.line ≡ 0) × (e.kind ≡ Memory) };
+
+    fn from(_: AllocFailed<T>) -> AsmFault {
+        AsmFault::MEMORY
+    }
+}

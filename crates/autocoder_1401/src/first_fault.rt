@@ -1,0 +1,245 @@
+//! The first line with a fault, and its lowest kind.
+ghost use Rattle.std.specs.Prelude.{◌≡◌, ◌+◌, ◌<◌, ◌^◌, length, IfNone, IfSome};
+ghost use Rattle.indexmap.specs.IndexMap.{get};
+ghost use Rattle.autocoder_1401.specs.Symbols.{same_label, is_before};
+ghost use Rattle.autocoder_1401.specs.FirstFault.{first_place, place_behind, areas_behind, is_field_of, bad_label, double_label, bad_operation, symbol_in, is_undefined, is_undefined_before, undefined, is_past_areas, bad_operands, lowest_in, lowest, first_fault_from, IsClean, IsLowest, IsFaultless, IsFirstFault};
+
+use crate::fault::{AsmFault, AsmKind};
+use crate::symbols::Labels;
+use source_1401::{
+    Address, Base, Body, Bytes, Label, LabelField, Line, Operand, OperandField, Statement,
+};
+
+/// What stands before a line.
+#[derive(Clone, Copy, Debug, PartialEq, Eq)]
+pub(crate) struct Place {
+    /// The line's number.
+    pub number: u64,
+    /// Whether there is an END before it.
+    pub is_ended: bool,
+    /// The length of the areas that a field here would divide.
+    pub areas: Option<u16>,
+}
+
+impl Place {
+    /// The place of the first line.
+    const FIRST: Place = Place {
+        number: 1,
+        is_ended: false,
+        areas: None,
+    };
+
+    /// The place behind a line.
+    fn behind(self, line: &Line) -> Place
+        requires { self.number < 2 ^ 33 }
+        ensures { result ≡ place_behind self line.now }
+    {
+        Place {
+            number: self.number + 1,
+            is_ended: self.is_ended | line.is_end(),
+            areas: self.areas_behind(line),
+        }
+    }
+
+    /// The length of the areas that a field behind the line would divide.
+    fn areas_behind(self, line: &Line) -> Option<u16>
+        ensures { result ≡ areas_behind self.areas line.now }
+    {
+        match line.statement {
+            Some(Statement { body, .. }) => match body {
+                Body::Areas(Some(areas)) => Some(areas.length),
+                Body::Field(_) => self.areas,
+                _ => None,
+            },
+            None => self.areas,
+        }
+    }
+
+    /// Whether a line here is a field of areas.
+    fn is_field(self, body: Body) -> bool
+        ensures { result ≡ is_field_of self.areas body }
+    {
+        matches!(body, Body::Field(_)) && self.areas.is_some()
+    }
+
+    /// Whether the label is bad, or a field of areas has none.
+    fn has_bad_label(self, statement: Statement) -> bool
+        ensures { result ≡ bad_label self.areas statement }
+    {
+        statement.has_bad_label()
+            || (matches!(statement.label, LabelField::Absent) && self.is_field(statement.body))
+    }
+
+    /// Whether the operation isn't known, or is a field under no areas.
+    fn has_bad_operation(self, body: Body) -> bool
+        ensures { result ≡ bad_operation self.areas body }
+    {
+        match body {
+            Body::Unknown => true,
+            Body::Field(_) => self.areas.is_none(),
+            _ => false,
+        }
+    }
+
+    /// Whether a field ends behind its area.
+    fn is_past_areas(self, body: Body) -> bool
+        ensures { result ≡ is_past_areas self.areas body }
+    {
+        match (body, self.areas) {
+            (Body::Field(Some(span)), Some(length)) => span.last > length,
+            _ => false,
+        }
+    }
+
+    /// Whether the operands aren't as the operation asks.
+    fn has_bad_operands(self, statement: Statement) -> bool
+        ensures { result ≡ bad_operands self.areas statement.body }
+    {
+        statement.has_bad_operands() || self.is_past_areas(statement.body)
+    }
+}
+
+/// Whether a line before this one declares a label.
+fn is_before(number: u64, declared: Option<u64>) -> bool
+    ensures { result ≡ is_before number declared }
+{
+    match declared {
+        Some(line) => line < number,
+        None => false,
+    }
+}
+
+/// Whether an earlier line has the label.
+fn has_double_label(labels: &Labels, number: u64, field: LabelField) -> bool
+    ensures { result ≡ double_label (get same_label labels.now) number field }
+{
+    match field {
+        LabelField::Label(label) => is_before(number, labels.get(&label).copied()),
+        LabelField::Absent | LabelField::Malformed => false,
+    }
+}
+
+/// The symbol that an operand names.
+fn symbol_in(field: OperandField) -> Option<Label>
+    ensures { result ≡ symbol_in field }
+{
+    match field {
+        OperandField::Operand(
+            Operand::Address(
+                Address {
+                    base: Base::Symbol(label),
+                    ..
+                },
+            ),
+        ) => Some(label),
+        _ => None,
+    }
+}
+
+/// Whether an operand's symbol is the label of no line.
+fn is_undefined(labels: &Labels, field: OperandField) -> bool
+    ensures { result ≡ is_undefined (get same_label labels.now) field }
+{
+    match symbol_in(field) {
+        Some(label) => labels.get(&label).is_none(),
+        None => false,
+    }
+}
+
+/// Whether an operand's symbol is the label of no earlier line.
+fn is_undefined_before(labels: &Labels, number: u64, field: OperandField) -> bool
+    ensures { result ≡ is_undefined_before (get same_label labels.now) number field }
+{
+    match symbol_in(field) {
+        Some(label) => !is_before(number, labels.get(&label).copied()),
+        None => false,
+    }
+}
+
+/// Whether a line here names a symbol that it can't.
+fn has_undefined(labels: &Labels, number: u64, body: Body) -> bool
+    ensures { result ≡ undefined (get same_label labels.now) number body }
+{
+    match body {
+        Body::Instruction(_, operands) => {
+            is_undefined(labels, operands.a) || is_undefined(labels, operands.b)
+        },
+        Body::Equate(operands) | Body::Origin(operands) => {
+            is_undefined_before(labels, number, operands.a)
+        },
+        Body::Execute(operands) | Body::End(operands) => is_undefined(labels, operands.a),
+        _ => false,
+    }
+}
+
+/// The lowest kind of fault of a statement up to END.
+fn lowest_in_statement(labels: &Labels, at: Place, statement: Statement) -> Option<AsmKind>
+    ensures { result ≡ lowest_in (get same_label labels.now) at statement }
+{
+    if at.has_bad_label(statement) {
+        return Some(AsmKind::Label);
+    }
+    if has_double_label(labels, at.number, statement.label) {
+        return Some(AsmKind::DoubleLabel);
+    }
+    if at.has_bad_operation(statement.body) {
+        return Some(AsmKind::Operation);
+    }
+    if has_undefined(labels, at.number, statement.body) {
+        return Some(AsmKind::Undefined);
+    }
+    if at.has_bad_operands(statement) {
+        return Some(AsmKind::Operand);
+    }
+    None
+}
+
+/// The first kind that a line is found to have.
+fn lowest_of(labels: &Labels, at: Place, line: &Line) -> Option<AsmKind>
+    ensures { result ≡ lowest (get same_label labels.now) at line.now }
+{
+    match (line.bytes, line.statement) {
+        (Bytes::Long, _) => Some(AsmKind::LongLine),
+        (Bytes::Foreign, _) => Some(AsmKind::Graphic),
+        (Bytes::Good, None) => None,
+        (Bytes::Good, Some(_)) if at.is_ended => Some(AsmKind::AfterEnd),
+        (Bytes::Good, Some(statement)) => lowest_in_statement(labels, at, statement),
+    }
+}
+
+/// The lowest kind of a line's faults.
+fn lowest_kind(labels: &Labels, at: Place, line: &Line) -> Option<AsmKind>
+    ensures value { result ≡ lowest (get same_label labels.now) at line.now }
+    ensures clean { IfNone result (IsClean (get same_label labels.now) at line.now) }
+    ensures lowest { IfSome result (λ kind. IsLowest (get same_label labels.now) at line.now kind) }
+{
+    let kind = lowest_of(labels, at, line);
+    kind
+}
+
+/// The first line with a fault, and its lowest kind.
+pub(crate) fn first_fault(labels: &Labels, lines: &[Line]) -> Option<AsmFault>
+    requires { length lines.now < 2 ^ 32 }
+    ensures value { result ≡ first_fault_from (get same_label labels.now) first_place lines.now }
+    ensures faultless { IfNone result (IsFaultless (get same_label labels.now) lines.now) }
+    ensures first { IfSome result (λ fault. IsFirstFault (get same_label labels.now) lines.now fault) }
+{
+    let mut at = Place::FIRST;
+    for line in lines {
+        if let Some(kind) = lowest_kind(labels, at, line) {
+            return Some(AsmFault {
+                line: at.number,
+                kind,
+            });
+        }
+        at = at.behind(line);
+    }
+    if at.is_ended {
+        None
+    } else {
+        Some(AsmFault {
+            line: at.number,
+            kind: AsmKind::NoEnd,
+        })
+    }
+}

@@ -1,0 +1,316 @@
+//! Where statements and literals are placed.
+ghost use Rattle.std.specs.Prelude.{◌≡◌, ◌+◌, ◌*◌, ◌≤◌, ◌+ℤ◌, ◌++◌, drop, IfOk, IfErr, OnOk};
+ghost use Rattle.indexmap.specs.IndexMap.{get};
+ghost use Rattle.source_1401.specs.Statement.{well_formed};
+ghost use Rattle.autocoder_1401.specs.Characters.{same_characters};
+ghost use Rattle.autocoder_1401.specs.Fault.{IsMemory};
+ghost use Rattle.autocoder_1401.specs.Symbols.{same_label};
+ghost use Rattle.autocoder_1401.specs.Placement.{nothing_placed, with_literal, with_operand, with_pending, behind_body, pending, behind_literals, units_from, instruction_length, constant_length, length_of, base_so_far, value_so_far, label_value, with_label, after_line, placed};
+ghost use Rattle.autocoder_1401.specs.View.{places_of};
+ghost use Rattle.source_1401.specs.Operands.{count_of};
+
+use crate::characters::Characters;
+use crate::fault::AsmFault;
+use indexmap::{IndexMap, IndexSet};
+use source_1401::{
+    Base, Body, Constant, Label, LabelField, Line, Operand, OperandField, Operands, Statement,
+};
+use std::alloc::Global;
+
+/// Where a program is placed without ORG.
+const FIRST_PLACE: i64 = 333;
+
+/// What is placed so far.
+#[derive(Drop)]
+pub(crate) struct Placing {
+    /// The next place.
+    pub next: i64,
+    /// The first place of the last areas.
+    pub areas: i64,
+    /// The values of labels.
+    pub values: IndexMap<Label, i64>,
+    /// The literals in the order of their first use.
+    pub literals: IndexSet<Characters>,
+    /// How each of them was first written.
+    pub spellings: Vec<Constant>,
+    /// The units places of those that are placed.
+    pub addresses: Vec<i64>,
+}
+
+/// A sum. One that no core comes near is refused like memory.
+pub(crate) fn plus(one: i64, other: i64) -> Result<i64, AsmFault>
+    ensures sum { IfOk result (λ sum. sum ≡ one +ℤ other) }
+    ensures err { IfErr result IsMemory }
+{
+    match one.checked_add(other) {
+        Some(sum) => Ok(sum),
+        None => Err(AsmFault::MEMORY),
+    }
+}
+
+/// How many places an operand takes.
+fn operand_length(field: OperandField) -> u32
+    ensures { result ≡ 3 * count_of field }
+{
+    match field {
+        OperandField::Absent => 0,
+        OperandField::Malformed | OperandField::Operand(_) => 3,
+    }
+}
+
+/// How many places an instruction takes.
+pub(crate) fn instruction_length(operands: Operands) -> u32
+    ensures value { result ≡ instruction_length operands }
+    ensures bound { result ≤ 8 }
+{
+    let d = if operands.d.is_some() { 1 } else { 0 };
+    1 + operand_length(operands.a) + operand_length(operands.b) + d
+}
+
+/// How many places a constant takes.
+fn constant_length(constant: Option<Constant>) -> u32
+    ensures { result ≡ constant_length constant }
+{
+    match constant {
+        Some(constant) => u32::from(Characters::from_constant(constant).len),
+        None => 0,
+    }
+}
+
+/// How many places a body takes that places no literals.
+pub(crate) fn length_of(body: Body) -> u32
+    ensures { result ≡ length_of body }
+{
+    match body {
+        Body::Instruction(_, operands) => instruction_length(operands),
+        Body::MarkedConstant(constant) | Body::Constant(constant) => constant_length(constant),
+        Body::Space(Some(places)) => u32::from(places),
+        Body::Areas(Some(areas)) => u32::from(areas.count) * u32::from(areas.length),
+        Body::Space(None)
+        | Body::Areas(None)
+        | Body::Unknown
+        | Body::Field(_)
+        | Body::Equate(_)
+        | Body::Origin(_)
+        | Body::Execute(_)
+        | Body::End(_) => 0,
+    }
+}
+
+/// The place behind literals that begin at a place.
+pub(crate) fn behind_literals(from: i64, literals: &[Characters]) -> Result<i64, AsmFault>
+    ensures value { IfOk result (λ behind. behind ≡ behind_literals from literals.now) }
+    ensures err { IfErr result IsMemory }
+{
+    let mut next = from;
+    for characters in literals {
+        next = plus(next, i64::from(characters.len))?;
+    }
+    Ok(next)
+}
+
+/// Places literals from a place on, and says which place is next.
+fn place_literals(
+    from: i64,
+    literals: &[Characters],
+    addresses: &mut Vec<i64>,
+) -> Result<i64, AsmFault>
+    ensures next { IfOk result (λ next. next ≡ behind_literals from literals.now) }
+    ensures addresses { OnOk result (addresses.new.items ≡ addresses.old.items ++ units_from from literals.now) }
+    ensures err { IfErr result IsMemory }
+{
+    let mut next = from;
+    for characters in literals {
+        let behind = plus(next, i64::from(characters.len))?;
+        addresses.push(plus(behind, -1)?)?;
+        next = behind;
+    }
+    Ok(next)
+}
+
+/// The literals from an index on.
+fn behind(literals: &IndexSet<Characters>, first: usize) -> &[Characters]
+    ensures { result.now ≡ drop first literals.now.keys }
+{
+    let all = literals.as_slice();
+    if all.len() < first {
+        &[]
+    } else {
+        all.split_at(first).1
+    }
+}
+
+impl Placing {
+    /// Before the first line.
+    pub(crate) fn new(alloc: Global) -> Placing
+        ensures { places_of result ≡ nothing_placed }
+    {
+        Placing {
+            next: FIRST_PLACE,
+            areas: FIRST_PLACE,
+            values: IndexMap::new(alloc),
+            literals: IndexSet::new(alloc),
+            spellings: Vec::new(alloc),
+            addresses: Vec::new(alloc),
+        }
+    }
+
+    /// The literals that are used and not placed.
+    pub(crate) fn pending(&self) -> &[Characters]
+        ensures { result.now ≡ pending (places_of self.now) }
+    {
+        behind(&self.literals, self.addresses.len())
+    }
+
+    /// The value so far of what an address is counted from.
+    fn base_so_far(&self, base: Base) -> i64
+        ensures { result ≡ base_so_far (places_of self.now).values base }
+    {
+        match base {
+            Base::Number(number) => i64::from(number),
+            Base::Symbol(label) => self.values.get(&label).copied().unwrap_or(0),
+            Base::Here => 0,
+        }
+    }
+
+    /// The value of the operand of EQU or ORG.
+    pub(crate) fn value_so_far(&self, field: OperandField) -> Result<i64, AsmFault>
+        ensures value { IfOk result (λ value. value ≡ value_so_far (places_of self.now).values field) }
+        ensures err { IfErr result IsMemory }
+    {
+        match field {
+            OperandField::Operand(Operand::Address(address)) => plus(
+                self.base_so_far(address.base),
+                i64::from(address.adjustment),
+            ),
+            OperandField::Operand(Operand::Literal(_))
+            | OperandField::Absent
+            | OperandField::Malformed => Ok(0),
+        }
+    }
+
+    /// The value of a label that stands before a body.
+    fn label_value(&self, body: Body) -> Result<i64, AsmFault>
+        ensures value { IfOk result (λ value. value ≡ label_value (places_of self.now) body) }
+        ensures err { IfErr result IsMemory }
+    {
+        match body {
+            Body::MarkedConstant(_) | Body::Constant(_) | Body::Space(_) => {
+                plus(plus(self.next, i64::from(length_of(body)))?, -1)
+            },
+            Body::Field(Some(span)) => plus(plus(self.areas, i64::from(span.last))?, -1),
+            Body::Equate(operands) => self.value_so_far(operands.a),
+            Body::Field(None)
+            | Body::Unknown
+            | Body::Instruction(..)
+            | Body::Areas(_)
+            | Body::Origin(_)
+            | Body::Execute(_)
+            | Body::End(_) => Ok(self.next),
+        }
+    }
+
+    /// Gives a label its value.
+    fn give(&mut self, field: LabelField, value: i64) -> Result<(), AsmFault>
+        ensures ok { OnOk result (places_of self.new ≡ with_label (places_of self.old) (well_formed field) value) }
+        ensures err { IfErr result IsMemory }
+    {
+        if let LabelField::Label(label) = field {
+            self.values.insert(label, value)?;
+        }
+        Ok(())
+    }
+
+    /// Notes that a constant is used as a literal.
+    fn note_literal(&mut self, constant: Constant) -> Result<(), AsmFault>
+        ensures ok { OnOk result (places_of self.new ≡ with_literal (places_of self.old) constant) }
+        ensures err { IfErr result IsMemory }
+    {
+        let characters = Characters::from_constant(constant);
+        if self.literals.contains(&characters) {
+            return Ok(());
+        }
+        self.literals.insert(characters)?;
+        self.spellings.push(constant)?;
+        Ok(())
+    }
+
+    /// Notes the literal that an operand is, if it is one.
+    fn note_operand(&mut self, field: OperandField) -> Result<(), AsmFault>
+        ensures ok { OnOk result (places_of self.new ≡ with_operand (places_of self.old) field) }
+        ensures err { IfErr result IsMemory }
+    {
+        match field {
+            OperandField::Operand(Operand::Literal(constant)) => self.note_literal(constant),
+            OperandField::Operand(Operand::Address(_))
+            | OperandField::Absent
+            | OperandField::Malformed => Ok(()),
+        }
+    }
+
+    /// Places the literals that are used and not placed.
+    fn place_pending(&mut self) -> Result<(), AsmFault>
+        ensures ok { OnOk result (places_of self.new ≡ with_pending (places_of self.old)) }
+        ensures err { IfErr result IsMemory }
+    {
+        let first = self.addresses.len();
+        let literals = behind(&self.literals, first);
+        self.next = place_literals(self.next, literals, &mut self.addresses)?;
+        Ok(())
+    }
+
+    /// Goes on behind a body, and notes and places its literals.
+    fn pass(&mut self, body: Body) -> Result<(), AsmFault>
+        ensures ok { OnOk result (places_of self.new ≡ behind_body (places_of self.old) body) }
+        ensures err { IfErr result IsMemory }
+    {
+        match body {
+            Body::Instruction(_, operands) => {
+                self.next = plus(self.next, i64::from(instruction_length(operands)))?;
+                self.note_operand(operands.a)?;
+                self.note_operand(operands.b)?;
+            },
+            Body::MarkedConstant(_) | Body::Constant(_) | Body::Space(_) => {
+                self.next = plus(self.next, i64::from(length_of(body)))?;
+            },
+            Body::Areas(_) => {
+                self.areas = self.next;
+                self.next = plus(self.next, i64::from(length_of(body)))?;
+            },
+            Body::Origin(operands) => self.next = self.value_so_far(operands.a)?,
+            Body::Execute(_) | Body::End(_) => self.place_pending()?,
+            Body::Unknown | Body::Field(_) | Body::Equate(_) => {},
+        }
+        Ok(())
+    }
+
+    /// Places a line.
+    pub(crate) fn place(&mut self, line: &Line) -> Result<(), AsmFault>
+        ensures ok { OnOk result (places_of self.new ≡ after_line (places_of self.old) line.now) }
+        ensures err { IfErr result IsMemory }
+    {
+        let Some(Statement { label, body }) = line.statement else {
+            return Ok(());
+        };
+        let value = self.label_value(body)?;
+        self.pass(body)?;
+        self.give(label, value)?;
+        Ok(())
+    }
+}
+
+/// What is placed by all lines.
+///
+/// # Errors
+///
+/// `Memory` where there is no room for labels and literals.
+pub(crate) fn place_all(alloc: Global, lines: &[Line]) -> Result<Placing, AsmFault>
+    ensures ok { IfOk result (λ placing. places_of placing ≡ placed lines.now) }
+    ensures err { IfErr result IsMemory }
+{
+    let mut placing = Placing::new(alloc);
+    for line in lines {
+        placing.place(line)?;
+    }
+    Ok(placing)
+}

@@ -1,0 +1,34 @@
+//! A source as its lines.
+ghost use Rattle.std.specs.Prelude.{◌≡◌, ◌<◌, ◌^◌, map, vec_len, IfOk, IfErr};
+ghost use Rattle.source_1401.specs.SourceLine.{lines_of};
+ghost use Rattle.source_1401.specs.Statement.{line_of};
+ghost use Rattle.autocoder_1401.specs.Fault.{IsMemory};
+
+use crate::fault::AsmFault;
+use source_1401::{Line, split_line};
+use std::alloc::Global;
+
+/// How many lines a source has at the most.
+const MOST_LINES: usize = 4_294_967_295;
+
+/// What the lines of a source say, each by itself.
+///
+/// # Errors
+///
+/// `Memory` where there is no room for them, or they are too many.
+pub(crate) fn read_lines(alloc: Global, source: &[u8]) -> Result<Vec<Line>, AsmFault>
+    ensures lines { IfOk result (λ v. v.items ≡ map line_of (lines_of source.now)) }
+    ensures few { IfOk result (λ v. vec_len v < 2 ^ 32) }
+    ensures err { IfErr result IsMemory }
+{
+    let mut lines = Vec::new(alloc);
+    let mut rest = source;
+    while let Some((line, behind)) = split_line(rest) {
+        if lines.len() == MOST_LINES {
+            return Err(AsmFault::MEMORY);
+        }
+        lines.push(Line::from_bytes(line))?;
+        rest = behind;
+    }
+    Ok(lines)
+}

@@ -1,0 +1,5 @@
+pub mod NumbersLemmas
+mod OperandExamples
+mod SourceLineExamples
+pub mod SourceLineLemmas
+mod StatementExamples

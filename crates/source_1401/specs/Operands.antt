@@ -1,0 +1,129 @@
+-- The operands of an instruction (Autocoder, "Operand"; the ends of operands own).
+use Rattle.std.specs.Prelude.{ℕ, ◌+◌, ◌==◌, nat_le, nat_lt, Bool, true, false, not, ◌&&◌, ◌||◌, if◌then◌else◌, List, [], ◌∷◌, take, drop, Option, None, Some, is_some}
+use Rattle.std.specs.Option.{option_map}
+use Rattle.source_1401.specs.Address.{address_of}
+use Rattle.source_1401.specs.Constant.{constant_of}
+use Rattle.source_1401.specs.declared.mnemonic.DCharacter.{DCharacter}
+use Rattle.source_1401.specs.declared.mnemonic.DCharacter.TheVariants as d
+use Rattle.source_1401.specs.declared.mnemonic.Form.{Form}
+use Rattle.source_1401.specs.declared.operands.Operand.{Operand}
+use Rattle.source_1401.specs.declared.operands.Operand.TheVariants as operands
+use Rattle.source_1401.specs.declared.operands.OperandField.{OperandField}
+use Rattle.source_1401.specs.declared.operands.OperandField.TheVariants as fields
+use Rattle.source_1401.specs.declared.operands.Operands.{Operands}
+
+-- operands end at a blank, or with the columns
+abbrev pub is_ended : List ℕ → Bool
+is_ended [] = true
+is_ended (byte ∷ more) = byte == 32
+
+-- how many bytes an operand has, which begins within two at signs or not: up to the first comma or blank outside of them
+abbrev pub operand_len : Bool → List ℕ → ℕ
+operand_len is_quoted [] = 0
+operand_len is_quoted (byte ∷ more) =
+    if not is_quoted && ((byte == 44) || (byte == 32)) then 0
+    else 1 + operand_len (if byte == 64 then not is_quoted else is_quoted) more
+
+abbrev pub operand_in : List ℕ → List ℕ
+operand_in text = take (operand_len false text) text
+
+abbrev pub behind_operand : List ℕ → List ℕ
+behind_operand text = drop (operand_len false text) text
+
+-- the one operand that there is
+abbrev pub lone_operand : List ℕ → List ℕ
+lone_operand text = if is_ended (behind_operand text) then operand_in text else []
+
+-- the one operand behind a comma
+abbrev pub operand_behind_comma : List ℕ → List ℕ
+operand_behind_comma [] = []
+operand_behind_comma (byte ∷ more) = if byte == 44 then lone_operand more else []
+
+-- a literal begins with an at sign or a sign
+abbrev pub begins_literal : ℕ → Bool
+begins_literal byte = (byte == 64) || (byte == 43) || (byte == 45)
+
+-- the address or the literal that a word is
+abbrev pub operand_of : List ℕ → Option Operand
+operand_of [] = None
+operand_of (byte ∷ more) =
+    if begins_literal byte then option_map operands.Literal (constant_of (byte ∷ more))
+    else option_map operands.Address (address_of (byte ∷ more))
+
+-- a word that should be an address or a literal
+abbrev pub field_with : Option Operand → OperandField
+field_with None = fields.Malformed
+field_with (Some operand) = fields.Operand operand
+
+abbrev pub field_of : List ℕ → OperandField
+field_of word = field_with (operand_of word)
+
+-- an operand, and what stands behind it
+abbrev pub OperandAndRest : Type 0
+OperandAndRest = OperandField × List ℕ
+
+abbrev pub read_operand : List ℕ → OperandAndRest
+read_operand text = (field_of (operand_in text), behind_operand text)
+
+-- the first of at most so many addresses, unless the first column is blank
+abbrev pub first_operand : ℕ → List ℕ → OperandAndRest
+first_operand most text = if (most == 0) || is_ended text then (fields.Absent, text) else read_operand text
+
+-- the second stands behind a comma
+abbrev pub second_operand : ℕ → List ℕ → OperandAndRest
+second_operand most [] = (fields.Absent, [])
+second_operand most (byte ∷ more) = if (byte == 44) && nat_lt 1 most then read_operand more else (fields.Absent, byte ∷ more)
+
+-- a d-character is any graphic in one column, and nothing stands behind it
+abbrev pub lone_d : List ℕ → Option ℕ
+lone_d [] = None
+lone_d (byte ∷ more) = if is_ended more then Some byte else None
+
+abbrev pub d_behind_comma : List ℕ → Option ℕ
+d_behind_comma [] = None
+d_behind_comma (byte ∷ more) = if byte == 44 then lone_d more else None
+
+-- the d-character behind at most so many addresses
+abbrev pub d_at : ℕ → List ℕ → Option ℕ
+d_at most rest = if most == 0 then lone_d rest else d_behind_comma rest
+
+-- a d-character, and whether it is as the form asks
+abbrev pub Read : Type 0
+Read = Option ℕ × Bool
+
+abbrev pub asked : Option ℕ → Read
+asked read = (read, is_some read)
+
+abbrev pub d_by : DCharacter → ℕ → List ℕ → Read
+d_by d.Never most rest = (None, is_ended rest)
+d_by (d.Fixed graphic) most rest = (Some graphic, is_ended rest)
+d_by d.Optional most rest = if is_ended rest then (None, true) else asked (d_at most rest)
+d_by d.Required most rest = asked (d_at most rest)
+
+abbrev pub d_of : Form → List ℕ → Read
+d_of form rest = d_by form.d form.most rest
+
+-- how many addresses stand in a field
+abbrev pub count_of : OperandField → ℕ
+count_of fields.Absent = 0
+count_of fields.Malformed = 1
+count_of (fields.Operand operand) = 1
+
+abbrev pub is_malformed : OperandField → Bool
+is_malformed fields.Absent = false
+is_malformed fields.Malformed = true
+is_malformed (fields.Operand operand) = false
+
+-- the operands of a form, by what was read one behind the other
+abbrev pub operands_with : ℕ → OperandField → OperandField → Read → Operands
+operands_with least a b read = record { a = a; b = b; d = read.0; is_whole = read.1 && nat_le least (count_of a + count_of b) }
+
+abbrev pub operands_of : Form → List ℕ → Operands
+operands_of form columns =
+    let first = first_operand form.most columns in
+    let second = second_operand form.most first.1 in
+    operands_with form.least first.0 second.0 (d_of form second.1)
+
+-- operands that aren't as the instruction asks
+abbrev pub has_malformed : Operands → Bool
+has_malformed this = not this.is_whole || is_malformed this.a || is_malformed this.b

@@ -1,0 +1,195 @@
+-- What a line says, without its neighbours (Autocoder, "Coding Sheet", "Declarative Operations", "Assembler Control").
+use Rattle.std.specs.Prelude.{ℕ, ◌==◌, nat_lt, Bool, true, false, not, ◌&&◌, if◌then◌else◌, List, length, take, drop, Option, None, Some, is_none}
+use Rattle.std.specs.Option.{option_map, option_and_then}
+use Rattle.std.specs.List.{position_or_len}
+use Rattle.source_1401.specs.SourceLine.{columns_of, columns_in, is_comment, has_foreign_bytes}
+use Rattle.source_1401.specs.Label.{label_in}
+use Rattle.source_1401.specs.Mnemonic.{operation_of}
+use Rattle.source_1401.specs.Numbers.{number_between}
+use Rattle.source_1401.specs.Constant.{constant_of}
+use Rattle.source_1401.specs.Operands.{operand_in, behind_operand, lone_operand, operand_behind_comma, operands_of, has_malformed}
+use Rattle.source_1401.specs.declared.address.Base.{Base}
+use Rattle.source_1401.specs.declared.address.Base.TheVariants as bases
+use Rattle.source_1401.specs.declared.label.Label.{Label}
+use Rattle.source_1401.specs.declared.label.LabelField.{LabelField}
+use Rattle.source_1401.specs.declared.label.LabelField.TheVariants as labels
+use Rattle.source_1401.specs.declared.mnemonic.DCharacter.TheVariants as d
+use Rattle.source_1401.specs.declared.mnemonic.Form.{Form}
+use Rattle.source_1401.specs.declared.mnemonic.Operation.{Operation}
+use Rattle.source_1401.specs.declared.mnemonic.Operation.TheVariants as operations
+use Rattle.source_1401.specs.declared.operands.Operand.{Operand}
+use Rattle.source_1401.specs.declared.operands.Operand.TheVariants as operands
+use Rattle.source_1401.specs.declared.operands.OperandField.{OperandField}
+use Rattle.source_1401.specs.declared.operands.OperandField.TheVariants as fields
+use Rattle.source_1401.specs.declared.operands.Operands.{Operands}
+use Rattle.source_1401.specs.declared.statement.Areas.{Areas}
+use Rattle.source_1401.specs.declared.statement.Span.{Span}
+use Rattle.source_1401.specs.declared.statement.Body.{Body}
+use Rattle.source_1401.specs.declared.statement.Body.TheVariants as bodies
+use Rattle.source_1401.specs.declared.statement.Bytes.{Bytes}
+use Rattle.source_1401.specs.declared.statement.Bytes.TheVariants as bytes
+use Rattle.source_1401.specs.declared.statement.Statement.{Statement}
+use Rattle.source_1401.specs.declared.statement.Line.{Line}
+
+-- one address, without a d-character
+abbrev pub one_address : Form
+one_address = record { least = 1; most = 1; d = d.Never }
+
+abbrev pub is_x : ℕ → Bool
+is_x byte = byte == 88
+
+-- the number of areas, an X, and the length of each
+abbrev pub areas_of : List ℕ → Option Areas
+areas_of word =
+    let n = position_or_len is_x word in
+    option_and_then
+    (λ count. option_map (λ length. record { count = count; length = length }) (number_between 1 999 (drop 1 (drop n word))))
+    (number_between 1 99 (take n word))
+
+-- the first place of a field and its last, with a comma between them
+abbrev pub span_of : List ℕ → Option Span
+span_of columns =
+    option_and_then
+    (λ first. option_map (λ last. record { first = first; last = last }) (number_between first 999 (operand_behind_comma (behind_operand columns))))
+    (number_between 1 999 (operand_in columns))
+
+-- what an operation with these columns for its operands asks for
+abbrev pub body_with : Operation → List ℕ → Body
+body_with (operations.Instruction instruction) columns = bodies.Instruction instruction (operands_of instruction.form columns)
+body_with operations.MarkedConstant columns = bodies.MarkedConstant (constant_of (lone_operand columns))
+body_with operations.Constant columns = bodies.Constant (constant_of (lone_operand columns))
+body_with operations.Space columns = bodies.Space (number_between 1 15999 (lone_operand columns))
+body_with operations.Areas columns = bodies.Areas (areas_of (lone_operand columns))
+body_with operations.Field columns = bodies.Field (span_of columns)
+body_with operations.Equate columns = bodies.Equate (operands_of one_address columns)
+body_with operations.Origin columns = bodies.Origin (operands_of one_address columns)
+body_with operations.Execute columns = bodies.Execute (operands_of one_address columns)
+body_with operations.End columns = bodies.End (operands_of one_address columns)
+
+abbrev pub body_by : Option Operation → List ℕ → Body
+body_by None columns = bodies.Unknown
+body_by (Some operation) columns = body_with operation columns
+
+-- what columns 16 to 20 and columns 21 to 72 ask for
+abbrev pub body_of : List ℕ → List ℕ → Body
+body_of operation columns = body_by (operation_of operation) columns
+
+-- what a line says that is no comment
+abbrev pub statement_of : List ℕ → Statement
+statement_of columns =
+    record { label = label_in (columns_in 6 15 columns); body = body_of (columns_in 16 20 columns) (columns_in 21 72 columns) }
+
+-- whether a line of this length with these columns can be a line
+abbrev pub bytes_with : ℕ → List ℕ → Bytes
+bytes_with len columns =
+    if nat_lt 80 len then bytes.Long else if has_foreign_bytes columns then bytes.Foreign else bytes.Good
+
+-- what a line with these columns says
+abbrev pub line_with : ℕ → List ℕ → Line
+line_with len columns =
+    record { bytes = bytes_with len columns; statement = if is_comment columns then None else Some (statement_of columns) }
+
+-- what a line says by itself
+abbrev pub line_of : List ℕ → Line
+line_of line = line_with (length line) (columns_of line)
+
+-- an asterisk is no value
+abbrev pub is_here : Base → Bool
+is_here (bases.Number number) = false
+is_here (bases.Symbol label) = false
+is_here bases.Here = true
+
+-- an address without asterisk and index register
+abbrev pub is_plain : Operand → Bool
+is_plain (operands.Address address) = (address.index == 0) && not (is_here address.base)
+is_plain (operands.Literal constant) = false
+
+abbrev pub is_plain_field : OperandField → Bool
+is_plain_field fields.Absent = false
+is_plain_field fields.Malformed = false
+is_plain_field (fields.Operand operand) = is_plain operand
+
+-- operands that are one such address
+abbrev pub is_value : Operands → Bool
+is_value this = this.is_whole && is_plain_field this.a
+
+-- operands that aren't as the operation asks, whatever stands around the line
+abbrev pub has_bad_operands : Body → Bool
+has_bad_operands bodies.Unknown = false
+has_bad_operands (bodies.Instruction instruction operands) = has_malformed operands
+has_bad_operands (bodies.MarkedConstant constant) = is_none constant
+has_bad_operands (bodies.Constant constant) = is_none constant
+has_bad_operands (bodies.Space places) = is_none places
+has_bad_operands (bodies.Areas areas) = is_none areas
+has_bad_operands (bodies.Field span) = is_none span
+has_bad_operands (bodies.Equate operands) = not (is_value operands)
+has_bad_operands (bodies.Origin operands) = not (is_value operands)
+has_bad_operands (bodies.Execute operands) = not (is_value operands)
+has_bad_operands (bodies.End operands) = not (is_value operands)
+
+-- EQU needs a label
+abbrev pub needs_label : Body → Bool
+needs_label bodies.Unknown = false
+needs_label (bodies.Instruction instruction operands) = false
+needs_label (bodies.MarkedConstant constant) = false
+needs_label (bodies.Constant constant) = false
+needs_label (bodies.Space places) = false
+needs_label (bodies.Areas areas) = false
+needs_label (bodies.Field span) = false
+needs_label (bodies.Equate operands) = true
+needs_label (bodies.Origin operands) = false
+needs_label (bodies.Execute operands) = false
+needs_label (bodies.End operands) = false
+
+-- ORG, EX and END have none
+abbrev pub takes_label : Body → Bool
+takes_label bodies.Unknown = true
+takes_label (bodies.Instruction instruction operands) = true
+takes_label (bodies.MarkedConstant constant) = true
+takes_label (bodies.Constant constant) = true
+takes_label (bodies.Space places) = true
+takes_label (bodies.Areas areas) = true
+takes_label (bodies.Field span) = true
+takes_label (bodies.Equate operands) = true
+takes_label (bodies.Origin operands) = false
+takes_label (bodies.Execute operands) = false
+takes_label (bodies.End operands) = false
+
+abbrev pub is_bad_label : LabelField → Body → Bool
+is_bad_label labels.Absent body = needs_label body
+is_bad_label labels.Malformed body = true
+is_bad_label (labels.Label label) body = not (takes_label body)
+
+abbrev pub has_bad_label : Statement → Bool
+has_bad_label this = is_bad_label this.label this.body
+
+-- a well-formed label
+abbrev pub well_formed : LabelField → Option Label
+well_formed labels.Absent = None
+well_formed labels.Malformed = None
+well_formed (labels.Label label) = Some label
+
+-- the label of a line, whatever else is wrong with it
+abbrev pub label_of_line : Line → Option Label
+label_of_line this = option_and_then (λ (statement : Statement). well_formed statement.label) this.statement
+
+abbrev pub is_end_body : Body → Bool
+is_end_body bodies.Unknown = false
+is_end_body (bodies.Instruction instruction operands) = false
+is_end_body (bodies.MarkedConstant constant) = false
+is_end_body (bodies.Constant constant) = false
+is_end_body (bodies.Space places) = false
+is_end_body (bodies.Areas areas) = false
+is_end_body (bodies.Field span) = false
+is_end_body (bodies.Equate operands) = false
+is_end_body (bodies.Origin operands) = false
+is_end_body (bodies.Execute operands) = false
+is_end_body (bodies.End operands) = true
+
+abbrev pub is_end_statement : Option Statement → Bool
+is_end_statement None = false
+is_end_statement (Some statement) = is_end_body statement.body
+
+-- whether the operation of a line is END
+abbrev pub is_end : Line → Bool
+is_end this = is_end_statement this.statement

@@ -1,0 +1,170 @@
+//! Addresses as the source writes them.
+ghost use Rattle.std.specs.Prelude.{◌≡◌, ◌<◌, ◌≤◌, ◌+ℤ◌, length, pos, slice_index};
+ghost use Rattle.std.specs.List.{prefix_len};
+ghost use Rattle.source_1401.specs.Label.{is_digit, is_letter_or_digit};
+ghost use Rattle.source_1401.specs.Address.{begins_with_asterisk, is_adjusted, adjustment_of, index_of, base_len, base_of, indexed, adjusted_by, adjusted, address_of};
+
+use crate::label::{Label, is_digit, is_letter_or_digit};
+use crate::numbers::short_number;
+
+/// What an address is counted from.
+#[derive(Clone, Copy, Debug, PartialEq, Eq)]
+pub enum Base {
+    /// A number, of at most five digits.
+    Number(u32),
+    /// The value of a label.
+    Symbol(Label),
+    /// An asterisk: the last place of the instruction itself.
+    Here,
+}
+
+/// An address as the source writes it.
+#[derive(Clone, Copy, Debug, PartialEq, Eq)]
+pub struct Address {
+    /// What it is counted from.
+    pub base: Base,
+    /// What is added to that, from -99,999 to 99,999.
+    pub adjustment: i32,
+    /// The number of the index register, 0 for none.
+    pub index: u8,
+}
+
+/// How many letters and digits a text begins with.
+fn letters_and_digits_in_front(text: &[u8]) -> usize
+    ensures value { result ≡ prefix_len is_letter_or_digit text.now }
+    ensures bound { result ≤ length text.now }
+{
+    text.iter()
+        .take_while(|byte| is_letter_or_digit(**byte))
+        .count()
+}
+
+/// How many digits a text begins with.
+fn digits_in_front(text: &[u8]) -> usize
+    ensures value { result ≡ prefix_len is_digit text.now }
+    ensures bound { result ≤ length text.now }
+{
+    text.iter().take_while(|byte| is_digit(**byte)).count()
+}
+
+/// Whether a text begins with an asterisk.
+fn begins_with_asterisk(text: &[u8]) -> bool
+    ensures value { result ≡ begins_with_asterisk text.now }
+{
+    match text {
+        [first, ..] => *first == b'*',
+        [] => false,
+    }
+}
+
+/// How many bytes the base of an address has: an asterisk, or the letters and digits in front.
+fn base_len(text: &[u8]) -> usize
+    ensures value { result ≡ base_len text.now }
+    ensures bound { result ≤ length text.now }
+{
+    if begins_with_asterisk(text) {
+        1
+    } else {
+        letters_and_digits_in_front(text)
+    }
+}
+
+/// The base that a word is, if it is one.
+fn base_of(word: &[u8]) -> Option<Base>
+    ensures { result ≡ base_of word.now }
+{
+    if word == b"*".as_slice() {
+        return Some(Base::Here);
+    }
+    if let Some(number) = short_number(word) {
+        return Some(Base::Number(number));
+    }
+    Label::from_word(word).map(Base::Symbol)
+}
+
+/// The index register that stands behind the rest of an address: 0 where nothing stands there, none where something else
+/// does.
+fn index_of(rest: &[u8]) -> Option<u8>
+    ensures { result ≡ index_of rest.now }
+{
+    if rest.is_empty() {
+        Some(0)
+    } else if rest == b"+X1".as_slice() {
+        Some(1)
+    } else if rest == b"+X2".as_slice() {
+        Some(2)
+    } else if rest == b"+X3".as_slice() {
+        Some(3)
+    } else {
+        None
+    }
+}
+
+/// An address, where an index register or nothing stands behind the rest of it.
+fn indexed(base: Base, adjustment: i32, rest: &[u8]) -> Option<Address>
+    ensures { result ≡ indexed base adjustment rest.now }
+{
+    match index_of(rest) {
+        Some(index) => Some(Address {
+            base,
+            adjustment,
+            index,
+        }),
+        None => None,
+    }
+}
+
+/// Whether a text begins with a sign and a digit.
+fn is_adjusted(text: &[u8]) -> bool
+    ensures { result ≡ is_adjusted text.now }
+{
+    match text {
+        [sign, digit, ..] => (*sign == b'+' || *sign == b'-') && is_digit(*digit),
+        _ => false,
+    }
+}
+
+/// A number with a sign in front of it.
+fn adjustment_of(sign: u8, number: u32) -> i32
+    requires { number < 100000 }
+    ensures { result ≡ adjustment_of sign number }
+{
+    if sign == b'-' {
+        -(number as i32)
+    } else {
+        number as i32
+    }
+}
+
+/// An address with the adjustment that a sign and the digits behind it say.
+fn adjusted_by(base: Base, sign: u8, text: &[u8]) -> Option<Address>
+    ensures { result ≡ adjusted_by base sign text.now }
+{
+    let (digits, rest) = text.split_at(digits_in_front(text));
+    let number = short_number(digits)?;
+    indexed(base, adjustment_of(sign, number), rest)
+}
+
+/// An address by its base and what stands behind that.
+fn adjusted(base: Base, rest: &[u8]) -> Option<Address>
+    ensures { result ≡ adjusted base rest.now }
+{
+    if !is_adjusted(rest) {
+        return indexed(base, 0, rest);
+    }
+    match rest {
+        [sign, digits @ ..] => adjusted_by(base, *sign, digits),
+        [] => None,
+    }
+}
+
+impl Address {
+    /// The address that a word is, if it is one.
+    pub(crate) fn from_word(word: &[u8]) -> Option<Address>
+        ensures { result ≡ address_of word.now }
+    {
+        let (front, rest) = word.split_at(base_len(word));
+        let base = base_of(front)?;
+        adjusted(base, rest)
+    }
+}

@@ -1,0 +1,78 @@
+//! The columns of a line.
+ghost use Rattle.std.specs.Prelude.{◌≡◌, ◌+◌, ◌-◌, ◌<◌, ◌≤◌, ◌==◌, length, slice_range};
+ghost use Rattle.std.specs.List.{list_all};
+ghost use Rattle.source_1401.specs.SourceLine.{padded, columns_of, columns_in, is_blank, is_printable, is_graphic, is_comment, has_foreign_bytes};
+
+use bcd_1401::Char;
+
+/// How many columns a line has.
+pub const COLUMNS: usize = 80;
+
+/// A text with blanks behind it.
+pub(crate) fn padded<const N: usize>(text: &[u8]) -> [u8; N]
+    requires { length text.now ≤ N }
+    ensures { result ≡ padded N text.now }
+{
+    let mut padded = [b' '; N];
+    padded[..text.len()].copy_from_slice(text);
+    padded
+}
+
+/// The columns of a line. A shorter line goes on in blanks; of a longer one these are the first 80.
+#[tactic(auto, unfolding(crate::specs::SourceLine::columns_of))]
+pub(crate) fn columns_of(line: &[u8]) -> [u8; COLUMNS]
+    ensures { result ≡ columns_of line.now }
+{
+    padded(&line[..line.len().min(COLUMNS)])
+}
+
+/// The columns from one to another, counted from 1.
+pub(crate) fn columns_in(columns: &[u8; COLUMNS], first: usize, last: usize) -> &[u8]
+    requires first { 1 ≤ first }
+    requires order { first ≤ last }
+    requires last { last ≤ 80 }
+    ensures { result.now ≡ columns_in first last columns.now }
+{
+    &columns[first - 1..last]
+}
+
+/// Whether the bytes are blanks.
+pub(crate) fn are_blank(text: &[u8]) -> bool
+    ensures { result ≡ list_all is_blank text.now }
+{
+    text.iter().all(|byte| *byte == b' ')
+}
+
+/// Whether the bytes can be printed: 32 to 126.
+fn are_printable(text: &[u8]) -> bool
+    ensures { result ≡ list_all is_printable text.now }
+{
+    text.iter().all(|byte| *byte >= b' ' && *byte <= b'~')
+}
+
+/// Whether the bytes are graphics of characters.
+fn are_graphics(text: &[u8]) -> bool
+    ensures { result ≡ list_all is_graphic text.now }
+{
+    text.iter().all(|byte| Char::from_graphic(*byte).is_some())
+}
+
+/// Whether a line is a comment: it has an asterisk in column 6, or blanks alone.
+pub(crate) fn is_comment(columns: &[u8; COLUMNS]) -> bool
+    ensures { result ≡ is_comment columns.now }
+{
+    columns[5] == b'*' || are_blank(columns)
+}
+
+/// Whether a column holds a byte that can't stand there.
+pub(crate) fn has_foreign_bytes(columns: &[u8; COLUMNS]) -> bool
+    ensures { result ≡ has_foreign_bytes columns.now }
+{
+    if is_comment(columns) {
+        !are_printable(columns)
+    } else {
+        !are_printable(columns_in(columns, 1, 5))
+            || !are_graphics(columns_in(columns, 6, 72))
+            || !are_printable(columns_in(columns, 73, 80))
+    }
+}

@@ -1,0 +1,124 @@
+//! Constants and literals.
+ghost use Rattle.std.specs.Prelude.{◌≡◌, ◌≤◌, length};
+ghost use Rattle.std.specs.Option.{option_map, ForSome};
+ghost use Rattle.std.specs.List.{position_or_len, list_all};
+ghost use Rattle.source_1401.specs.Label.{is_digit};
+ghost use Rattle.source_1401.specs.declared.constant.Constant.TheVariants.{Blanks};
+ghost use Rattle.source_1401.specs.Constant.{is_at_sign, text_of, bytes_of, quoted, digits_in, constant_of};
+
+use crate::columns::padded;
+use crate::label::is_digit;
+use crate::numbers::number_between;
+
+/// How many graphics the text of a constant has at the most.
+pub const TEXT_LENGTH: usize = 50;
+
+/// How many digits the number of a constant has at the most.
+const NUMBER_LENGTH: usize = 20;
+
+/// The text of a constant, of at most 50 graphics.
+#[derive(Clone, Copy, Debug, PartialEq, Eq, Hash)]
+pub struct Text {
+    /// The graphics, with blanks behind them.
+    pub bytes: [u8; 50],
+    /// How many there are.
+    pub len: u8,
+}
+
+impl Text {
+    /// These graphics.
+    fn from_slice(text: &[u8]) -> Text
+        requires { length text.now ≤ 50 }
+        ensures { result ≡ text_of text.now }
+    {
+        Text {
+            bytes: padded(text),
+            len: text.len() as u8,
+        }
+    }
+
+    /// The graphics.
+    pub fn as_slice(&self) -> &[u8]
+        ensures { result.now ≡ bytes_of self.now }
+    {
+        &self.bytes[..usize::from(self.len).min(TEXT_LENGTH)]
+    }
+}
+
+/// What a constant holds.
+#[derive(Clone, Copy, Debug, PartialEq, Eq)]
+pub enum Constant {
+    /// These graphics, which stand between two at signs.
+    Text(Text),
+    /// These digits, one to twenty, without a sign.
+    Number(Text),
+    /// These digits with a plus sign: zone BA over the units.
+    Plus(Text),
+    /// These digits with a minus sign: zone B over the units.
+    Minus(Text),
+    /// So many blanks, one to fifty, as the number behind a number sign says.
+    Blanks(u8),
+}
+
+/// How many bytes of a text stand before its first at sign.
+fn bytes_before_at_sign(text: &[u8]) -> usize
+    ensures value { result ≡ position_or_len is_at_sign text.now }
+    ensures bound { result ≤ length text.now }
+{
+    text.iter().take_while(|byte| **byte != b'@').count()
+}
+
+/// What stands between two at signs, the first of which stands before the text: one to fifty graphics; none where
+/// something else stands there.
+fn quoted(text: &[u8]) -> Option<Text>
+    ensures { result ≡ quoted text.now }
+{
+    let count = bytes_before_at_sign(text);
+    if count == 0 || count > TEXT_LENGTH || count + 1 != text.len() {
+        return None;
+    }
+    Some(Text::from_slice(&text[..count]))
+}
+
+/// Whether the bytes are digits.
+fn are_digits(text: &[u8]) -> bool
+    ensures { result ≡ list_all is_digit text.now }
+{
+    text.iter().all(|byte| is_digit(*byte))
+}
+
+/// A word of one to twenty digits; none where it is no such word.
+fn digits_in(word: &[u8]) -> Option<Text>
+    ensures { result ≡ digits_in word.now }
+{
+    if word.is_empty() || word.len() > NUMBER_LENGTH || !are_digits(word) {
+        return None;
+    }
+    Some(Text::from_slice(word))
+}
+
+impl Constant {
+    /// The constant that a word is, if it is one.
+    pub(crate) fn from_word(word: &[u8]) -> Option<Constant>
+        ensures { result ≡ constant_of word.now }
+    {
+        match word {
+            [b'@', text @ ..] => quoted(text).map(Constant::Text),
+            [b'+', digits @ ..] => digits_in(digits).map(Constant::Plus),
+            [b'-', digits @ ..] => digits_in(digits).map(Constant::Minus),
+            [b'#', count @ ..] => blanks(number_between(1, TEXT_LENGTH as u32, count)),
+            _ => digits_in(word).map(Constant::Number),
+        }
+    }
+}
+
+/// So many blanks.
+fn blanks(count: Option<u32>) -> Option<Constant>
+    requires { ForSome count (λ n. n ≤ 50) }
+    ensures { result ≡ option_map Blanks count }
+{
+    match count {
+        Some(count) => Some(Constant::Blanks(count as u8)),
+        None => None,
+    }
+}

@@ -1,0 +1,193 @@
+//! The mnemonics: the words of columns 16 to 20.
+ghost use Rattle.std.specs.Prelude.{◌≡◌, find};
+ghost use Rattle.std.specs.Str.{bytes_eq};
+ghost use Rattle.source_1401.specs.Mnemonic.{ARow, AnOwnRow, instructions, instruction_of, assembler_operations, assembler_operation_of, operation_of};
+
+/// Whether an instruction has a d-character, and which.
+#[derive(Clone, Copy, Debug, PartialEq, Eq)]
+pub enum DCharacter {
+    /// It has none.
+    Never,
+    /// It has this graphic, which the source doesn't write.
+    Fixed(u8),
+    /// It has one where the source writes one.
+    Optional,
+    /// The source writes one.
+    Required,
+}
+
+/// The form of an instruction's operands.
+#[derive(Clone, Copy, Debug, PartialEq, Eq)]
+pub struct Form {
+    /// How many addresses the source writes at the least.
+    pub least: u8,
+    /// How many addresses the source writes at the most.
+    pub most: u8,
+    /// The d-character behind them.
+    pub d: DCharacter,
+}
+
+/// An instruction of the machine as the source names it.
+#[derive(Clone, Copy, Debug, PartialEq, Eq)]
+pub struct Instruction {
+    /// The graphic of the operation character.
+    pub operation: u8,
+    /// The form of the operands.
+    pub form: Form,
+}
+
+/// What columns 16 to 20 of a line ask for.
+#[derive(Clone, Copy, Debug, PartialEq, Eq)]
+pub enum Operation {
+    /// An instruction.
+    Instruction(Instruction),
+    /// DCW: a constant with a word mark.
+    MarkedConstant,
+    /// DC: a constant without one.
+    Constant,
+    /// DS: places.
+    Space,
+    /// DA: areas.
+    Areas,
+    /// Columns that are blank: a field of the areas above it.
+    Field,
+    /// EQU: a value for a label.
+    Equate,
+    /// ORG: the next place.
+    Origin,
+    /// EX: literals are placed, and a program that is loaded would be started.
+    Execute,
+    /// END: literals are placed, and the program begins at this address.
+    End,
+}
+
+/// A row of the table of instructions.
+type Row = ([u8; 5], u8, u8, u8, DCharacter);
+
+/// A row of the table of the assembler's own operations.
+type OwnRow = ([u8; 5], Operation);
+
+/// The mnemonics of instructions in the manual's order: the columns 16 to 20, the graphic of the operation character, how
+/// many addresses the source writes at the least and at the most, and the d-character.
+static INSTRUCTIONS: [Row; 42] = [
+    (*b"A    ", b'A', 0, 2, DCharacter::Never),
+    (*b"S    ", b'S', 0, 2, DCharacter::Never),
+    (*b"ZA   ", b'?', 0, 2, DCharacter::Never),
+    (*b"ZS   ", b'!', 0, 2, DCharacter::Never),
+    (*b"MLC  ", b'M', 0, 2, DCharacter::Never),
+    (*b"MCW  ", b'M', 0, 2, DCharacter::Never),
+    (*b"LCA  ", b'L', 0, 2, DCharacter::Never),
+    (*b"MN   ", b'D', 0, 2, DCharacter::Never),
+    (*b"MZ   ", b'Y', 0, 2, DCharacter::Never),
+    (*b"SW   ", b',', 0, 2, DCharacter::Never),
+    (*b"CW   ", b')', 0, 2, DCharacter::Never),
+    (*b"CS   ", b'/', 0, 2, DCharacter::Never),
+    (*b"C    ", b'C', 0, 2, DCharacter::Never),
+    (*b"MCS  ", b'Z', 0, 2, DCharacter::Never),
+    (*b"MCE  ", b'E', 0, 2, DCharacter::Never),
+    (*b"B    ", b'B', 1, 1, DCharacter::Optional),
+    (*b"BCE  ", b'B', 2, 2, DCharacter::Required),
+    (*b"BWZ  ", b'V', 2, 2, DCharacter::Required),
+    (*b"BW   ", b'V', 2, 2, DCharacter::Fixed(b'1')),
+    (*b"BU   ", b'B', 1, 1, DCharacter::Fixed(b'/')),
+    (*b"BAV  ", b'B', 1, 1, DCharacter::Fixed(b'Z')),
+    (*b"BLC  ", b'B', 1, 1, DCharacter::Fixed(b'A')),
+    (*b"BC9  ", b'B', 1, 1, DCharacter::Fixed(b'9')),
+    (*b"BCV  ", b'B', 1, 1, DCharacter::Fixed(b'@')),
+    (*b"BE   ", b'B', 1, 1, DCharacter::Fixed(b'S')),
+    (*b"BL   ", b'B', 1, 1, DCharacter::Fixed(b'T')),
+    (*b"BH   ", b'B', 1, 1, DCharacter::Fixed(b'U')),
+    (*b"BSS  ", b'B', 1, 1, DCharacter::Required),
+    (*b"SAR  ", b'Q', 1, 1, DCharacter::Never),
+    (*b"SBR  ", b'H', 1, 1, DCharacter::Never),
+    (*b"R    ", b'1', 0, 1, DCharacter::Never),
+    (*b"W    ", b'2', 0, 1, DCharacter::Never),
+    (*b"WR   ", b'3', 0, 1, DCharacter::Never),
+    (*b"P    ", b'4', 0, 1, DCharacter::Never),
+    (*b"RP   ", b'5', 0, 1, DCharacter::Never),
+    (*b"WP   ", b'6', 0, 1, DCharacter::Never),
+    (*b"WRP  ", b'7', 0, 1, DCharacter::Never),
+    (*b"WM   ", b'2', 0, 1, DCharacter::Fixed(b')')),
+    (*b"CC   ", b'F', 0, 0, DCharacter::Required),
+    (*b"SS   ", b'K', 0, 0, DCharacter::Required),
+    (*b"NOP  ", b'N', 0, 0, DCharacter::Never),
+    (*b"H    ", b'.', 0, 1, DCharacter::Never),
+];
+
+/// The mnemonics of the assembler's own operations.
+static ASSEMBLER_OPERATIONS: [OwnRow; 9] = [
+    (*b"DCW  ", Operation::MarkedConstant),
+    (*b"DC   ", Operation::Constant),
+    (*b"DS   ", Operation::Space),
+    (*b"DA   ", Operation::Areas),
+    (*b"EQU  ", Operation::Equate),
+    (*b"ORG  ", Operation::Origin),
+    (*b"EX   ", Operation::Execute),
+    (*b"END  ", Operation::End),
+    (*b"     ", Operation::Field),
+];
+
+/// The table of instructions.
+#[tactic(auto, unfolding(crate::specs::Mnemonic::instructions))]
+fn instructions() -> &'static [Row]
+    ensures { result.now ≡ instructions }
+{
+    &INSTRUCTIONS
+}
+
+/// The table of the assembler's own operations.
+#[tactic(auto, unfolding(crate::specs::Mnemonic::assembler_operations))]
+fn assembler_operations() -> &'static [OwnRow]
+    ensures { result.now ≡ assembler_operations }
+{
+    &ASSEMBLER_OPERATIONS
+}
+
+/// The row of these columns.
+fn row_of(rows: &[Row], columns: &[u8]) -> Option<Row>
+    ensures { result ≡ find (λ (row : ARow). bytes_eq row.0 columns.now) rows.now }
+{
+    rows.iter().copied().find(|row| row.0.as_slice() == columns)
+}
+
+/// The row of these columns among the assembler's own.
+fn own_row_of(rows: &[OwnRow], columns: &[u8]) -> Option<OwnRow>
+    ensures { result ≡ find (λ (row : AnOwnRow). bytes_eq row.0 columns.now) rows.now }
+{
+    rows.iter().copied().find(|row| row.0.as_slice() == columns)
+}
+
+/// The instruction that the columns ask for, if they ask for one.
+fn instruction_of(columns: &[u8]) -> Option<Instruction>
+    ensures { result ≡ instruction_of columns.now }
+{
+    match row_of(instructions(), columns) {
+        Some((_, operation, least, most, d)) => Some(Instruction {
+            operation,
+            form: Form { least, most, d },
+        }),
+        None => None,
+    }
+}
+
+/// What the columns ask for of the assembler itself, if they do.
+fn assembler_operation_of(columns: &[u8]) -> Option<Operation>
+    ensures { result ≡ assembler_operation_of columns.now }
+{
+    match own_row_of(assembler_operations(), columns) {
+        Some((_, operation)) => Some(operation),
+        None => None,
+    }
+}
+
+impl Operation {
+    /// What the columns 16 to 20 ask for, if they ask for anything that is known.
+    pub(crate) fn from_columns(columns: &[u8]) -> Option<Operation>
+        ensures { result ≡ operation_of columns.now }
+    {
+        match instruction_of(columns) {
+            Some(instruction) => Some(Operation::Instruction(instruction)),
+            None => assembler_operation_of(columns),
+        }
+    }
+}

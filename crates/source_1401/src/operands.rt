@@ -1,0 +1,222 @@
+//! The operands of an instruction.
+ghost use Rattle.std.specs.Prelude.{◌≡◌, ◌≤◌, false, length};
+ghost use Rattle.source_1401.specs.Operands.{is_ended, operand_len, operand_in, behind_operand, lone_operand, operand_behind_comma, operand_of, field_of, first_operand, second_operand, lone_d, d_at, d_of, count_of, is_malformed, operands_of, has_malformed};
+
+use crate::address::Address;
+use crate::constant::Constant;
+use crate::mnemonic::{DCharacter, Form};
+
+/// What stands for an address.
+#[derive(Clone, Copy, Debug, PartialEq, Eq)]
+pub enum Operand {
+    /// An address.
+    Address(Address),
+    /// A literal: the address of a constant that the assembler places.
+    Literal(Constant),
+}
+
+/// What stands where an instruction may have an address.
+#[derive(Clone, Copy, Debug, PartialEq, Eq)]
+pub enum OperandField {
+    /// Nothing.
+    Absent,
+    /// Something that is neither an address nor a literal.
+    Malformed,
+    /// An address or a literal.
+    Operand(Operand),
+}
+
+/// The operands of an instruction.
+#[derive(Clone, Copy, Debug, PartialEq, Eq)]
+pub struct Operands {
+    /// The first address.
+    pub a: OperandField,
+    /// The second address.
+    pub b: OperandField,
+    /// The graphic of the d-character.
+    pub d: Option<u8>,
+    /// Whether these are as many as the instruction asks for, and nothing else stands there.
+    pub is_whole: bool,
+}
+
+/// Whether nothing stands here: a blank, or the end of the columns.
+fn is_ended(text: &[u8]) -> bool
+    ensures { result ≡ is_ended text.now }
+{
+    match text {
+        [first, ..] => *first == b' ',
+        [] => true,
+    }
+}
+
+/// How many bytes an operand has: up to the first comma or blank that no two at signs enclose.
+fn operand_len(text: &[u8]) -> usize
+    ensures value { result ≡ operand_len false text.now }
+    ensures bound { result ≤ length text.now }
+{
+    let mut is_quoted = false;
+    for (i, byte) in text.iter().enumerate() {
+        if !is_quoted && (*byte == b',' || *byte == b' ') {
+            return i;
+        }
+        is_quoted ^= *byte == b'@';
+    }
+    text.len()
+}
+
+/// An operand and what stands behind it.
+fn split_operand(text: &[u8]) -> (&[u8], &[u8])
+    ensures operand { result.0.now ≡ operand_in text.now }
+    ensures behind { result.1.now ≡ behind_operand text.now }
+{
+    text.split_at(operand_len(text))
+}
+
+/// The one operand that there is; without a byte where there is none, or another behind it.
+pub(crate) fn lone_operand(text: &[u8]) -> &[u8]
+    ensures { result.now ≡ lone_operand text.now }
+{
+    let (operand, behind) = split_operand(text);
+    if is_ended(behind) { operand } else { &[] }
+}
+
+/// Two operands with a comma between them; without a byte where there are no two, or there is another.
+pub(crate) fn two_operands(text: &[u8]) -> (&[u8], &[u8])
+    ensures first { result.0.now ≡ operand_in text.now }
+    ensures second { result.1.now ≡ operand_behind_comma (behind_operand text.now) }
+{
+    let (first, behind) = split_operand(text);
+    match behind {
+        [b',', more @ ..] => (first, lone_operand(more)),
+        _ => (first, &[]),
+    }
+}
+
+impl Operand {
+    /// The address or the literal that a word is, if it is one.
+    fn from_word(word: &[u8]) -> Option<Operand>
+        ensures { result ≡ operand_of word.now }
+    {
+        match word {
+            [b'@' | b'+' | b'-', ..] => Constant::from_word(word).map(Operand::Literal),
+            _ => Address::from_word(word).map(Operand::Address),
+        }
+    }
+}
+
+/// An operand, and what stands behind it.
+fn read_operand(text: &[u8]) -> (OperandField, &[u8])
+    ensures field { result.0 ≡ field_of (operand_in text.now) }
+    ensures behind { result.1.now ≡ behind_operand text.now }
+{
+    let (word, behind) = split_operand(text);
+    match Operand::from_word(word) {
+        Some(operand) => (OperandField::Operand(operand), behind),
+        None => (OperandField::Malformed, behind),
+    }
+}
+
+/// The first of at most so many addresses, and what stands behind it.
+fn first_operand(most: u8, text: &[u8]) -> (OperandField, &[u8])
+    ensures field { result.0 ≡ (first_operand most text.now).0 }
+    ensures behind { result.1.now ≡ (first_operand most text.now).1 }
+{
+    if most == 0 || is_ended(text) {
+        (OperandField::Absent, text)
+    } else {
+        read_operand(text)
+    }
+}
+
+/// The second of at most so many addresses, which stands behind a comma, and what stands behind it.
+fn second_operand(most: u8, rest: &[u8]) -> (OperandField, &[u8])
+    ensures field { result.0 ≡ (second_operand most rest.now).0 }
+    ensures behind { result.1.now ≡ (second_operand most rest.now).1 }
+{
+    match rest {
+        [b',', more @ ..] if most > 1 => read_operand(more),
+        _ => (OperandField::Absent, rest),
+    }
+}
+
+/// A d-character, behind which nothing stands.
+fn lone_d(text: &[u8]) -> Option<u8>
+    ensures { result ≡ lone_d text.now }
+{
+    match text {
+        [d, behind @ ..] if is_ended(behind) => Some(*d),
+        _ => None,
+    }
+}
+
+/// The d-character behind at most so many addresses: behind a comma, or where there are none in the first column.
+fn d_at(most: u8, rest: &[u8]) -> Option<u8>
+    ensures { result ≡ d_at most rest.now }
+{
+    if most == 0 {
+        return lone_d(rest);
+    }
+    match rest {
+        [b',', more @ ..] => lone_d(more),
+        _ => None,
+    }
+}
+
+/// The d-character, and whether it is as the form asks and nothing stands behind it.
+fn d_of(form: Form, rest: &[u8]) -> (Option<u8>, bool)
+    ensures { result ≡ d_of form rest.now }
+{
+    match form.d {
+        DCharacter::Never => (None, is_ended(rest)),
+        DCharacter::Fixed(d) => (Some(d), is_ended(rest)),
+        DCharacter::Optional if is_ended(rest) => (None, true),
+        DCharacter::Optional | DCharacter::Required => {
+            let d = d_at(form.most, rest);
+            (d, d.is_some())
+        },
+    }
+}
+
+impl OperandField {
+    /// How many addresses stand here.
+    fn count(self) -> u8
+        ensures value { result ≡ count_of self }
+        ensures bound { result ≤ 1 }
+    {
+        match self {
+            OperandField::Absent => 0,
+            OperandField::Malformed | OperandField::Operand(_) => 1,
+        }
+    }
+
+    /// Whether something stands here that is neither an address nor a literal.
+    fn is_malformed(self) -> bool
+        ensures { result ≡ is_malformed self }
+    {
+        matches!(self, OperandField::Malformed)
+    }
+}
+
+impl Operands {
+    /// The operands of this form from the first column for operands on.
+    pub(crate) fn from_columns(form: Form, columns: &[u8]) -> Operands
+        ensures { result ≡ operands_of form columns.now }
+    {
+        let (a, rest) = first_operand(form.most, columns);
+        let (b, rest) = second_operand(form.most, rest);
+        let (d, is_alone) = d_of(form, rest);
+        Operands {
+            a,
+            b,
+            d,
+            is_whole: is_alone && a.count() + b.count() >= form.least,
+        }
+    }
+
+    /// Whether they aren't as the instruction asks.
+    pub(crate) fn are_malformed(self) -> bool
+        ensures { result ≡ has_malformed self }
+    {
+        !self.is_whole || self.a.is_malformed() || self.b.is_malformed()
+    }
+}

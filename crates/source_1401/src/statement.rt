@@ -1,0 +1,308 @@
+//! What a line says, without its neighbours.
+ghost use Rattle.std.specs.Prelude.{◌≡◌, ◌≤◌, length};
+ghost use Rattle.std.specs.List.{position_or_len};
+ghost use Rattle.source_1401.specs.Numbers.{number_between};
+ghost use Rattle.source_1401.specs.Statement.{is_x, areas_of, span_of, body_with, body_of, statement_of, bytes_with, line_of, is_plain, is_value, has_bad_operands, has_bad_label, label_of_line, is_end};
+
+use crate::address::{Address, Base};
+use crate::columns::{COLUMNS, columns_in, columns_of, has_foreign_bytes, is_comment};
+use crate::constant::Constant;
+use crate::label::{Label, LabelField};
+use crate::mnemonic::{DCharacter, Form, Instruction, Operation};
+use crate::numbers::number_between;
+use crate::operands::{Operand, OperandField, Operands, lone_operand, two_operands};
+
+/// Areas of blanks: DA.
+#[derive(Clone, Copy, Debug, PartialEq, Eq)]
+pub struct Areas {
+    /// How many there are, 1 to 99.
+    pub count: u8,
+    /// How many places each has, 1 to 999.
+    pub length: u16,
+}
+
+/// The places of a field in each area.
+#[derive(Clone, Copy, Debug, PartialEq, Eq)]
+pub struct Span {
+    /// The first, counted from 1.
+    pub first: u16,
+    /// The last, no less than the first, and at most 999.
+    pub last: u16,
+}
+
+/// What a line asks for; without a value where its operands don't say one.
+#[derive(Clone, Copy, Debug, PartialEq, Eq)]
+pub enum Body {
+    /// An operation that isn't known.
+    Unknown,
+    /// An instruction.
+    Instruction(Instruction, Operands),
+    /// DCW: a constant with a word mark at its high place.
+    MarkedConstant(Option<Constant>),
+    /// DC: a constant without a word mark.
+    Constant(Option<Constant>),
+    /// DS: so many places, 1 to 15,999.
+    Space(Option<u16>),
+    /// DA: areas of blanks.
+    Areas(Option<Areas>),
+    /// A field of areas.
+    Field(Option<Span>),
+    /// EQU: the value of the label.
+    Equate(Operands),
+    /// ORG: the next place.
+    Origin(Operands),
+    /// EX: literals are placed.
+    Execute(Operands),
+    /// END: the first instruction of the program.
+    End(Operands),
+}
+
+/// A label, and what a line asks for.
+#[derive(Clone, Copy, Debug, PartialEq, Eq)]
+pub struct Statement {
+    /// What columns 6 to 15 say.
+    pub label: LabelField,
+    /// What columns 16 to 72 say.
+    pub body: Body,
+}
+
+/// Whether a line's bytes can be those of a line.
+#[derive(Clone, Copy, Debug, PartialEq, Eq)]
+pub enum Bytes {
+    /// They can.
+    Good,
+    /// There are more than 80.
+    Long,
+    /// One of them can't stand in its column.
+    Foreign,
+}
+
+/// What a line says by itself.
+#[derive(Clone, Copy, Debug, PartialEq, Eq)]
+pub struct Line {
+    /// Whether its bytes can be those of a line.
+    pub bytes: Bytes,
+    /// What it says; nothing where it is a comment.
+    pub statement: Option<Statement>,
+}
+
+/// One address, without a d-character.
+const ONE_ADDRESS: Form = Form {
+    least: 1,
+    most: 1,
+    d: DCharacter::Never,
+};
+
+/// How many places there can be in an area.
+const AREA_LENGTH: u32 = 999;
+
+/// How many bytes of a text stand before its first X.
+fn bytes_before_x(text: &[u8]) -> usize
+    ensures value { result ≡ position_or_len is_x text.now }
+    ensures bound { result ≤ length text.now }
+{
+    text.iter().take_while(|byte| **byte != b'X').count()
+}
+
+/// The areas that a word asks for: their number, an X, and their length.
+fn areas_of(word: &[u8]) -> Option<Areas>
+    ensures { result ≡ areas_of word.now }
+{
+    let (count, behind) = word.split_at(bytes_before_x(word));
+    let count = number_between(1, 99, count)?;
+    let length = number_between(1, AREA_LENGTH, behind.get(1..).unwrap_or(&[]))?;
+    Some(Areas {
+        count: count as u8,
+        length: length as u16,
+    })
+}
+
+/// The span that two operands ask for: its first place, and its last.
+fn span_of(columns: &[u8]) -> Option<Span>
+    ensures { result ≡ span_of columns.now }
+{
+    let (first, last) = two_operands(columns);
+    let first = number_between(1, AREA_LENGTH, first)?;
+    let last = number_between(first, AREA_LENGTH, last)?;
+    Some(Span {
+        first: first as u16,
+        last: last as u16,
+    })
+}
+
+/// How many places a word asks for.
+fn space_of(word: &[u8]) -> Option<u16>
+    ensures { result ≡ number_between 1 15999 word.now }
+{
+    match number_between(1, 15_999, word) {
+        Some(places) => Some(places as u16),
+        None => None,
+    }
+}
+
+impl Body {
+    /// What an operation with these columns for its operands asks for.
+    fn with_operation(operation: Operation, columns: &[u8]) -> Body
+        ensures { result ≡ body_with operation columns.now }
+    {
+        match operation {
+            Operation::Instruction(instruction) => Body::Instruction(
+                instruction,
+                Operands::from_columns(instruction.form, columns),
+            ),
+            Operation::MarkedConstant => {
+                Body::MarkedConstant(Constant::from_word(lone_operand(columns)))
+            },
+            Operation::Constant => Body::Constant(Constant::from_word(lone_operand(columns))),
+            Operation::Space => Body::Space(space_of(lone_operand(columns))),
+            Operation::Areas => Body::Areas(areas_of(lone_operand(columns))),
+            Operation::Field => Body::Field(span_of(columns)),
+            Operation::Equate => Body::Equate(Operands::from_columns(ONE_ADDRESS, columns)),
+            Operation::Origin => Body::Origin(Operands::from_columns(ONE_ADDRESS, columns)),
+            Operation::Execute => Body::Execute(Operands::from_columns(ONE_ADDRESS, columns)),
+            Operation::End => Body::End(Operands::from_columns(ONE_ADDRESS, columns)),
+        }
+    }
+
+    /// What the columns for an operation and those for its operands ask for.
+    fn from_columns(operation: &[u8], operands: &[u8]) -> Body
+        ensures { result ≡ body_of operation.now operands.now }
+    {
+        match Operation::from_columns(operation) {
+            Some(operation) => Body::with_operation(operation, operands),
+            None => Body::Unknown,
+        }
+    }
+
+    /// Whether the operands aren't as the operation asks, whatever stands around the line.
+    fn has_bad_operands(self) -> bool
+        ensures { result ≡ has_bad_operands self }
+    {
+        match self {
+            Body::Unknown => false,
+            Body::Instruction(_, operands) => operands.are_malformed(),
+            Body::MarkedConstant(constant) | Body::Constant(constant) => constant.is_none(),
+            Body::Space(places) => places.is_none(),
+            Body::Areas(areas) => areas.is_none(),
+            Body::Field(span) => span.is_none(),
+            Body::Equate(operands)
+            | Body::Origin(operands)
+            | Body::Execute(operands)
+            | Body::End(operands) => !is_value(operands),
+        }
+    }
+}
+
+/// Whether an address has no asterisk and no index register.
+fn is_plain(operand: Operand) -> bool
+    ensures { result ≡ is_plain operand }
+{
+    match operand {
+        Operand::Address(Address { base, index, .. }) => {
+            index == 0 && !matches!(base, Base::Here)
+        },
+        Operand::Literal(_) => false,
+    }
+}
+
+/// Whether the operands are one address that says a value: no literal, no asterisk, no index register.
+fn is_value(operands: Operands) -> bool
+    ensures { result ≡ is_value operands }
+{
+    match operands.a {
+        OperandField::Operand(operand) => operands.is_whole && is_plain(operand),
+        OperandField::Absent | OperandField::Malformed => false,
+    }
+}
+
+impl Statement {
+    /// What the columns of a line say that is no comment.
+    fn from_columns(columns: &[u8; COLUMNS]) -> Statement
+        ensures { result ≡ statement_of columns.now }
+    {
+        Statement {
+            label: LabelField::from_columns(columns_in(columns, 6, 15)),
+            body: Body::from_columns(columns_in(columns, 16, 20), columns_in(columns, 21, 72)),
+        }
+    }
+
+    /// Whether the columns for a label hold something else, or EQU has no label, or ORG, EX or END has one. Whether a field
+    /// of areas has a label is looked at where it is known to be one.
+    pub fn has_bad_label(self) -> bool
+        ensures { result ≡ has_bad_label self }
+    {
+        match (self.label, self.body) {
+            (LabelField::Malformed, _) => true,
+            (LabelField::Absent, Body::Equate(_)) => true,
+            (LabelField::Label(_), Body::Origin(_) | Body::Execute(_) | Body::End(_)) => true,
+            (LabelField::Absent | LabelField::Label(_), _) => false,
+        }
+    }
+
+    /// Whether the operands aren't as the operation asks. Whether a field lies in its area is looked at where that is known.
+    pub fn has_bad_operands(self) -> bool
+        ensures { result ≡ has_bad_operands self.body }
+    {
+        self.body.has_bad_operands()
+    }
+}
+
+impl Line {
+    /// What a line says by itself: its bytes, without the line feed that ends it.
+    pub fn from_bytes(line: &[u8]) -> Line
+        ensures { result ≡ line_of line.now }
+    {
+        let columns = columns_of(line);
+        Line {
+            bytes: Bytes::of(line.len(), &columns),
+            statement: if is_comment(&columns) {
+                None
+            } else {
+                Some(Statement::from_columns(&columns))
+            },
+        }
+    }
+
+    /// The label of the line, if it has a well-formed one, whatever else is wrong with it.
+    pub fn label(&self) -> Option<Label>
+        ensures { result ≡ label_of_line self.now }
+    {
+        match self.statement {
+            Some(
+                Statement {
+                    label: LabelField::Label(label),
+                    ..
+                },
+            ) => Some(label),
+            _ => None,
+        }
+    }
+
+    /// Whether the operation is END, whatever else is wrong with the line.
+    pub fn is_end(&self) -> bool
+        ensures { result ≡ is_end self.now }
+    {
+        matches!(
+            self.statement,
+            Some(Statement {
+                body: Body::End(_),
+                ..
+            })
+        )
+    }
+}
+
+impl Bytes {
+    /// Whether a line of this length with these columns can be a line.
+    fn of(len: usize, columns: &[u8; COLUMNS]) -> Bytes
+        ensures { result ≡ bytes_with len columns.now }
+    {
+        if len > COLUMNS {
+            Bytes::Long
+        } else if has_foreign_bytes(columns) {
+            Bytes::Foreign
+        } else {
+            Bytes::Good
+        }
+    }
+}
