@@ -79,5 +79,6 @@ fn loaded_room(alloc: Global, text: &[u8]) -> Result<Room, Fault>
         Ok(()) => Ok(room),
         Err(RoomFault::Memory) => Err(Fault::Memory),
         Err(RoomFault::JournalFull) => Err(Fault::JournalFull),
+        Err(RoomFault::NoReading) => unreachable!(),
     }
 }
