@@ -1,5 +1,6 @@
 -- Each of the 64 characters has a graphic of its own.
-use Rattle.std.proofs.Common.{◌≡◌, ℕ, ◌<◌, ◌==◌, Bool, true, Option, Some, None, get_or, length, refl, arith, cond, ltb, ◌∙◌, subst, slice_index}
+use Rattle.std.proofs.Common.{◌≡◌, ℕ, ◌<◌, ◌==◌, Bool, true, Option, Some, None, get_or, length, refl, arith, cond, ltb}
+use Rattle.std.proofs.Common.{◌∙◌, subst, slice_index}
 use Rattle.std.specs.Prelude.{position}
 use Rattle.std.specs.List.{position_or_len, range_with_len, list_all}
 use Rattle.std.proofs.lemmas.Bool.{eqb-true, lt-ltb}
@@ -22,13 +23,15 @@ first_place code h =
     let here : code < length (range_with_len 0 64) = omega (arith, length-range_with_len 0 64) in
     let at = All-get_or (λ (k : ℕ). is_first k ≡ true) (range_with_len 0 64) code 0 here all in
     let same : get_or (range_with_len 0 64) code 0 ≡ code = get_or-range_with_len 0 64 code 0 h ∙ omega arith in
-    eqb-true (position_or_len (λ each. each == slice_index graphics code) graphics) code (subst (λ (k : ℕ). is_first k ≡ true) same at)
+    eqb-true (position_or_len (λ each. each == slice_index graphics code) graphics) code (subst (λ (k : ℕ). is_first k
+    ≡ true) same at)
 
 many : length graphics ≡ 64
 unfolding graphics
 many = refl
 
-found : (place len code : ℕ) → place ≡ code → ltb code len ≡ true → cond {A = Option ℕ} (ltb place len) (Some place) None ≡ Some code
+found : (place len code : ℕ) → place ≡ code → ltb code len ≡ true
+    → cond {A = Option ℕ} (ltb place len) (Some place) None ≡ Some code
 found place len code e h = rw (e, h) refl
 
 -- a character's graphic is found at its code

@@ -1,5 +1,5 @@
--- The rows that are punched in a column for each character (A24-1403, "Character Code"; the rows of ^, ' and of the characters
--- with 8-5 to 8-7 are own).
+-- The rows that are punched in a column for each character (A24-1403, "Character Code"; the rows of ^, ' and of the
+-- characters with 8-5 to 8-7 are own).
 use Rattle.std.specs.Prelude.{ℕ, ◌-◌, ◌/◌, ◌%◌, ◌^◌, ◌==◌, nat_le, List, [], ◌∷◌, ◌++◌, map, sum, if◌then◌else◌}
 use Rattle.std.specs.List.{range_with_len}
 use Rattle.bcd_1401.specs.Character.{zone_of}
@@ -16,7 +16,8 @@ digit_rows low = if low == 0 then [] else (if nat_le low 9 then low ∷ [] else 
 -- the rows of 8-2: row 0, with the zone row for B and for both, and with rows 2 and 8 for A
 abbrev pub zero_rows : ℕ → List ℕ
 zero_rows zone =
-    if zone == 0 then 0 ∷ [] else (if zone == 1 then 0 ∷ 2 ∷ 8 ∷ [] else (if zone == 2 then 11 ∷ 0 ∷ [] else 12 ∷ 0 ∷ []))
+    if zone == 0 then 0 ∷ []
+    else (if zone == 1 then 0 ∷ 2 ∷ 8 ∷ [] else (if zone == 2 then 11 ∷ 0 ∷ [] else 12 ∷ 0 ∷ []))
 
 -- the code of A alone
 abbrev pub a_alone : ℕ

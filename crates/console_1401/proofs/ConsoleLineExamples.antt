@@ -7,8 +7,10 @@ use Rattle.room_1401.specs.declared.command.Command.TheVariants.{Deposit, Examin
 use Rattle.cpu_1401.specs.declared.switch_name.SwitchName.TheVariants.{A, B, C, D, E, F, G}
 use Rattle.console_1401.specs.declared.line.Line.TheVariants.{Empty, Command, Quit}
 use Rattle.console_1401.specs.declared.line.LineFault.TheVariants.{Word, Number, Graphic, Length, Extra}
-use Rattle.console_1401.specs.Words.{word_in, behind_word, keyword_of, number_of, address_of, count_of, switch_named, setting_of}
-use Rattle.console_1401.specs.ConsoleLine.{Said, said_by, said_in_words, said_with, ended, spelled, cells_of, deposit_of, examine_of, start_of, switch_said, run_of}
+use Rattle.console_1401.specs.Words.{word_in, behind_word, keyword_of, number_of, address_of, count_of, switch_named}
+use Rattle.console_1401.specs.Words.{setting_of}
+use Rattle.console_1401.specs.ConsoleLine.{Said, said_by, said_in_words, said_with, ended, spelled, cells_of}
+use Rattle.console_1401.specs.ConsoleLine.{deposit_of, examine_of, start_of, switch_said, run_of}
 
 -- what a line says, with all that its grammar consists of open
 says : List ℕ → Said

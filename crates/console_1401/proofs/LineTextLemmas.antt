@@ -1,5 +1,6 @@
 -- What is typed for a line says it.
-use Rattle.std.proofs.Common.{◌≡◌, ℕ, zero, suc, ◌^◌, ◌<◌, ◌≤◌, ◌==◌, ◌&&◌, Bool, true, false, List, [], ◌∷◌, ◌++◌, length, drop, map, replicate, Option, None, Some, refl, ◌∙◌, ap, subst, arith, inl, inr}
+use Rattle.std.proofs.Common.{◌≡◌, ℕ, zero, suc, ◌^◌, ◌<◌, ◌≤◌, ◌==◌, ◌&&◌, Bool, true, false, List, [], ◌∷◌, ◌++◌}
+use Rattle.std.proofs.Common.{length, drop, map, replicate, Option, None, Some, refl, ◌∙◌, ap, subst, arith, inl, inr}
 use Rattle.std.proofs.lemmas.Bool.{cases_lt, eqb-true}
 use Rattle.std.proofs.lemmas.Bool.Decides.{nat_tests}
 use Rattle.std.proofs.lemmas.List.Elements.{All-head, All-tail}
@@ -17,14 +18,18 @@ use Rattle.console_1401.specs.declared.line.Line.TheVariants.{Empty, Command, Qu
 use Rattle.console_1401.specs.declared.words.Keyword.{Keyword}
 use Rattle.console_1401.specs.declared.words.Keyword.TheVariants as keyword
 use Rattle.console_1401.specs.Bytes.{blank}
-use Rattle.console_1401.specs.ConsoleLine.{said_in_words, said_with, ended, spelled, cells_of, deposit_of, examine_of, start_of, switch_said, run_of}
+use Rattle.console_1401.specs.ConsoleLine.{said_in_words, said_with, ended, spelled, cells_of, deposit_of, examine_of}
+use Rattle.console_1401.specs.ConsoleLine.{start_of, switch_said, run_of}
 use Rattle.console_1401.specs.Limits.{most_digits}
-use Rattle.console_1401.specs.LineText.{Part, IsTyped, IsTypedBehind, IsParted, CanBeSaid, text_of, setting_text, one_cell}
+use Rattle.console_1401.specs.LineText.{Part, IsTyped, IsTypedBehind, IsParted, CanBeSaid, text_of, setting_text}
+use Rattle.console_1401.specs.LineText.{one_cell}
 use Rattle.console_1401.specs.LineText.Part.{Name, Numeral}
 use Rattle.console_1401.specs.ReplyText.{cell_text, cells_text}
-use Rattle.console_1401.specs.Words.{word_in, behind_word, name_of, keyword_of, number_of, address_of, count_of, letter_of, switch_named, switch_of, setting_of}
+use Rattle.console_1401.specs.Words.{word_in, behind_word, name_of, keyword_of, number_of, address_of, count_of}
+use Rattle.console_1401.specs.Words.{letter_of, switch_named, switch_of, setting_of}
 use Rattle.console_1401.proofs.SpelledLemmas.{second, first, cell_again, spelled-append, cells_of-some}
-use Rattle.console_1401.proofs.WordLemmas.{Stands, IsNumeral, in_word, numeral, word_in-typed, behind_word-typed, word_in-blanks, behind_word-blanks}
+use Rattle.console_1401.proofs.WordLemmas.{Stands, IsNumeral, in_word, numeral, word_in-typed, behind_word-typed}
+use Rattle.console_1401.proofs.WordLemmas.{word_in-blanks, behind_word-blanks}
 
 -- A word is one of a line's.
 pub record IsWord (word : List ℕ) : Type 0 where

@@ -1,5 +1,6 @@
 -- What a session has done before a byte is read, and how it ends from there.
-use Rattle.std.proofs.Common.{◌≡◌, ◌≢◌, ℕ, ◌+◌, ◌≤◌, ◌<◌, ◌==◌, Bool, true, false, List, [], ◌∷◌, ◌++◌, length, take, refl, sym, ◌∙◌, ap, subst, arith, Option, None, Some, length-append}
+use Rattle.std.proofs.Common.{◌≡◌, ◌≢◌, ℕ, ◌+◌, ◌≤◌, ◌<◌, ◌==◌, Bool, true, false, List, [], ◌∷◌, ◌++◌, length, take}
+use Rattle.std.proofs.Common.{refl, sym, ◌∙◌, ap, subst, arith, Option, None, Some, length-append}
 use Rattle.std.proofs.KnownBytes.{Consumes-nil, Consumes-trans, Appends-nil, Appends-trans, Appends-kept}
 use Rattle.std.proofs.lemmas.Bool.{eqb-true}
 use Rattle.std.proofs.lemmas.List.{append-nil}
@@ -16,7 +17,8 @@ use Rattle.console_1401.specs.Session.{NoQuit, IsAllRead, LastLine, SessionDid}
 use Rattle.console_1401.specs.Answering.{Response, AnsweredAll, AnswersLine, AnswersLast, EntersByte, end_after}
 use Rattle.console_1401.specs.Text.{cut_of, said_finished, last_said, lines_of}
 use Rattle.console_1401.proofs.AnsweringLemmas.{answered_one, answered_more}
-use Rattle.console_1401.proofs.TextLemmas.{lines_of-feed, lines_of-byte, rest-feed, rest-byte, kept-byte, said_by-kept, said_finished-kept}
+use Rattle.console_1401.proofs.TextLemmas.{lines_of-feed, lines_of-byte, rest-feed, rest-byte, kept-byte, said_by-kept}
+use Rattle.console_1401.proofs.TextLemmas.{said_finished-kept}
 
 -- A moment of a session: what the source has left, what the sink has received, and what stands behind the console.
 pub record Moment (S : Type 0) : Type 0 where

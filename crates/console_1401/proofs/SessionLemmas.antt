@@ -1,5 +1,6 @@
 -- Two ways to say that lines were answered, and what a session at a room leaves.
-use Rattle.std.proofs.Common.{◌≡◌, ℕ, zero, suc, ◌+◌, ◌<◌, ◌≤◌, Bool, false, List, [], ◌∷◌, ◌++◌, length, take, Option, refl, ◌∙◌, ap, subst, arith}
+use Rattle.std.proofs.Common.{◌≡◌, ℕ, zero, suc, ◌+◌, ◌<◌, ◌≤◌, Bool, false, List, [], ◌∷◌, ◌++◌, length, take, Option}
+use Rattle.std.proofs.Common.{refl, ◌∙◌, ap, subst, arith}
 use Rattle.std.proofs.lemmas.List.{take-take}
 use Rattle.std.proofs.lemmas.List.Elements.{All-nil, All-cons, All-take}
 use Rattle.std.specs.Prelude.{All, Ok, Err}
@@ -11,7 +12,8 @@ use Rattle.console_1401.specs.declared.session_end.SessionEnd.TheVariants as end
 use Rattle.console_1401.specs.ConsoleLine.{Said}
 use Rattle.console_1401.specs.ReplyText.{bytes_of}
 use Rattle.console_1401.specs.declared.line.Line.TheVariants as line
-use Rattle.console_1401.specs.Turns.{Turn, RoomResponds, Answered, NoneRefused, entries_of, commands_in, reply_of, journal_after, replies_to}
+use Rattle.console_1401.specs.Turns.{Turn, RoomResponds, Answered, NoneRefused, entries_of, commands_in, reply_of}
+use Rattle.console_1401.specs.Turns.{journal_after, replies_to}
 use Rattle.console_1401.specs.Session.{Exchange, BrokenOff, HasEnded, SessionDid}
 use Rattle.console_1401.specs.Answering.{AnsweredAll}
 

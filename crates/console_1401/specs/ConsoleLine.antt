@@ -1,5 +1,6 @@
 -- What a line at the console says (own): a word, and behind it addresses, numbers or a text.
-use Rattle.std.specs.Prelude.{ℕ, ◌==◌, nat_le, nat_lt, Bool, true, false, ◌&&◌, if◌then◌else◌, List, [], ◌∷◌, length, take, drop, position, filter_map, Option, None, Some, is_some, Result, Ok, Err}
+use Rattle.std.specs.Prelude.{ℕ, ◌==◌, nat_le, nat_lt, Bool, true, false, ◌&&◌, if◌then◌else◌, List, [], ◌∷◌, length}
+use Rattle.std.specs.Prelude.{take, drop, position, filter_map, Option, None, Some, is_some, Result, Ok, Err}
 use Rattle.std.specs.Option.{option_map}
 use Rattle.std.specs.List.{list_all}
 use Rattle.bcd_1401.specs.declared.cell.Cell.{Cell}
@@ -12,7 +13,8 @@ use Rattle.console_1401.specs.declared.line.LineFault.{LineFault}
 use Rattle.console_1401.specs.declared.line.LineFault.TheVariants.{Word, Graphic, Length, Extra}
 use Rattle.console_1401.specs.declared.words.Keyword.{Keyword}
 use Rattle.console_1401.specs.declared.words.Keyword.TheVariants as keyword
-use Rattle.console_1401.specs.Words.{◌>>=◌, word_in, behind_word, keyword_of, number_of, address_of, count_of, switch_of, setting_of}
+use Rattle.console_1401.specs.Words.{◌>>=◌, word_in, behind_word, keyword_of, number_of, address_of, count_of}
+use Rattle.console_1401.specs.Words.{switch_of, setting_of}
 use Rattle.console_1401.specs.Bytes.{tilde}
 use Rattle.console_1401.specs.Limits.{most_line_bytes}
 

@@ -1,7 +1,9 @@
 //! The texts of replies, without the line feed behind them.
 ghost use Rattle.std.specs.Prelude.{◌≡◌, [], ◌∷◌, ◌++◌, map, IfOk, OnOk};
 ghost use Rattle.console_1401.specs.ConsoleLine.{spelled};
-ghost use Rattle.console_1401.specs.ReplyText.{answer_text, IsReadAgain, cell_text, cells_text, regs_text, ran_text, digits_in, indicator_text, switch_text, switches_text, refusal_text, fault_text, room_fault_text};
+ghost use Rattle.console_1401.specs.ReplyText.{answer_text, IsReadAgain, cell_text, cells_text, regs_text, ran_text};
+ghost use Rattle.console_1401.specs.ReplyText.{digits_in, indicator_text, switch_text, switches_text, refusal_text};
+ghost use Rattle.console_1401.specs.ReplyText.{fault_text, room_fault_text};
 
 use crate::line::LineFault;
 use bcd_1401::Cell;

@@ -2,7 +2,7 @@
 ghost use Rattle.std.specs.Prelude.{◌≡◌, ◌++◌, ◌↔◌, ◌∷◌, [], true, nat_lt, IfErr, OnOk, OnErr};
 ghost use Rattle.std.specs.List.{list_all};
 ghost use Rattle.image_1401.specs.Image.{is_inside};
-ghost use Rattle.room_1401.specs.Journal.{answer_to, entry, is_full, refusal_at};
+ghost use Rattle.room_1401.specs.Journal.{answer_to, entry, is_full, refusal_of};
 ghost use Rattle.console_1401.specs.ImageLoading.{segment_entry, start_entry, load_entries, WentOnByFewer};
 
 use image_1401::{Image, Segment};
@@ -25,7 +25,7 @@ pub fn put_image(room: &mut Room, image: &Image) -> Result<(), RoomFault>
     ensures loaded { OnOk result (room.new.journal ≡ room.old.journal ++ load_entries image.now) }
     ensures stopped { OnErr result (WentOnByFewer room.old.journal room.new.journal (load_entries image.now)) }
     ensures full { IfErr result (λ fault. (fault ≡ RoomFault.JournalFull) ↔ (is_full room.new.journal ≡ true)) }
-    ensures fault { IfErr result (λ fault. fault ≡ refusal_at room.new.journal) }
+    ensures fault { IfErr result (λ fault. fault ≡ refusal_of room.new.journal) }
     ensures size { room.new.size ≡ room.old.size }
 {
     for segment in image.segments.as_slice() {
@@ -40,7 +40,7 @@ fn deposit(room: &mut Room, segment: &Segment) -> Result<(), RoomFault>
     requires { is_inside room.old.size segment.now ≡ true }
     ensures done { OnOk result (room.new.journal ≡ room.old.journal ++ segment_entry segment.now ∷ []) }
     ensures err { OnErr result (room.new.journal ≡ room.old.journal) }
-    ensures fault { IfErr result (λ fault. fault ≡ refusal_at room.old.journal) }
+    ensures fault { IfErr result (λ fault. fault ≡ refusal_of room.old.journal) }
     ensures size { room.new.size ≡ room.old.size }
 {
     // The machine has as many places as the room says.
@@ -59,7 +59,7 @@ fn start(room: &mut Room, address: u16) -> Result<(), RoomFault>
     requires { nat_lt address room.old.size ≡ true }
     ensures done { OnOk result (room.new.journal ≡ room.old.journal ++ start_entry address ∷ []) }
     ensures err { OnErr result (room.new.journal ≡ room.old.journal) }
-    ensures fault { IfErr result (λ fault. fault ≡ refusal_at room.old.journal) }
+    ensures fault { IfErr result (λ fault. fault ≡ refusal_of room.old.journal) }
     ensures size { room.new.size ≡ room.old.size }
 {
     // The machine has as many places as the room says.

@@ -1,7 +1,8 @@
 //! What a line at the console says.
 ghost use Rattle.std.specs.Prelude.{◌≡◌, ℕ, ◌<◌, [], ◌∷◌, length, MatchOption};
 ghost use Rattle.console_1401.specs.declared.line.Line.{Line};
-ghost use Rattle.console_1401.specs.ConsoleLine.{cell_of, spelled, cells_of, ended, deposit_of, examine_of, start_of, switch_said, run_of, said_with, said_in_words, said_by};
+ghost use Rattle.console_1401.specs.ConsoleLine.{cell_of, spelled, cells_of, ended, deposit_of, examine_of, start_of};
+ghost use Rattle.console_1401.specs.ConsoleLine.{switch_said, run_of, said_with, said_in_words, said_by};
 ghost use Rattle.console_1401.specs.LineText.{IsLineOf, IsExamineOf, one_cell};
 
 use crate::words::{Keyword, address, count, number, setting, split_word, switch};

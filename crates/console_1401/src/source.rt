@@ -1,5 +1,6 @@
 //! Where a console's bytes come from.
-ghost use Rattle.std.specs.Prelude.{◌≡◌, ℕ, Bool, false, IsTrue, List, Ok, None, IfOk, OnOk, OnErr, Option, option_to_list};
+ghost use Rattle.std.specs.Prelude.{◌≡◌, ℕ, Bool, false, IsTrue, List, Ok, None, IfOk, OnOk, OnErr, Option};
+ghost use Rattle.std.specs.Prelude.{option_to_list};
 ghost use Rattle.std.specs.Io.KnownBytes.{Consumes, IsAtEnd, Keeps};
 
 use crate::failure::Failed;

@@ -1,7 +1,8 @@
 //! The words of a line, and the numbers among them.
 ghost use Rattle.std.specs.Prelude.{◌≡◌, ◌-◌, ◌<◌, ◌≤◌, length, IfSome, if◌then◌else◌};
 ghost use Rattle.std.specs.List.{prefix_len, position_or_len};
-ghost use Rattle.console_1401.specs.Words.{is_blank, is_digit, word_in, behind_word, name_of, keyword_of, number_of, address_of, count_of, letter_of, switch_named, switch_of, setting_of};
+ghost use Rattle.console_1401.specs.Words.{is_blank, is_digit, word_in, behind_word, name_of, keyword_of, number_of};
+ghost use Rattle.console_1401.specs.Words.{address_of, count_of, letter_of, switch_named, switch_of, setting_of};
 
 use crate::line::LineFault;
 use core_1401::ADDRESSES;

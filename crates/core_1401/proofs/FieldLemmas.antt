@@ -1,11 +1,14 @@
 -- Lengths of fields by the first word mark among the bits.
-use Rattle.std.proofs.Common.{◌≡◌, ℕ, ◌+◌, ◌-◌, ◌<◌, ◌≤◌, ◌==◌, ◌||◌, Bool, true, false, List, [], get_or, Some, None, length, drop, take, reverse, position, inl, inr, refl, Option, max, min, nat_lt, if◌then◌else◌, ap, sym, ◌∙◌, arith}
+use Rattle.std.proofs.Common.{◌≡◌, ℕ, ◌+◌, ◌-◌, ◌<◌, ◌≤◌, ◌==◌, ◌||◌, Bool, true, false, List, [], get_or, Some, None}
+use Rattle.std.proofs.Common.{length, drop, take, reverse, position, inl, inr, refl, Option, max, min, nat_lt}
+use Rattle.std.proofs.Common.{if◌then◌else◌, ap, sym, ◌∙◌, arith}
 use Rattle.std.specs.Option.{option_map}
 use Rattle.std.specs.List.{zip, position_or_len}
 use Rattle.std.proofs.lemmas.Bool.{cases_lt, true≢false}
 use Rattle.std.proofs.lemmas.Bool.Decides.{nat_tests}
 use Rattle.std.proofs.lemmas.List.Quantifiers.{position-Some}
-use Rattle.std.proofs.lemmas.List.{get_or-drop, length-drop, get_or-reverse, get_or-take, length-reverse, length-take, get_or_default}
+use Rattle.std.proofs.lemmas.List.{get_or-drop, length-drop, get_or-reverse, get_or-take, length-reverse, length-take}
+use Rattle.std.proofs.lemmas.List.{get_or_default}
 use Rattle.std.proofs.lemmas.List.Sums.{position_or_len_is, passes_at_first}
 use Rattle.std.proofs.lemmas.Slice.Zip.{get_or-zip, length-zip}
 use Rattle.bcd_1401.specs.declared.cell.Cell.{Cell}
@@ -151,14 +154,16 @@ pair_len_none chars words a b n lt_a lt_b first over =
     sym (ap (option_map (λ (i : ℕ). i + 1)) (position_none marked down found))
 
 -- the same of core storage that holds these characters and words
-pub field_len_marked : (chars words : List ℕ) (storage : Storage) (at place n : ℕ) → held chars words ≡ storage → place ≡ at
+pub field_len_marked : (chars words : List ℕ) (storage : Storage) (at place n : ℕ) → held chars words ≡ storage → place
+    ≡ at
     → at < length storage → IsFirstMark words place n → n ≤ at → Some (n + 1) ≡ field_len_of storage at
 field_len_marked chars words storage at place n view e in_core first le =
     let size : length storage ≡ length chars = ap length (sym view) ∙ length_held chars words in
     field_len_found chars words place n (omega (arith, size, e, in_core)) first (omega (arith, e, le))
     ∙ ap (λ (p : ℕ). field_len_of (held chars words) p) e ∙ ap (λ (s : Storage). field_len_of s at) view
 
-pub field_len_unmarked : (chars words : List ℕ) (storage : Storage) (at place n : ℕ) → held chars words ≡ storage → place ≡ at
+pub field_len_unmarked : (chars words : List ℕ) (storage : Storage) (at place n : ℕ) → held chars words ≡ storage
+    → place ≡ at
     → at < length storage → IsFirstMark words place n → at < n → None ≡ field_len_of storage at
 field_len_unmarked chars words storage at place n view e in_core first over =
     let size : length storage ≡ length chars = ap length (sym view) ∙ length_held chars words in

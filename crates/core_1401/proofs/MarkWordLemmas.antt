@@ -1,10 +1,15 @@
 -- Marks in a window over two words, and the first of them.
-use Rattle.std.proofs.Common.{◌≡◌, ◌≢◌, min, ℕ, ◌+◌, ◌-◌, ◌*◌, ◌/◌, ◌%◌, ◌^◌, ◌<◌, ◌≤◌, max, List, slice_index_or, inl, inr, arith, ◌∙◌, sym, ap, bit_and, bit_or}
+use Rattle.std.proofs.Common.{◌≡◌, ◌≢◌, min, ℕ, ◌+◌, ◌-◌, ◌*◌, ◌/◌, ◌%◌, ◌^◌, ◌<◌, ◌≤◌, max, List, slice_index_or, inl}
+use Rattle.std.proofs.Common.{inr, arith, ◌∙◌, sym, ap, bit_and, bit_or}
 use Rattle.std.specs.Int.{bit_at, bit_not, w64, leading_zeros, trailing_zeros}
 use Rattle.std.proofs.lemmas.Bool.{cases_lt}
 use Rattle.std.proofs.lemmas.Nat.{and_mask, and_le_l, or_lt}
-use Rattle.std.proofs.lemmas.Nat.Bits.{bit_at-lt, bit_at_cat_low, bit_at_cat_high, bit_at_and, bit_at_not, bit_at_ones, bit_at_ones_above, bit_at_mask_below, bit_at_mask_inside, bit_at_or, bit_at_set_same, bit_at_set_other, bit_at-trailing_zeros, bit_at-zero, ones_shl, ones_shr}
-use Rattle.core_1401.specs.MarkWords.{mark_bit, IsWindowDown, IsWindowUp, IsFirstMark, IsFirstPair, IsNextMark, IsCleared}
+use Rattle.std.proofs.lemmas.Nat.Bits.{bit_at-lt, bit_at_cat_low, bit_at_cat_high, bit_at_and, bit_at_not, bit_at_ones}
+use Rattle.std.proofs.lemmas.Nat.Bits.{bit_at_ones_above, bit_at_mask_below, bit_at_mask_inside, bit_at_or}
+use Rattle.std.proofs.lemmas.Nat.Bits.{bit_at_set_same, bit_at_set_other, bit_at-trailing_zeros, bit_at-zero, ones_shl}
+use Rattle.std.proofs.lemmas.Nat.Bits.{ones_shr}
+use Rattle.core_1401.specs.MarkWords.{mark_bit, IsWindowDown, IsWindowUp, IsFirstMark, IsFirstPair, IsNextMark}
+use Rattle.core_1401.specs.MarkWords.{IsCleared}
 use Rattle.core_1401.proofs.BitLemmas.{bit_mod, bit_shr, window_bit, IsTop, top_bit}
 
 -- the same mark under another name of its word and its bit

@@ -1,6 +1,7 @@
 //! What each character adds to the value of an address, by its place there.
 ghost use Rattle.std.specs.Prelude.{◌≡◌, ◌<◌, length};
-ghost use Rattle.core_1401.specs.AddressTables.{hundreds_part, tens_part, units_part, hundreds_table, tens_table, units_table};
+ghost use Rattle.core_1401.specs.AddressTables.{hundreds_part, tens_part, units_part, hundreds_table, tens_table};
+ghost use Rattle.core_1401.specs.AddressTables.{units_table};
 
 use bcd_1401::Char;
 

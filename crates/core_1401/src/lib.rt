@@ -1,5 +1,5 @@
-//! Core storage of the IBM 1401: cells by address, their fields, their word marks by words, and the three characters of an
-//! address.
+//! Core storage of the IBM 1401: cells by address, their fields, their word marks by words, and the three characters of
+//! an address.
 //!
 //! ```text
 //! let mut core = Core::power_on(alloc, 4000)?;

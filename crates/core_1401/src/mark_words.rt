@@ -1,7 +1,9 @@
 //! Word marks as bits, 64 to a word: the first below an address, the next above it, and marks set and cleared.
-ghost use Rattle.std.specs.Prelude.{◌≡◌, ◌==◌, ℕ, ◌+◌, ◌-◌, ◌*◌, ◌/◌, ◌^◌, ◌<◌, ◌≤◌, length, drop, replicate, slice_index_or, take};
+ghost use Rattle.std.specs.Prelude.{◌≡◌, ◌==◌, ℕ, ◌+◌, ◌-◌, ◌*◌, ◌/◌, ◌^◌, ◌<◌, ◌≤◌, length, drop, replicate};
+ghost use Rattle.std.specs.Prelude.{slice_index_or, take};
 ghost use Rattle.std.specs.Int.{bit_at};
-ghost use Rattle.core_1401.specs.MarkWords.{IsWindowDown, IsWindowUp, IsFirstMark, IsFirstPair, IsNextMark, IsWithBit, IsCleared, AreCleared, AreMarkWords};
+ghost use Rattle.core_1401.specs.MarkWords.{IsWindowDown, IsWindowUp, IsFirstMark, IsFirstPair, IsNextMark, IsWithBit};
+ghost use Rattle.core_1401.specs.MarkWords.{IsCleared, AreCleared, AreMarkWords};
 
 use crate::storage::Core;
 

@@ -123,7 +123,12 @@ has_d len = (len == 2) || (len == 5)
 -- a line written alone: the word marks of the print area, or its characters
 abbrev pub line_alone : Bool → Storage → Asked
 line_alone marks storage =
-    record { line = if marks then Some (marks_line storage) else Some (characters_line storage); reads = false; punches = false }
+    record {
+      line = if marks then Some (marks_line storage)
+          else Some (characters_line storage);
+      reads = false;
+      punches = false;
+    }
 
 -- a line written: the lozenge as d-character asks for word marks, and another for nothing
 abbrev pub after_line : Instruction → State → Stepped
@@ -145,7 +150,8 @@ after_control this s (Err why) = stopped (control_stop why) s
 -- the read area cleared, the characters of a card put there, and a word mark at its first place
 abbrev pub with_program_card : Storage → List ℕ → Storage
 with_program_card storage chars =
-    with_mark (with_chars_from (with_cells storage card_columns card_columns (λ i. blank)) read_area chars) read_area true
+    let cleared = with_cells storage card_columns card_columns (λ i. blank) in
+    with_mark (with_chars_from cleared read_area chars) read_area true
 
 -- the load key: the first card of the hopper, if there is one, and the next instruction is at its first place
 abbrev pub load_card : Option Card → State → State

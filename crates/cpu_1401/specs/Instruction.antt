@@ -14,12 +14,12 @@ abbrev pub begins_at : Storage → ℕ → Bool
 begins_at storage at = is_in_core storage at && (cell_at storage at).mark
 
 -- how many characters of the instruction at a place are looked at
-abbrev pub most_at : Storage → Operation → ℕ → ℕ
-most_at storage operation at = (form_of operation).most (cell_at storage (at + 4)).char
+abbrev pub longest_at : Storage → Operation → ℕ → ℕ
+longest_at storage operation at = (form_of operation).longest (cell_at storage (at + 4)).char
 
 -- how many characters the instruction at a place has
 abbrev pub length_at : Storage → Operation → ℕ → ℕ
-length_at storage operation at = min (most_at storage operation at) (next_mark_from storage at)
+length_at storage operation at = min (longest_at storage operation at) (next_mark_from storage at)
 
 -- an instruction of this length: without an address it takes the registers as they stand, with one it loads both or the
 -- A register alone, with two each has its own

@@ -47,12 +47,12 @@ is_unfitted char = list_any (λ each. each == slice_index graphics char) unfitte
 pub record Form : Type 0 where
   pub lengths : List ℕ
   pub unfitted : List ℕ
-  pub most : ℕ → ℕ
+  pub longest : ℕ → ℕ
   pub loads_both : Bool
 
 abbrev form : List ℕ → List ℕ → (ℕ → ℕ) → Bool → Form
-form lengths unfitted most loads_both =
-    record { lengths = lengths; unfitted = unfitted; most = most; loads_both = loads_both }
+form lengths unfitted longest loads_both =
+    record { lengths = lengths; unfitted = unfitted; longest = longest; loads_both = loads_both }
 
 abbrev eight : ℕ → ℕ
 eight fifth = 8

@@ -4,7 +4,7 @@ use Rattle.bcd_1401.specs.declared.cell.Cell.{Cell}
 use Rattle.core_1401.specs.Address.{addresses}
 use Rattle.core_1401.specs.Storage.{Storage, blanks}
 use Rattle.devices_1401.specs.Carriage.{form_of, line_of, forms, lines_of_form}
-use Rattle.devices_1401.specs.Devices.{Devices, no_cards, most}
+use Rattle.devices_1401.specs.Devices.{Devices, no_cards, most_held}
 use Rattle.cpu_1401.specs.declared.regs.Regs.{Regs}
 
 -- storage by address, the I, A and B registers, the indicators, the sense switches A to G, and the devices
@@ -53,9 +53,9 @@ pub record IsInRange (regs : Regs) : Type 0 where
   pub i : regs.i < addresses
   pub a : regs.a < addresses
   pub b : regs.b < addresses
-  pub hopper : regs.hopper ≤ most
-  pub stacker : regs.stacker ≤ most
-  pub paper : regs.paper ≤ most
+  pub hopper : regs.hopper ≤ most_held
+  pub stacker : regs.stacker ≤ most_held
+  pub paper : regs.paper ≤ most_held
   pub form : regs.form < forms
   pub first_line : 1 ≤ regs.line
   pub last_line : regs.line ≤ lines_of_form

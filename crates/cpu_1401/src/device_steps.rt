@@ -13,7 +13,7 @@ use crate::machine::Machine;
 use crate::stop::Stop;
 use bcd_1401::Char;
 use core_1401::Core;
-use devices_1401::{ControlFault, MOST};
+use devices_1401::{ControlFault, MOST_HELD};
 
 /// The first place of the area that a card is read into, 001 to 080.
 pub(crate) const READ_AREA: u16 = 1;
@@ -117,13 +117,13 @@ impl Machine {
     fn hindrance(&self, asked: &Asked) -> Option<Stop>
         ensures { result ≡ hindrance asked.now self.now.devices }
     {
-        if asked.line.is_some() && usize::from(self.devices.paper()) == MOST {
+        if asked.line.is_some() && usize::from(self.devices.paper()) == MOST_HELD {
             return Some(Stop::Forms);
         }
         if asked.reads && self.devices.hopper() == 0 {
             return Some(Stop::Reader);
         }
-        if asked.punches && usize::from(self.devices.stacker()) == MOST {
+        if asked.punches && usize::from(self.devices.stacker()) == MOST_HELD {
             return Some(Stop::Stacker);
         }
         None

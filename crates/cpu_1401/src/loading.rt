@@ -36,7 +36,8 @@ impl Machine {
     /// Where the hopper holds 500 cards.
     pub fn feed(&mut self, card: Card) -> Result<(), HopperFull>
         ensures refused { is_ok result ≡ not (is_full self.old.devices.hopper) }
-        ensures state { self.new ≡ (if is_ok result then with_devices (fed self.old.devices card) self.old else self.old) }
+        ensures state { let fed_one = with_devices (fed self.old.devices card) self.old in
+            self.new ≡ (if is_ok result then fed_one else self.old) }
     {
         self.devices.feed(card)
     }

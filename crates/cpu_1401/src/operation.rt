@@ -108,8 +108,8 @@ impl Operation {
 
     /// How many characters of its instructions are looked at, by the fifth of them: a branch with a blank there has
     /// four.
-    pub fn most(self, fifth: Char) -> u16
-        ensures value { result ≡ (form_of self).most fifth }
+    pub fn longest(self, fifth: Char) -> u16
+        ensures value { result ≡ (form_of self).longest fifth }
         ensures some { 0 < result }
         ensures most { result ≤ 8 }
     {

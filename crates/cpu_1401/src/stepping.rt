@@ -69,7 +69,7 @@ impl Machine {
         ensures inside { self.now.i + result ≤ length self.now.storage }
     {
         let fifth = self.char_at(self.i + 4);
-        self.core.next_mark(self.i, operation.most(fifth))
+        self.core.next_mark(self.i, operation.longest(fifth))
     }
 
     /// The character at a place, and a blank past the end of core.

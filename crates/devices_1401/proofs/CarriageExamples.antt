@@ -1,6 +1,7 @@
 -- The carriage, worked out by hand: form 1 begins at position 66.
 use Rattle.std.proofs.Common.{◌≡◌, ℕ, Some, None, Ok, Err, true, false, refl}
-use Rattle.devices_1401.specs.Carriage.{Carriage, first_line, form_of, line_of, lines_to, moved, after_print, controlled, is_at_channel}
+use Rattle.devices_1401.specs.Carriage.{Carriage, first_line, form_of, line_of, lines_to, moved, after_print}
+use Rattle.devices_1401.specs.Carriage.{controlled, is_at_channel}
 use Rattle.devices_1401.specs.Control.{Space, Skip, movement_of}
 use Rattle.devices_1401.specs.declared.fault.ControlFault.TheVariants.{DChar, Carriage as no_hole}
 
@@ -12,7 +13,8 @@ power_on_is_line_one_of_form_one : (form_of first_line ≡ 1) × (line_of first_
 power_on_is_line_one_of_form_one = (refl, refl)
 
 -- line 66 of form 1, and the line after it
-a_form_has_66_lines : (line_of (at 131) ≡ 66) × (form_of (at (moved (Space 1) 131)) ≡ 2) × (line_of (at (moved (Space 1) 131)) ≡ 1)
+a_form_has_66_lines : (line_of (at 131) ≡ 66) × (form_of (at (moved (Space 1) 131)) ≡ 2)
+    × (line_of (at (moved (Space 1) 131)) ≡ 1)
 unfolding moved
 a_form_has_66_lines = (refl, refl, refl)
 
@@ -57,21 +59,26 @@ channel_twelve : (movement_of 12 ≡ Ok (Skip 63)) × (movement_of 60 ≡ Ok (Sk
 channel_twelve = (refl, refl)
 
 -- 2, B and 0 ask for channels 2 and 10
-no_hole_for_two_and_ten : (movement_of 2 ≡ Err no_hole) × (movement_of 50 ≡ Err no_hole) × (movement_of 10 ≡ Err no_hole)
+no_hole_for_two_and_ten : (movement_of 2 ≡ Err no_hole) × (movement_of 50 ≡ Err no_hole)
+    × (movement_of 10 ≡ Err no_hole)
 no_hole_for_two_and_ten = (refl, refl, refl)
 
 -- an immediate L keeps what is pending; T takes its place
-three_lines_now : controlled (record { position = 66; pending = Some (Skip 4) }) 35 ≡ Ok (record { position = 69; pending = Some (Skip 4) })
+three_lines_now : controlled (record { position = 66; pending = Some (Skip 4) }) 35
+    ≡ Ok (record { position = 69; pending = Some (Skip 4) })
 unfolding controlled moved
 three_lines_now = refl
 
-three_lines_after_print : controlled (record { position = 66; pending = Some (Skip 4) }) 19 ≡ Ok (record { position = 66; pending = Some (Space 3) })
+three_lines_after_print : controlled (record { position = 66; pending = Some (Skip 4) }) 19
+    ≡ Ok (record { position = 66; pending = Some (Space 3) })
 unfolding controlled
 three_lines_after_print = refl
 
 -- a blank, &, M, U and : ask for nothing
-no_meaning : (movement_of 0 ≡ Err DChar) × (movement_of 48 ≡ Err DChar) × (movement_of 36 ≡ Err DChar) × (movement_of 20 ≡ Err DChar) × (movement_of 13 ≡ Err DChar)
+no_meaning : (movement_of 0 ≡ Err DChar) × (movement_of 48 ≡ Err DChar) × (movement_of 36 ≡ Err DChar)
+    × (movement_of 20 ≡ Err DChar) × (movement_of 13 ≡ Err DChar)
 no_meaning = (refl, refl, refl, refl, refl)
 
-channel_tests : (is_at_channel (at 125) 9 ≡ true) × (is_at_channel (at 128) 12 ≡ true) × (is_at_channel (at 126) 9 ≡ false) × (is_at_channel (at 66) 2 ≡ false)
+channel_tests : (is_at_channel (at 125) 9 ≡ true) × (is_at_channel (at 128) 12 ≡ true)
+    × (is_at_channel (at 126) 9 ≡ false) × (is_at_channel (at 66) 2 ≡ false)
 channel_tests = (refl, refl, refl, refl)

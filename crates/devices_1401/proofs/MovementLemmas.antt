@@ -6,7 +6,8 @@ use Rattle.devices_1401.specs.declared.control.Movement.{Movement}
 use Rattle.devices_1401.specs.declared.control.Movement.TheVariants.{SpaceBy}
 use Rattle.devices_1401.specs.declared.control.Spaces.TheVariants.{One}
 
-pub one_line : (pending : Option Movement) (movement : Movement) (from to : ℕ) → pending_of pending ≡ None → movement ≡ unwrap_or pending (SpaceBy One)
+pub one_line : (pending : Option Movement) (movement : Movement) (from to : ℕ) → pending_of pending ≡ None → movement
+    ≡ unwrap_or pending (SpaceBy One)
     → to ≡ moved (control_of movement) from → to ≡ (from + 1) % positions
 unfolding moved
 one_line None movement from to none e e_to = e_to ∙ ap (λ (m : Movement). moved (control_of m) from) e

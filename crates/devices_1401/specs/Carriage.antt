@@ -1,6 +1,7 @@
--- The carriage of the printer: forms of 66 lines, spaces and skips (A24-1403, "Control Carriage"; how forms are counted is
--- own).
-use Rattle.std.specs.Prelude.{ℕ, ◌≡◌, ◌+◌, ◌*◌, ◌/◌, ◌%◌, ◌≤◌, ◌==◌, Bool, false, Option, Some, None, unwrap_or, Result, Ok, Err, if◌then◌else◌}
+-- The carriage of the printer: forms of 66 lines, spaces and skips (A24-1403, "Control Carriage"; how forms are counted
+-- is own).
+use Rattle.std.specs.Prelude.{ℕ, ◌≡◌, ◌+◌, ◌*◌, ◌/◌, ◌%◌, ◌≤◌, ◌==◌, Bool, false, Option, Some, None, unwrap_or, Result}
+use Rattle.std.specs.Prelude.{Ok, Err, if◌then◌else◌}
 use Rattle.std.specs.List.{position_or_len, range_with_len}
 use Rattle.devices_1401.specs.Control.{Control, Space, Skip, is_immediate, movement_of, line_of_channel}
 use Rattle.devices_1401.specs.declared.fault.ControlFault.{ControlFault}
@@ -48,12 +49,14 @@ moved (Skip line) position = (position + lines_to position line) % positions
 
 -- the carriage after a print: the pending movement is done and cleared, or one space where none is pending
 abbrev pub after_print : Carriage → Carriage
-after_print carriage = record { position = moved (unwrap_or carriage.pending (Space 1)) carriage.position; pending = None }
+after_print carriage =
+    record { position = moved (unwrap_or carriage.pending (Space 1)) carriage.position; pending = None }
 
 -- the carriage once it was asked for a movement: an immediate one leaves the pending one, another takes its place
 abbrev pub asked : Bool → Control → Carriage → Carriage
 asked immediate control carriage =
-    if immediate then record carriage { position = moved control carriage.position } else record carriage { pending = Some control }
+    if immediate then record carriage { position = moved control carriage.position }
+    else record carriage { pending = Some control }
 
 -- the same, if there is a movement
 abbrev pub asked_for : Bool → Carriage → Result Control ControlFault → Result Carriage ControlFault

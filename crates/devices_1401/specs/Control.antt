@@ -1,5 +1,6 @@
 -- What the d-character of a carriage control asks for, and the tape (A24-1403, "Control Carriage"; the holes are own).
-use Rattle.std.specs.Prelude.{ℕ, ◌%◌, ◌==◌, ◌&&◌, ◌||◌, nat_le, Bool, Option, Some, None, Result, Ok, Err, if◌then◌else◌}
+use Rattle.std.specs.Prelude.{ℕ, ◌%◌, ◌==◌, ◌&&◌, ◌||◌, nat_le, Bool, Option, Some, None, Result, Ok, Err}
+use Rattle.std.specs.Prelude.{if◌then◌else◌}
 use Rattle.bcd_1401.specs.Character.{zone_of}
 use Rattle.devices_1401.specs.declared.fault.ControlFault.{ControlFault}
 use Rattle.devices_1401.specs.declared.fault.ControlFault.TheVariants.{DChar, Carriage}
@@ -35,6 +36,7 @@ skip_by low = if nat_le 1 low && nat_le low 12 then skip_to (line_of_channel low
 abbrev pub space_by : ℕ → Result Control ControlFault
 space_by low = if nat_le 1 low && nat_le low 3 then Ok (Space low) else Err DChar
 
--- The movement that a d-character asks for: a skip without a zone and with both, as 1 and A, and spaces with one zone, as J and /.
+-- The movement that a d-character asks for: a skip without a zone and with both, as 1 and A, and spaces with one zone,
+-- as J and /.
 abbrev pub movement_of : ℕ → Result Control ControlFault
 movement_of char = if zone_of char == 0 || zone_of char == 3 then skip_by (low_of char) else space_by (low_of char)

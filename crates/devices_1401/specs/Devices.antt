@@ -1,5 +1,5 @@
--- The card reader, the punch and the printer as lists (A24-1403, "IBM 1402 Card Read-Punch", "IBM 1403 Printer"; how much they
--- hold is own).
+-- The card reader, the punch and the printer as lists (A24-1403, "IBM 1402 Card Read-Punch", "IBM 1403 Printer"; how
+-- much they hold is own).
 use Rattle.std.specs.Prelude.{ℕ, List, [], ◌∷◌, ◌++◌, Bool, length, drop, nat_le}
 pub use Rattle.devices_1401.specs.Control.{Control, Space, Skip}
 pub use Rattle.devices_1401.specs.Carriage.{Carriage, first_line, form_of, line_of}
@@ -19,12 +19,12 @@ abbrev pub no_cards : Devices
 no_cards = record { hopper = []; stacker = []; paper = []; carriage = first_line }
 
 -- how many cards the hopper and the stacker hold, and how many printed lines wait to be taken, at the most
-abbrev pub most : ℕ
-most = 500
+abbrev pub most_held : ℕ
+most_held = 500
 
 -- whether a list has no room for one more
 abbrev pub is_full : {X : Type 0} → List X → Bool
-is_full xs = nat_le most (length xs)
+is_full xs = nat_le most_held (length xs)
 
 -- a card put behind those in the hopper
 abbrev pub fed : Devices → Card → Devices

@@ -1,8 +1,10 @@
 //! The card reader, the punch and the printer.
-ghost use Rattle.std.specs.Prelude.{◌≡◌, ◌+◌, ◌%◌, ◌<◌, ◌≤◌, not, length, slice_get, is_ok, IfOk, IfErr, OnOk, OnErr, None, Ok, Err, if◌then◌else◌};
+ghost use Rattle.std.specs.Prelude.{◌≡◌, ◌+◌, ◌%◌, ◌<◌, ◌≤◌, not, length, slice_get, is_ok, IfOk, IfErr, OnOk, OnErr};
+ghost use Rattle.std.specs.Prelude.{None, Ok, Err, if◌then◌else◌};
 ghost use Rattle.std.specs.Result.{result_ok};
 ghost use Rattle.devices_1401.specs.Carriage.{positions, form_of, line_of, controlled, is_at_channel, IsMovedOn};
-ghost use Rattle.devices_1401.specs.Devices.{no_cards, most, is_full, fed, punched, printed, after_read, after_card, after_line};
+ghost use Rattle.devices_1401.specs.Devices.{no_cards, most_held, is_full, fed, punched, printed, after_read, after_card};
+ghost use Rattle.devices_1401.specs.Devices.{after_line};
 
 use crate::card::Card;
 use crate::carriage::{LINES_OF_FORM, POSITIONS, moved};
@@ -15,7 +17,7 @@ use std::alloc::{AllocError, Global};
 use std::marker::Model;
 
 /// How many cards the hopper and the stacker hold, and how many printed lines wait to be taken, at the most.
-pub const MOST: usize = 500;
+pub const MOST_HELD: usize = 500;
 
 /// The card reader, the punch and the printer. Contracts see the cards and the printed lines as lists, each oldest
 /// first, and the carriage.
@@ -31,7 +33,7 @@ pub struct Devices {
 impl Model for Devices {
     ghost use Rattle.std.specs.Prelude.{◌≡◌, ◌<◌, ◌≤◌, length};
     ghost use Rattle.devices_1401.specs.Carriage.{positions};
-    ghost use Rattle.devices_1401.specs.Devices.{Devices, most};
+    ghost use Rattle.devices_1401.specs.Devices.{Devices, most_held};
     ghost use Rattle.devices_1401.specs.Movement.{pending_of};
 
     ghost Value = { Devices };
@@ -43,7 +45,9 @@ impl Model for Devices {
       carriage = record { position = d.position; pending = pending_of d.pending };
     } };
 
-    ghost invariant = { λ d. (d.hopper.capacity ≡ most) × (d.stacker.capacity ≡ most) × (d.paper.capacity ≡ most) × (d.position < positions) };
+    ghost invariant = { λ d.
+        (d.hopper.capacity ≡ most_held) × (d.stacker.capacity ≡ most_held) × (d.paper.capacity ≡ most_held)
+        × (d.position < positions) };
 }
 
 impl Devices {
@@ -57,9 +61,9 @@ impl Devices {
         ensures { IfOk result (λ devices. devices ≡ no_cards) }
     {
         Ok(Devices {
-            hopper: HeapCircularBuffer::with_capacity(alloc, MOST)?,
-            stacker: HeapCircularBuffer::with_capacity(alloc, MOST)?,
-            paper: HeapCircularBuffer::with_capacity(alloc, MOST)?,
+            hopper: HeapCircularBuffer::with_capacity(alloc, MOST_HELD)?,
+            stacker: HeapCircularBuffer::with_capacity(alloc, MOST_HELD)?,
+            paper: HeapCircularBuffer::with_capacity(alloc, MOST_HELD)?,
             position: LINES_OF_FORM,
             pending: None,
         })
@@ -194,7 +198,7 @@ impl Devices {
     /// How many cards are in the hopper, 500 at the most.
     pub fn hopper(&self) -> u16
         ensures value { result ≡ length self.now.hopper }
-        ensures bound { result ≤ most }
+        ensures bound { result ≤ most_held }
     {
         self.hopper.len() as u16
     }
@@ -202,7 +206,7 @@ impl Devices {
     /// How many cards are in the stacker, 500 at the most.
     pub fn stacker(&self) -> u16
         ensures value { result ≡ length self.now.stacker }
-        ensures bound { result ≤ most }
+        ensures bound { result ≤ most_held }
     {
         self.stacker.len() as u16
     }
@@ -210,7 +214,7 @@ impl Devices {
     /// How many printed lines wait to be taken, 500 at the most.
     pub fn paper(&self) -> u16
         ensures value { result ≡ length self.now.paper }
-        ensures bound { result ≤ most }
+        ensures bound { result ≤ most_held }
     {
         self.paper.len() as u16
     }

@@ -18,7 +18,7 @@ pub mod fault;
 pub mod print_line;
 
 pub use card::Card;
-pub use devices::{Devices, MOST};
+pub use devices::{Devices, MOST_HELD};
 pub use fault::{ControlFault, FormsFull, HopperFull, ReaderEmpty, StackerFull};
 pub use print_line::PrintLine;
 

@@ -1,7 +1,7 @@
 //! Decks and forms, worked out by hand.
 
 use crate::{
-    Card, ControlFault, Devices, FormsFull, HopperFull, MOST, PrintLine, ReaderEmpty, StackerFull,
+    Card, ControlFault, Devices, FormsFull, HopperFull, MOST_HELD, PrintLine, ReaderEmpty, StackerFull,
 };
 use bcd_1401::Char;
 use std::test::Fail;
@@ -39,14 +39,14 @@ fn at_power_on_all_is_empty(rt: HostRuntime) -> Result<(), Fail> {
 fn cards_come_in_the_order_in_which_they_were_fed(rt: HostRuntime) -> Result<(), Fail> {
     let mut devices = Devices::power_on(rt.alloc())?;
     assert!(rt; devices.feed(card_of(b'A')).is_ok());
-    for _ in 1..MOST {
+    for _ in 1..MOST_HELD {
         assert!(rt; devices.feed(card_of(b'B')).is_ok());
     }
     assert_eq!(rt; devices.feed(card_of(b'C')), Err(HopperFull));
     assert_eq!(rt; devices.hopper(), 500);
     assert_eq!(rt; devices.read(), Ok(card_of(b'A')));
     assert!(rt; devices.feed(card_of(b'C')).is_ok());
-    for _ in 1..MOST {
+    for _ in 1..MOST_HELD {
         assert_eq!(rt; devices.read(), Ok(card_of(b'B')));
     }
     assert_eq!(rt; devices.read(), Ok(card_of(b'C')));
@@ -57,7 +57,7 @@ fn cards_come_in_the_order_in_which_they_were_fed(rt: HostRuntime) -> Result<(),
 #[test]
 fn punched_cards_come_in_their_order(rt: HostRuntime) -> Result<(), Fail> {
     let mut devices = Devices::power_on(rt.alloc())?;
-    for i in 0..MOST {
+    for i in 0..MOST_HELD {
         let graphic = if i == 0 { b'X' } else { b'Y' };
         assert!(rt; devices.punch(card_of(graphic)).is_ok());
     }
@@ -72,7 +72,7 @@ fn punched_cards_come_in_their_order(rt: HostRuntime) -> Result<(), Fail> {
 #[test]
 fn five_hundred_lines_fill_the_paper(rt: HostRuntime) -> Result<(), Fail> {
     let mut devices = Devices::power_on(rt.alloc())?;
-    for _ in 0..MOST {
+    for _ in 0..MOST_HELD {
         assert!(rt; devices.print(text_of(b'H')).is_ok());
     }
     assert_eq!(rt; devices.print(text_of(b'I')), Err(FormsFull));
@@ -91,7 +91,7 @@ fn five_hundred_lines_fill_the_paper(rt: HostRuntime) -> Result<(), Fail> {
         (devices.paper(), devices.form(), devices.line()),
         (500, 8, 40)
     );
-    for _ in 1..MOST {
+    for _ in 1..MOST_HELD {
         assert!(rt; devices.take_line().is_some());
     }
     let last = PrintLine {

@@ -1,30 +1,37 @@
 -- Fields read and written from left to right.
-use Rattle.std.proofs.Common.{◌≡◌, ℕ, ◌+◌, ◌-◌, ◌==◌, ◌<◌, ◌≤◌, false, List, length, get_or, take, drop, set, ap, sym, ◌∙◌, inl, inr, arith, if◌then◌else◌}
+use Rattle.std.proofs.Common.{◌≡◌, ℕ, ◌+◌, ◌-◌, ◌==◌, ◌<◌, ◌≤◌, false, List, length, get_or, take, drop, set, ap, sym}
+use Rattle.std.proofs.Common.{◌∙◌, inl, inr, arith, if◌then◌else◌}
 use Rattle.std.proofs.lemmas.Bool.{cases_lt}
-use Rattle.std.proofs.lemmas.List.{ext_get_or, get_or_past, length-map, length-take, length-drop, get_or-map, get_or-take, get_or-drop}
+use Rattle.std.proofs.lemmas.List.{ext_get_or, get_or_past, length-map, length-take, length-drop, get_or-map}
+use Rattle.std.proofs.lemmas.List.{get_or-take, get_or-drop}
 use Rattle.std.proofs.lemmas.List.FromFn.{get_or-map-range_with_len, length-map-range_with_len}
 use Rattle.bcd_1401.specs.Character.{with_zone_of}
 use Rattle.bcd_1401.specs.declared.cell.Cell.{Cell}
 use Rattle.core_1401.specs.Storage.{Storage, blank, cell_at}
-use Rattle.fields_1401.specs.Across.{chars_across, unzoned_at, units_unzoned, unmarked_cell, with_across, IsUnmarked, IsSameOutside}
+use Rattle.fields_1401.specs.Across.{chars_across, unzoned_at, units_unzoned, unmarked_cell, with_across, IsUnmarked}
+use Rattle.fields_1401.specs.Across.{IsSameOutside}
 use Rattle.fields_1401.specs.Places.{with_cells}
-use Rattle.fields_1401.proofs.PlacesLemmas.{with_cells_more, cell_at-within, cell_at-outside, is_within-inside, length-with_cells}
+use Rattle.fields_1401.proofs.PlacesLemmas.{with_cells_more, cell_at-within, cell_at-outside, is_within-inside}
+use Rattle.fields_1401.proofs.PlacesLemmas.{length-with_cells}
 
 -- so many characters as places
 pub length-across : (s : Storage) (at n : ℕ) → at < length s → n ≤ at + 1 → length (chars_across s at n) ≡ n
 unfolding chars_across
 length-across s at n in_core above =
     let cells : List Cell = take n (drop (at + 1 - n) s) in
-    length-map cells (λ (cell : Cell). cell.char) ∙ omega (arith, length-take n (drop (at + 1 - n) s), length-drop (at + 1 - n) s)
+    length-map cells (λ (cell : Cell). cell.char)
+    ∙ omega (arith, length-take n (drop (at + 1 - n) s), length-drop (at + 1 - n) s)
 
 -- the character of place i
-pub char_across : (s : Storage) (at n i : ℕ) → at < length s → n ≤ at + 1 → i < n → get_or (chars_across s at n) i 0 ≡ (cell_at s (at - (n - 1 - i))).char
+pub char_across : (s : Storage) (at n i : ℕ) → at < length s → n ≤ at + 1 → i < n → get_or (chars_across s at n) i 0
+    ≡ (cell_at s (at - (n - 1 - i))).char
 unfolding chars_across
 char_across s at n i in_core above within =
     let cells : List Cell = take n (drop (at + 1 - n) s) in
     let size : length cells ≡ n = omega (arith, length-take n (drop (at + 1 - n) s), length-drop (at + 1 - n) s) in
     let here : get_or cells i blank ≡ cell_at s (at - (n - 1 - i)) =
-    get_or-take n (drop (at + 1 - n) s) i blank within ∙ get_or-drop (at + 1 - n) s i blank ∙ ap (λ q. get_or s q blank) (omega arith) in
+    get_or-take n (drop (at + 1 - n) s) i blank within ∙ get_or-drop (at + 1 - n) s i blank
+    ∙ ap (λ q. get_or s q blank) (omega arith) in
     get_or-map (λ (cell : Cell). cell.char) cells i blank 0 (omega arith) ∙ ap (λ (cell : Cell). cell.char) here
 
 pub length-units_unzoned : (chars : List ℕ) → length (units_unzoned chars) ≡ length chars
@@ -36,8 +43,10 @@ unfolding units_unzoned
 char_unzoned chars i within = get_or-map-range_with_len (unzoned_at chars) 0 (length chars) i i 0 within (omega arith)
 
 -- so many characters, the units without their zone
-pub length-unzoned_across : (s : Storage) (at n : ℕ) → at < length s → n ≤ at + 1 → length (units_unzoned (chars_across s at n)) ≡ n
-length-unzoned_across s at n in_core above = length-units_unzoned (chars_across s at n) ∙ length-across s at n in_core above
+pub length-unzoned_across : (s : Storage) (at n : ℕ) → at < length s → n ≤ at + 1
+    → length (units_unzoned (chars_across s at n)) ≡ n
+length-unzoned_across s at n in_core above =
+    length-units_unzoned (chars_across s at n) ∙ length-across s at n in_core above
 
 -- the character of place i: without its zone where it is the last
 pub unzoned_read : (s : Storage) (at n i : ℕ) → at < length s → n ≤ at + 1 → i < n
@@ -61,26 +70,31 @@ unzoned_kept s t at n i in_core size above within same =
     unzoned_read t at n i in_t above within ∙ ap shown same ∙ sym (unzoned_read s at n i in_core above within)
 
 -- one place more is written
-pub across_more : (s : Storage) (at i : ℕ) (chars : List ℕ) (char : ℕ) → at < length s → i ≤ at → char ≡ get_or chars (length chars - 1 - i) 0
-    → set (with_cells s at i (unmarked_cell chars)) (at - i) (record { char = char; mark = false }) ≡ with_cells s at (i + 1) (unmarked_cell chars)
+pub across_more : (s : Storage) (at i : ℕ) (chars : List ℕ) (char : ℕ) → at < length s → i ≤ at → char
+    ≡ get_or chars (length chars - 1 - i) 0
+    → set (with_cells s at i (unmarked_cell chars)) (at - i) (record { char = char; mark = false })
+    ≡ with_cells s at (i + 1) (unmarked_cell chars)
 across_more s at i chars char in_core i_in e =
     with_cells_more s at i (unmarked_cell chars) (record { char = char; mark = false }) in_core i_in
     (ap (λ k. let cell : Cell = record { char = k; mark = false } in cell) e)
 
 -- all places are written
-pub across_all : (s t : Storage) (at i : ℕ) (chars : List ℕ) → t ≡ with_cells s at i (unmarked_cell chars) → i ≡ length chars → t ≡ with_across s at chars
+pub across_all : (s t : Storage) (at i : ℕ) (chars : List ℕ) → t ≡ with_cells s at i (unmarked_cell chars) → i
+    ≡ length chars → t ≡ with_across s at chars
 unfolding with_across
 across_all s t at i chars e last = e ∙ ap (λ n. with_cells s at n (unmarked_cell chars)) last
 
 -- no word mark is left at the places written
-pub across_unmarked : (s t : Storage) (at n : ℕ) (chars : List ℕ) → t ≡ with_across s at chars → length chars ≡ n → at < length s → n ≤ at + 1 → IsUnmarked t at n
+pub across_unmarked : (s t : Storage) (at n : ℕ) (chars : List ℕ) → t ≡ with_across s at chars → length chars ≡ n
+    → at < length s → n ≤ at + 1 → IsUnmarked t at n
 unfolding with_across
 across_unmarked s t at n chars e size in_core above i within =
     ap (λ (u : Storage). (cell_at u (at - i)).mark) e
     ∙ ap (λ (cell : Cell). cell.mark) (cell_at-within s at (length chars) (unmarked_cell chars) (at - i) (omega arith) (is_within-inside at (length chars) (at - i) (omega arith) (omega arith)))
 
 -- each other place is as it was
-pub across_outside : (s t : Storage) (at n : ℕ) (chars : List ℕ) → t ≡ with_across s at chars → length chars ≡ n → IsSameOutside s t at n
+pub across_outside : (s t : Storage) (at n : ℕ) (chars : List ℕ) → t ≡ with_across s at chars → length chars ≡ n
+    → IsSameOutside s t at n
 unfolding with_across
 across_outside s t at n chars e size place out =
     let same_size : length t ≡ length s = ap length e ∙ length-with_cells s at (length chars) (unmarked_cell chars) in
@@ -91,7 +105,8 @@ across_outside s t at n chars e size place out =
     ]
 
 -- what was written is read again
-pub across_again : (s t : Storage) (at n : ℕ) (chars : List ℕ) → t ≡ with_across s at chars → length chars ≡ n → at < length s → n ≤ at + 1 → chars_across t at n ≡ chars
+pub across_again : (s t : Storage) (at n : ℕ) (chars : List ℕ) → t ≡ with_across s at chars → length chars ≡ n
+    → at < length s → n ≤ at + 1 → chars_across t at n ≡ chars
 unfolding with_across
 across_again s t at n chars e size in_core above =
     let same_size : length t ≡ length s = ap length e ∙ length-with_cells s at (length chars) (unmarked_cell chars) in
@@ -109,5 +124,7 @@ pub across_kept : (s t : Storage) (at n : ℕ) → at < length s → length t �
 across_kept s t at n in_core size above same =
     let in_t : at < length t = omega arith in
     let t_size : length (chars_across t at n) ≡ n = length-across t at n in_t above in
-    ext_get_or 0 (chars_across t at n) (chars_across s at n) (t_size ∙ sym (length-across s at n in_core above)) (λ i lt.
-    char_across t at n i in_t above (omega arith) ∙ ap (λ (cell : Cell). cell.char) (same (n - 1 - i) (omega arith)) ∙ sym (char_across s at n i in_core above (omega arith)))
+    ext_get_or 0 (chars_across t at n) (chars_across s at n) (t_size
+    ∙ sym (length-across s at n in_core above)) (λ i lt.
+    char_across t at n i in_t above (omega arith) ∙ ap (λ (cell : Cell). cell.char) (same (n - 1 - i) (omega arith))
+    ∙ sym (char_across s at n i in_core above (omega arith)))

@@ -1,12 +1,15 @@
 -- The places of a control word, and what they take.
-use Rattle.std.proofs.Common.{◌≡◌, ℕ, ◌+◌, ◌-◌, ◌<◌, ◌≤◌, ◌⊎◌, ◌==◌, Bool, true, false, List, Option, Some, None, min, length, get_or, map, drop, cond, ap, sym, ◌∙◌, inl, inr, arith}
+use Rattle.std.proofs.Common.{◌≡◌, ℕ, ◌+◌, ◌-◌, ◌<◌, ◌≤◌, ◌⊎◌, ◌==◌, Bool, true, false, List, Option, Some, None, min}
+use Rattle.std.proofs.Common.{length, get_or, map, drop, cond, ap, sym, ◌∙◌, inl, inr, arith}
 use Rattle.std.specs.List.{count_by, range_with_len}
 use Rattle.std.specs.Prelude.{not, nat_lt, ◌&&◌}
 use Rattle.std.proofs.lemmas.Bool.{lt-ltb, le-ltb, and_from, and_left, and_right, cond-true, cond-false}
 use Rattle.std.proofs.lemmas.Bool.Decides.{nat_tests}
 use Rattle.std.proofs.lemmas.List.FromFn.{get_or-map-range_with_len, length-map-range_with_len}
 use Rattle.std.proofs.lemmas.List.Sums.{sum_by-drop_more, position_or_len_is, suffix_len_is}
-use Rattle.fields_1401.specs.Edit.{is_replaceable, taken_from, taken_by, replaceable_in, replaceable_behind, is_significant, before_significant, limit_of, is_suppressed, is_shared, shown, shown_at, edited}
+use Rattle.fields_1401.specs.Edit.{is_replaceable, taken_from, taken_by, replaceable_in, replaceable_behind}
+use Rattle.fields_1401.specs.Edit.{is_significant, before_significant, limit_of, is_suppressed, is_shared, shown}
+use Rattle.fields_1401.specs.Edit.{shown_at, edited}
 use Rattle.fields_1401.specs.Places.{is_within}
 use Rattle.fields_1401.specs.declared.sign.Sign.{Sign}
 use Rattle.fields_1401.specs.Suppress.{zero_char}
@@ -29,28 +32,36 @@ pub takes_one : (digits : List ℕ) (own behind t : ℕ) → length digits ≡ t
     → Some (get_or digits (t - 1 - behind) 0) ≡ taken_from digits own behind
 takes_one digits own behind t size replaceable lt =
     ap (λ n. Some (get_or digits (n - 1 - behind) 0)) (sym size)
-    ∙ sym (cond-true (is_replaceable own && nat_lt behind (length digits)) _ _ (and_from (is_replaceable own) (nat_lt behind (length digits)) replaceable (lt-ltb behind (length digits) (omega arith))))
+    ∙ sym (cond-true (is_replaceable own
+    && nat_lt behind (length digits)) _ _ (and_from (is_replaceable own) (nat_lt behind (length digits)) replaceable (lt-ltb behind (length digits) (omega arith))))
 
 -- another place takes none
-pub takes_none : (digits : List ℕ) (own behind t : ℕ) → length digits ≡ t → (is_replaceable own ≡ false) ⊎ (t ≤ behind) → None ≡ taken_from digits own behind
+pub takes_none : (digits : List ℕ) (own behind t : ℕ) → length digits ≡ t → (is_replaceable own ≡ false) ⊎ (t ≤ behind)
+    → None ≡ taken_from digits own behind
 takes_none digits own behind t size (inl fails) =
-    sym (cond-false (is_replaceable own && nat_lt behind (length digits)) _ _ (and_left (is_replaceable own) (nat_lt behind (length digits)) fails))
+    sym (cond-false (is_replaceable own
+    && nat_lt behind (length digits)) _ _ (and_left (is_replaceable own) (nat_lt behind (length digits)) fails))
 takes_none digits own behind t size (inr le) =
-    sym (cond-false (is_replaceable own && nat_lt behind (length digits)) _ _ (and_right (is_replaceable own) (nat_lt behind (length digits)) (le-ltb behind (length digits) (omega arith))))
+    sym (cond-false (is_replaceable own
+    && nat_lt behind (length digits)) _ _ (and_right (is_replaceable own) (nat_lt behind (length digits)) (le-ltb behind (length digits) (omega arith))))
 
 -- so many places stand left of the first significant one
-pub before_significant_is : (word digits : List ℕ) (i : ℕ) → i ≤ length word → ((k : ℕ) → k < i → is_significant (taken_by word digits k) ≡ false)
+pub before_significant_is : (word digits : List ℕ) (i : ℕ) → i ≤ length word
+    → ((k : ℕ) → k < i → is_significant (taken_by word digits k) ≡ false)
     → (i < length word → is_significant (taken_by word digits i) ≡ true) → before_significant word digits ≡ i
 unfolding before_significant
 before_significant_is word digits i le none here =
     let places = map (taken_by word digits) (range_with_len 0 (length word)) in
     let size : length places ≡ length word = length-map-range_with_len (taken_by word digits) 0 (length word) in
-    let at : (k : ℕ) → k < length word → is_significant (get_or places k None) ≡ is_significant (taken_by word digits k) =
+    let at : (k : ℕ) → k < length word → is_significant (get_or places k None)
+    ≡ is_significant (taken_by word digits k) =
     λ k lt. ap is_significant (get_or-map-range_with_len (taken_by word digits) 0 (length word) k k None lt (omega arith)) in
-    position_or_len_is is_significant places i None (omega arith) (λ k lt. at k (omega arith) ∙ none k lt) (λ lt. at i (omega arith) ∙ here (omega arith))
+    position_or_len_is is_significant places i None (omega arith) (λ k lt. at k (omega arith)
+    ∙ none k lt) (λ lt. at i (omega arith) ∙ here (omega arith))
 
 -- the last zero is the one that this many places end with
-pub limit_is : (word : List ℕ) (n : ℕ) → n ≤ length word → ((k : ℕ) → n ≤ k → k < length word → not (get_or word k 0 == zero_char) ≡ true)
+pub limit_is : (word : List ℕ) (n : ℕ) → n ≤ length word
+    → ((k : ℕ) → n ≤ k → k < length word → not (get_or word k 0 == zero_char) ≡ true)
     → (0 < n → not (get_or word (n - 1) 0 == zero_char) ≡ false) → limit_of word ≡ n
 unfolding limit_of
 limit_is word n le none here =
@@ -58,8 +69,10 @@ limit_is word n le none here =
     omega arith
 
 -- those behind a place, where it was one of them or it wasn't
-pub replaceable_passed : (word : List ℕ) (i own from behind : ℕ) → i < length word → own ≡ get_or word i 0 → from ≡ count_by is_replaceable (drop i word)
-    → ((is_replaceable own ≡ true) × (behind ≡ from - 1)) ⊎ ((is_replaceable own ≡ false) × (behind ≡ from)) → behind ≡ replaceable_behind word i
+pub replaceable_passed : (word : List ℕ) (i own from behind : ℕ) → i < length word → own ≡ get_or word i 0 → from
+    ≡ count_by is_replaceable (drop i word)
+    → ((is_replaceable own ≡ true) × (behind ≡ from - 1)) ⊎ ((is_replaceable own ≡ false) × (behind ≡ from)) → behind
+    ≡ replaceable_behind word i
 replaceable_passed word i own from behind within e so_far (inl was) =
     let here = replaceable_here word i within (sym (ap is_replaceable e) ∙ was.0) in
     let less = was.1 in
@@ -74,7 +87,8 @@ pub left_of_both : (i x y : ℕ) → nat_lt i (min x y) ≡ (nat_lt i x && nat_l
 left_of_both i x y = grind (arith, nat_tests)
 
 -- what is written of the control word hasn't reached a place of A that is taken
-pub not_shared : (a t b m i k : ℕ) → is_shared a t b m ≡ false → t ≤ a + 1 → k < t → i ≤ m → is_within b i (a - k) ≡ false
+pub not_shared : (a t b m i k : ℕ) → is_shared a t b m ≡ false → t ≤ a + 1 → k < t → i ≤ m → is_within b i (a - k)
+    ≡ false
 not_shared a t b m i k apart above within le = grind (arith, nat_tests)
 
 -- as many characters as the control word has
@@ -84,11 +98,14 @@ length-edited word digits sign = length-map-range_with_len (shown_at word digits
 
 -- what a place shows, by what the rules go by
 pub shown_place : (word digits : List ℕ) (sign : Sign) (j t replaceable behind : ℕ) (suppressed : Bool) (taken : Option ℕ) (own : ℕ) → j < length word
-    → t ≡ length digits → replaceable ≡ replaceable_in word → behind ≡ replaceable_behind word j → suppressed ≡ is_suppressed word digits j
-    → taken ≡ taken_from digits own behind → own ≡ get_or word j 0 → shown t replaceable sign behind suppressed taken own ≡ get_or (edited word digits sign) j 0
+    → t ≡ length digits → replaceable ≡ replaceable_in word → behind ≡ replaceable_behind word j → suppressed
+    ≡ is_suppressed word digits j
+    → taken ≡ taken_from digits own behind → own ≡ get_or word j 0
+    → shown t replaceable sign behind suppressed taken own ≡ get_or (edited word digits sign) j 0
 unfolding edited
 shown_place word digits sign j t replaceable behind suppressed taken own within e_t e_replaceable e_behind e_suppressed e_taken e_own =
-    let takes : taken ≡ taken_by word digits j = e_taken ∙ ap (λ k. taken_from digits k behind) e_own ∙ ap (taken_from digits (get_or word j 0)) e_behind in
+    let takes : taken ≡ taken_by word digits j = e_taken ∙ ap (λ k. taken_from digits k behind) e_own
+    ∙ ap (taken_from digits (get_or word j 0)) e_behind in
     ap (λ k. shown k replaceable sign behind suppressed taken own) e_t
     ∙ ap (λ k. shown (length digits) k sign behind suppressed taken own) e_replaceable
     ∙ ap (λ k. shown (length digits) (replaceable_in word) sign k suppressed taken own) e_behind
@@ -98,8 +115,10 @@ shown_place word digits sign j t replaceable behind suppressed taken own within 
     ∙ sym (get_or-map-range_with_len (shown_at word digits sign) 0 (length word) j j 0 within (omega arith))
 
 -- those from a place on, where it is one of them or it isn't
-pub replaceable_more : (word : List ℕ) (j own behind from : ℕ) → j < length word → own ≡ get_or word j 0 → behind ≡ replaceable_behind word j
-    → ((is_replaceable own ≡ true) × (from ≡ behind + 1)) ⊎ ((is_replaceable own ≡ false) × (from ≡ behind)) → from ≡ count_by is_replaceable (drop j word)
+pub replaceable_more : (word : List ℕ) (j own behind from : ℕ) → j < length word → own ≡ get_or word j 0 → behind
+    ≡ replaceable_behind word j
+    → ((is_replaceable own ≡ true) × (from ≡ behind + 1)) ⊎ ((is_replaceable own ≡ false) × (from ≡ behind)) → from
+    ≡ count_by is_replaceable (drop j word)
 replaceable_more word j own behind from within e so_far (inl is) =
     let here = replaceable_here word j within (sym (ap is_replaceable e) ∙ is.0) in
     let more = is.1 in

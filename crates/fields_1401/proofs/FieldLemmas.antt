@@ -1,5 +1,6 @@
 -- Cells from a place down, the first word mark among them, and fields that aren't in core.
-use Rattle.std.proofs.Common.{◌≡◌, ℕ, ◌+◌, ◌-◌, ◌<◌, ◌≤◌, Bool, List, Option, Some, None, length, get_or, take, position, refl, sym, ◌∙◌, ap, arith, false, [], ◌∷◌}
+use Rattle.std.proofs.Common.{◌≡◌, ℕ, ◌+◌, ◌-◌, ◌<◌, ◌≤◌, Bool, List, Option, Some, None, length, get_or, take}
+use Rattle.std.proofs.Common.{position, refl, sym, ◌∙◌, ap, arith, false, [], ◌∷◌}
 use Rattle.std.proofs.lemmas.Bool.{lt-ltb}
 use Rattle.std.proofs.lemmas.List.{get_or-take, get_or-reverse, length-take-le, length-reverse, get_or_past}
 use Rattle.std.proofs.lemmas.List.Quantifiers.{position-Some}

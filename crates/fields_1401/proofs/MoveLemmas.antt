@@ -6,7 +6,8 @@ use Rattle.std.proofs.lemmas.Bool.Decides.{nat_tests}
 use Rattle.bcd_1401.specs.declared.cell.Cell.{Cell}
 use Rattle.core_1401.specs.Storage.{Storage, cell_at, with_char}
 use Rattle.fields_1401.specs.Places.{is_within, with_chars, rewritten_cell}
-use Rattle.fields_1401.proofs.PlacesLemmas.{with_chars_same, cell_at-within, cell_at-outside, is_within-inside, is_within-above, is_within-below, with_chars_none, with_chars_more}
+use Rattle.fields_1401.proofs.PlacesLemmas.{with_chars_same, cell_at-within, cell_at-outside, is_within-inside}
+use Rattle.fields_1401.proofs.PlacesLemmas.{is_within-above, is_within-below, with_chars_none, with_chars_more}
 use Rattle.fields_1401.specs.Load.{is_overwritten}
 use Rattle.fields_1401.specs.Move.{source_of, moved}
 

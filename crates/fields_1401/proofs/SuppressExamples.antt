@@ -3,7 +3,7 @@ use Rattle.std.proofs.Common.{◌≡◌, Ok, Err, [], ◌∷◌, refl}
 use Rattle.std.specs.Prelude.{codes, slice_index}
 use Rattle.bcd_1401.specs.Graphic.{graphics}
 use Rattle.fields_1401.specs.Across.{chars_across, units_unzoned, with_across}
-use Rattle.fields_1401.specs.Outcome.{registers_at}
+use Rattle.fields_1401.specs.Outcome.{registers_of}
 use Rattle.fields_1401.specs.Places.{with_cells}
 use Rattle.fields_1401.specs.Suppress.{blank_char, zero_char, comma_char, suppressed, with_suppressed, suppress_at}
 use Rattle.fields_1401.specs.declared.done.FieldStop.TheVariants.{Address, Overlap}
@@ -63,28 +63,32 @@ unfolding suppressed chars_of_graphics graphics
 a_point_stops_it = refl
 
 -- the zone over P goes, and 7 is left
-a_minus_sign_over_the_units_goes : suppressed (units_unzoned (chars_of_graphics (codes "0012P"))) ≡ chars_of_graphics (codes "  127")
+a_minus_sign_over_the_units_goes : suppressed (units_unzoned (chars_of_graphics (codes "0012P")))
+    ≡ chars_of_graphics (codes "  127")
 unfolding suppressed units_unzoned chars_of_graphics graphics
 a_minus_sign_over_the_units_goes = refl
 
 -- ! without its zone is a zero
-a_minus_zero_is_suppressed : suppressed (units_unzoned (chars_of_graphics (codes "00!"))) ≡ chars_of_graphics (codes "   ")
+a_minus_zero_is_suppressed : suppressed (units_unzoned (chars_of_graphics (codes "00!")))
+    ≡ chars_of_graphics (codes "   ")
 unfolding suppressed units_unzoned chars_of_graphics graphics
 a_minus_zero_is_suppressed = refl
 
 -- the A keeps its zone and stops the suppression
-the_zone_of_the_units_alone_goes : suppressed (units_unzoned (chars_of_graphics (codes "0A?"))) ≡ chars_of_graphics (codes " A0")
+the_zone_of_the_units_alone_goes : suppressed (units_unzoned (chars_of_graphics (codes "0A?")))
+    ≡ chars_of_graphics (codes " A0")
 unfolding suppressed units_unzoned chars_of_graphics graphics
 the_zone_of_the_units_alone_goes = refl
 
 -- the two places that end at 4 are written, and both marks there are cleared; the field itself and its mark stay
 two_places_are_written : suppress_at (marked 10 ∷ plain 37 ∷ plain 1 ∷ marked 2 ∷ marked 3 ∷ marked 4 ∷ []) 1 4
-    ≡ Ok (marked 10 ∷ plain 37 ∷ plain 1 ∷ plain 0 ∷ plain 5 ∷ marked 4 ∷ [], registers_at 15999 5)
+    ≡ Ok (marked 10 ∷ plain 37 ∷ plain 1 ∷ plain 0 ∷ plain 5 ∷ marked 4 ∷ [], registers_of 15999 5)
 unfolding suppress_at with_suppressed with_across with_cells suppressed units_unzoned chars_across
 two_places_are_written = refl
 
 -- a field may be suppressed where it stands: its own mark goes
-in_its_own_place : suppress_at (plain 7 ∷ marked 10 ∷ plain 37 ∷ []) 2 2 ≡ Ok (plain 7 ∷ plain 0 ∷ plain 5 ∷ [], registers_at 0 3)
+in_its_own_place : suppress_at (plain 7 ∷ marked 10 ∷ plain 37 ∷ []) 2 2
+    ≡ Ok (plain 7 ∷ plain 0 ∷ plain 5 ∷ [], registers_of 0 3)
 unfolding suppress_at with_suppressed with_across with_cells suppressed units_unzoned chars_across
 in_its_own_place = refl
 

@@ -1,6 +1,8 @@
 -- What zero suppress shows, place by place.
-use Rattle.std.proofs.Common.{◌≡◌, ℕ, ◌-◌, ◌<◌, ◌≤◌, List, length, get_or, replicate, drop, ap, sym, ◌∙◌, inl, inr, arith}
-use Rattle.std.proofs.lemmas.List.{ext_get_or, length-append, length-replicate, length-drop, get_or_append_left, get_or-append_right, get_or-replicate, get_or-drop}
+use Rattle.std.proofs.Common.{◌≡◌, ℕ, ◌-◌, ◌<◌, ◌≤◌, List, length, get_or, replicate, drop, ap, sym, ◌∙◌, inl, inr}
+use Rattle.std.proofs.Common.{arith}
+use Rattle.std.proofs.lemmas.List.{ext_get_or, length-append, length-replicate, length-drop, get_or_append_left}
+use Rattle.std.proofs.lemmas.List.{get_or-append_right, get_or-replicate, get_or-drop}
 use Rattle.std.proofs.lemmas.List.Sums.{prefix_len-le-length, position_or_len_is, passes_at_first}
 use Rattle.std.proofs.lemmas.Bool.{cases_lt}
 use Rattle.std.specs.Prelude.{not}
@@ -15,7 +17,8 @@ pub length-suppressed : (xs : List ℕ) → length (suppressed xs) ≡ length xs
 unfolding suppressed
 length-suppressed xs =
     let k = before_figures xs in
-    length-append (replicate k 0) (drop k xs) ∙ omega (arith, length-replicate {A = ℕ} k 0, length-drop k xs, before_figures-le xs)
+    length-append (replicate k 0) (drop k xs)
+    ∙ omega (arith, length-replicate {A = ℕ} k 0, length-drop k xs, before_figures-le xs)
 
 -- a place left of the first figure shows a blank
 pub suppressed_left : (xs : List ℕ) (j : ℕ) → j < before_figures xs → get_or (suppressed xs) j 0 ≡ 0
@@ -30,7 +33,8 @@ pub suppressed_right : (xs : List ℕ) (j : ℕ) → before_figures xs ≤ j →
 unfolding suppressed
 suppressed_right xs j le =
     let k = before_figures xs in
-    get_or-append_right (replicate k 0) (drop k xs) k j 0 (length-replicate {A = ℕ} k 0) le ∙ get_or-drop k xs (j - k) 0 ∙ ap (λ i. get_or xs i 0) (omega arith)
+    get_or-append_right (replicate k 0) (drop k xs) k j 0 (length-replicate {A = ℕ} k 0) le ∙ get_or-drop k xs (j - k) 0
+    ∙ ap (λ i. get_or xs i 0) (omega arith)
 
 -- the first figure stands where it stood
 before_figures-suppressed : (xs : List ℕ) → before_figures (suppressed xs) ≡ before_figures xs

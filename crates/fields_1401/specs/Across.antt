@@ -1,5 +1,6 @@
 -- Fields read and written from left to right (own).
-use Rattle.std.specs.Prelude.{ℕ, ◌≡◌, ◌<◌, ◌+◌, ◌-◌, ◌==◌, false, List, length, map, take, drop, slice_index, if◌then◌else◌}
+use Rattle.std.specs.Prelude.{ℕ, ◌≡◌, ◌<◌, ◌+◌, ◌-◌, ◌==◌, false, List, length, map, take, drop, slice_index}
+use Rattle.std.specs.Prelude.{if◌then◌else◌}
 use Rattle.std.specs.List.{range_with_len}
 use Rattle.bcd_1401.specs.Character.{with_zone_of}
 use Rattle.bcd_1401.specs.declared.cell.Cell.{Cell}

@@ -7,7 +7,7 @@ use Rattle.core_1401.specs.Storage.{Storage, cell_at}
 use Rattle.fields_1401.specs.declared.done.Done.{Done}
 use Rattle.fields_1401.specs.declared.done.FieldStop.{FieldStop}
 use Rattle.fields_1401.specs.declared.done.FieldStop.TheVariants.{Address}
-use Rattle.fields_1401.specs.Outcome.{below_by, registers_at}
+use Rattle.fields_1401.specs.Outcome.{below_by, registers_of}
 
 -- whether n pairs are unequal: two characters differ, or the A field ends before the B field
 abbrev pub is_unequal : Storage → ℕ → ℕ → ℕ → Bool
@@ -18,7 +18,7 @@ is_unequal storage a b n =
 -- two fields compared over the pairs up to and including the first word mark in either; refused where there is none
 abbrev pub compared : Storage → ℕ → ℕ → Option ℕ → Result Done FieldStop
 compared storage a b None = Err Address
-compared storage a b (Some n) = Ok (record (registers_at (below_by a n)
+compared storage a b (Some n) = Ok (record (registers_of (below_by a n)
     (below_by b n)) { unequal = is_unequal storage a b n })
 
 -- the fields at both addresses compared

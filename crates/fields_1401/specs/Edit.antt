@@ -1,14 +1,16 @@
--- A field edited by the control word in the B field (A24-1403, "Move Characters and Edit"; the order of the rules, where a
--- comma or a sign becomes blank, and the refusals are own). The control word and the characters of A are lists from left to
--- right, and their places are counted from the left.
-use Rattle.std.specs.Prelude.{ℕ, ◌≡◌, ◌<◌, ◌≤◌, ◌++◌, ◌+◌, ◌-◌, ◌==◌, ◌&&◌, ◌||◌, not, nat_le, nat_lt, max, Bool, true, false, List, length, map, drop, replicate, slice_index, Option, Some, None, Result, Ok, Err, option_map, option_and_then, if◌then◌else◌}
+-- A field edited by the control word in the B field (A24-1403, "Move Characters and Edit"; the order of the rules,
+-- where a comma or a sign becomes blank, and the refusals are own). The control word and the characters of A are lists
+-- from left to right, and their places are counted from the left.
+use Rattle.std.specs.Prelude.{ℕ, ◌≡◌, ◌<◌, ◌≤◌, ◌++◌, ◌+◌, ◌-◌, ◌==◌, ◌&&◌, ◌||◌, not, nat_le, nat_lt, max, Bool, true}
+use Rattle.std.specs.Prelude.{false, List, length, map, drop, replicate, slice_index, Option, Some, None, Result, Ok}
+use Rattle.std.specs.Prelude.{Err, option_map, option_and_then, if◌then◌else◌}
 use Rattle.std.specs.List.{count_by, position_or_len, suffix_len, range_with_len}
 use Rattle.bcd_1401.specs.Character.{zone_of}
 use Rattle.core_1401.specs.Field.{field_len_of}
 use Rattle.core_1401.specs.Storage.{Storage, cell_at}
 use Rattle.fields_1401.specs.Across.{chars_across, units_unzoned, with_across}
 use Rattle.fields_1401.specs.Number.{sign_under}
-use Rattle.fields_1401.specs.Outcome.{Outcome, below_by, registers_at}
+use Rattle.fields_1401.specs.Outcome.{Outcome, below_by, registers_of}
 use Rattle.fields_1401.specs.Refusal.{used_len_of, on_lengths}
 use Rattle.fields_1401.specs.Suppress.{blank_char, zero_char, comma_char}
 use Rattle.fields_1401.specs.declared.done.Done.{Done}
@@ -46,11 +48,13 @@ replaceable_in word = count_by is_replaceable word
 abbrev pub replaceable_behind : List ℕ → ℕ → ℕ
 replaceable_behind word i = count_by is_replaceable (drop (i + 1) word)
 
--- What a place of the control word takes of A, where so many replaceable places stand right of it: of the replaceable places
--- the last takes the last character, the one before it the one before that, and so on; none takes one that isn't there.
+-- What a place of the control word takes of A, where so many replaceable places stand right of it: of the replaceable
+-- places the last takes the last character, the one before it the one before that, and so on; none takes one that isn't
+-- there.
 abbrev pub taken_from : List ℕ → ℕ → ℕ → Option ℕ
 taken_from digits char behind =
-    if is_replaceable char && nat_lt behind (length digits) then Some (slice_index digits (length digits - 1 - behind)) else None
+    if is_replaceable char && nat_lt behind (length digits) then Some (slice_index digits (length digits - 1 - behind))
+    else None
 
 -- what place i takes
 abbrev pub taken_by : List ℕ → List ℕ → ℕ → Option ℕ
@@ -63,13 +67,15 @@ is_significant None = false
 
 -- how many places stand left of the first significant one: all, where there is none
 unfoldable pub before_significant : List ℕ → List ℕ → ℕ
-before_significant word digits = position_or_len is_significant (map (taken_by word digits) (range_with_len 0 (length word)))
+before_significant word digits =
+    position_or_len is_significant (map (taken_by word digits) (range_with_len 0 (length word)))
 
 -- how many places there are up to and including the last zero of the control word: none, where it has no zero
 unfoldable pub limit_of : List ℕ → ℕ
 limit_of word = length word - suffix_len (λ char. not (char == zero_char)) word
 
--- whether zeros and commas are suppressed at place i: left of the first significant place, and not right of the last zero
+-- whether zeros and commas are suppressed at place i: left of the first significant place, and not right of the last
+-- zero
 abbrev pub is_suppressed : List ℕ → List ℕ → ℕ → Bool
 is_suppressed word digits i = nat_lt i (before_significant word digits) && nat_lt i (limit_of word)
 
@@ -77,8 +83,8 @@ is_suppressed word digits i = nat_lt i (before_significant word digits) && nat_l
 abbrev pub taken_char : Bool → ℕ → ℕ
 taken_char suppressed char = if char == zero_char && suppressed then blank_char else char
 
--- whether a place is left over: the t characters of A were too few for the replaceable places, and t of these or more stand
--- right of it, so that all that took one do
+-- whether a place is left over: the t characters of A were too few for the replaceable places, and t of these or more
+-- stand right of it, so that all that took one do
 abbrev pub is_left_over : ℕ → ℕ → ℕ → Bool
 is_left_over t replaceable behind = nat_lt t replaceable && nat_le t behind
 
@@ -88,19 +94,21 @@ is_behind_all behind = behind == 0
 
 -- a comma goes with what is left over, behind all replaceable places, and where zeros are suppressed
 abbrev pub is_comma_blanked : ℕ → ℕ → ℕ → Bool → Bool
-is_comma_blanked t replaceable behind suppressed = is_left_over t replaceable behind || (is_behind_all behind || suppressed)
+is_comma_blanked t replaceable behind suppressed =
+    is_left_over t replaceable behind || (is_behind_all behind || suppressed)
 
 -- a part of a sign goes behind all replaceable places, unless A is minus
 abbrev pub is_sign_blanked : Sign → ℕ → Bool
 is_sign_blanked Plus behind = is_behind_all behind
 is_sign_blanked Minus behind = false
 
--- whether a character of the control word becomes blank: what took none though it is replaceable, each ampersand, some commas
--- and some parts of a sign
+-- whether a character of the control word becomes blank: what took none though it is replaceable, each ampersand, some
+-- commas and some parts of a sign
 abbrev pub is_blanked : ℕ → ℕ → Sign → ℕ → Bool → ℕ → Bool
 is_blanked t replaceable sign behind suppressed char =
     is_replaceable char || (char == ampersand_char
-    || ((char == comma_char && is_comma_blanked t replaceable behind suppressed) || (is_sign_char char && is_sign_blanked sign behind)))
+    || ((char == comma_char && is_comma_blanked t replaceable behind suppressed)
+    || (is_sign_char char && is_sign_blanked sign behind)))
 
 -- a character of the control word that took none of A
 abbrev pub kept_char : ℕ → ℕ → Sign → ℕ → Bool → ℕ → ℕ
@@ -115,14 +123,15 @@ shown t replaceable sign behind suppressed None own = kept_char t replaceable si
 -- what place i shows
 abbrev pub shown_at : List ℕ → List ℕ → Sign → ℕ → ℕ
 shown_at word digits sign i =
-    shown (length digits) (replaceable_in word) sign (replaceable_behind word i) (is_suppressed word digits i) (taken_by word digits i) (slice_index word i)
+    shown (length digits) (replaceable_in word) sign (replaceable_behind word i) (is_suppressed word digits i)
+    (taken_by word digits i) (slice_index word i)
 
 -- the control word edited with the characters of A that it takes, the units without their zone, under A's sign
 unfoldable pub edited : List ℕ → List ℕ → Sign → List ℕ
 edited word digits sign = map (shown_at word digits sign) (range_with_len 0 (length word))
 
--- how many characters of A are taken, and how many places the control word has; none where a place that is needed isn't in
--- core
+-- how many characters of A are taken, and how many places the control word has; none where a place that is needed isn't
+-- in core
 abbrev pub taken_at : Storage → ℕ → ℕ → Option (ℕ × ℕ)
 taken_at storage a b =
     option_and_then (λ m. option_map (λ t. (t, m)) (used_len_of storage a (replaceable_in (chars_across storage b m))))
@@ -152,8 +161,9 @@ sign_at storage a = sign_under (zone_of (cell_at storage a).char)
 -- the storage with the control word of m places edited with t characters of A, without word marks; and the registers
 unfoldable pub with_edited : Storage → ℕ → ℕ → ℕ → ℕ → Storage × Done
 with_edited storage a t b m = (
-  with_across storage b (edited (chars_across storage b m) (units_unzoned (chars_across storage a t)) (sign_at storage a)),
-  registers_at (below_by a t) (below_by b m),
+  with_across storage b
+      (edited (chars_across storage b m) (units_unzoned (chars_across storage a t)) (sign_at storage a)),
+  registers_of (below_by a t) (below_by b m),
 )
 
 -- the A field edited by the control word at b
@@ -164,7 +174,8 @@ edit_at storage a b = on_lengths (edit_lengths_at storage a b) (λ t m. with_edi
 abbrev pub IsPlain : List ℕ → Type 0
 IsPlain word = (i : ℕ) → i < length word → is_replaceable (slice_index word i) ≡ true
 
--- These characters are those of A with blanks in front. So many of the first aren't shown: each of them is a zero or a blank.
+-- These characters are those of A with blanks in front. So many of the first aren't shown: each of them is a zero or a
+-- blank.
 pub record ShowsWithBlanks (shown digits : List ℕ) : Type 0 where
   pub hidden : ℕ
   pub fewer : hidden ≤ length digits

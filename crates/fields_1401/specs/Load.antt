@@ -3,7 +3,7 @@ use Rattle.std.specs.Prelude.{ℕ, ◌+◌, ◌-◌, ◌&&◌, Bool, not, Option
 use Rattle.core_1401.specs.Field.{field_len_of}
 use Rattle.core_1401.specs.Storage.{Storage, is_in_core, cell_at}
 use Rattle.fields_1401.specs.declared.done.FieldStop.TheVariants.{Address}
-use Rattle.fields_1401.specs.Outcome.{Outcome, below_by, registers_at}
+use Rattle.fields_1401.specs.Outcome.{Outcome, below_by, registers_of}
 use Rattle.fields_1401.specs.Places.{is_within, with_cells}
 
 -- n cells loaded
@@ -24,7 +24,7 @@ abbrev pub load_by : Storage → ℕ → ℕ → Option ℕ → Outcome
 load_by storage a b None = Err Address
 load_by storage a b (Some n) =
     if has_places storage b n && not (is_overwritten a b n) then Ok
-    (loaded storage a b n, registers_at (below_by a n) (below_by b n)) else Err Address
+    (loaded storage a b n, registers_of (below_by a n) (below_by b n)) else Err Address
 
 -- the A field loaded to b and the places below it, with its word mark
 unfoldable pub load_at : Storage → ℕ → ℕ → Outcome

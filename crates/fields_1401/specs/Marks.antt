@@ -2,7 +2,7 @@
 use Rattle.std.specs.Prelude.{ℕ, ◌+◌, ◌-◌, ◌*◌, ◌/◌, ◌&&◌, Bool, true, false, Ok, Err, if◌then◌else◌}
 use Rattle.core_1401.specs.Storage.{Storage, blank, is_in_core, with_mark}
 use Rattle.fields_1401.specs.declared.done.FieldStop.TheVariants.{Address}
-use Rattle.fields_1401.specs.Outcome.{Outcome, below_by, registers_at}
+use Rattle.fields_1401.specs.Outcome.{Outcome, below_by, registers_of}
 use Rattle.fields_1401.specs.Places.{with_cells}
 
 -- both addresses with a word mark, or both without
@@ -10,7 +10,7 @@ abbrev pub marks_at : Storage → ℕ → ℕ → Bool → Outcome
 marks_at storage a b mark =
     if is_in_core storage a && is_in_core storage b then Ok (
       with_mark (with_mark storage a mark) b mark,
-      registers_at (below_by a 1) (below_by b 1),
+      registers_of (below_by a 1) (below_by b 1),
     )
     else Err Address
 
@@ -35,5 +35,5 @@ abbrev pub clear_down_at : Storage → ℕ → Outcome
 clear_down_at storage b =
     if is_in_core storage b then Ok (
       cleared storage b (b + 1 - hundred_of b),
-      registers_at b (below_by (hundred_of b) 1),
+      registers_of b (below_by (hundred_of b) 1),
     ) else Err Address

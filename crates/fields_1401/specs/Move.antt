@@ -3,7 +3,7 @@ use Rattle.std.specs.Prelude.{ℕ, ◌-◌, ◌%◌, Option, Some, None, Ok, Err
 use Rattle.core_1401.specs.Storage.{Storage, cell_at}
 use Rattle.core_1401.specs.Field.{pair_len_of}
 use Rattle.fields_1401.specs.declared.done.FieldStop.TheVariants.{Address}
-use Rattle.fields_1401.specs.Outcome.{Outcome, below_by, registers_at}
+use Rattle.fields_1401.specs.Outcome.{Outcome, below_by, registers_of}
 use Rattle.fields_1401.specs.Places.{with_chars}
 
 -- The place whose character comes to the i-th place of the B field, where each character is moved after the one to its
@@ -19,7 +19,7 @@ moved storage a b n = with_chars storage b n (λ i. (cell_at storage (source_of 
 -- the same with the registers behind both fields, where they have a length
 abbrev pub move_by : Storage → ℕ → ℕ → Option ℕ → Outcome
 move_by storage a b None = Err Address
-move_by storage a b (Some n) = Ok (moved storage a b n, registers_at (below_by a n) (below_by b n))
+move_by storage a b (Some n) = Ok (moved storage a b n, registers_of (below_by a n) (below_by b n))
 
 -- the A field moved to the B field, down to the first word mark in either
 unfoldable pub move_at : Storage → ℕ → ℕ → Outcome

@@ -3,7 +3,7 @@ use Rattle.std.specs.Prelude.{ℕ, ◌&&◌, Ok, Err, if◌then◌else◌}
 use Rattle.bcd_1401.specs.Character.{zone_of, with_zone_of}
 use Rattle.core_1401.specs.Storage.{Storage, is_in_core, cell_at, with_char}
 use Rattle.fields_1401.specs.declared.done.FieldStop.TheVariants.{Address}
-use Rattle.fields_1401.specs.Outcome.{Outcome, below_by, registers_at}
+use Rattle.fields_1401.specs.Outcome.{Outcome, below_by, registers_of}
 
 -- the low bits of one character under the zone of another
 abbrev pub digit_under_zone : Storage → ℕ → ℕ → ℕ
@@ -14,7 +14,7 @@ abbrev pub part_moved_at : Storage → ℕ → ℕ → ℕ → Outcome
 part_moved_at storage a b char =
     if is_in_core storage a && is_in_core storage b then Ok (
       with_char storage b char,
-      registers_at (below_by a 1) (below_by b 1),
+      registers_of (below_by a 1) (below_by b 1),
     ) else Err Address
 
 -- the low bits at a go to b; the zone there stays

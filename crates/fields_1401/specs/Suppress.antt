@@ -1,12 +1,14 @@
--- Zeros suppressed (A24-1403, "Move Characters and Suppress Zeros"; what stops the suppression, and the refusals, are own).
-use Rattle.std.specs.Prelude.{ℕ, ◌+◌, ◌%◌, ◌==◌, ◌||◌, not, Bool, List, ◌++◌, replicate, drop, Option, Some, None, Ok, Err, if◌then◌else◌}
+-- Zeros suppressed (A24-1403, "Move Characters and Suppress Zeros"; what stops the suppression, and the refusals, are
+-- own).
+use Rattle.std.specs.Prelude.{ℕ, ◌+◌, ◌%◌, ◌==◌, ◌||◌, not, Bool, List, ◌++◌, replicate, drop, Option, Some, None, Ok}
+use Rattle.std.specs.Prelude.{Err, if◌then◌else◌}
 use Rattle.std.specs.List.{position_or_len}
 use Rattle.core_1401.specs.Address.{addresses}
 use Rattle.core_1401.specs.Field.{field_len_of}
 use Rattle.core_1401.specs.Storage.{Storage}
 use Rattle.fields_1401.specs.Across.{chars_across, units_unzoned, with_across}
 use Rattle.fields_1401.specs.Load.{has_places}
-use Rattle.fields_1401.specs.Outcome.{Outcome, below_by, registers_at}
+use Rattle.fields_1401.specs.Outcome.{Outcome, below_by, registers_of}
 use Rattle.fields_1401.specs.Refusal.{is_overlap}
 use Rattle.fields_1401.specs.declared.done.Done.{Done}
 use Rattle.fields_1401.specs.declared.done.FieldStop.TheVariants.{Address, Overlap}
@@ -41,7 +43,7 @@ above at = (at + 1) % addresses
 unfoldable pub with_suppressed : Storage → ℕ → ℕ → ℕ → Storage × Done
 with_suppressed storage a b n = (
   with_across storage b (suppressed (units_unzoned (chars_across storage a n))),
-  registers_at (below_by a n) (above b),
+  registers_of (below_by a n) (above b),
 )
 
 -- the same where the A field has a length: a missing place is refused before an overlap

@@ -1,9 +1,11 @@
 //! The control word of an edit: its places, and what they take of the A field.
-ghost use Rattle.std.specs.Prelude.{◌≡◌, ◌+◌, ◌<◌, ◌≤◌, false, length, min, Option, Some, None, Ok, Err, IfOk, IfErr, IfSome};
+ghost use Rattle.std.specs.Prelude.{◌≡◌, ◌+◌, ◌<◌, ◌≤◌, false, length, min, Option, Some, None, Ok, Err, IfOk, IfErr};
+ghost use Rattle.std.specs.Prelude.{IfSome};
 ghost use Rattle.core_1401.specs.Address.{addresses};
 ghost use Rattle.core_1401.specs.Field.{field_len_of};
 ghost use Rattle.fields_1401.specs.Across.{chars_across, units_unzoned};
-ghost use Rattle.fields_1401.specs.Edit.{is_replaceable, replaceable_in, taken_from, is_significant, before_significant, limit_of, taken_at, is_shared, edit_lengths_at};
+ghost use Rattle.fields_1401.specs.Edit.{is_replaceable, replaceable_in, taken_from, is_significant};
+ghost use Rattle.fields_1401.specs.Edit.{before_significant, limit_of, taken_at, is_shared, edit_lengths_at};
 ghost use Rattle.fields_1401.specs.Refusal.{used_len_of};
 
 use crate::across::{char_across, unzoned_char};
@@ -42,8 +44,9 @@ impl ControlWord {
     ///
     /// # Errors
     ///
-    /// `Address` where there is no B field, where a isn't in core, or where the A field comes to address 0 before its word mark
-    /// with a replaceable place left; else `Overlap` where a place of A that is read is one of the control word.
+    /// `Address` where there is no B field, where a isn't in core, or where the A field comes to address 0 before its
+    /// word mark with a replaceable place left; else `Overlap` where a place of A that is read is one of the control
+    /// word.
     #[tactic(auto, unfolding(crate::specs::Edit::edit_lengths_at))]
     pub(crate) fn at(core: &Core, a: u16, b: u16) -> Result<ControlWord, FieldStop>
         requires a { a < addresses }
@@ -54,7 +57,8 @@ impl ControlWord {
         ensures field { IfOk result (λ word. field_len_of core.now b ≡ Some word.len) }
         ensures at_a { IfOk result (λ word. (word.a ≡ a) × (a < length core.now)) }
         ensures at_b { IfOk result (λ word. (word.b ≡ b) × (b < length core.now)) }
-        ensures replaceable { IfOk result (λ word. word.replaceable ≡ replaceable_in (chars_across core.now b word.len)) }
+        ensures replaceable { IfOk result (λ word.
+            word.replaceable ≡ replaceable_in (chars_across core.now b word.len)) }
     {
         let Some(len) = field_len(core, b) else {
             return Err(FieldStop::Address);

@@ -3,7 +3,9 @@ ghost use Rattle.std.specs.Prelude.{◌≡◌, ◌+◌, ◌<◌, length, min, na
 ghost use Rattle.core_1401.specs.Address.{addresses};
 ghost use Rattle.core_1401.specs.Field.{field_len_of};
 ghost use Rattle.fields_1401.specs.Across.{chars_across, units_unzoned, with_across, IsUnmarked, IsSameOutside};
-ghost use Rattle.fields_1401.specs.Edit.{replaceable_in, before_significant, limit_of, is_left_over, is_comma_blanked, is_sign_char, is_sign_blanked, is_blanked, taken_char, kept_char, shown, edited, sign_at, taken_at, edit_at, IsPlain, ShowsWithBlanks};
+ghost use Rattle.fields_1401.specs.Edit.{replaceable_in, before_significant, limit_of, is_left_over, is_comma_blanked};
+ghost use Rattle.fields_1401.specs.Edit.{is_sign_char, is_sign_blanked, is_blanked, taken_char, kept_char, shown};
+ghost use Rattle.fields_1401.specs.Edit.{edited, sign_at, taken_at, edit_at, IsPlain, ShowsWithBlanks};
 ghost use Rattle.fields_1401.specs.Outcome.{CarriesOut};
 
 use crate::control_word::{ControlWord, is_replaceable};
@@ -58,8 +60,8 @@ struct Spot {
 ///
 /// # Errors
 ///
-/// `Address` where there is no B field, where a isn't in core, or where the A field comes to address 0 before its word mark
-/// with a place left to replace; else `Overlap` where a place of A that is read is one of the B field.
+/// `Address` where there is no B field, where a isn't in core, or where the A field comes to address 0 before its word
+/// mark with a place left to replace; else `Overlap` where a place of A that is read is one of the B field.
 #[tactic(auto, unfolding(crate::specs::Edit::edit_at, crate::specs::Edit::with_edited))]
 pub fn edit(core: &mut Core, a: u16, b: u16) -> Result<Done, FieldStop>
     requires a { a < addresses }
@@ -116,7 +118,8 @@ fn put_edited(core: &mut Core, word: ControlWord, rules: Rules)
 impl Rules {
     /// What a place shows, by what it took of A and by its own character.
     fn shown(self, spot: Spot, taken: Option<Char>, own: Char) -> Char
-        ensures { result ≡ shown self.taken self.replaceable self.sign spot.behind (nat_lt spot.place self.suppressing) taken own }
+        ensures { let suppressed = nat_lt spot.place self.suppressing in
+            result ≡ shown self.taken self.replaceable self.sign spot.behind suppressed taken own }
     {
         match taken {
             Some(char) => self.taken_char(spot, char),
@@ -137,7 +140,8 @@ impl Rules {
 
     /// A character of the control word that took none of A.
     fn kept_char(self, spot: Spot, own: Char) -> Char
-        ensures { result ≡ kept_char self.taken self.replaceable self.sign spot.behind (nat_lt spot.place self.suppressing) own }
+        ensures { let suppressed = nat_lt spot.place self.suppressing in
+            result ≡ kept_char self.taken self.replaceable self.sign spot.behind suppressed own }
     {
         if self.is_blanked(spot, own) {
             Char::BLANK
@@ -148,7 +152,8 @@ impl Rules {
 
     /// Whether a character of the control word becomes blank.
     fn is_blanked(self, spot: Spot, own: Char) -> bool
-        ensures { result ≡ is_blanked self.taken self.replaceable self.sign spot.behind (nat_lt spot.place self.suppressing) own }
+        ensures { let suppressed = nat_lt spot.place self.suppressing in
+            result ≡ is_blanked self.taken self.replaceable self.sign spot.behind suppressed own }
     {
         is_replaceable(own)
             || own.code() == AMPERSAND
@@ -159,7 +164,8 @@ impl Rules {
     /// Whether a comma becomes blank: with what is left over, behind all replaceable places, and where zeros are
     /// suppressed.
     fn is_comma_blanked(self, spot: Spot) -> bool
-        ensures { result ≡ is_comma_blanked self.taken self.replaceable spot.behind (nat_lt spot.place self.suppressing) }
+        ensures { let suppressed = nat_lt spot.place self.suppressing in
+            result ≡ is_comma_blanked self.taken self.replaceable spot.behind suppressed }
     {
         self.is_left_over(spot) || spot.behind == 0 || self.is_suppressed(spot)
     }

@@ -1,7 +1,7 @@
 //! Registers that step down.
 ghost use Rattle.std.specs.Prelude.{◌≡◌, ◌<◌, ◌≤◌};
 ghost use Rattle.core_1401.specs.Address.{addresses};
-ghost use Rattle.fields_1401.specs.Outcome.{below_by, registers_at};
+ghost use Rattle.fields_1401.specs.Outcome.{below_by, registers_of};
 
 use crate::done::Done;
 use core_1401::ADDRESSES;
@@ -18,7 +18,7 @@ pub fn below(at: u16, by: u16) -> u16
 
 /// The registers afterwards, and no indicator.
 pub(crate) fn registers(a: u16, b: u16) -> Done
-    ensures { result ≡ registers_at a b }
+    ensures { result ≡ registers_of a b }
 {
     Done {
         a,

@@ -28,8 +28,8 @@ pub(crate) const COMMA: u8 = 27;
 ///
 /// # Errors
 ///
-/// `Address` where a isn't in core or its field comes to address 0 before a word mark, or where b isn't in core or has too
-/// few places below it; else `Overlap` where the addresses differ and the places share one.
+/// `Address` where a isn't in core or its field comes to address 0 before a word mark, or where b isn't in core or has
+/// too few places below it; else `Overlap` where the addresses differ and the places share one.
 #[tactic(auto, unfolding(crate::specs::Suppress::suppress_at, crate::specs::Suppress::with_suppressed))]
 pub fn suppress(core: &mut Core, a: u16, b: u16) -> Result<Done, FieldStop>
     requires a { a < addresses }

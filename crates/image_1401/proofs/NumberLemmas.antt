@@ -1,5 +1,7 @@
 -- Numbers in so many digits, written and read.
-use Rattle.std.proofs.Common.{◌≡◌, ℕ, ◌+◌, ◌-◌, ◌*◌, ◌/◌, ◌%◌, ◌^◌, ◌<◌, ◌≤◌, ◌&&◌, Bool, true, false, List, [], ◌∷◌, ◌++◌, length, take, drop, get_or, zero, suc, Option, Some, None, cond, leb, refl, sym, ap, subst, ◌∙◌, arith, length-append, length-take}
+use Rattle.std.proofs.Common.{◌≡◌, ℕ, ◌+◌, ◌-◌, ◌*◌, ◌/◌, ◌%◌, ◌^◌, ◌<◌, ◌≤◌, ◌&&◌, Bool, true, false, List, [], ◌∷◌}
+use Rattle.std.proofs.Common.{◌++◌, length, take, drop, get_or, zero, suc, Option, Some, None, cond, leb, refl, sym, ap}
+use Rattle.std.proofs.Common.{subst, ◌∙◌, arith, length-append, length-take}
 use Rattle.std.specs.Option.{option_map}
 use Rattle.std.specs.List.{list_all}
 use Rattle.std.proofs.lemmas.Bool.{leb-true, le-leb, false≢true}
@@ -13,7 +15,8 @@ use Rattle.image_1401.specs.ImageText.{number_text}
 use Rattle.image_1401.specs.Reading.{is_digit, value_of, number_in, number_at}
 
 -- the last digit, and in front of it those of the tenth part
-pub number_text-last : (digits number : ℕ) → 0 < digits → number_text digits number ≡ number_text (digits - 1) (number / 10) ++ (48 + number % 10) ∷ []
+pub number_text-last : (digits number : ℕ) → 0 < digits → number_text digits number
+    ≡ number_text (digits - 1) (number / 10) ++ (48 + number % 10) ∷ []
 unfolding number_text
 number_text-last zero number h = absurd (omega arith)
 number_text-last (suc digits) number h =
@@ -26,7 +29,8 @@ tens_more i = pow-succ' 10 i
 pub length-number_text : (digits number : ℕ) → length (number_text digits number) ≡ digits
 unfolding number_text
 length-number_text zero number = refl
-length-number_text (suc digits) number = omega (arith, length_push (number_text digits (number / 10)) (48 + number % 10), length-number_text digits (number / 10))
+length-number_text (suc digits) number =
+    omega (arith, length_push (number_text digits (number / 10)) (48 + number % 10), length-number_text digits (number / 10))
 
 pub both : (a b : Bool) → a ≡ true → b ≡ true → (a && b) ≡ true
 both a b p q = rw (p, q)
@@ -50,7 +54,8 @@ unfolding number_text
 value_of-number_text zero number small = omega arith
 value_of-number_text (suc digits) number small =
     let tenth : number / 10 < 10 ^ digits = omega (arith, tens_more digits) in
-    value_of-push (number_text digits (number / 10)) (48 + number % 10) ∙ omega (arith, value_of-number_text digits (number / 10) tenth)
+    value_of-push (number_text digits (number / 10)) (48 + number % 10)
+    ∙ omega (arith, value_of-number_text digits (number / 10) tenth)
 
 pub first_half : (a b : Bool) → (a && b) ≡ true → a ≡ true
 first_half true b h = refl
@@ -68,7 +73,8 @@ pub record AreDigits (digits : ℕ) (text : List ℕ) : Type 0 where
 digit_bounds : (digit : ℕ) → list_all is_digit (digit ∷ []) ≡ true → (48 ≤ digit) × (digit ≤ 57)
 digit_bounds digit h = (grind (arith, nat_tests), grind (arith, nat_tests))
 
-digits_push : (digits : ℕ) (front : List ℕ) (digit : ℕ) → AreDigits digits front → 48 ≤ digit → digit ≤ 57 → AreDigits (suc digits) (front ++ digit ∷ [])
+digits_push : (digits : ℕ) (front : List ℕ) (digit : ℕ) → AreDigits digits front → 48 ≤ digit → digit ≤ 57
+    → AreDigits (suc digits) (front ++ digit ∷ [])
 unfolding number_text
 digits_push digits front digit so_far low high =
     let value = value_of-push front digit in
@@ -80,17 +86,22 @@ digits_push digits front digit so_far low high =
     }
 
 -- digits are those of their number
-pub are_digits : (digits : ℕ) (text : List ℕ) → length text ≡ digits → list_all is_digit text ≡ true → AreDigits digits text
+pub are_digits : (digits : ℕ) (text : List ℕ) → length text ≡ digits → list_all is_digit text ≡ true
+    → AreDigits digits text
 unfolding number_text
 are_digits zero [] len all = record { text_is = refl; small = omega arith }
 are_digits zero (digit ∷ text) len all = absurd (omega arith)
 are_digits (suc digits) text len all =
     let front : List ℕ = take digits text in
     let last = get_or text digits 0 in
-    let parts : text ≡ front ++ last ∷ [] = sym (take_all (digits + 1) text (omega arith)) ∙ take_more text digits 0 (omega arith) in
-    let split : (list_all is_digit front && list_all is_digit (last ∷ [])) ≡ true = sym (list_all-append is_digit front (last ∷ [])) ∙ (ap (list_all is_digit) (sym parts) ∙ all) in
+    let parts : text ≡ front ++ last ∷ [] = sym (take_all (digits + 1) text (omega arith))
+    ∙ take_more text digits 0 (omega arith) in
+    let split : (list_all is_digit front && list_all is_digit (last ∷ []))
+    ≡ true = sym (list_all-append is_digit front (last ∷ [])) ∙ (ap (list_all is_digit) (sym parts) ∙ all) in
     let bounds = digit_bounds last (second_half (list_all is_digit front) _ split) in
-    let so_far = are_digits digits front (omega (arith, length-take digits text)) (first_half _ (list_all is_digit (last ∷ [])) split) in
+    let so_far =
+    are_digits digits front (omega (arith, length-take digits text)) (first_half _ (list_all is_digit (last
+    ∷ [])) split) in
     subst (AreDigits (suc digits)) (sym parts) (digits_push digits front last so_far bounds.0 bounds.1)
 
 -- a number that is read stands at the front, in so many digits
@@ -98,7 +109,8 @@ pub record Takes (digits : ℕ) (text : List ℕ) (found : ℕ × List ℕ) : Ty
   pub parts : text ≡ number_text digits found.0 ++ found.1
   pub small : found.0 < 10 ^ digits
 
-taken : (number : Option ℕ) (rest : List ℕ) (found : ℕ × List ℕ) → option_map (λ n. (n, rest)) number ≡ Some found → (number ≡ Some found.0) × (rest ≡ found.1)
+taken : (number : Option ℕ) (rest : List ℕ) (found : ℕ × List ℕ) → option_map (λ n. (n, rest)) number ≡ Some found
+    → (number ≡ Some found.0) × (rest ≡ found.1)
 taken None rest found h = absurd cc
 taken (Some n) rest found h =
     let pair : (n, rest) ≡ found = same_Some (n, rest) found h in
@@ -108,7 +120,8 @@ if_some : {A : Type 0} (b : Bool) (o : Option A) (x : A) → cond b o None ≡ S
 if_some true o x h = (refl, h)
 if_some false o x h = absurd cc
 
-pub number_takes : (digits : ℕ) (text : List ℕ) (found : ℕ × List ℕ) → number_at digits text ≡ Some found → Takes digits text found
+pub number_takes : (digits : ℕ) (text : List ℕ) (found : ℕ × List ℕ) → number_at digits text ≡ Some found
+    → Takes digits text found
 unfolding number_at number_in
 number_takes digits text found h =
     let long = if_some (leb digits (length text)) _ found h in
@@ -118,12 +131,16 @@ number_takes digits text found h =
     let are = are_digits digits (take digits text) (omega (arith, length-take digits text)) all.0 in
     let front : take digits text ≡ number_text digits found.0 = are.text_is ∙ ap (number_text digits) all.1 in
     record {
-      parts = sym (take-append-drop digits text) ∙ (ap (λ (more : List ℕ). more ++ drop digits text) front ∙ ap (λ (more : List ℕ). number_text digits found.0 ++ more) parts.1);
+      parts =
+          sym (take-append-drop digits text)
+          ∙ (ap (λ (more : List ℕ). more ++ drop digits text) front
+          ∙ ap (λ (more : List ℕ). number_text digits found.0 ++ more) parts.1);
       small = subst (λ n. n < 10 ^ digits) all.1 are.small;
     }
 
 -- a number that is written is read again, whatever follows
-pub number_again : (digits number : ℕ) (rest : List ℕ) → number < 10 ^ digits → number_at digits (number_text digits number ++ rest) ≡ Some (number, rest)
+pub number_again : (digits number : ℕ) (rest : List ℕ) → number < 10 ^ digits
+    → number_at digits (number_text digits number ++ rest) ≡ Some (number, rest)
 unfolding number_at number_in
 number_again digits number rest small =
     let text = number_text digits number in

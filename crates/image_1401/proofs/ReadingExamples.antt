@@ -7,8 +7,10 @@ use Rattle.image_1401.specs.declared.fault.ImageFault.{ImageFault}
 use Rattle.image_1401.specs.declared.fault.ImageFault.TheVariants.{Header, BadRecord, Range, Truncated}
 use Rattle.image_1401.specs.declared.image.Image.{Image}
 use Rattle.image_1401.specs.declared.version.Version.TheVariants.{One}
-use Rattle.image_1401.specs.ImageText.{number_text, cells_text, header_text, segment_text, segments_text, end_text, image_text}
-use Rattle.image_1401.specs.Reading.{number_in, number_at, cells_in, few_cells_in, header_with, header_in, segment_in, end_in, parts_of, contents_in, image_in}
+use Rattle.image_1401.specs.ImageText.{number_text, cells_text, header_text, segment_text, segments_text, end_text}
+use Rattle.image_1401.specs.ImageText.{image_text}
+use Rattle.image_1401.specs.Reading.{number_in, number_at, cells_in, few_cells_in, header_with, header_in, segment_in}
+use Rattle.image_1401.specs.Reading.{end_in, parts_of, contents_in, image_in}
 
 -- a cell without a word mark, and one with it, by the character's code
 plain : ℕ → Cell
@@ -20,7 +22,8 @@ marked code = record { char = code; mark = true }
 -- ?423420 and A423420 with their word marks
 zero_and_add : List Cell → List Cell
 zero_and_add more =
-    marked 58 ∷ plain 4 ∷ plain 2 ∷ plain 3 ∷ plain 4 ∷ plain 2 ∷ plain 10 ∷ marked 49 ∷ plain 4 ∷ plain 2 ∷ plain 3 ∷ plain 4 ∷ plain 2
+    marked 58 ∷ plain 4 ∷ plain 2 ∷ plain 3 ∷ plain 4 ∷ plain 2 ∷ plain 10 ∷ marked 49 ∷ plain 4 ∷ plain 2 ∷ plain 3
+    ∷ plain 4 ∷ plain 2
     ∷ plain 10 ∷ more
 
 -- .414 with its word mark, three blanks, HI and E with theirs
@@ -31,9 +34,16 @@ halt_and_constants =
 -- five is put into a field and added to it
 five_and_five : Image
 unfolding zero_and_add halt_and_constants plain marked
-five_and_five = record { size = 4000; segments = record { address = 400; cells = zero_and_add halt_and_constants } ∷ []; start = 400 }
+five_and_five =
+    record {
+      size = 4000;
+      segments = record { address = 400; cells = zero_and_add halt_and_constants }
+          ∷ [];
+      start = 400;
+    }
 
-text_of_five_and_five : image_text One five_and_five ≡ codes "IMAGE1 4000\n0400 24 ~?423420~A423420~.414~   ~HI~E\nEND 0400\n"
+text_of_five_and_five : image_text One five_and_five
+    ≡ codes "IMAGE1 4000\n0400 24 ~?423420~A423420~.414~   ~HI~E\nEND 0400\n"
 unfolding five_and_five zero_and_add halt_and_constants plain marked graphics number_text cells_text header_text segment_text segments_text end_text image_text
 text_of_five_and_five = refl
 
@@ -41,7 +51,8 @@ text_of_five_and_five = refl
 read : List ℕ → Result Image ImageFault
 read text = image_in (parts_of text)
 
-five_and_five_is_read : read (codes "IMAGE1 4000\n0400 24 ~?423420~A423420~.414~   ~HI~E\nEND 0400\n") ≡ Ok five_and_five
+five_and_five_is_read : read (codes "IMAGE1 4000\n0400 24 ~?423420~A423420~.414~   ~HI~E\nEND 0400\n")
+    ≡ Ok five_and_five
 unfolding read five_and_five zero_and_add halt_and_constants plain marked graphics number_in number_at cells_in few_cells_in header_with header_in segment_in end_in contents_in image_in
 five_and_five_is_read = refl
 
@@ -55,7 +66,13 @@ an_entry_alone_is_read = refl
 -- two segments in their order, the later one over the earlier one
 twice : Image
 unfolding plain marked
-twice = record { size = 2000; segments = record { address = 1998; cells = marked 49 ∷ plain 50 ∷ [] } ∷ record { address = 1999; cells = plain 32 ∷ [] } ∷ []; start = 0 }
+twice =
+    record {
+      size = 2000;
+      segments = record { address = 1998; cells = marked 49 ∷ plain 50 ∷ [] }
+          ∷ record { address = 1999; cells = plain 32 ∷ [] } ∷ [];
+      start = 0;
+    }
 
 segments_keep_their_order : read (codes "IMAGE1 2000\n1998 02 ~AB\n1999 01 -\nEND 0000\n") ≡ Ok twice
 unfolding read twice plain marked graphics number_in number_at cells_in few_cells_in header_with header_in segment_in end_in contents_in image_in

@@ -1,5 +1,6 @@
 -- The lines of an image, written and read.
-use Rattle.std.proofs.Common.{◌≡◌, ℕ, ◌^◌, ◌<◌, ◌≤◌, ◌==◌, ◌&&◌, Bool, true, false, cond, List, [], ◌∷◌, ◌++◌, length, Option, Some, None, refl, sym, ap, subst, ◌∙◌, arith}
+use Rattle.std.proofs.Common.{◌≡◌, ℕ, ◌^◌, ◌<◌, ◌≤◌, ◌==◌, ◌&&◌, Bool, true, false, cond, List, [], ◌∷◌, ◌++◌, length}
+use Rattle.std.proofs.Common.{Option, Some, None, refl, sym, ap, subst, ◌∙◌, arith}
 use Rattle.std.specs.Prelude.{codes, nat_le}
 use Rattle.std.specs.Option.{option_map}
 use Rattle.std.specs.List.{list_all}
@@ -12,8 +13,10 @@ use Rattle.image_1401.specs.declared.image.Segment.{Segment}
 use Rattle.image_1401.specs.declared.version.Version.{Version}
 use Rattle.image_1401.specs.declared.version.Version.TheVariants.{One}
 use Rattle.image_1401.specs.Version.{name_of, address_digits, has_size}
-use Rattle.image_1401.specs.ImageText.{number_text, cells_text, header_text, segment_text, end_text, is_character, is_segment}
-use Rattle.image_1401.specs.Reading.{◌>>=◌, behind, number_in, number_at, cells_in, if_few, few_cells_in, header_with, header_in, segment_in, end_in}
+use Rattle.image_1401.specs.ImageText.{number_text, cells_text, header_text, segment_text, end_text, is_character}
+use Rattle.image_1401.specs.ImageText.{is_segment}
+use Rattle.image_1401.specs.Reading.{◌>>=◌, behind, number_in, number_at, cells_in, if_few, few_cells_in, header_with}
+use Rattle.image_1401.specs.Reading.{header_in, segment_in, end_in}
 use Rattle.image_1401.proofs.NumberLemmas.{first_half, second_half, both, number_takes, number_again}
 use Rattle.image_1401.proofs.SpellingLemmas.{behind_takes, behind_again, cells_takes, cells_again}
 
@@ -32,41 +35,59 @@ pub size_bound : (version : Version) (size : ℕ) → has_size version size ≡ 
 size_bound One size h = grind (arith, nat_tests)
 
 -- a header
-header_with_takes : (version : Version) (line : List ℕ) (size : ℕ) → header_with version line ≡ Some size → (line ≡ header_text version size) × (has_size version size ≡ true)
+header_with_takes : (version : Version) (line : List ℕ) (size : ℕ) → header_with version line ≡ Some size
+    → (line ≡ header_text version size) × (has_size version size ≡ true)
 unfolding header_with header_text
 header_with_takes version line size h =
     let name = step (behind (name_of version) line) _ size h in
     let number = step (number_at (address_digits version) name.value) _ size name.then_is in
-    let good = cond_some (nat_le (length number.value.1) 0 && has_size version number.value.0) number.value.0 size number.then_is in
+    let good =
+    cond_some (nat_le (length number.value.1) 0
+    && has_size version number.value.0) number.value.0 size number.then_is in
     let named = behind_takes (name_of version) line name.value name.is in
     let digits = number_takes (address_digits version) name.value number.value number.is in
-    let done : number.value.1 ≡ [] = nil_from_length number.value.1 (let few : length number.value.1 ≤ 0 = leb-true _ _ (first_half _ _ good.0) in omega arith) in
-    let whole : name.value ≡ number_text (address_digits version) size = digits.parts ∙ (ap (λ (rest : List ℕ). number_text (address_digits version) number.value.0 ++ rest) done ∙ (append-nil _ ∙ ap (number_text (address_digits version)) good.1)) in
-    (named ∙ ap (λ (rest : List ℕ). name_of version ++ rest) whole, ap (has_size version) (sym good.1) ∙ second_half _ _ good.0)
+    let done : number.value.1
+    ≡ [] =
+    nil_from_length number.value.1 (let few : length number.value.1 ≤ 0 = leb-true _ _ (first_half _ _ good.0) in omega arith) in
+    let whole : name.value ≡ number_text (address_digits version) size = digits.parts
+    ∙ (ap (λ (rest : List ℕ). number_text (address_digits version) number.value.0 ++ rest) done
+    ∙ (append-nil _ ∙ ap (number_text (address_digits version)) good.1)) in (
+      named ∙ ap (λ (rest : List ℕ). name_of version ++ rest) whole,
+      ap (has_size version) (sym good.1)
+          ∙ second_half _ _ good.0,
+    )
 
-header_with_again : (version : Version) (size : ℕ) → has_size version size ≡ true → header_with version (header_text version size) ≡ Some size
+header_with_again : (version : Version) (size : ℕ) → has_size version size ≡ true
+    → header_with version (header_text version size) ≡ Some size
 unfolding header_with header_text
 header_with_again version size h =
     let digits = address_digits version in
-    let number : number_at digits (number_text digits size) ≡ Some (size, []) = ap (number_at digits) (sym (append-nil (number_text digits size))) ∙ number_again digits size [] (size_bound version size h) in
+    let number : number_at digits (number_text digits size)
+    ≡ Some (size, []) =
+    ap (number_at digits) (sym (append-nil (number_text digits size)))
+    ∙ number_again digits size [] (size_bound version size h) in
     rw (behind_again (name_of version) (number_text digits size), number, h)
 
-pub header_takes : (line : List ℕ) (version : Version) (size : ℕ) → header_in line ≡ Some (version, size) → (line ≡ header_text version size) × (has_size version size ≡ true)
+pub header_takes : (line : List ℕ) (version : Version) (size : ℕ) → header_in line ≡ Some (version, size)
+    → (line ≡ header_text version size) × (has_size version size ≡ true)
 unfolding header_in
 header_takes line version size h = by_one (header_with One line) line version size refl h where
-  by_one : (found : Option ℕ) (line : List ℕ) (version : Version) (size : ℕ) → header_with One line ≡ found → option_map {U = Version × ℕ} (λ size. (One, size)) found ≡ Some (version, size)
+  by_one : (found : Option ℕ) (line : List ℕ) (version : Version) (size : ℕ) → header_with One line ≡ found
+      → option_map {U = Version × ℕ} (λ size. (One, size)) found ≡ Some (version, size)
       → (line ≡ header_text version size) × (has_size version size ≡ true)
   by_one None line version size e h = absurd cc
   by_one (Some number) line One size e h =
       let pair : (One, number) ≡ (One, size) = same_Some (One, number) (One, size) h in
       header_with_takes One line size (e ∙ ap (λ (p : Version × ℕ). Some p.1) pair)
 
-pub header_again : (version : Version) (size : ℕ) → has_size version size ≡ true → header_in (header_text version size) ≡ Some (version, size)
+pub header_again : (version : Version) (size : ℕ) → has_size version size ≡ true → header_in (header_text version size)
+    ≡ Some (version, size)
 unfolding header_in
 header_again One size h = ap (option_map {U = Version × ℕ} (λ size. (One, size))) (header_with_again One size h)
 
 -- the last line
-pub end_takes : (version : Version) (line : List ℕ) (start : ℕ) → end_in version line ≡ Some start → line ≡ end_text version start
+pub end_takes : (version : Version) (line : List ℕ) (start : ℕ) → end_in version line ≡ Some start → line
+    ≡ end_text version start
 unfolding end_in end_text
 end_takes version line start h =
     let name = step (behind (codes "END ") line) _ start h in
@@ -74,15 +95,22 @@ end_takes version line start h =
     let good = cond_some (nat_le (length number.value.1) 0) number.value.0 start number.then_is in
     let named = behind_takes (codes "END ") line name.value name.is in
     let digits = number_takes (address_digits version) name.value number.value number.is in
-    let done : number.value.1 ≡ [] = nil_from_length number.value.1 (let few : length number.value.1 ≤ 0 = leb-true _ _ good.0 in omega arith) in
-    let whole : name.value ≡ number_text (address_digits version) start = digits.parts ∙ (ap (λ (rest : List ℕ). number_text (address_digits version) number.value.0 ++ rest) done ∙ (append-nil _ ∙ ap (number_text (address_digits version)) good.1)) in
+    let done : number.value.1
+    ≡ [] =
+    nil_from_length number.value.1 (let few : length number.value.1 ≤ 0 = leb-true _ _ good.0 in omega arith) in
+    let whole : name.value ≡ number_text (address_digits version) start = digits.parts
+    ∙ (ap (λ (rest : List ℕ). number_text (address_digits version) number.value.0 ++ rest) done
+    ∙ (append-nil _ ∙ ap (number_text (address_digits version)) good.1)) in
     named ∙ ap (λ (rest : List ℕ). codes "END " ++ rest) whole
 
-pub end_again : (version : Version) (start : ℕ) → start < 10 ^ address_digits version → end_in version (end_text version start) ≡ Some start
+pub end_again : (version : Version) (start : ℕ) → start < 10 ^ address_digits version
+    → end_in version (end_text version start) ≡ Some start
 unfolding end_in end_text
 end_again version start small =
     let digits = address_digits version in
-    let number : number_at digits (number_text digits start) ≡ Some (start, []) = ap (number_at digits) (sym (append-nil (number_text digits start))) ∙ number_again digits start [] small in
+    let number : number_at digits (number_text digits start)
+    ≡ Some (start, []) =
+    ap (number_at digits) (sym (append-nil (number_text digits start))) ∙ number_again digits start [] small in
     rw number
 
 -- the last line is no segment
@@ -97,7 +125,8 @@ pub record IsSegmentLine (version : Version) (line : List ℕ) (segment : Segmen
   pub address : segment.address < 10 ^ address_digits version
 
 made_segment : (same : Bool) (address : ℕ) (cells : List Cell) (segment : Segment)
-    → cond {A = Option Segment} same (Some (record { address = address; cells = cells })) None ≡ Some segment → (same ≡ true) × (address ≡ segment.address) × (cells ≡ segment.cells)
+    → cond {A = Option Segment} same (Some (record { address = address; cells = cells })) None ≡ Some segment
+    → (same ≡ true) × (address ≡ segment.address) × (cells ≡ segment.cells)
 made_segment true address cells segment h =
     let made : Segment = record { address = address; cells = cells } in
     let one : made ≡ segment = same_Some made segment h in
@@ -105,10 +134,12 @@ made_segment true address cells segment h =
 made_segment false address cells segment h = absurd cc
 
 -- the parts of a segment's line, one behind the other
-regroup : (address count cells : List ℕ) → address ++ (32 ∷ (count ++ (32 ∷ cells))) ≡ address ++ codes " " ++ count ++ codes " " ++ cells
+regroup : (address count cells : List ℕ) → address ++ (32 ∷ (count ++ (32 ∷ cells))) ≡ address ++ codes " " ++ count
+    ++ codes " " ++ cells
 regroup address count cells = simp append_assoc
 
-pub segment_takes : (version : Version) (line : List ℕ) (segment : Segment) → segment_in version line ≡ Some segment → IsSegmentLine version line segment
+pub segment_takes : (version : Version) (line : List ℕ) (segment : Segment) → segment_in version line ≡ Some segment
+    → IsSegmentLine version line segment
 unfolding segment_in segment_text few_cells_in
 segment_takes version line segment h =
     let digits = address_digits version in
@@ -126,28 +157,44 @@ segment_takes version line segment h =
     let front = number_takes digits line a.value a.is in
     let middle = number_takes 2 b.value n.value n.is in
     let cells_text_is : d.value ≡ cells_text segment.cells = spelled.text_is ∙ ap cells_text cells_are in
-    let last : n.value.1 ≡ 32 ∷ cells_text segment.cells = behind_takes (codes " ") n.value.1 d.value d.is ∙ ap (λ (rest : List ℕ). 32 ∷ rest) cells_text_is in
-    let third : b.value ≡ number_text 2 (length segment.cells) ++ (32 ∷ cells_text segment.cells) = middle.parts ∙ (ap (λ k. number_text 2 k ++ n.value.1) count ∙ ap (λ (rest : List ℕ). number_text 2 (length segment.cells) ++ rest) last) in
-    let second : a.value.1 ≡ 32 ∷ (number_text 2 (length segment.cells) ++ (32 ∷ cells_text segment.cells)) = behind_takes (codes " ") a.value.1 b.value b.is ∙ ap (λ (rest : List ℕ). 32 ∷ rest) third in
-    let whole : line ≡ number_text digits segment.address ++ (32 ∷ (number_text 2 (length segment.cells) ++ (32 ∷ cells_text segment.cells))) = front.parts ∙ (ap (λ k. number_text digits k ++ a.value.1) good.1 ∙ ap (λ (rest : List ℕ). number_text digits segment.address ++ rest) second) in
+    let last : n.value.1 ≡ 32 ∷ cells_text segment.cells = behind_takes (codes " ") n.value.1 d.value d.is
+    ∙ ap (λ (rest : List ℕ). 32 ∷ rest) cells_text_is in
+    let third : b.value ≡ number_text 2 (length segment.cells) ++ (32 ∷ cells_text segment.cells) = middle.parts
+    ∙ (ap (λ k. number_text 2 k ++ n.value.1) count
+    ∙ ap (λ (rest : List ℕ). number_text 2 (length segment.cells) ++ rest) last) in
+    let second : a.value.1 ≡ 32
+    ∷ (number_text 2 (length segment.cells) ++ (32 ∷ cells_text segment.cells)) =
+    behind_takes (codes " ") a.value.1 b.value b.is ∙ ap (λ (rest : List ℕ). 32 ∷ rest) third in
+    let whole : line ≡ number_text digits segment.address
+    ++ (32 ∷ (number_text 2 (length segment.cells) ++ (32 ∷ cells_text segment.cells))) =
+    front.parts
+    ∙ (ap (λ k. number_text digits k ++ a.value.1) good.1
+    ∙ ap (λ (rest : List ℕ). number_text digits segment.address ++ rest) second) in
     record {
-      line_is = whole ∙ regroup (number_text digits segment.address) (number_text 2 (length segment.cells)) (cells_text segment.cells);
-      cells = subst (λ (cells : List Cell). nat_le 1 (length cells) && nat_le (length cells) 40 && list_all is_character cells ≡ true) cells_are (both _ _ few.0 spelled.own);
+      line_is =
+          whole ∙ regroup (number_text digits segment.address) (number_text 2 (length segment.cells)) (cells_text segment.cells);
+      cells =
+          subst (λ (cells : List Cell). nat_le 1 (length cells) && nat_le (length cells) 40
+          && list_all is_character cells ≡ true) cells_are (both _ _ few.0 spelled.own);
       address = subst (λ k. k < 10 ^ digits) good.1 front.small;
     }
 
 few_again : (cells : List Cell) → nat_le 1 (length cells) && nat_le (length cells) 40 ≡ true → if_few cells ≡ Some cells
 few_again cells few = rw few
 
-few_cells_again : (cells : List Cell) → nat_le 1 (length cells) && nat_le (length cells) 40 ≡ true → list_all is_character cells ≡ true → few_cells_in (cells_text cells) ≡ Some cells
+few_cells_again : (cells : List Cell) → nat_le 1 (length cells) && nat_le (length cells) 40 ≡ true
+    → list_all is_character cells ≡ true → few_cells_in (cells_text cells) ≡ Some cells
 unfolding few_cells_in
-few_cells_again cells few own = ap (λ (all : Option (List Cell)). all >>= if_few) (cells_again cells own) ∙ few_again cells few
+few_cells_again cells few own =
+    ap (λ (all : Option (List Cell)). all >>= if_few) (cells_again cells own) ∙ few_again cells few
 
 few_bound : (cells : List Cell) → nat_le 1 (length cells) && nat_le (length cells) 40 ≡ true → length cells < 10 ^ 2
-few_bound cells few = let most : length cells ≤ 40 = leb-true _ _ (second_half (nat_le 1 (length cells)) _ few) in omega arith
+few_bound cells few =
+    let most : length cells ≤ 40 = leb-true _ _ (second_half (nat_le 1 (length cells)) _ few) in omega arith
 
 -- a segment's line that is written is read again
-pub segment_again : (version : Version) (segment : Segment) → is_segment segment ≡ true → segment.address < 10 ^ address_digits version → segment_in version (segment_text version segment) ≡ Some segment
+pub segment_again : (version : Version) (segment : Segment) → is_segment segment ≡ true
+    → segment.address < 10 ^ address_digits version → segment_in version (segment_text version segment) ≡ Some segment
 unfolding segment_in segment_text
 segment_again version segment good small =
     let digits = address_digits version in
@@ -157,6 +204,13 @@ segment_again version segment good small =
     let cells = cells_text segment.cells in
     let behind_address : List ℕ = 32 ∷ (number_text 2 count ++ (32 ∷ cells)) in
     let line_is = regroup (number_text digits segment.address) (number_text 2 count) cells in
-    let address : number_at digits (number_text digits segment.address ++ codes " " ++ number_text 2 count ++ codes " " ++ cells) ≡ Some (segment.address, behind_address) =
+    let address : number_at digits (number_text digits segment.address ++ codes " " ++ number_text 2 count ++ codes " "
+    ++ cells) ≡ Some (segment.address, behind_address) =
     ap (number_at digits) (sym line_is) ∙ number_again digits segment.address behind_address small in
-    rw (address, number_again 2 count (32 ∷ cells) (few_bound segment.cells few), few_cells_again segment.cells few own, eq-eqb count count refl)
+    rw (
+      address,
+      number_again 2 count (32
+          ∷ cells) (few_bound segment.cells few),
+      few_cells_again segment.cells few own,
+      eq-eqb count count refl,
+    )

@@ -4,8 +4,10 @@ ghost use Rattle.std.specs.Prelude.{if◌then◌else◌, IfOk, IfErr, MatchOptio
 ghost use Rattle.std.specs.Option.{option_map};
 ghost use Rattle.image_1401.specs.ImageText.{IsTextOf, IsOrMemory};
 ghost use Rattle.image_1401.specs.Refusal.{IsRefused};
-ghost use Rattle.image_1401.specs.Reading.{cell_in, cells_in, in_front, few_cells_in, number_in, number_at, header_with, header_in, segment_in, end_in};
-ghost use Rattle.image_1401.specs.Reading.{parts_of, entry_by, contents_in, image_of, image_in, as_segment, Gives, IsOfText, inside_of};
+ghost use Rattle.image_1401.specs.Reading.{cell_in, cells_in, in_front, few_cells_in, number_in, number_at};
+ghost use Rattle.image_1401.specs.Reading.{header_with, header_in, segment_in, end_in};
+ghost use Rattle.image_1401.specs.Reading.{parts_of, entry_by, contents_in, image_of, image_in, as_segment, Gives};
+ghost use Rattle.image_1401.specs.Reading.{IsOfText, inside_of};
 
 use crate::fault::ImageFault;
 use crate::image::{Image, Segment, Segments};
@@ -21,8 +23,8 @@ use std::alloc::Global;
 ///
 /// The fault of the text's first wrong line: `Truncated` where a line is due and no line feed follows; `Header` where
 /// the first line names no version and size that there are; `BadRecord` where a later line is neither a segment nor the
-/// last line, or a byte stands behind the last line; `Range` where a segment or the entry doesn't lie in core storage of
-/// the image's size. `Memory` where the text is an image's, and the memory for it is refused.
+/// last line, or a byte stands behind the last line; `Range` where a segment or the entry doesn't lie in core storage
+/// of the image's size. `Memory` where the text is an image's, and the memory for it is refused.
 pub fn read_image(alloc: Global, text: &[u8]) -> Result<Image, ImageFault>
     // What is read is the image whose text this is.
     ensures found { IfOk result (IsTextOf text.now) }

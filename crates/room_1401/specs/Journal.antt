@@ -46,5 +46,5 @@ abbrev pub is_full : List Entry → Bool
 is_full journal = nat_le most_entries (length journal)
 
 -- why a journal takes no entry more: it is full, or else the memory for one was refused
-abbrev pub refusal_at : List Entry → RoomFault
-refusal_at journal = if is_full journal then JournalFull else Memory
+abbrev pub refusal_of : List Entry → RoomFault
+refusal_of journal = if is_full journal then JournalFull else Memory

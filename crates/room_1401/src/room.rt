@@ -2,7 +2,7 @@
 ghost use Rattle.std.specs.Prelude.{◌≡◌, ◌+◌, ◌<◌, ◌≤◌, ◌↔◌, [], ◌∷◌, ◌++◌, true, false, length};
 ghost use Rattle.std.specs.Prelude.{IsOk, IfOk, IfErr, OnOk, OnErr};
 ghost use Rattle.core_1401.specs.Storage.{is_core_size};
-ghost use Rattle.room_1401.specs.Journal.{IsLegal, answer_to, entry, is_full, most_entries, refusal_at, state_of};
+ghost use Rattle.room_1401.specs.Journal.{IsLegal, answer_to, entry, is_full, most_entries, refusal_of, state_of};
 
 use crate::answer::Answer;
 use crate::carrying::carry_out;
@@ -90,7 +90,7 @@ impl Room {
         ensures not_full { OnOk result (is_full self.old.journal ≡ false) }
         ensures bound { length self.old.journal ≤ most_entries }
         ensures full { (result ≡ Err RoomFault.JournalFull) ↔ (is_full self.old.journal ≡ true) }
-        ensures fault { IfErr result (λ fault. fault ≡ refusal_at self.old.journal) }
+        ensures fault { IfErr result (λ fault. fault ≡ refusal_of self.old.journal) }
         ensures reserved { 0 < self.old.spare → is_full self.old.journal ≡ false → IsOk result }
         ensures spare { self.old.spare ≤ self.new.spare }
         ensures kept { OnErr result (self.new.spare ≡ self.old.spare) }
@@ -117,7 +117,7 @@ impl Room {
 
         // A refusal changes nothing.
         ensures full { (result ≡ Err RoomFault.JournalFull) ↔ (is_full self.old.journal ≡ true) }
-        ensures fault { IfErr result (λ fault. fault ≡ refusal_at self.old.journal) }
+        ensures fault { IfErr result (λ fault. fault ≡ refusal_of self.old.journal) }
         ensures err { OnErr result (self.new.journal ≡ self.old.journal) }
         ensures reserved { 0 < self.old.spare → is_full self.old.journal ≡ false → IsOk result }
 

@@ -9,8 +9,10 @@ no_less number [] = omega arith
 no_less number (digit ∷ digits) = omega (arith, no_less (with_digit number digit) digits)
 
 -- a number with the digit at a place is no more than that with all digits from there on
-pub with_one : (number i : ℕ) (word : List ℕ) → i < length word → with_digit number (get_or word i 0) ≤ fold with_digit number (drop i word)
-with_one number i word inside = rw (drop-cons word i 0 inside) (no_less (with_digit number (get_or word i 0)) (drop (suc i) word))
+pub with_one : (number i : ℕ) (word : List ℕ) → i < length word
+    → with_digit number (get_or word i 0) ≤ fold with_digit number (drop i word)
+with_one number i word inside =
+    rw (drop-cons word i 0 inside) (no_less (with_digit number (get_or word i 0)) (drop (suc i) word))
 
 -- a number past the bound
 pub too_great : (least most : ℕ) (word : List ℕ) → most < value_of word → number_between least most word ≡ None

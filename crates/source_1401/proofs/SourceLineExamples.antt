@@ -10,7 +10,8 @@ a_source_without_a_byte_has_no_line = refl
 a_line_feed_alone_is_an_empty_line : lines_of (10 ∷ []) ≡ [] ∷ []
 a_line_feed_alone_is_an_empty_line = refl
 
-one_return_goes_before_a_line_feed_alone : lines_of (65 ∷ 13 ∷ 10 ∷ 66 ∷ 13 ∷ 13 ∷ 10 ∷ 67 ∷ 13 ∷ []) ≡ (65 ∷ []) ∷ (66 ∷ 13 ∷ []) ∷ (67 ∷ 13 ∷ []) ∷ []
+one_return_goes_before_a_line_feed_alone : lines_of (65 ∷ 13 ∷ 10 ∷ 66 ∷ 13 ∷ 13 ∷ 10 ∷ 67 ∷ 13 ∷ []) ≡ (65 ∷ [])
+    ∷ (66 ∷ 13 ∷ []) ∷ (67 ∷ 13 ∷ []) ∷ []
 one_return_goes_before_a_line_feed_alone = refl
 
 -- the columns of a text
@@ -27,7 +28,8 @@ unfolding columns
 columns_count_from_one = refl
 
 -- each of these lines is a comment, or none
-an_asterisk_in_column_six_makes_a_comment : map (λ text. is_comment (columns text)) (codes "     * B" ∷ [] ∷ replicate 80 32 ∷ codes "*     B" ∷ codes "1" ∷ []) ≡ true ∷ true ∷ true ∷ false ∷ false ∷ []
+an_asterisk_in_column_six_makes_a_comment : map (λ text. is_comment (columns text)) (codes "     * B" ∷ []
+    ∷ replicate 80 32 ∷ codes "*     B" ∷ codes "1" ∷ []) ≡ true ∷ true ∷ true ∷ false ∷ false ∷ []
 unfolding columns
 an_asterisk_in_column_six_makes_a_comment = refl
 
@@ -36,6 +38,8 @@ foreign : List ℕ → Rattle.std.specs.Prelude.Bool
 unfolding columns graphics
 foreign text = has_foreign_bytes (columns text)
 
-small_letters_stand_outside_of_columns_6_to_72_alone : map foreign (codes "     *  a~" ∷ codes "abcde     B" ∷ (replicate 72 32 ++ codes "abcdefg~") ∷ codes "               a" ∷ (replicate 71 32 ++ codes "~") ∷ (codes "     * " ++ 127 ∷ []) ∷ (9 ∷ []) ∷ []) ≡ false ∷ false ∷ false ∷ true ∷ true ∷ true ∷ true ∷ []
+small_letters_stand_outside_of_columns_6_to_72_alone : map foreign (codes "     *  a~" ∷ codes "abcde     B"
+    ∷ (replicate 72 32 ++ codes "abcdefg~") ∷ codes "               a" ∷ (replicate 71 32 ++ codes "~")
+    ∷ (codes "     * " ++ 127 ∷ []) ∷ (9 ∷ []) ∷ []) ≡ false ∷ false ∷ false ∷ true ∷ true ∷ true ∷ true ∷ []
 unfolding foreign
 small_letters_stand_outside_of_columns_6_to_72_alone = refl

@@ -1,28 +1,34 @@
 -- The first line of a source.
-use Rattle.std.proofs.Common.{◌≡◌, ℕ, ◌+◌, ◌<◌, ◌==◌, Bool, true, false, List, [], ◌∷◌, length, take, drop, refl, ap, ◌∙◌, arith}
+use Rattle.std.proofs.Common.{◌≡◌, ℕ, ◌+◌, ◌<◌, ◌==◌, Bool, true, false, List, [], ◌∷◌, length, take, drop, refl, ap}
+use Rattle.std.proofs.Common.{◌∙◌, arith}
 use Rattle.std.proofs.lemmas.List.Splits.{slice_split_first, length-slice_split}
 use Rattle.std.specs.List.{slice_split, onto_first, position_or_len, before_first, after_first}
 use Rattle.source_1401.specs.SourceLine.{is_line_feed, lines_of, lines_between, without_return}
 
 -- without a line feed there is one part
-pub no_line_feed : (source : List ℕ) → position_or_len is_line_feed source ≡ length source → slice_split is_line_feed source ≡ source ∷ []
+pub no_line_feed : (source : List ℕ) → position_or_len is_line_feed source ≡ length source
+    → slice_split is_line_feed source ≡ source ∷ []
 no_line_feed [] h = refl
 no_line_feed (byte ∷ more) h = by (byte == 10) refl (λ fewer. no_line_feed more fewer)
   where
-    by : (b : Bool) → (byte == 10) ≡ b → (position_or_len is_line_feed more ≡ length more → slice_split is_line_feed more ≡ more ∷ [])
+    by : (b : Bool) → (byte == 10) ≡ b
+        → (position_or_len is_line_feed more ≡ length more → slice_split is_line_feed more ≡ more ∷ [])
         → slice_split is_line_feed (byte ∷ more) ≡ (byte ∷ more) ∷ []
-    by true e rest = let none : position_or_len is_line_feed (byte ∷ more) ≡ 0 = rw e refl in absurd (omega (arith, none, h))
+    by true e rest =
+        let none : position_or_len is_line_feed (byte ∷ more) ≡ 0 = rw e refl in absurd (omega (arith, none, h))
     by false e rest =
         let one : position_or_len is_line_feed (byte ∷ more) ≡ 1 + position_or_len is_line_feed more = rw e refl in
         rw e (ap (onto_first byte) (rest (omega (arith, one, h))))
 
 -- a line with a part behind it ended before a line feed
-ended_line : (line : List ℕ) (parts : List (List ℕ)) → 0 < length parts → lines_between (line ∷ parts) ≡ without_return line ∷ lines_between parts
+ended_line : (line : List ℕ) (parts : List (List ℕ)) → 0 < length parts → lines_between (line ∷ parts)
+    ≡ without_return line ∷ lines_between parts
 ended_line line [] h = absurd (omega (arith, h))
 ended_line line (next ∷ parts) h = refl
 
 -- what has no line feed is one line
-pub last_line : (source : List ℕ) → 0 < length source → position_or_len is_line_feed source ≡ length source → lines_of source ≡ source ∷ []
+pub last_line : (source : List ℕ) → 0 < length source → position_or_len is_line_feed source ≡ length source
+    → lines_of source ≡ source ∷ []
 last_line [] some h = absurd (omega (arith, some))
 last_line (byte ∷ more) some h = ap lines_between (no_line_feed (byte ∷ more) h)
 

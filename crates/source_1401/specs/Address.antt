@@ -1,5 +1,6 @@
 -- Addresses as the source writes them (Autocoder, "Operand", "Address Adjustment", "Indexing").
-use Rattle.std.specs.Prelude.{ℕ, ◌==◌, Bool, ◌&&◌, ◌||◌, if◌then◌else◌, List, length, take, drop, slice_index, ℤ, pos, neg_ℤ, Option, None, Some, codes}
+use Rattle.std.specs.Prelude.{ℕ, ◌==◌, Bool, ◌&&◌, ◌||◌, if◌then◌else◌, List, length, take, drop, slice_index, ℤ, pos}
+use Rattle.std.specs.Prelude.{neg_ℤ, Option, None, Some, codes}
 use Rattle.std.specs.Option.{option_map, option_and_then}
 use Rattle.std.specs.List.{prefix_len}
 use Rattle.std.specs.Str.{bytes_eq}

@@ -1,5 +1,6 @@
 -- Constants and literals (Autocoder, "Literals", "DCW").
-use Rattle.std.specs.Prelude.{ℕ, ◌+◌, ◌==◌, nat_lt, Bool, not, ◌||◌, if◌then◌else◌, List, [], ◌∷◌, length, take, Option, None, Some}
+use Rattle.std.specs.Prelude.{ℕ, ◌+◌, ◌==◌, nat_lt, Bool, not, ◌||◌, if◌then◌else◌, List, [], ◌∷◌, length, take, Option}
+use Rattle.std.specs.Prelude.{None, Some}
 use Rattle.std.specs.Option.{option_map}
 use Rattle.std.specs.List.{position_or_len, list_all}
 use Rattle.source_1401.specs.SourceLine.{padded}

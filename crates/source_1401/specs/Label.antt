@@ -1,5 +1,6 @@
 -- Labels and symbols (Autocoder, "Label").
-use Rattle.std.specs.Prelude.{ℕ, ◌==◌, nat_le, Bool, not, ◌&&◌, ◌||◌, if◌then◌else◌, List, length, take, drop, slice_index, Option, None, Some, codes}
+use Rattle.std.specs.Prelude.{ℕ, ◌==◌, nat_le, Bool, not, ◌&&◌, ◌||◌, if◌then◌else◌, List, length, take, drop}
+use Rattle.std.specs.Prelude.{slice_index, Option, None, Some, codes}
 use Rattle.std.specs.List.{position_or_len, list_all}
 use Rattle.std.specs.Str.{bytes_eq}
 use Rattle.source_1401.specs.SourceLine.{padded, is_blank}
@@ -23,7 +24,8 @@ is_index_register word = bytes_eq word (codes "X1") || bytes_eq word (codes "X2"
 -- a letter and up to five letters or digits
 abbrev pub is_label : List ℕ → Bool
 is_label word =
-    nat_le (length word) 6 && not (is_index_register word) && is_letter (slice_index word 0) && list_all is_letter_or_digit word
+    nat_le (length word) 6 && not (is_index_register word) && is_letter (slice_index word 0)
+    && list_all is_letter_or_digit word
 
 -- the label that a word is
 abbrev pub label_of : List ℕ → Option Label

@@ -85,7 +85,8 @@ instruction_of columns = option_map instruction_in (find (λ (row : ARow). bytes
 
 -- what the columns ask for of the assembler itself
 abbrev pub assembler_operation_of : List ℕ → Option Operation
-assembler_operation_of columns = option_map (λ (row : AnOwnRow). row.1) (find (λ (row : AnOwnRow). bytes_eq row.0 columns) assembler_operations)
+assembler_operation_of columns =
+    option_map (λ (row : AnOwnRow). row.1) (find (λ (row : AnOwnRow). bytes_eq row.0 columns) assembler_operations)
 
 -- an instruction goes before an operation of the assembler
 abbrev pub either_operation : Option Instruction → Option Operation → Option Operation

@@ -1,5 +1,6 @@
 -- The numbers of operands (Autocoder, "Operand").
-use Rattle.std.specs.Prelude.{ℕ, ◌+◌, ◌-◌, ◌*◌, nat_le, nat_lt, Bool, ◌&&◌, if◌then◌else◌, List, length, fold, Option, None, Some}
+use Rattle.std.specs.Prelude.{ℕ, ◌+◌, ◌-◌, ◌*◌, nat_le, nat_lt, Bool, ◌&&◌, if◌then◌else◌, List, length, fold, Option}
+use Rattle.std.specs.Prelude.{None, Some}
 use Rattle.std.specs.List.{list_all}
 use Rattle.source_1401.specs.Label.{is_digit}
 

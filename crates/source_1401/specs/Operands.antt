@@ -1,5 +1,6 @@
 -- The operands of an instruction (Autocoder, "Operand"; the ends of operands own).
-use Rattle.std.specs.Prelude.{ℕ, ◌+◌, ◌==◌, nat_le, nat_lt, Bool, true, false, not, ◌&&◌, ◌||◌, if◌then◌else◌, List, [], ◌∷◌, take, drop, Option, None, Some, is_some}
+use Rattle.std.specs.Prelude.{ℕ, ◌+◌, ◌==◌, nat_le, nat_lt, Bool, true, false, not, ◌&&◌, ◌||◌, if◌then◌else◌, List, []}
+use Rattle.std.specs.Prelude.{◌∷◌, take, drop, Option, None, Some, is_some}
 use Rattle.std.specs.Option.{option_map}
 use Rattle.source_1401.specs.Address.{address_of}
 use Rattle.source_1401.specs.Constant.{constant_of}
@@ -17,7 +18,8 @@ abbrev pub is_ended : List ℕ → Bool
 is_ended [] = true
 is_ended (byte ∷ more) = byte == 32
 
--- how many bytes an operand has, which begins within two at signs or not: up to the first comma or blank outside of them
+-- how many bytes an operand has, which begins within two at signs or not: up to the first comma or blank outside of
+-- them
 abbrev pub operand_len : Bool → List ℕ → ℕ
 operand_len is_quoted [] = 0
 operand_len is_quoted (byte ∷ more) =
@@ -72,7 +74,8 @@ first_operand most text = if (most == 0) || is_ended text then (fields.Absent, t
 -- the second stands behind a comma
 abbrev pub second_operand : ℕ → List ℕ → OperandAndRest
 second_operand most [] = (fields.Absent, [])
-second_operand most (byte ∷ more) = if (byte == 44) && nat_lt 1 most then read_operand more else (fields.Absent, byte ∷ more)
+second_operand most (byte ∷ more) =
+    if (byte == 44) && nat_lt 1 most then read_operand more else (fields.Absent, byte ∷ more)
 
 -- a d-character is any graphic in one column, and nothing stands behind it
 abbrev pub lone_d : List ℕ → Option ℕ
@@ -116,7 +119,8 @@ is_malformed (fields.Operand operand) = false
 
 -- the operands of a form, by what was read one behind the other
 abbrev pub operands_with : ℕ → OperandField → OperandField → Read → Operands
-operands_with least a b read = record { a = a; b = b; d = read.0; is_whole = read.1 && nat_le least (count_of a + count_of b) }
+operands_with least a b read =
+    record { a = a; b = b; d = read.0; is_whole = read.1 && nat_le least (count_of a + count_of b) }
 
 abbrev pub operands_of : Form → List ℕ → Operands
 operands_of form columns =

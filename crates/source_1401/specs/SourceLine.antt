@@ -1,5 +1,6 @@
 -- The lines of a source, and the columns of a line (Autocoder, "Coding Sheet"; bytes and their ends own).
-use Rattle.std.specs.Prelude.{ℕ, ◌-◌, ◌==◌, nat_le, Bool, not, ◌&&◌, ◌||◌, if◌then◌else◌, List, [], ◌∷◌, ◌++◌, length, take, replicate, slice_index, slice_range, is_some, position}
+use Rattle.std.specs.Prelude.{ℕ, ◌-◌, ◌==◌, nat_le, Bool, not, ◌&&◌, ◌||◌, if◌then◌else◌, List, [], ◌∷◌, ◌++◌, length}
+use Rattle.std.specs.Prelude.{take, replicate, slice_index, slice_range, is_some, position}
 use Rattle.std.specs.List.{slice_split, list_all}
 use Rattle.bcd_1401.specs.Graphic.{graphics}
 

@@ -1,5 +1,6 @@
 -- What a line says, without its neighbours (Autocoder, "Coding Sheet", "Declarative Operations", "Assembler Control").
-use Rattle.std.specs.Prelude.{ℕ, ◌==◌, nat_lt, Bool, true, false, not, ◌&&◌, if◌then◌else◌, List, length, take, drop, Option, None, Some, is_none}
+use Rattle.std.specs.Prelude.{ℕ, ◌==◌, nat_lt, Bool, true, false, not, ◌&&◌, if◌then◌else◌, List, length, take, drop}
+use Rattle.std.specs.Prelude.{Option, None, Some, is_none}
 use Rattle.std.specs.Option.{option_map, option_and_then}
 use Rattle.std.specs.List.{position_or_len}
 use Rattle.source_1401.specs.SourceLine.{columns_of, columns_in, is_comment, has_foreign_bytes}
@@ -7,7 +8,8 @@ use Rattle.source_1401.specs.Label.{label_in}
 use Rattle.source_1401.specs.Mnemonic.{operation_of}
 use Rattle.source_1401.specs.Numbers.{number_between}
 use Rattle.source_1401.specs.Constant.{constant_of}
-use Rattle.source_1401.specs.Operands.{operand_in, behind_operand, lone_operand, operand_behind_comma, operands_of, has_malformed}
+use Rattle.source_1401.specs.Operands.{operand_in, behind_operand, lone_operand, operand_behind_comma, operands_of}
+use Rattle.source_1401.specs.Operands.{has_malformed}
 use Rattle.source_1401.specs.declared.address.Base.{Base}
 use Rattle.source_1401.specs.declared.address.Base.TheVariants as bases
 use Rattle.source_1401.specs.declared.label.Label.{Label}
@@ -43,19 +45,23 @@ abbrev pub areas_of : List ℕ → Option Areas
 areas_of word =
     let n = position_or_len is_x word in
     option_and_then
-    (λ count. option_map (λ length. record { count = count; length = length }) (number_between 1 999 (drop 1 (drop n word))))
+    (λ count.
+    option_map (λ length. record { count = count; length = length }) (number_between 1 999 (drop 1 (drop n word))))
     (number_between 1 99 (take n word))
 
 -- the first place of a field and its last, with a comma between them
 abbrev pub span_of : List ℕ → Option Span
 span_of columns =
     option_and_then
-    (λ first. option_map (λ last. record { first = first; last = last }) (number_between first 999 (operand_behind_comma (behind_operand columns))))
+    (λ first.
+    option_map (λ last. record { first = first; last = last })
+    (number_between first 999 (operand_behind_comma (behind_operand columns))))
     (number_between 1 999 (operand_in columns))
 
 -- what an operation with these columns for its operands asks for
 abbrev pub body_with : Operation → List ℕ → Body
-body_with (operations.Instruction instruction) columns = bodies.Instruction instruction (operands_of instruction.form columns)
+body_with (operations.Instruction instruction) columns =
+    bodies.Instruction instruction (operands_of instruction.form columns)
 body_with operations.MarkedConstant columns = bodies.MarkedConstant (constant_of (lone_operand columns))
 body_with operations.Constant columns = bodies.Constant (constant_of (lone_operand columns))
 body_with operations.Space columns = bodies.Space (number_between 1 15999 (lone_operand columns))
@@ -77,7 +83,10 @@ body_of operation columns = body_by (operation_of operation) columns
 -- what a line says that is no comment
 abbrev pub statement_of : List ℕ → Statement
 statement_of columns =
-    record { label = label_in (columns_in 6 15 columns); body = body_of (columns_in 16 20 columns) (columns_in 21 72 columns) }
+    record {
+      label = label_in (columns_in 6 15 columns);
+      body = body_of (columns_in 16 20 columns) (columns_in 21 72 columns);
+    }
 
 -- whether a line of this length with these columns can be a line
 abbrev pub bytes_with : ℕ → List ℕ → Bytes
@@ -87,7 +96,11 @@ bytes_with len columns =
 -- what a line with these columns says
 abbrev pub line_with : ℕ → List ℕ → Line
 line_with len columns =
-    record { bytes = bytes_with len columns; statement = if is_comment columns then None else Some (statement_of columns) }
+    record {
+      bytes = bytes_with len columns;
+      statement = if is_comment columns then None
+          else Some (statement_of columns);
+    }
 
 -- what a line says by itself
 abbrev pub line_of : List ℕ → Line

@@ -2,7 +2,8 @@
 ghost use Rattle.std.specs.Prelude.{◌≡◌, ◌<◌, ◌≤◌, ◌+ℤ◌, length, pos, slice_index};
 ghost use Rattle.std.specs.List.{prefix_len};
 ghost use Rattle.source_1401.specs.Label.{is_digit, is_letter_or_digit};
-ghost use Rattle.source_1401.specs.Address.{begins_with_asterisk, is_adjusted, adjustment_of, index_of, base_len, base_of, indexed, adjusted_by, adjusted, address_of};
+ghost use Rattle.source_1401.specs.Address.{begins_with_asterisk, is_adjusted, adjustment_of, index_of, base_len};
+ghost use Rattle.source_1401.specs.Address.{base_of, indexed, adjusted_by, adjusted, address_of};
 
 use crate::label::{Label, is_digit, is_letter_or_digit};
 use crate::numbers::short_number;
@@ -82,8 +83,8 @@ fn base_of(word: &[u8]) -> Option<Base>
     Label::from_word(word).map(Base::Symbol)
 }
 
-/// The index register that stands behind the rest of an address: 0 where nothing stands there, none where something else
-/// does.
+/// The index register that stands behind the rest of an address: 0 where nothing stands there, none where something
+/// else does.
 fn index_of(rest: &[u8]) -> Option<u8>
     ensures { result ≡ index_of rest.now }
 {

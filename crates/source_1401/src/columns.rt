@@ -1,7 +1,8 @@
 //! The columns of a line.
 ghost use Rattle.std.specs.Prelude.{◌≡◌, ◌+◌, ◌-◌, ◌<◌, ◌≤◌, ◌==◌, length, slice_range};
 ghost use Rattle.std.specs.List.{list_all};
-ghost use Rattle.source_1401.specs.SourceLine.{padded, columns_of, columns_in, is_blank, is_printable, is_graphic, is_comment, has_foreign_bytes};
+ghost use Rattle.source_1401.specs.SourceLine.{padded, columns_of, columns_in, is_blank, is_printable, is_graphic};
+ghost use Rattle.source_1401.specs.SourceLine.{is_comment, has_foreign_bytes};
 
 use bcd_1401::Char;
 

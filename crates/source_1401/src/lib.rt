@@ -1,5 +1,5 @@
-//! A source line of Autocoder by itself: its columns, its label, its operation and its operands, and the faults that it has
-//! whatever stands around it.
+//! A source line of Autocoder by itself: its columns, its label, its operation and its operands, and the faults that it
+//! has whatever stands around it.
 //!
 //! ```text
 //! let (line, rest) = split_line(source)?;      // the first line, and what stands behind its line feed
@@ -7,7 +7,8 @@
 //! line.statement                               // its label and its body; none for a comment
 //! ```
 //!
-//! What a line says is plain data. An address is what the source writes: no symbol is looked up here and nothing is placed.
+//! What a line says is plain data. An address is what the source writes: no symbol is looked up here and nothing is
+//! placed.
 #![tactic(auto)]
 
 pub mod address;

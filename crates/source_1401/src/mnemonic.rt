@@ -1,7 +1,8 @@
 //! The mnemonics: the words of columns 16 to 20.
 ghost use Rattle.std.specs.Prelude.{◌≡◌, find};
 ghost use Rattle.std.specs.Str.{bytes_eq};
-ghost use Rattle.source_1401.specs.Mnemonic.{ARow, AnOwnRow, instructions, instruction_of, assembler_operations, assembler_operation_of, operation_of};
+ghost use Rattle.source_1401.specs.Mnemonic.{ARow, AnOwnRow, instructions, instruction_of, assembler_operations};
+ghost use Rattle.source_1401.specs.Mnemonic.{assembler_operation_of, operation_of};
 
 /// Whether an instruction has a d-character, and which.
 #[derive(Clone, Copy, Debug, PartialEq, Eq)]
@@ -67,8 +68,8 @@ type Row = ([u8; 5], u8, u8, u8, DCharacter);
 /// A row of the table of the assembler's own operations.
 type OwnRow = ([u8; 5], Operation);
 
-/// The mnemonics of instructions in the manual's order: the columns 16 to 20, the graphic of the operation character, how
-/// many addresses the source writes at the least and at the most, and the d-character.
+/// The mnemonics of instructions in the manual's order: the columns 16 to 20, the graphic of the operation character,
+/// how many addresses the source writes at the least and at the most, and the d-character.
 static INSTRUCTIONS: [Row; 42] = [
     (*b"A    ", b'A', 0, 2, DCharacter::Never),
     (*b"S    ", b'S', 0, 2, DCharacter::Never),

@@ -1,6 +1,8 @@
 //! The operands of an instruction.
 ghost use Rattle.std.specs.Prelude.{◌≡◌, ◌≤◌, false, length};
-ghost use Rattle.source_1401.specs.Operands.{is_ended, operand_len, operand_in, behind_operand, lone_operand, operand_behind_comma, operand_of, field_of, first_operand, second_operand, lone_d, d_at, d_of, count_of, is_malformed, operands_of, has_malformed};
+ghost use Rattle.source_1401.specs.Operands.{is_ended, operand_len, operand_in, behind_operand, lone_operand};
+ghost use Rattle.source_1401.specs.Operands.{operand_behind_comma, operand_of, field_of, first_operand, second_operand};
+ghost use Rattle.source_1401.specs.Operands.{lone_d, d_at, d_of, count_of, is_malformed, operands_of, has_malformed};
 
 use crate::address::Address;
 use crate::constant::Constant;

@@ -2,7 +2,9 @@
 ghost use Rattle.std.specs.Prelude.{◌≡◌, ◌≤◌, length};
 ghost use Rattle.std.specs.List.{position_or_len};
 ghost use Rattle.source_1401.specs.Numbers.{number_between};
-ghost use Rattle.source_1401.specs.Statement.{is_x, areas_of, span_of, body_with, body_of, statement_of, bytes_with, line_of, is_plain, is_value, has_bad_operands, has_bad_label, label_of_line, is_end};
+ghost use Rattle.source_1401.specs.Statement.{is_x, areas_of, span_of, body_with, body_of, statement_of, bytes_with};
+ghost use Rattle.source_1401.specs.Statement.{line_of, is_plain, is_value, has_bad_operands, has_bad_label};
+ghost use Rattle.source_1401.specs.Statement.{label_of_line, is_end};
 
 use crate::address::{Address, Base};
 use crate::columns::{COLUMNS, columns_in, columns_of, has_foreign_bytes, is_comment};
@@ -226,8 +228,8 @@ impl Statement {
         }
     }
 
-    /// Whether the columns for a label hold something else, or EQU has no label, or ORG, EX or END has one. Whether a field
-    /// of areas has a label is looked at where it is known to be one.
+    /// Whether the columns for a label hold something else, or EQU has no label, or ORG, EX or END has one. Whether a
+    /// field of areas has a label is looked at where it is known to be one.
     pub fn has_bad_label(self) -> bool
         ensures { result ≡ has_bad_label self }
     {
@@ -239,7 +241,8 @@ impl Statement {
         }
     }
 
-    /// Whether the operands aren't as the operation asks. Whether a field lies in its area is looked at where that is known.
+    /// Whether the operands aren't as the operation asks. Whether a field lies in its area is looked at where that is
+    /// known.
     pub fn has_bad_operands(self) -> bool
         ensures { result ≡ has_bad_operands self.body }
     {

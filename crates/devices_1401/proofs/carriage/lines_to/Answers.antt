@@ -4,7 +4,9 @@ use Rattle.devices_1401.proofs.CarriageLemmas.{lines_to-below, lines_to-next_for
 use Rattle.devices_1401.proofs.carriage.lines_to.Goals as goal
 
 pub returns-then-line-present-clause-value : goal.returns-then-line-present-clause-value
-returns-then-line-present-clause-value c = sym (lines_to-below c.args.position c.args.line (omega arith) c.requires.most)
+returns-then-line-present-clause-value c =
+    sym (lines_to-below c.args.position c.args.line (omega arith) c.requires.most)
 
 pub returns-else-line-present-clause-value : goal.returns-else-line-present-clause-value
-returns-else-line-present-clause-value c = sym (lines_to-next_form c.args.position c.args.line (omega arith) c.requires.least)
+returns-else-line-present-clause-value c =
+    sym (lines_to-next_form c.args.position c.args.line (omega arith) c.requires.least)

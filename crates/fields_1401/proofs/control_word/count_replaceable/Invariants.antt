@@ -6,4 +6,9 @@ use Rattle.fields_1401.specs.Edit.{is_replaceable}
 use Rattle.fields_1401.proofs.control_word.count_replaceable.Given as goal
 
 abbrev pub invariant-loop-i : goal.invariant-loop-i
-invariant-loop-i l = record { counted : l.count ≡ count_by is_replaceable (take l.i (chars_across l.core l.at l.n)); bound : l.count ≤ l.i }
+invariant-loop-i l =
+    record {
+      counted : l.count
+          ≡ count_by is_replaceable (take l.i (chars_across l.core l.at l.n));
+      bound : l.count ≤ l.i;
+    }

@@ -6,4 +6,5 @@ use Rattle.fields_1401.specs.Suppress.{zero_char}
 use Rattle.fields_1401.proofs.control_word.limit.Given as goal
 
 abbrev pub invariant-loop-i : goal.invariant-loop-i
-invariant-loop-i l = (k : ℕ) → l.n - l.i ≤ k → k < l.n → not (get_or (chars_across l.core l.at l.n) k 0 == zero_char) ≡ true
+invariant-loop-i l =
+    (k : ℕ) → l.n - l.i ≤ k → k < l.n → not (get_or (chars_across l.core l.at l.n) k 0 == zero_char) ≡ true

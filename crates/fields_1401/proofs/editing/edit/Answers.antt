@@ -2,7 +2,8 @@
 use Rattle.std.proofs.Common.{◌<◌, ◌≤◌, ℕ, List, Option, IfSome, length, sym, ◌∙◌, subst, arith}
 use Rattle.fields_1401.specs.Across.{chars_across, units_unzoned, IsUnmarked, IsSameOutside}
 use Rattle.fields_1401.specs.Edit.{edited, sign_at, IsPlain, ShowsWithBlanks}
-use Rattle.fields_1401.proofs.AcrossLemmas.{length-across, length-unzoned_across, across_unmarked, across_outside, across_again}
+use Rattle.fields_1401.proofs.AcrossLemmas.{length-across, length-unzoned_across, across_unmarked, across_outside}
+use Rattle.fields_1401.proofs.AcrossLemmas.{across_again}
 use Rattle.fields_1401.proofs.EditLemmas.{length-edited}
 use Rattle.fields_1401.proofs.PlainLemmas.{plain_shows}
 use Rattle.fields_1401.proofs.editing.edit.Goals as goal
@@ -51,11 +52,17 @@ returns-clause-plain c =
     let control_size = length-across old o.b o.len b_in o.b_above in
     let size = length-edited control digits sign ∙ control_size in
     let fewer : length digits ≤ length control = let taken = o.fewer in let some = o.within in omega (arith, length-unzoned_across old o.a o.taken a_in o.a_above) in
-    let read = across_again old new o.b o.len (edited control digits sign) c.put_edited.ensures.put size b_in o.b_above in
+    let read =
+    across_again old new o.b o.len (edited control digits sign) c.put_edited.ensures.put size b_in o.b_above in
     let shows : IsPlain control → ShowsWithBlanks (chars_across new o.b o.len) digits =
     λ plain. subst (λ (cs : List ℕ). ShowsWithBlanks cs digits) (sym read) (plain_shows control digits sign plain fewer) in
-    let at_b_shows = subst (λ (b : ℕ). IsPlain (chars_across old b o.len) → ShowsWithBlanks (chars_across new b o.len) digits) at_b.0 shows in
-    let at_a_shows = subst (λ (a : ℕ). IsPlain (chars_across old c.args.b o.len) → ShowsWithBlanks (chars_across new c.args.b o.len) (units_unzoned (chars_across old a o.taken))) at_a.0 at_b_shows in
+    let at_b_shows =
+    subst (λ (b : ℕ). IsPlain (chars_across old b o.len)
+    → ShowsWithBlanks (chars_across new b o.len) digits) at_b.0 shows in
+    let at_a_shows =
+    subst (λ (a : ℕ). IsPlain (chars_across old c.args.b o.len)
+    → ShowsWithBlanks (chars_across new c.args.b o.len) (units_unzoned (chars_across old a o.taken))) at_a.0 at_b_shows in
     let P : Option (ℕ × ℕ) → Type 0 =
-    λ found. IfSome found (λ taken. IsPlain (chars_across old c.args.b taken.1) → ShowsWithBlanks (chars_across new c.args.b taken.1) (units_unzoned (chars_across old c.args.a taken.0))) in
+    λ found. IfSome found (λ taken. IsPlain (chars_across old c.args.b taken.1)
+    → ShowsWithBlanks (chars_across new c.args.b taken.1) (units_unzoned (chars_across old c.args.a taken.0))) in
     subst P (sym c.in_ok-word.ensures.taken) at_a_shows

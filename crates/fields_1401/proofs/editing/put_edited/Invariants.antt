@@ -10,7 +10,8 @@ abbrev pub invariant-loop-i : goal.invariant-loop-i
 invariant-loop-i l =
     let control = chars_across l.fn.core l.word.b l.word.len in
     let digits = units_unzoned (chars_across l.fn.core l.word.a l.word.taken) in record {
-      put : l.core ≡ with_cells l.fn.core l.word.b l.i (unmarked_cell (edited control digits (sign_at l.fn.core l.word.a)));
+      put : l.core
+          ≡ with_cells l.fn.core l.word.b l.i (unmarked_cell (edited control digits (sign_at l.fn.core l.word.a)));
       behind : l.behind ≡ count_by is_replaceable (drop (l.word.len - l.i) control);
       bound : l.behind ≤ l.i;
       size : length l.core ≡ length l.fn.core;

@@ -15,7 +15,8 @@ returns-then-is_figure-clause-value c =
 
 pub loop-i-preserved : goal.loop-i-preserved
 loop-i-preserved c =
-    below_more _ _ c.loop-i.invariant (sym (ap is_figure c.unzoned_char.ensures) ∙ sym c.is_figure.ensures ∙ c.if-is_figure.false)
+    below_more _ _ c.loop-i.invariant (sym (ap is_figure c.unzoned_char.ensures) ∙ sym c.is_figure.ensures
+    ∙ c.if-is_figure.false)
 
 pub returns-clause-value : goal.returns-clause-value
 returns-clause-value c =

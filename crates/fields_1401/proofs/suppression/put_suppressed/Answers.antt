@@ -15,7 +15,8 @@ use Rattle.fields_1401.proofs.suppression.put_suppressed.Goals.{then-n-i, else-n
 
 pub loop-i-init : goal.loop-i-init
 loop-i-init c = record {
-  put = with_cells_none c.args.core.now c.args.b (unmarked_cell (suppressed (units_unzoned (chars_across c.args.core.now c.args.a c.args.n))));
+  put =
+      with_cells_none c.args.core.now c.args.b (unmarked_cell (suppressed (units_unzoned (chars_across c.args.core.now c.args.a c.args.n))));
   size = refl;
 }
 
@@ -42,12 +43,15 @@ loop-i-preserved c =
           ∙ unzoned_kept old now a n (n - 1 - i) a_in c.loop-i.invariant.size c.requires.a_places (omega arith)
           (ap (λ (t : Storage). cell_at t (a - (n - 1 - (n - 1 - i)))) c.loop-i.invariant.put
           ∙ cell_at-outside old b i (unmarked_cell (suppressed xs)) (a - (n - 1 - (n - 1 - i))) (omega arith)
-          (ap (λ q. is_within b i q) (omega arith) ∙ not_reached a n b n i c.requires.apart c.requires.a_places (omega arith) (omega arith)))
+          (ap (λ q. is_within b i q) (omega arith)
+          ∙ not_reached a n b n i c.requires.apart c.requires.a_places (omega arith) (omega arith)))
           ∙ ap (λ k. get_or xs k 0) (omega arith)
           ∙ sym (suppressed_right xs j (let lt = w.if-n-i.false in omega arith))
     ] in
     record {
-      put = c.put_cell.ensures ∙ ap (λ (t : Storage). let cell : Cell = record { char = c.if-n-i.char; mark = false } in set t (b - i) cell) c.loop-i.invariant.put
+      put =
+          c.put_cell.ensures
+          ∙ ap (λ (t : Storage). let cell : Cell = record { char = c.if-n-i.char; mark = false } in set t (b - i) cell) c.loop-i.invariant.put
           ∙ across_more old b i (suppressed xs) c.if-n-i.char c.requires.b_in (omega arith) shows;
       size = ap length c.put_cell.ensures ∙ length-set now (b - i) _ ∙ c.loop-i.invariant.size;
     }
@@ -55,5 +59,7 @@ loop-i-preserved c =
 pub returns-clause-put : goal.returns-clause-put
 returns-clause-put c =
     let xs = units_unzoned (chars_across c.args.core.now c.args.a c.args.n) in
-    let size = length-suppressed xs ∙ length-unzoned_across c.args.core.now c.args.a c.args.n c.requires.a_in c.requires.a_places in
+    let size =
+    length-suppressed xs
+    ∙ length-unzoned_across c.args.core.now c.args.a c.args.n c.requires.a_in c.requires.a_places in
     across_all c.args.core.now c.loop-i.core c.args.b c.loop-i.i (suppressed xs) c.loop-i.invariant.put (omega arith)

@@ -7,6 +7,7 @@ use Rattle.fields_1401.proofs.suppression.put_suppressed.Given as goal
 
 abbrev pub invariant-loop-i : goal.invariant-loop-i
 invariant-loop-i l = record {
-  put : l.core ≡ with_cells l.fn.core l.b l.i (unmarked_cell (suppressed (units_unzoned (chars_across l.fn.core l.a l.n))));
+  put : l.core
+      ≡ with_cells l.fn.core l.b l.i (unmarked_cell (suppressed (units_unzoned (chars_across l.fn.core l.a l.n))));
   size : length l.core ≡ length l.fn.core;
 }

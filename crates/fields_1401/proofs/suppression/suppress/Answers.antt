@@ -13,23 +13,33 @@ returns-clause-marks c =
     let b_in : c.args.b < length c.args.core.now = search rules in
     let b_places : c.in-Some.n ≤ c.args.b + 1 = search rules in
     let xs = units_unzoned (chars_across c.args.core.now c.args.a c.in-Some.n) in
-    let size = length-suppressed xs ∙ length-unzoned_across c.args.core.now c.args.a c.in-Some.n c.in-Some.ensures.in_core c.in-Some.ensures.places in
+    let size =
+    length-suppressed xs
+    ∙ length-unzoned_across c.args.core.now c.args.a c.in-Some.n c.in-Some.ensures.in_core c.in-Some.ensures.places in
     subst P c.in-Some.ensures.value (across_unmarked c.args.core.now c.put_suppressed.new.core c.args.b c.in-Some.n (suppressed xs) c.put_suppressed.ensures.put size b_in b_places)
 
 pub returns-clause-outside : goal.returns-clause-outside
 returns-clause-outside c =
-    let P : Option ℕ → Type 0 = λ o. IfSome o (λ n. IsSameOutside c.args.core.now c.put_suppressed.new.core c.args.b n) in
+    let P : Option ℕ
+    → Type 0 = λ o. IfSome o (λ n. IsSameOutside c.args.core.now c.put_suppressed.new.core c.args.b n) in
     let xs = units_unzoned (chars_across c.args.core.now c.args.a c.in-Some.n) in
-    let size = length-suppressed xs ∙ length-unzoned_across c.args.core.now c.args.a c.in-Some.n c.in-Some.ensures.in_core c.in-Some.ensures.places in
+    let size =
+    length-suppressed xs
+    ∙ length-unzoned_across c.args.core.now c.args.a c.in-Some.n c.in-Some.ensures.in_core c.in-Some.ensures.places in
     subst P c.in-Some.ensures.value (across_outside c.args.core.now c.put_suppressed.new.core c.args.b c.in-Some.n (suppressed xs) c.put_suppressed.ensures.put size)
 
 pub returns-clause-again : goal.returns-clause-again
 returns-clause-again c =
-    let P : Option ℕ → Type 0 = λ o. IfSome o (λ n. let read = chars_across c.put_suppressed.new.core c.args.b n in suppressed read ≡ read) in
+    let P : Option ℕ
+    → Type 0 =
+    λ o. IfSome o (λ n. let read = chars_across c.put_suppressed.new.core c.args.b n in suppressed read
+    ≡ read) in
     let b_in : c.args.b < length c.args.core.now = search rules in
     let b_places : c.in-Some.n ≤ c.args.b + 1 = search rules in
     let xs = units_unzoned (chars_across c.args.core.now c.args.a c.in-Some.n) in
-    let size = length-suppressed xs ∙ length-unzoned_across c.args.core.now c.args.a c.in-Some.n c.in-Some.ensures.in_core c.in-Some.ensures.places in
+    let size =
+    length-suppressed xs
+    ∙ length-unzoned_across c.args.core.now c.args.a c.in-Some.n c.in-Some.ensures.in_core c.in-Some.ensures.places in
     let read : chars_across c.put_suppressed.new.core c.args.b c.in-Some.n ≡ suppressed xs =
     across_again c.args.core.now c.put_suppressed.new.core c.args.b c.in-Some.n (suppressed xs) c.put_suppressed.ensures.put size b_in b_places in
     subst P c.in-Some.ensures.value (ap suppressed read ∙ suppressed_again xs ∙ sym read)

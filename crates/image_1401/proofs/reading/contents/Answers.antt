@@ -4,7 +4,8 @@ use Rattle.std.proofs.lemmas.Result.{err_from_is_err_and}
 use Rattle.image_1401.specs.declared.image.Segment.{Segment}
 use Rattle.image_1401.specs.Image.{is_inside}
 use Rattle.image_1401.specs.Reading.{as_segment, parts_of, entry_by}
-use Rattle.image_1401.proofs.ContentsLemmas.{at_segment, at_outside, at_entry, at_fault, at_rest, gives_fault, is_read, inside_from, outside_from, kept_more}
+use Rattle.image_1401.proofs.ContentsLemmas.{at_segment, at_outside, at_entry, at_fault, at_rest, gives_fault, is_read}
+use Rattle.image_1401.proofs.ContentsLemmas.{inside_from, outside_from, kept_more}
 use Rattle.image_1401.proofs.reading.contents.Goals as goal
 
 pub returns-in_err-start : goal.returns-in_err-start
@@ -12,22 +13,26 @@ returns-in_err-start c =
     let so_far = c.loop-line.invariant in
     let behind = c.in-Some.behind.now in
     let p = err_from_is_err_and c.from_residual.result c.from_residual.ensures.1 in
-    let named = c.in_err-start.ensures.value ∙ ap (λ entry. entry_by c.args.size entry (parts_of behind)) c.entry.ensures in
+    let named =
+    c.in_err-start.ensures.value ∙ ap (λ entry. entry_by c.args.size entry (parts_of behind)) c.entry.ensures in
     rw (p.1, p.2) (gives_fault _ _ c.in_err-start.ensures.fault (at_fault c.args.version c.args.size so_far.so_far _ c.in-Some.line.now behind _ _ c.in-Some.ensures.0 c.in_default-segment.ensures named so_far.whole))
 
 pub returns-then-refused : goal.returns-then-refused
 returns-then-refused c =
     let so_far = c.loop-line.invariant in
     let behind = c.in-Some.behind.now in
-    let named = c.in_ok-start.ensures.value ∙ ap (λ entry. entry_by c.args.size entry (parts_of behind)) c.entry.ensures in
+    let named =
+    c.in_ok-start.ensures.value ∙ ap (λ entry. entry_by c.args.size entry (parts_of behind)) c.entry.ensures in
     is_read _ _ (at_entry c.args.version c.args.size so_far.so_far _ c.in-Some.line.now behind _ _ c.in-Some.ensures.0 c.in_default-segment.ensures named so_far.whole)
 
 pub returns-in_default-segment : goal.returns-in_default-segment
 returns-in_default-segment c =
     let so_far = c.loop-line.invariant in
     let behind = c.in-Some.behind.now in
-    let named = c.in_ok-start.ensures.value ∙ ap (λ entry. entry_by c.args.size entry (parts_of behind)) c.entry.ensures in
-    let all = at_entry c.args.version c.args.size so_far.so_far _ c.in-Some.line.now behind _ _ c.in-Some.ensures.0 c.in_default-segment.ensures named so_far.whole in
+    let named =
+    c.in_ok-start.ensures.value ∙ ap (λ entry. entry_by c.args.size entry (parts_of behind)) c.entry.ensures in
+    let all =
+    at_entry c.args.version c.args.size so_far.so_far _ c.in-Some.line.now behind _ _ c.in-Some.ensures.0 c.in_default-segment.ensures named so_far.whole in
     rw (c.from_vec-segments.ensures, so_far.kept c.if-refused.false) all
 
 pub returns-in_err-segment : goal.returns-in_err-segment
@@ -45,7 +50,8 @@ loop-line-preserved-then-refused-2 c =
     let inside = inside_from (is_inside c.args.size found) found c.in_ok-segment.segment c.in_ok-segment.ensures in
     record {
       so_far = so_far.so_far ++ found ∷ [];
-      whole = at_segment c.args.version c.args.size so_far.so_far found c.in-Some.line.now c.in-Some.behind.now _ _ c.in-Some.ensures.0 c.in-Some-segment.ensures inside.0 so_far.whole;
+      whole =
+          at_segment c.args.version c.args.size so_far.so_far found c.in-Some.line.now c.in-Some.behind.now _ _ c.in-Some.ensures.0 c.in-Some-segment.ensures inside.0 so_far.whole;
       kept = λ kept. cc;
     }
 
@@ -56,8 +62,10 @@ loop-line-preserved c =
     let inside = inside_from (is_inside c.args.size found) found c.in_ok-segment.segment c.in_ok-segment.ensures in
     record {
       so_far = so_far.so_far ++ found ∷ [];
-      whole = at_segment c.args.version c.args.size so_far.so_far found c.in-Some.line.now c.in-Some.behind.now _ _ c.in-Some.ensures.0 c.in-Some-segment.ensures inside.0 so_far.whole;
-      kept = λ kept. kept_more c.push.result _ _ so_far.so_far c.in_ok-segment.segment found (so_far.kept c.if-refused-2.false) inside.1 (sym c.is_err-refused.ensures.value ∙ kept) c.push.ensures.items;
+      whole =
+          at_segment c.args.version c.args.size so_far.so_far found c.in-Some.line.now c.in-Some.behind.now _ _ c.in-Some.ensures.0 c.in-Some-segment.ensures inside.0 so_far.whole;
+      kept =
+          λ kept. kept_more c.push.result _ _ so_far.so_far c.in_ok-segment.segment found (so_far.kept c.if-refused-2.false) inside.1 (sym c.is_err-refused.ensures.value ∙ kept) c.push.ensures.items;
     }
 
 pub returns : goal.returns

@@ -7,7 +7,8 @@ use Rattle.image_1401.proofs.reading.contents.Given as goal
 abbrev pub invariant-loop-line : goal.invariant-loop-line
 invariant-loop-line l = record {
   so_far : List Segment;
-  whole : with_segments so_far (contents_in l.version l.size (parts_of l.rest)) ≡ contents_in l.version l.size (parts_of l.text);
+  whole : with_segments so_far (contents_in l.version l.size (parts_of l.rest))
+      ≡ contents_in l.version l.size (parts_of l.text);
   kept : l.refused ≡ false → l.segments.items ≡ so_far;
 }
 

@@ -14,5 +14,9 @@ returns c =
     let end = c.in_ok-end.end in
     let first = parts_of-first text end (sym c.in_ok-end.ensures) in
     let rest : List ℕ = drop (end + 1) text in
-    let all : take (length text - (end + 1)) rest ≡ rest = take_all (length text - (end + 1)) rest (omega (arith, length-drop (end + 1) text)) in
-    (first.1 ∙ ap (λ (behind : List ℕ). take end text ∷ parts_of behind) (sym all), omega (arith, ap length all, length-drop (end + 1) text, first.0))
+    let all : take (length text - (end + 1)) rest
+    ≡ rest = take_all (length text - (end + 1)) rest (omega (arith, length-drop (end + 1) text)) in (
+      first.1 ∙ ap (λ (behind : List ℕ). take end text
+          ∷ parts_of behind) (sym all),
+      omega (arith, ap length all, length-drop (end + 1) text, first.0),
+    )

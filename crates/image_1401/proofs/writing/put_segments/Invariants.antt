@@ -6,6 +6,7 @@ use Rattle.image_1401.proofs.writing.put_segments.Given as goal
 
 abbrev pub invariant-loop-segment : goal.invariant-loop-segment
 invariant-loop-segment l = record {
-  text : l.text.items ≡ l.initial.text.items ++ flat_map (λ segment. line_of (segment_text l.version segment)) (take l.segment-index l.segments);
+  text : l.text.items ≡ l.initial.text.items
+      ++ flat_map (λ segment. line_of (segment_text l.version segment)) (take l.segment-index l.segments);
   cells : list_all is_segment (take l.segment-index l.segments) ≡ true;
 }
