@@ -20,3 +20,6 @@ mod values;
 
 pub use assembly::fault_of;
 pub use fault::{AsmFault, AsmKind};
+
+#[cfg(test)]
+mod tests;
