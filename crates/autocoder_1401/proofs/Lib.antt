@@ -1,3 +1,5 @@
+pub mod CellsLemmas
 pub mod CharactersLemmas
 pub mod FirstFaultLemmas
 pub mod LowestLemmas
+pub mod SegmentsLemmas
