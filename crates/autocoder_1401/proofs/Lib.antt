@@ -1,3 +1,4 @@
+mod AssemblyExamples
 pub mod CellsLemmas
 pub mod CharactersLemmas
 pub mod FirstFaultLemmas
