@@ -1,5 +1,5 @@
 -- One code more.
-use Rattle.std.proofs.Common.{◌≡◌, ℕ, ◌+◌, ◌<◌, List, [], ◌∷◌, ◌++◌, length, take, set, map, get_or, refl}
+use Rattle.std.proofs.Common.{◌≡◌, ℕ, ◌+◌, ◌<◌, List, length, take, set, map, get_or, refl}
 use Rattle.std.proofs.lemmas.List.{take_more, take_more_set, map_push}
 use Rattle.autocoder_1401.specs.Characters.{char_of}
 

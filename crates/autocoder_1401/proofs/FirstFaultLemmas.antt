@@ -1,8 +1,7 @@
 -- One line more without fault; a source without END.
-use Rattle.std.proofs.Common.{◌≡◌, ℕ, ◌+◌, ◌<◌, ◌≤◌, Bool, false, ◌||◌, List, [], ◌∷◌, ◌++◌, length, take, slice_get, get_or, below_more, Option, None, refl, sym, ap, subst, ◌∙◌, arith}
-use Rattle.std.specs.Prelude.{fold, Some}
+use Rattle.std.proofs.Common.{◌≡◌, ℕ, ◌+◌, ◌<◌, ◌≤◌, Bool, false, List, [], ◌∷◌, ◌++◌, length, take, slice_get, get_or, below_more, Option, None, refl, sym, ap, subst, ◌∙◌, arith}
+use Rattle.std.specs.Prelude.{fold}
 use Rattle.std.specs.List.{list_any}
-use Rattle.std.proofs.lemmas.Grind.{common_steps}
 use Rattle.std.proofs.lemmas.Option.{slice_get_past}
 use Rattle.std.proofs.lemmas.List.{get_or_default, take_more, take_all}
 use Rattle.std.proofs.lemmas.List.Folds.{list_any_more}
@@ -12,7 +11,7 @@ use Rattle.source_1401.specs.declared.statement.Line.{Line}
 use Rattle.autocoder_1401.specs.declared.fault.AsmKind.TheVariants as kinds
 use Rattle.autocoder_1401.specs.declared.first_fault.Place.{Place}
 use Rattle.autocoder_1401.specs.Symbols.{Declared}
-use Rattle.autocoder_1401.specs.FirstFault.{areas_behind, place_behind, place_at, first_place, has_fault, first_fault_from, IsClean, AreClean, IsFaultAt, IsFirstFault}
+use Rattle.autocoder_1401.specs.FirstFault.{areas_behind, place_behind, place_at, has_fault, IsClean, AreClean, IsFaultAt, IsFirstFault}
 
 fold-push : (areas : Option ℕ) (lines : List Line) (line : Line) → fold areas_behind areas (lines ++ line ∷ []) ≡ areas_behind (fold areas_behind areas lines) line
 fold-push areas [] line = refl

@@ -1,5 +1,5 @@
 -- The characters of constants and literals (Autocoder, "Literals", "DCW").
-use Rattle.std.specs.Prelude.{ℕ, ◌-◌, ◌==◌, Bool, ◌&&◌, List, map, replicate, position, unwrap_or, slice_index, slice_set}
+use Rattle.std.specs.Prelude.{ℕ, ◌-◌, ◌==◌, nat_lt, Bool, ◌&&◌, if◌then◌else◌, List, map, take, replicate, position, unwrap_or, slice_index, slice_set}
 use Rattle.std.specs.Cmp.Lexicographic.{pointwise}
 use Rattle.bcd_1401.specs.Character.{with_zone_of}
 use Rattle.bcd_1401.specs.Graphic.{graphics}
@@ -30,6 +30,14 @@ characters_of (constants.Number digits) = unsigned digits
 characters_of (constants.Plus digits) = with_sign digits 3
 characters_of (constants.Minus digits) = with_sign digits 2
 characters_of (constants.Blanks count) = record { codes = replicate 50 0; len = count }
+
+-- the character with a code; one that is none counts as a blank, and no constant has one
+abbrev pub char_with : ℕ → ℕ
+char_with code = if nat_lt code 64 then code else 0
+
+-- the list of them
+abbrev pub codes_in : Characters → List ℕ
+codes_in this = map char_with (take this.len this.codes)
 
 -- literals are equal where their characters are
 abbrev pub same_characters : Characters → Characters → Bool

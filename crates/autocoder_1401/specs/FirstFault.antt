@@ -8,7 +8,6 @@ use Rattle.source_1401.specs.declared.label.LabelField.{LabelField}
 use Rattle.source_1401.specs.declared.label.LabelField.TheVariants as labels
 use Rattle.source_1401.specs.declared.address.Base.{Base}
 use Rattle.source_1401.specs.declared.address.Base.TheVariants as bases
-use Rattle.source_1401.specs.declared.operands.Operand.{Operand}
 use Rattle.source_1401.specs.declared.operands.Operand.TheVariants as operands
 use Rattle.source_1401.specs.declared.operands.OperandField.{OperandField}
 use Rattle.source_1401.specs.declared.operands.OperandField.TheVariants as fields

@@ -1,7 +1,11 @@
+pub mod Assembly
+pub mod Built
+pub mod Cells
 pub mod Characters
 pub mod Fault
 pub mod FirstFault
 pub mod Placement
+pub mod Segments
 pub mod Symbols
 pub mod Values
 pub mod View

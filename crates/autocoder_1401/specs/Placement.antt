@@ -1,5 +1,5 @@
 -- Where statements and literals are placed (Autocoder, "Assembler Control", "Literals"; the first place own).
-use Rattle.std.specs.Prelude.{ℕ, ◌+◌, ◌*◌, Bool, if◌then◌else◌, List, [], ◌∷◌, ◌++◌, length, fold, drop, ℤ, pos, negsuc, ◌+ℤ◌, unwrap_or, Option, Some, None}
+use Rattle.std.specs.Prelude.{ℕ, ◌+◌, ◌*◌, if◌then◌else◌, List, [], ◌∷◌, ◌++◌, length, fold, drop, ℤ, pos, negsuc, ◌+ℤ◌, unwrap_or, Option, Some, None}
 use Rattle.std.specs.Option.{option_map_or}
 use Rattle.std.specs.List.{list_any}
 use Rattle.std.specs.Map.{lookup}

@@ -13,7 +13,6 @@ use Rattle.source_1401.specs.declared.statement.Body.TheVariants as bodies
 use Rattle.source_1401.specs.declared.statement.Statement.{Statement}
 use Rattle.source_1401.specs.declared.statement.Line.{Line}
 use Rattle.autocoder_1401.specs.Placement.{Places, nothing_placed, instruction_length, length_of, pending, behind_literals, value_so_far, after_line, placed}
-use Rattle.autocoder_1401.specs.FirstFault.{first_fault}
 use Rattle.autocoder_1401.specs.Symbols.{same_label}
 use Rattle.autocoder_1401.specs.declared.fault.AsmKind.TheVariants as kinds
 use Rattle.autocoder_1401.specs.declared.fault.AsmFault.{AsmFault}
@@ -82,12 +81,3 @@ first_outside_from size all number this (line ∷ lines) =
 
 abbrev pub first_outside : ℕ → List Line → Option AsmFault
 first_outside size lines = first_outside_from size (placed lines) 1 nothing_placed lines
-
--- the fault where there is one, and else the other
-abbrev pub fault_or : Option AsmFault → Option AsmFault → Option AsmFault
-fault_or None other = other
-fault_or (Some fault) other = Some fault
-
--- the fault of lines: the first of all others, or that something isn't in core
-abbrev pub fault_in : ℕ → List Line → Option AsmFault
-fault_in size lines = fault_or (first_fault lines) (first_outside size lines)

@@ -1,19 +1,22 @@
 //! The passes of the assembler, one behind the other.
-ghost use Rattle.std.specs.Prelude.{◌≡◌, ◌<◌, ◌^◌, map, length, IfOk, IfErr, IfNone, IfSome};
-ghost use Rattle.source_1401.specs.SourceLine.{lines_of};
-ghost use Rattle.source_1401.specs.Statement.{line_of};
-ghost use Rattle.autocoder_1401.specs.Fault.{IsMemory};
+ghost use Rattle.std.specs.Prelude.{◌≡◌, ◌<◌, ◌^◌, ◌⊎◌, length, IfOk, IfErr, OnOk, IfNone, IfSome};
+ghost use Rattle.autocoder_1401.specs.Fault.{IsMemory, Gives};
 ghost use Rattle.autocoder_1401.specs.Symbols.{declared_at};
 ghost use Rattle.autocoder_1401.specs.FirstFault.{first_fault, IsFaultless, IsFirstFault};
-ghost use Rattle.autocoder_1401.specs.Values.{fault_in};
+ghost use Rattle.autocoder_1401.specs.Values.{first_outside};
+ghost use Rattle.autocoder_1401.specs.Assembly.{lines_in, entry_value, entry_in, image_in};
+ghost use Rattle.autocoder_1401.specs.View.{places_of};
 
+use crate::cells::place_of;
 use crate::fault::AsmFault;
 use crate::first_fault::first_fault;
-use crate::placing::place_all;
+use crate::placing::{Placing, place_all};
 use crate::reading::read_lines;
+use crate::segments::emit;
 use crate::symbols::declared;
 use crate::values::first_outside;
-use source_1401::Line;
+use image_1401::{Image, Segments};
+use source_1401::{Body, Line, Operand, OperandField, Statement};
 use std::alloc::Global;
 
 /// The first line with a fault, and its lowest kind.
@@ -29,31 +32,83 @@ fn scan(alloc: Global, lines: &[Line]) -> Result<Option<AsmFault>, AsmFault>
     Ok(fault)
 }
 
-/// The fault of lines, if they have one.
-fn fault_in_lines(alloc: Global, lines: &[Line], size: u16) -> Result<Option<AsmFault>, AsmFault>
-    requires { length lines.now < 2 ^ 32 }
-    ensures ok { IfOk result (λ fault. fault ≡ fault_in size lines.now) }
+/// The value of the operand of END.
+fn entry_value(all: &Placing, field: OperandField) -> Result<i64, AsmFault>
+    ensures value { IfOk result (λ value. value ≡ entry_value (places_of all.now) field) }
     ensures err { IfErr result IsMemory }
 {
-    if let Some(fault) = scan(alloc, lines)? {
-        return Ok(Some(fault));
+    match field {
+        OperandField::Operand(Operand::Address(address)) => {
+            let value = all.address_value(0, address)?;
+            Ok(value)
+        },
+        OperandField::Operand(Operand::Literal(_))
+        | OperandField::Absent
+        | OperandField::Malformed => Ok(0),
     }
-    let all = place_all(alloc, lines)?;
-    let fault = first_outside(alloc, size, &all, lines)?;
-    Ok(fault)
 }
 
-/// The fault of a source in core storage of this size, if it has one: of the first line that has a fault of kinds 2 to 8,
-/// 10 and 11 the lowest; and where no line has one, `OutOfCore` of the first line of which something isn't in core.
+/// The value of the first END.
+fn entry(all: &Placing, lines: &[Line]) -> Result<i64, AsmFault>
+    ensures value { IfOk result (λ value. value ≡ entry_in (places_of all.now) lines.now) }
+    ensures err { IfErr result IsMemory }
+{
+    for line in lines {
+        if let Some(
+            Statement {
+                body: Body::End(operands),
+                ..
+            },
+        ) = line.statement
+        {
+            let value = entry_value(all, operands.a)?;
+            return Ok(value);
+        }
+    }
+    Ok(0)
+}
+
+/// The image that lines stand for, or their first fault.
+fn assemble_lines(alloc: Global, lines: &[Line], size: u16) -> Result<Image, AsmFault>
+    requires { length lines.now < 2 ^ 32 }
+    ensures exact { Gives (λ image. image) result (image_in size lines.now) }
+    ensures faultless { OnOk result (IsFaultless (declared_at lines.now) lines.now) }
+    ensures first { IfErr result (λ fault. IsMemory fault ⊎ (IsFirstFault (declared_at lines.now) lines.now fault
+        ⊎ (IsFaultless (declared_at lines.now) lines.now × (first_outside size lines.now ≡ Some fault)))) }
+{
+    if let Some(fault) = scan(alloc, lines)? {
+        return Err(fault);
+    }
+    let all = place_all(alloc, lines)?;
+    if let Some(fault) = first_outside(alloc, size, &all, lines)? {
+        return Err(fault);
+    }
+    let start = place_of(entry(&all, lines)?);
+    let segments = emit(alloc, &all, lines)?;
+    Ok(Image {
+        size,
+        segments: Segments::from_vec(segments),
+        start,
+    })
+}
+
+/// The core image that a source stands for, in core storage of this size.
 ///
 /// # Errors
 ///
-/// `Memory` where memory is refused, or the source has too many lines.
-pub fn fault_of(alloc: Global, source: &[u8], size: u16) -> Result<Option<AsmFault>, AsmFault>
-    ensures ok { IfOk result (λ fault. fault ≡ fault_in size (map line_of (lines_of source.now))) }
-    ensures err { IfErr result IsMemory }
+/// `Memory` where memory is refused, or the source has too many lines. Else the fault of the first line that has one of
+/// kinds 2 to 8, 10 and 11, its lowest; and where no line has one, `OutOfCore` of the first line of which something isn't
+/// in core.
+pub fn assemble(alloc: Global, source: &[u8], size: u16) -> Result<Image, AsmFault>
+    // The image of the lines, or their first fault, memory aside.
+    ensures exact { Gives (λ image. image) result (image_in size (lines_in source.now)) }
+    // An image comes of a source without a fault alone.
+    ensures faultless { OnOk result (IsFaultless (declared_at (lines_in source.now)) (lines_in source.now)) }
+    // A fault is the lowest of the first line that has one, or something of a faultless source isn't in core.
+    ensures first { IfErr result (λ fault. IsMemory fault ⊎ (IsFirstFault (declared_at (lines_in source.now)) (lines_in source.now) fault
+        ⊎ (IsFaultless (declared_at (lines_in source.now)) (lines_in source.now) × (first_outside size (lines_in source.now) ≡ Some fault)))) }
 {
     let lines = read_lines(alloc, source)?;
-    let fault = fault_in_lines(alloc, &lines, size)?;
-    Ok(fault)
+    let image = assemble_lines(alloc, &lines, size)?;
+    Ok(image)
 }

@@ -1,6 +1,6 @@
 //! The characters of constants and literals.
-ghost use Rattle.std.specs.Prelude.{◌≡◌, ◌<◌, map};
-ghost use Rattle.autocoder_1401.specs.Characters.{char_of, unsigned, over_units, with_sign, characters_of};
+ghost use Rattle.std.specs.Prelude.{◌≡◌, ◌<◌, map, take};
+ghost use Rattle.autocoder_1401.specs.Characters.{char_of, unsigned, over_units, with_sign, characters_of, char_with};
 
 use bcd_1401::Char;
 use source_1401::{Constant, Text};
@@ -89,5 +89,22 @@ impl Characters {
                 len,
             },
         }
+    }
+
+    /// The codes, as they are held.
+    pub(crate) fn as_slice(&self) -> &[u8]
+        ensures { result.now ≡ take self.now.len self.now.codes }
+    {
+        &self.codes[..usize::from(self.len).min(self.codes.len())]
+    }
+}
+
+/// The character with a code, and a blank where there is none.
+pub(crate) fn char_with(code: u8) -> Char
+    ensures { result ≡ char_with code }
+{
+    match Char::from_code(code) {
+        Some(char) => char,
+        None => Char::BLANK,
     }
 }

@@ -1,5 +1,5 @@
 -- The map has what the lines declare.
-use Rattle.std.proofs.Common.{◌≡◌, ◌∙◌, ap, subst, IfNone, IfSome}
+use Rattle.std.proofs.Common.{◌∙◌, ap, subst, IfNone, IfSome}
 use Rattle.indexmap.specs.IndexMap.{get}
 use Rattle.autocoder_1401.specs.FirstFault.{first_fault_from, first_place, IsFaultless, IsFirstFault}
 use Rattle.autocoder_1401.specs.Symbols.{same_label, Declared, declared_at}

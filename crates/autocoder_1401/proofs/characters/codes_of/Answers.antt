@@ -1,5 +1,5 @@
 -- One code more.
-use Rattle.std.proofs.Common.{◌≡◌, ◌∙◌, arith}
+use Rattle.std.proofs.Common.{◌∙◌, arith}
 use Rattle.std.proofs.lemmas.Grind.{common_steps}
 use Rattle.autocoder_1401.proofs.CharactersLemmas.{one_code_more}
 use Rattle.autocoder_1401.proofs.characters.codes_of.Goals as goal

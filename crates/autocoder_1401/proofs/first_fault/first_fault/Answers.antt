@@ -1,11 +1,8 @@
 -- One line more is clean, or the source ends without END.
-use Rattle.std.proofs.Common.{◌≡◌, ◌+◌, sym, ap, ◌∙◌, arith}
+use Rattle.std.proofs.Common.{arith}
 use Rattle.std.proofs.lemmas.Grind.{common_steps}
 use Rattle.indexmap.specs.IndexMap.{get}
-use Rattle.source_1401.specs.declared.statement.Line.{Line}
-use Rattle.autocoder_1401.specs.declared.first_fault.Place.{Place}
 use Rattle.autocoder_1401.specs.Symbols.{same_label}
-use Rattle.autocoder_1401.specs.FirstFault.{place_behind, place_at}
 use Rattle.autocoder_1401.proofs.FirstFaultLemmas.{next_place_is, next_clean, no_end}
 use Rattle.autocoder_1401.proofs.first_fault.first_fault.Goals as goal
 

@@ -1,0 +1,161 @@
+-- The cells that a line places (Autocoder, "Instruction", "DCW", "DA"; A24-1403, "Addressing"; DA's blanks and marks own).
+use Rattle.std.specs.Prelude.{ℕ, suc, zero, ◌+◌, ◌-◌, ◌%◌, Bool, true, false, ◌&&◌, if◌then◌else◌, List, [], ◌∷◌, ◌++◌, map, fold, replicate, position, slice_get, slice_set, ℤ, pos, int_le, int_lt, nat_abs, unwrap_or, Option, Some, None}
+use Rattle.std.specs.Option.{option_and_then}
+use Rattle.std.specs.List.{flat_map}
+use Rattle.bcd_1401.specs.Character.{with_zone_of}
+use Rattle.bcd_1401.specs.declared.cell.Cell.{Cell}
+use Rattle.core_1401.specs.Address.{spelling_of}
+use Rattle.core_1401.specs.Storage.{blank}
+use Rattle.source_1401.specs.declared.address.Address.{Address}
+use Rattle.source_1401.specs.declared.constant.Constant.{Constant}
+use Rattle.source_1401.specs.declared.mnemonic.Instruction.{Instruction}
+use Rattle.source_1401.specs.declared.operands.Operand.TheVariants as operands
+use Rattle.source_1401.specs.declared.operands.OperandField.{OperandField}
+use Rattle.source_1401.specs.declared.operands.OperandField.TheVariants as fields
+use Rattle.source_1401.specs.declared.operands.Operands.{Operands}
+use Rattle.source_1401.specs.declared.statement.Areas.{Areas}
+use Rattle.source_1401.specs.declared.statement.Span.{Span}
+use Rattle.source_1401.specs.declared.statement.Body.{Body}
+use Rattle.source_1401.specs.declared.statement.Body.TheVariants as bodies
+use Rattle.source_1401.specs.declared.statement.Statement.{Statement}
+use Rattle.source_1401.specs.declared.statement.Line.{Line}
+use Rattle.autocoder_1401.specs.Characters.{char_of, characters_of, codes_in, same_characters}
+use Rattle.autocoder_1401.specs.Placement.{Places, pending, instruction_length, after_line}
+use Rattle.autocoder_1401.specs.Values.{address_value, last_place}
+use Rattle.autocoder_1401.specs.declared.characters.Characters.{Characters}
+
+-- the place that a value is the address of; one that is no address counts as 0, and is a fault of its line
+abbrev pub place_of : ℤ → ℕ
+place_of value = if int_le (pos 0) value && int_lt value (pos 16000) then nat_abs value else 0
+
+-- a character without a word mark
+abbrev pub plain : ℕ → Cell
+plain code = record { char = code; mark = false }
+
+-- a character with one
+abbrev pub marked : ℕ → Cell
+marked code = record { char = code; mark = true }
+
+-- characters with a word mark at the high place
+abbrev pub with_word_mark : List ℕ → List Cell
+with_word_mark [] = []
+with_word_mark (first ∷ more) = marked first ∷ map plain more
+
+-- the number of an index register is the zone over the tens
+abbrev pub with_index : ℕ → List ℕ → List ℕ
+with_index index [] = []
+with_index index (hundreds ∷ []) = hundreds ∷ []
+with_index index (hundreds ∷ tens ∷ units) = hundreds ∷ with_zone_of tens index ∷ units
+
+abbrev pub address_codes : Places → ℤ → Address → List ℕ
+address_codes all here address = with_index (address.index % 4) (spelling_of (place_of (address_value all here address)))
+
+-- the units place of a literal
+abbrev pub literal_value : Places → Characters → ℤ
+literal_value all literal = unwrap_or (option_and_then (λ i. slice_get all.addresses i) (position (same_characters literal) all.literals)) (pos 0)
+
+abbrev pub operand_codes : Places → ℤ → OperandField → List ℕ
+operand_codes all here fields.Absent = []
+operand_codes all here fields.Malformed = []
+operand_codes all here (fields.Operand (operands.Address address)) = address_codes all here address
+operand_codes all here (fields.Operand (operands.Literal constant)) = spelling_of (place_of (literal_value all (characters_of constant)))
+
+abbrev pub d_codes : Option ℕ → List ℕ
+d_codes None = []
+d_codes (Some graphic) = char_of graphic ∷ []
+
+-- the addresses of an instruction
+abbrev pub operands_cells : Places → ℤ → Operands → List Cell
+operands_cells all here of = map plain (operand_codes all here of.a) ++ map plain (operand_codes all here of.b)
+
+-- an instruction: its operation with a word mark, its addresses, its d-character
+abbrev pub instruction_cells : Places → ℤ → Instruction → Operands → List Cell
+instruction_cells all here instruction of =
+    marked (char_of instruction.operation) ∷ [] ++ operands_cells all here of ++ map plain (d_codes of.d)
+
+abbrev pub constant_codes : Option Constant → List ℕ
+constant_codes None = []
+constant_codes (Some constant) = codes_in (characters_of constant)
+
+-- a constant with a word mark at its high place, or without one
+abbrev pub constant_cells : Bool → Option Constant → List Cell
+constant_cells true constant = with_word_mark (constant_codes constant)
+constant_cells false constant = map plain (constant_codes constant)
+
+-- literals, each with a word mark at its high place
+abbrev pub literal_cells : Characters → List Cell
+literal_cells literal = with_word_mark (codes_in literal)
+
+-- the fields directly behind areas, comments aside
+abbrev pub fields_of : Body → List Span → List Span
+fields_of bodies.Unknown behind = []
+fields_of (bodies.Instruction instruction operands) behind = []
+fields_of (bodies.MarkedConstant constant) behind = []
+fields_of (bodies.Constant constant) behind = []
+fields_of (bodies.Space places) behind = []
+fields_of (bodies.Areas areas) behind = []
+fields_of (bodies.Field None) behind = behind
+fields_of (bodies.Field (Some span)) behind = span ∷ behind
+fields_of (bodies.Equate operands) behind = []
+fields_of (bodies.Origin operands) behind = []
+fields_of (bodies.Execute operands) behind = []
+fields_of (bodies.End operands) behind = []
+
+abbrev pub fields_with : Option Statement → List Span → List Span
+fields_with None behind = behind
+fields_with (Some statement) behind = fields_of statement.body behind
+
+abbrev pub fields_behind : List Line → List Span
+fields_behind [] = []
+fields_behind (line ∷ lines) = fields_with line.statement (fields_behind lines)
+
+-- a word mark at a place of an area of blanks
+abbrev pub with_mark_at : List Cell → ℕ → List Cell
+with_mark_at area place = slice_set area place (marked 0)
+
+-- a field marks its first place
+abbrev pub with_field : List Cell → Span → List Cell
+with_field area span = with_mark_at area (span.first - 1)
+
+-- an area of blanks with a word mark at its high place and at the first place of each field
+abbrev pub area_cells : ℕ → List Span → List Cell
+area_cells length spans = fold with_field (with_mark_at (replicate length blank) 0) spans
+
+-- so many areas
+abbrev pub repeated : ℕ → List Cell → List Cell
+repeated zero area = []
+repeated (suc n) area = area ++ repeated n area
+
+abbrev pub areas_cells : Option Areas → List Line → List Cell
+areas_cells None lines = []
+areas_cells (Some areas) lines = repeated areas.count (area_cells areas.length (fields_behind lines))
+
+-- the cells that a body places, with these lines behind it
+abbrev pub body_cells : Places → Places → Body → List Line → List Cell
+body_cells all this bodies.Unknown lines = []
+body_cells all this (bodies.Instruction instruction of) lines =
+    instruction_cells all (last_place this.next (instruction_length of)) instruction of
+body_cells all this (bodies.MarkedConstant constant) lines = constant_cells true constant
+body_cells all this (bodies.Constant constant) lines = constant_cells false constant
+body_cells all this (bodies.Space places) lines = []
+body_cells all this (bodies.Areas areas) lines = areas_cells areas lines
+body_cells all this (bodies.Field span) lines = []
+body_cells all this (bodies.Equate of) lines = []
+body_cells all this (bodies.Origin of) lines = []
+body_cells all this (bodies.Execute of) lines = flat_map literal_cells (pending this)
+body_cells all this (bodies.End of) lines = flat_map literal_cells (pending this)
+
+abbrev pub statement_cells : Places → Places → Option Statement → List Line → List Cell
+statement_cells all this None lines = []
+statement_cells all this (Some statement) lines = body_cells all this statement.body lines
+
+-- cells with their addresses, from a place on
+abbrev pub numbered : ℕ → List Cell → List (ℕ × Cell)
+numbered at [] = []
+numbered at (cell ∷ cells) = (at, cell) ∷ numbered (at + 1) cells
+
+-- the cells in the order of placing, each with its address
+abbrev pub cells_from : Places → Places → List Line → List (ℕ × Cell)
+cells_from all this [] = []
+cells_from all this (line ∷ lines) =
+    numbered (place_of this.next) (statement_cells all this line.statement lines) ++ cells_from all (after_line this line) lines

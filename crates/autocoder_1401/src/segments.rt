@@ -1,0 +1,141 @@
+//! Cells in the order of placing, cut into segments.
+ghost use Rattle.std.specs.Prelude.{◌≡◌, ◌∷◌, ◌++◌, ◌+◌, ◌<◌, ℕ, List, [], length, drop, IfOk, IfErr, OnOk};
+ghost use Rattle.bcd_1401.specs.declared.cell.Cell.{Cell as ACell};
+ghost use Rattle.autocoder_1401.specs.Fault.{IsMemory};
+ghost use Rattle.autocoder_1401.specs.Cells.{numbered, cells_from};
+ghost use Rattle.autocoder_1401.specs.Placement.{nothing_placed};
+ghost use Rattle.autocoder_1401.specs.Segments.{within, closed, goes_on, segments_of};
+ghost use Rattle.autocoder_1401.specs.View.{places_of};
+ghost use Rattle.autocoder_1401.specs.Built.{built};
+
+use crate::cells::cells_of;
+use crate::fault::AsmFault;
+use crate::placing::Placing;
+use bcd_1401::Cell;
+use core_1401::{ADDRESSES, Cells, MOST_CELLS};
+use image_1401::Segment;
+use source_1401::Line;
+use std::alloc::Global;
+
+/// The segments so far, and the one that may go on.
+#[derive(Drop)]
+pub(crate) struct Builder {
+    /// The segments that are closed.
+    pub done: Vec<Segment>,
+    /// The address of the one that may go on.
+    pub address: usize,
+    /// Its cells.
+    pub cells: Vec<Cell>,
+}
+
+/// An address, and 0 where it is none.
+fn within(at: usize) -> u16
+    ensures { result ≡ within at }
+{
+    if at < usize::from(ADDRESSES) {
+        at as u16
+    } else {
+        0
+    }
+}
+
+impl Builder {
+    /// No segment.
+    fn new(alloc: Global) -> Builder
+        ensures { (rest : List (ℕ × ACell)) → built result rest ≡ segments_of rest }
+    {
+        Builder {
+            done: Vec::new(alloc),
+            address: 0,
+            cells: Vec::new(alloc),
+        }
+    }
+
+    /// Whether a cell at this address goes on with the segment.
+    fn goes_on(&self, address: usize) -> bool
+        ensures { result ≡ goes_on self.now.address self.now.cells.items address }
+    {
+        self.cells.len() < MOST_CELLS
+            && address >= self.address
+            && address - self.address == self.cells.len()
+    }
+
+    /// Closes the segment that may go on, if it has a cell.
+    fn close(&mut self) -> Result<(), AsmFault>
+        ensures ok { OnOk result (self.new.done.items ≡ self.old.done.items ++ closed self.old.address self.old.cells.items) }
+        ensures empty { OnOk result (self.new.cells.items ≡ []) }
+        ensures err { IfErr result IsMemory }
+    {
+        if let Some(cells) = Cells::from_slice(&self.cells) {
+            self.done.push(Segment {
+                address: within(self.address),
+                cells,
+            })?;
+        }
+        self.cells.clear();
+        Ok(())
+    }
+
+    /// Puts a cell at an address.
+    fn put(&mut self, address: usize, cell: Cell) -> Result<(), AsmFault>
+        ensures ok { OnOk result ((rest : List (ℕ × ACell)) → built self.new rest ≡ built self.old ((address, cell) ∷ rest)) }
+        ensures err { IfErr result IsMemory }
+    {
+        if !self.goes_on(address) {
+            self.close()?;
+            self.address = address;
+        }
+        self.cells.push(cell)?;
+        Ok(())
+    }
+
+    /// Puts cells from an address on.
+    fn put_all(&mut self, address: u16, cells: &[Cell]) -> Result<(), AsmFault>
+        ensures ok { OnOk result ((rest : List (ℕ × ACell)) → built self.new rest ≡ built self.old (numbered address cells.now ++ rest)) }
+        ensures err { IfErr result IsMemory }
+    {
+        let mut at = usize::from(address);
+        for cell in cells {
+            self.put(at, *cell)?;
+            at = at.checked_add(1).ok_or(AsmFault::MEMORY)?;
+        }
+        Ok(())
+    }
+
+    /// The segments.
+    fn finish(mut self) -> Result<Vec<Segment>, AsmFault>
+        ensures ok { IfOk result (λ segments. segments.items ≡ built self []) }
+        ensures err { IfErr result IsMemory }
+    {
+        self.close()?;
+        Ok(self.done)
+    }
+}
+
+/// The lines behind the one with this index.
+fn lines_behind(lines: &[Line], i: usize) -> &[Line]
+    requires { i < length lines.now }
+    ensures { result.now ≡ drop (i + 1) lines.now }
+{
+    lines.split_at(i + 1).1
+}
+
+/// The segments of the cells that lines place, in their order.
+///
+/// # Errors
+///
+/// `Memory` where there is no room for them.
+pub(crate) fn emit(alloc: Global, all: &Placing, lines: &[Line]) -> Result<Vec<Segment>, AsmFault>
+    ensures ok { IfOk result (λ segments. segments.items ≡ segments_of (cells_from (places_of all.now) nothing_placed lines.now)) }
+    ensures err { IfErr result IsMemory }
+{
+    let mut placing = Placing::new(alloc);
+    let mut builder = Builder::new(alloc);
+    for (i, line) in lines.iter().enumerate() {
+        let cells = cells_of(alloc, all, &placing, line, lines_behind(lines, i))?;
+        builder.put_all(placing.address(), &cells)?;
+        placing.place(line)?;
+    }
+    let segments = builder.finish()?;
+    Ok(segments)
+}
