@@ -1,7 +1,8 @@
 //! Decks and forms, worked out by hand.
 
 use crate::{
-    Card, ControlFault, Devices, FormsFull, HopperFull, MOST_HELD, PrintLine, ReaderEmpty, StackerFull,
+    Card, ControlFault, Devices, FormsFull, HopperFull, MOST_HELD, PrintLine, ReaderEmpty,
+    StackerFull,
 };
 use bcd_1401::Char;
 use std::test::Fail;
