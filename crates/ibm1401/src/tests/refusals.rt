@@ -65,3 +65,14 @@ fn each_stop_has_its_number_and_name(rt: HostRuntime) {
         expect_replies(&rt, rt.alloc(), lines.as_str(), replies.as_str(), 3);
     }
 }
+
+#[test]
+fn no_instruction_begins_at_a_blank(rt: HostRuntime) {
+    expect_replies(
+        &rt,
+        rt.alloc(),
+        "START 0900\nRUN 1\n",
+        "OK\nSTOP 06 NOMARK STEPS 0 I 00900\n",
+        2,
+    );
+}
