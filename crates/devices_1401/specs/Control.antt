@@ -5,7 +5,7 @@ use Rattle.bcd_1401.specs.Character.{zone_of}
 use Rattle.devices_1401.specs.declared.fault.ControlFault.{ControlFault}
 use Rattle.devices_1401.specs.declared.fault.ControlFault.TheVariants.{DChar, Carriage}
 
--- a movement of the carriage: so many spaces, or a skip to a line
+-- a movement of the carriage: a number of spaces, or a skip to a line
 pub data Control : Type 0 where
   Space : ℕ → Control
   Skip : ℕ → Control

@@ -25,7 +25,7 @@ pub(crate) enum Hole {
 /// A movement of the carriage.
 #[derive(Clone, Copy)]
 pub(crate) enum Movement {
-    /// So many lines on.
+    /// A number of lines on.
     SpaceBy(Spaces),
     /// To the line of a hole.
     SkipTo(Hole),

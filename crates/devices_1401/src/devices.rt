@@ -3,8 +3,8 @@ ghost use Rattle.std.specs.Prelude.{◌≡◌, ◌+◌, ◌%◌, ◌<◌, ◌≤
 ghost use Rattle.std.specs.Prelude.{None, Ok, Err, if◌then◌else◌};
 ghost use Rattle.std.specs.Result.{result_ok};
 ghost use Rattle.devices_1401.specs.Carriage.{positions, form_of, line_of, controlled, is_at_channel, IsMovedOn};
-ghost use Rattle.devices_1401.specs.Devices.{no_cards, most_held, is_full, fed, punched, printed, after_read, after_card};
-ghost use Rattle.devices_1401.specs.Devices.{after_line};
+ghost use Rattle.devices_1401.specs.Devices.{no_cards, most_held, is_full, fed, punched, printed};
+ghost use Rattle.devices_1401.specs.Devices.{after_read, after_card, after_line};
 
 use crate::card::Card;
 use crate::carriage::{LINES_OF_FORM, POSITIONS, moved};

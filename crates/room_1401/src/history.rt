@@ -86,7 +86,7 @@ impl Model for Opened {
 }
 
 impl Opened {
-    /// What a room with so many seats is made of.
+    /// What a room with this number of seats is made of.
     pub fn new(seats: u8) -> Opened
         ensures { result.parts ≡ seats }
     {

@@ -24,7 +24,7 @@ impl<J: Naming, R: Wait + Drop> Drop for Publisher<J, R> {
 }
 
 impl<J: Naming, R: Wait + Drop> Publisher<J, R> {
-    /// A writer over two states that are alike, with places for so many readers.
+    /// A writer over two states that are alike, with places for this number of readers.
     pub(crate) fn new(
         rt: R,
         alloc: Global,

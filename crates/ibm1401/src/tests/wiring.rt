@@ -9,7 +9,7 @@ use std::io::{ErrorKind, Read, Write};
 use std::test::Fail;
 
 /// Gives as many of its bytes as it is asked for, and counts them. Where a number of bytes is named, it fails once when
-/// so many are left, and would go on.
+/// that many are left, and would go on.
 #[derive(Drop)]
 struct Input<'a> {
     bytes: &'a [u8],
@@ -32,7 +32,7 @@ impl Read for Input<'_> {
 }
 
 /// Keeps what it takes with each write, and before it how many bytes of the input were given by then. Where a number of
-/// writes is named, it fails once after so many, and would go on.
+/// writes is named, it fails once after that many, and would go on.
 #[derive(Drop)]
 struct Output<'a> {
     given: &'a Cell<usize>,

@@ -1,4 +1,4 @@
--- The numbers so far, of which so many have a seat.
+-- The count is that of the numbers so far which have a seat.
 use Rattle.std.proofs.Common.{◌≡◌, ◌≤◌}
 use Rattle.room_1401.specs.Closing.{back_of}
 use Rattle.room_1401.proofs.closing.count_back.Given as goal

@@ -1,4 +1,4 @@
--- So many columns are those of their characters.
+-- The columns so far are those of their characters.
 use Rattle.std.proofs.Common.{◌≡◌, ℕ, ◌<◌, length, get_or}
 use Rattle.bcd_1401.specs.CardCode.{column_of}
 use Rattle.devices_1401.proofs.card.Card.columns.Given as goal

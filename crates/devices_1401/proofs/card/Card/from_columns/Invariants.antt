@@ -1,4 +1,4 @@
--- So many characters have their columns.
+-- The characters so far have their columns.
 use Rattle.std.proofs.Common.{◌≡◌, ℕ, ◌<◌, length, get_or}
 use Rattle.bcd_1401.specs.CardCode.{column_of}
 use Rattle.devices_1401.proofs.card.Card.from_columns.Given as goal
