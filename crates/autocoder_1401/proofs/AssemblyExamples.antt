@@ -1,21 +1,24 @@
 -- Sources, and the images and faults worked out for them by hand.
-use Rattle.std.proofs.Common.{◌≡◌, ℕ, List, [], ◌∷◌, ◌++◌, replicate, Ok, Err, Result, refl}
+use Rattle.std.proofs.Common.{◌≡◌, ℕ, List, [], ◌∷◌, ◌++◌, map, replicate, None, Some, Ok, Err, Result, refl}
 use Rattle.std.specs.Prelude.{codes}
+use Rattle.std.specs.Fmt.{digits}
 use Rattle.bcd_1401.specs.declared.cell.Cell.{Cell}
 use Rattle.bcd_1401.specs.Graphic.{graphics}
-use Rattle.image_1401.specs.declared.image.Image.{Image}
 use Rattle.source_1401.specs.SourceLine.{columns_of}
 use Rattle.source_1401.specs.Mnemonic.{instructions, assembler_operations}
-use Rattle.autocoder_1401.specs.Assembly.{lines_in, image_in}
+use Rattle.autocoder_1401.specs.Assembly.{assembly_in}
 use Rattle.autocoder_1401.specs.Cells.{plain, marked}
+use Rattle.autocoder_1401.specs.Listing.{number_text, address_text, characters_text, without_last_blanks}
+use Rattle.autocoder_1401.specs.Listing.{listing_line, spelling}
 use Rattle.autocoder_1401.specs.Segments.{cut}
+use Rattle.autocoder_1401.specs.declared.assembly.Assembly.{Assembly}
 use Rattle.autocoder_1401.specs.declared.fault.AsmFault.{AsmFault}
 use Rattle.autocoder_1401.specs.declared.fault.AsmKind.TheVariants as kinds
 
 -- what a source stands for in 4,000 places, with all tables open
-stands_for : List ℕ → Result Image AsmFault
-unfolding columns_of instructions assembler_operations graphics
-stands_for source = image_in 4000 (lines_in source)
+stands_for : List ℕ → Result Assembly AsmFault
+unfolding columns_of instructions assembler_operations graphics number_text address_text characters_text without_last_blanks listing_line spelling digits
+stands_for source = assembly_in 4000 source
 
 -- ?423420 and A423420 with their word marks
 zero_and_add : List Cell → List Cell
@@ -35,10 +38,31 @@ two_uses =
     ++ codes "               H    *-3\n     TOTAL     DCW  #3\n     NAME      DCW  @HI@\n"
     ++ codes "     * ONE LITERAL, TWO USES\n               END  START\n"
 
+-- its listing, with a line for the literal before that of END
+listing_of_two_uses : List (List ℕ)
+listing_of_two_uses =
+    codes "0001 00400                         ORG  400"
+    ∷ codes "0002 00400 ?423420       START     ZA   +5,TOTAL"
+    ∷ codes "0003 00407 A423420                 A    +5,TOTAL"
+    ∷ codes "0004 00414 .414                    H    *-3"
+    ∷ codes "0005 00418               TOTAL     DCW  #3"
+    ∷ codes "0006 00421 HI            NAME      DCW  @HI@"
+    ∷ codes "0007                     * ONE LITERAL, TWO USES"
+    ∷ codes "     00423 E        +5"
+    ∷ codes "0008 00400                         END  START"
+    ∷ []
+
 -- it is placed once, behind NAME
 one_literal_for_two_uses : stands_for two_uses
-    ≡ Ok (record { size = 4000; segments = record { address = 400; cells = zero_and_add halt_and_constants } ∷ []; start = 400 })
-unfolding stands_for two_uses zero_and_add halt_and_constants
+    ≡ Ok (record {
+      image = record {
+        size = 4000;
+        segments = record { address = 400; cells = zero_and_add halt_and_constants } ∷ [];
+        start = 400;
+      };
+      listing = listing_of_two_uses;
+    })
+unfolding stands_for two_uses zero_and_add halt_and_constants listing_of_two_uses
 one_literal_for_two_uses = refl
 
 -- each of two areas of four has a word mark at its high place, and one at the first place of KEY
@@ -48,9 +72,21 @@ four_halves = marked 0 ∷ plain 0 ∷ marked 0 ∷ plain 0 ∷ marked 0 ∷ pla
 areas : List ℕ
 areas = codes "               ORG  500\n     REC       DA   2X4\n     KEY            3,4\n               END  KEY\n"
 
+-- the line of a field has the first place of the field in the first area, and END has its value
+listing_of_areas : List (List ℕ)
+listing_of_areas =
+    codes "0001 00500                         ORG  500"
+    ∷ codes "0002 00500               REC       DA   2X4"
+    ∷ codes "0003 00502               KEY            3,4"
+    ∷ codes "0004 00503                         END  KEY"
+    ∷ []
+
 areas_of_two_fields : stands_for areas
-    ≡ Ok (record { size = 4000; segments = record { address = 500; cells = four_halves } ∷ []; start = 503 })
-unfolding stands_for areas four_halves
+    ≡ Ok (record {
+      image = record { size = 4000; segments = record { address = 500; cells = four_halves } ∷ []; start = 503 };
+      listing = listing_of_areas;
+    })
+unfolding stands_for areas four_halves listing_of_areas
 areas_of_two_fields = refl
 
 -- a lower kind on a later line doesn't count
@@ -69,3 +105,42 @@ three_segments : cut 333 (replicate 39 (plain 0)) ((372, plain 1) ∷ (373, plai
     ≡ record { address = 333; cells = replicate 39 (plain 0) ++ plain 1 ∷ [] } ∷ record { address = 373; cells = plain 2 ∷ [] }
     ∷ record { address = 376; cells = marked 49 ∷ [] } ∷ []
 three_segments = refl
+
+-- a sign is a zone over the units of its literal, and an index register one over the tens of its address
+signs_and_indices : List ℕ
+signs_and_indices =
+    codes "               ORG  0\n     A         MLC  @LONGER THAN 8@,A+X3\n               MLC  -007,-007\n"
+    ++ codes "     SPACE     DS   5\n     B         EQU  A+10\n               EX   B\n"
+    ++ codes "               END  A   REMARK  " ++ 13 ∷ codes "\n     \n     * TRAILING  \n     *END"
+
+-- no more than eight characters are shown, and no blank at the end; EX places literals too; a literal has the line of
+-- its first spelling; a comment has no address, and one behind END has a line
+listing_of_signs_and_indices : List (List ℕ)
+listing_of_signs_and_indices =
+    codes "0001 00000                         ORG  0"
+    ∷ codes "0002 00000 M0310?0       A         MLC  @LONGER THAN 8@,A+X3"
+    ∷ codes "0003 00007 M034034                 MLC  -007,-007"
+    ∷ codes "0004 00014               SPACE     DS   5"
+    ∷ codes "0005 00010               B         EQU  A+10"
+    ∷ codes "     00019 LONGER T @LONGER THAN 8@"
+    ∷ codes "     00032 00P      -007"
+    ∷ codes "0006 00010                         EX   B"
+    ∷ codes "0007 00000                         END  A   REMARK"
+    ∷ codes "0008"
+    ∷ codes "0009                     * TRAILING"
+    ∷ codes "0010                     *END"
+    ∷ []
+
+listing_alone : Result Assembly AsmFault → List (List ℕ)
+listing_alone (Ok assembly) = assembly.listing
+listing_alone (Err fault) = []
+
+signs_and_indices_are_zones : listing_alone (stands_for signs_and_indices) ≡ listing_of_signs_and_indices
+unfolding stands_for listing_alone signs_and_indices listing_of_signs_and_indices
+signs_and_indices_are_zones = refl
+
+-- the number of a line has at least four digits
+numbers_of_lines : map number_text (None ∷ Some 7 ∷ Some 9999 ∷ Some 10000 ∷ [])
+    ≡ codes "    " ∷ codes "0007" ∷ codes "9999" ∷ codes "10000" ∷ []
+unfolding number_text digits
+numbers_of_lines = refl

@@ -1,6 +1,8 @@
 mod AssemblyExamples
 pub mod CellsLemmas
 pub mod CharactersLemmas
+pub mod DigitLemmas
 pub mod FirstFaultLemmas
+pub mod ListingLemmas
 pub mod LowestLemmas
 pub mod SegmentsLemmas

@@ -1,33 +1,27 @@
 -- The answer of the assembler, memory aside (Autocoder, "Assembler Control").
-use Rattle.std.specs.Prelude.{ℕ, List, [], ◌∷◌, map, ℤ, pos, Option, None, Some, Result, Ok, Err}
+use Rattle.std.specs.Prelude.{◌≡◌, ◌⊎◌, ℕ, List, [], ◌∷◌, map, ℤ, pos, Option, None, Some, Result, Ok, Err}
 use Rattle.image_1401.specs.declared.image.Image.{Image}
 use Rattle.source_1401.specs.SourceLine.{lines_of}
 use Rattle.source_1401.specs.Statement.{line_of}
-use Rattle.source_1401.specs.declared.operands.Operand.TheVariants as operands
-use Rattle.source_1401.specs.declared.operands.OperandField.{OperandField}
-use Rattle.source_1401.specs.declared.operands.OperandField.TheVariants as fields
 use Rattle.source_1401.specs.declared.statement.Body.{Body}
 use Rattle.source_1401.specs.declared.statement.Body.TheVariants as bodies
 use Rattle.source_1401.specs.declared.statement.Statement.{Statement}
 use Rattle.source_1401.specs.declared.statement.Line.{Line}
 use Rattle.autocoder_1401.specs.Cells.{place_of, cells_from}
-use Rattle.autocoder_1401.specs.FirstFault.{first_fault}
+use Rattle.autocoder_1401.specs.FirstFault.{first_fault, IsFaultless, IsFirstFault}
+use Rattle.autocoder_1401.specs.Listing.{listing_of}
 use Rattle.autocoder_1401.specs.Placement.{Places, nothing_placed, placed}
 use Rattle.autocoder_1401.specs.Segments.{segments_of}
-use Rattle.autocoder_1401.specs.Values.{address_value, first_outside}
+use Rattle.autocoder_1401.specs.Symbols.{declared_at}
+use Rattle.autocoder_1401.specs.Values.{operand_value, first_outside}
+use Rattle.autocoder_1401.specs.declared.assembly.Assembly.{Assembly}
 use Rattle.autocoder_1401.specs.declared.fault.AsmFault.{AsmFault}
 
 -- what the lines of a source say, each by itself
 abbrev pub lines_in : List ℕ → List Line
 lines_in source = map line_of (lines_of source)
 
--- the value of the operand of END
-abbrev pub entry_value : Places → OperandField → ℤ
-entry_value all fields.Absent = pos 0
-entry_value all fields.Malformed = pos 0
-entry_value all (fields.Operand (operands.Address address)) = address_value all (pos 0) address
-entry_value all (fields.Operand (operands.Literal constant)) = pos 0
-
+-- the value of END, else that of the END behind
 abbrev pub entry_by : Places → Body → ℤ → ℤ
 entry_by all bodies.Unknown behind = behind
 entry_by all (bodies.Instruction instruction of) behind = behind
@@ -39,7 +33,7 @@ entry_by all (bodies.Field span) behind = behind
 entry_by all (bodies.Equate of) behind = behind
 entry_by all (bodies.Origin of) behind = behind
 entry_by all (bodies.Execute of) behind = behind
-entry_by all (bodies.End of) behind = entry_value all of.a
+entry_by all (bodies.End of) behind = operand_value all of.a
 
 abbrev pub entry_with : Places → Option Statement → ℤ → ℤ
 entry_with all None behind = behind
@@ -53,13 +47,33 @@ entry_in all (line ∷ lines) = entry_with all line.statement (entry_in all line
 -- the image that lines without a fault stand for
 abbrev pub image_of : ℕ → List Line → Image
 image_of size lines =
-    record { size = size; segments = segments_of (cells_from (placed lines) nothing_placed lines); start = place_of (entry_in (placed lines) lines) }
+    record {
+      size = size;
+      segments = segments_of (cells_from (placed lines) nothing_placed lines);
+      start = place_of (entry_in (placed lines) lines);
+    }
 
 -- the fault where there is one, and else the answer
 abbrev pub fault_or : {X : Type 0} → Option AsmFault → Result X AsmFault → Result X AsmFault
 fault_or None answer = answer
 fault_or (Some fault) answer = Err fault
 
--- the image that lines stand for, or their fault
-abbrev pub image_in : ℕ → List Line → Result Image AsmFault
-image_in size lines = fault_or (first_fault lines) (fault_or (first_outside size lines) (Ok (image_of size lines)))
+-- what a source without a fault stands for
+abbrev pub assembly_of : ℕ → List ℕ → Assembly
+assembly_of size source =
+    record { image = image_of size (lines_in source); listing = listing_of (lines_of source) }
+
+-- the first fault of lines, and else the answer
+abbrev pub unless_fault : {X : Type 0} → ℕ → List Line → X → Result X AsmFault
+unless_fault size lines answer = fault_or (first_fault lines) (fault_or (first_outside size lines) (Ok answer))
+
+-- the image and the listing that a source stands for, or its fault
+abbrev pub assembly_in : ℕ → List ℕ → Result Assembly AsmFault
+assembly_in size source = unless_fault size (lines_in source) (assembly_of size source)
+
+-- a fault of lines: the first line that has one, and its lowest kind; or, of lines without a fault, the first of which
+-- something isn't in core
+abbrev pub IsFaultOf : ℕ → List Line → AsmFault → Type 0
+IsFaultOf size lines fault =
+    IsFirstFault (declared_at lines) lines fault
+    ⊎ (IsFaultless (declared_at lines) lines × (first_outside size lines ≡ Some fault))

@@ -27,6 +27,14 @@ base_value all here bases.Here = here
 abbrev pub address_value : Places → ℤ → Address → ℤ
 address_value all here address = base_value all here address.base +ℤ address.adjustment
 
+-- the value of the operand of EX or END
+abbrev pub operand_value : Places → OperandField → ℤ
+operand_value all fields.Absent = pos 0
+operand_value all fields.Malformed = pos 0
+operand_value all (fields.Operand (operands.Address address)) = address_value all (pos 0) address
+operand_value all (fields.Operand (operands.Literal constant)) = pos 0
+
+-- a value is the address of a place of core storage of this size
 abbrev pub is_in_core : ℕ → ℤ → Bool
 is_in_core size value = int_le (pos 0) value && int_lt value (pos size)
 

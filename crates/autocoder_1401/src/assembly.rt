@@ -3,20 +3,21 @@ ghost use Rattle.std.specs.Prelude.{◌≡◌, ◌<◌, ◌^◌, ◌⊎◌, leng
 ghost use Rattle.autocoder_1401.specs.Fault.{IsMemory, Gives};
 ghost use Rattle.autocoder_1401.specs.Symbols.{declared_at};
 ghost use Rattle.autocoder_1401.specs.FirstFault.{first_fault, IsFaultless, IsFirstFault};
-ghost use Rattle.autocoder_1401.specs.Values.{first_outside};
-ghost use Rattle.autocoder_1401.specs.Assembly.{lines_in, entry_value, entry_in, image_in};
+ghost use Rattle.autocoder_1401.specs.Placement.{placed};
+ghost use Rattle.autocoder_1401.specs.Assembly.{lines_in, entry_in, image_of, unless_fault, assembly_in, IsFaultOf};
 ghost use Rattle.autocoder_1401.specs.View.{places_of};
 
 use crate::cells::place_of;
 use crate::fault::AsmFault;
 use crate::first_fault::first_fault;
+use crate::listing::{Listing, list};
 use crate::placing::{Placing, place_all};
 use crate::reading::read_lines;
 use crate::segments::emit;
 use crate::symbols::declared;
 use crate::values::first_outside;
 use image_1401::{Image, Segments};
-use source_1401::{Body, Line, Operand, OperandField, Statement};
+use source_1401::{Body, Line, Statement};
 use std::alloc::Global;
 
 /// The first line with a fault, and its lowest kind.
@@ -32,22 +33,6 @@ fn scan(alloc: Global, lines: &[Line]) -> Result<Option<AsmFault>, AsmFault>
     Ok(fault)
 }
 
-/// The value of the operand of END.
-fn entry_value(all: &Placing, field: OperandField) -> Result<i64, AsmFault>
-    ensures value { IfOk result (λ value. value ≡ entry_value (places_of all.now) field) }
-    ensures err { IfErr result IsMemory }
-{
-    match field {
-        OperandField::Operand(Operand::Address(address)) => {
-            let value = all.address_value(0, address)?;
-            Ok(value)
-        },
-        OperandField::Operand(Operand::Literal(_))
-        | OperandField::Absent
-        | OperandField::Malformed => Ok(0),
-    }
-}
-
 /// The value of the first END.
 fn entry(all: &Placing, lines: &[Line]) -> Result<i64, AsmFault>
     ensures value { IfOk result (λ value. value ≡ entry_in (places_of all.now) lines.now) }
@@ -61,20 +46,19 @@ fn entry(all: &Placing, lines: &[Line]) -> Result<i64, AsmFault>
             },
         ) = line.statement
         {
-            let value = entry_value(all, operands.a)?;
+            let value = all.operand_value(operands.a)?;
             return Ok(value);
         }
     }
     Ok(0)
 }
 
-/// The image that lines stand for, or their first fault.
-fn assemble_lines(alloc: Global, lines: &[Line], size: u16) -> Result<Image, AsmFault>
+/// What is placed by lines, or their first fault.
+fn place_lines(alloc: Global, lines: &[Line], size: u16) -> Result<Placing, AsmFault>
     requires { length lines.now < 2 ^ 32 }
-    ensures exact { Gives (λ image. image) result (image_in size lines.now) }
+    ensures exact { Gives places_of result (unless_fault size lines.now (placed lines.now)) }
     ensures faultless { OnOk result (IsFaultless (declared_at lines.now) lines.now) }
-    ensures first { IfErr result (λ fault. IsMemory fault ⊎ (IsFirstFault (declared_at lines.now) lines.now fault
-        ⊎ (IsFaultless (declared_at lines.now) lines.now × (first_outside size lines.now ≡ Some fault)))) }
+    ensures first { IfErr result (λ fault. IsMemory fault ⊎ IsFaultOf size lines.now fault) }
 {
     if let Some(fault) = scan(alloc, lines)? {
         return Err(fault);
@@ -83,8 +67,17 @@ fn assemble_lines(alloc: Global, lines: &[Line], size: u16) -> Result<Image, Asm
     if let Some(fault) = first_outside(alloc, size, &all, lines)? {
         return Err(fault);
     }
-    let start = place_of(entry(&all, lines)?);
-    let segments = emit(alloc, &all, lines)?;
+    Ok(all)
+}
+
+/// The image of lines, once all is placed.
+fn image(alloc: Global, all: &Placing, lines: &[Line], size: u16) -> Result<Image, AsmFault>
+    requires { places_of all.now ≡ placed lines.now }
+    ensures ok { IfOk result (λ image. image ≡ image_of size lines.now) }
+    ensures err { IfErr result IsMemory }
+{
+    let start = place_of(entry(all, lines)?);
+    let segments = emit(alloc, all, lines)?;
     Ok(Image {
         size,
         segments: Segments::from_vec(segments),
@@ -92,23 +85,35 @@ fn assemble_lines(alloc: Global, lines: &[Line], size: u16) -> Result<Image, Asm
     })
 }
 
-/// The core image that a source stands for, in core storage of this size.
+/// What a source stands for.
+#[derive(Debug, Drop)]
+pub struct Assembly {
+    /// The core image.
+    pub image: Image,
+    /// The source with the addresses and the cells that its lines stand for.
+    pub listing: Listing,
+}
+
+/// The core image and the listing that a source stands for, in core storage of this size.
 ///
 /// # Errors
 ///
 /// `Memory` where memory is refused, or the source has too many lines. Else the fault of the first line that has one of
 /// kinds 2 to 8, 10 and 11, its lowest; and where no line has one, `OutOfCore` of the first line of which something isn't
 /// in core.
-pub fn assemble(alloc: Global, source: &[u8], size: u16) -> Result<Image, AsmFault>
-    // The image of the lines, or their first fault, memory aside.
-    ensures exact { Gives (λ image. image) result (image_in size (lines_in source.now)) }
-    // An image comes of a source without a fault alone.
+pub fn assemble(alloc: Global, source: &[u8], size: u16) -> Result<Assembly, AsmFault>
+    // The image and the listing of the lines, or their first fault, memory aside.
+    ensures exact { Gives (λ assembly. assembly) result (assembly_in size source.now) }
+
+    // They come of a source without a fault alone.
     ensures faultless { OnOk result (IsFaultless (declared_at (lines_in source.now)) (lines_in source.now)) }
+
     // A fault is the lowest of the first line that has one, or something of a faultless source isn't in core.
-    ensures first { IfErr result (λ fault. IsMemory fault ⊎ (IsFirstFault (declared_at (lines_in source.now)) (lines_in source.now) fault
-        ⊎ (IsFaultless (declared_at (lines_in source.now)) (lines_in source.now) × (first_outside size (lines_in source.now) ≡ Some fault)))) }
+    ensures first { IfErr result (λ fault. IsMemory fault ⊎ IsFaultOf size (lines_in source.now) fault) }
 {
     let lines = read_lines(alloc, source)?;
-    let image = assemble_lines(alloc, &lines, size)?;
-    Ok(image)
+    let all = place_lines(alloc, &lines, size)?;
+    let image = image(alloc, &all, &lines, size)?;
+    let listing = list(alloc, &all, source, &lines)?;
+    Ok(Assembly { image, listing })
 }

@@ -172,7 +172,7 @@ fn put_d(d: Option<u8>, out: &mut Vec<Cell>) -> Result<(), AsmFault>
 }
 
 /// Puts a constant.
-fn put_constant(
+pub(crate) fn put_constant(
     constant: Option<Constant>,
     marked: bool,
     out: &mut Vec<Cell>,
@@ -266,7 +266,7 @@ fn put_repeated(count: u8, area: &[Cell], out: &mut Vec<Cell>) -> Result<(), Asm
 }
 
 /// Puts the cells of a body that stands here, with these lines behind it.
-fn put_body(
+pub(crate) fn put_body(
     alloc: Global,
     all: &Placing,
     here: &Placing,

@@ -113,7 +113,7 @@ impl Builder {
 }
 
 /// The lines behind the one with this index.
-fn lines_behind(lines: &[Line], i: usize) -> &[Line]
+pub(crate) fn lines_behind(lines: &[Line], i: usize) -> &[Line]
     requires { i < length lines.now }
     ensures { result.now ≡ drop (i + 1) lines.now }
 {

@@ -1,6 +1,6 @@
 //! Sources, and the images or the faults that they stand for.
 
-use crate::{AsmFault, AsmKind, assemble};
+use crate::{AsmFault, AsmKind, Assembly, assemble};
 use image_1401::Segment;
 use std::test::Fail;
 
@@ -23,7 +23,7 @@ fn one_literal_is_placed_for_two_uses(rt: HostRuntime) -> Result<(), Fail> {
      * ONE LITERAL, TWO USES
                END  START
 ";
-    let image = assemble(rt.alloc(), source, 4_000)?;
+    let Assembly { image, .. } = assemble(rt.alloc(), source, 4_000)?;
     assert_eq!(rt; (image.size, image.start), (4_000, 400));
     let [Segment { address, cells }] = image.segments.as_slice() else {
         panic!(rt; "not one segment");
@@ -42,6 +42,35 @@ fn one_literal_is_placed_for_two_uses(rt: HostRuntime) -> Result<(), Fail> {
 }
 
 #[test]
+fn a_listing_has_the_source_beside_its_addresses(rt: HostRuntime) -> Result<(), Fail> {
+    let source = b"               ORG  400\r
+     START     ZA   +5,TOTAL
+     TOTAL     DCW  #3
+     NAME      DCW  @TEN LETTERS@
+     * ONE LITERAL
+               END  START
+     * BEHIND END  ";
+    let Assembly { listing, .. } = assemble(rt.alloc(), source, 4_000)?;
+    let mut text = Vec::new(rt.alloc());
+    for line in listing.as_slice() {
+        text.extend_from_slice(line.as_slice())?;
+        text.push(b'\n')?;
+    }
+    let wanted = b"\
+0001 00400                         ORG  400
+0002 00400 ?421409       START     ZA   +5,TOTAL
+0003 00407               TOTAL     DCW  #3
+0004 00410 TEN LETT      NAME      DCW  @TEN LETTERS@
+0005                     * ONE LITERAL
+     00421 E        +5
+0006 00400                         END  START
+0007                     * BEHIND END
+";
+    assert_eq!(rt; text.as_slice(), wanted.as_slice());
+    Ok(())
+}
+
+#[test]
 fn areas_are_blanks_with_the_marks_of_their_fields(rt: HostRuntime) -> Result<(), Fail> {
     let source = b"               ORG  500
      REC       DA   2X4
@@ -49,7 +78,7 @@ fn areas_are_blanks_with_the_marks_of_their_fields(rt: HostRuntime) -> Result<()
      KEY            3,4
                END  KEY
 ";
-    let image = assemble(rt.alloc(), source, 4_000)?;
+    let Assembly { image, .. } = assemble(rt.alloc(), source, 4_000)?;
     assert_eq!(rt; image.start, 503);
     let [Segment { address, cells }] = image.segments.as_slice() else {
         panic!(rt; "not one segment");
@@ -70,7 +99,7 @@ fn a_segment_has_at_most_forty_cells(rt: HostRuntime) -> Result<(), Fail> {
                DCW  @B@
                END  0
 ";
-    let image = assemble(rt.alloc(), source, 1_400)?;
+    let Assembly { image, .. } = assemble(rt.alloc(), source, 1_400)?;
     let mut found = Vec::new(rt.alloc());
     for segment in image.segments.as_slice() {
         found.push((segment.address, segment.cells.as_slice().len()))?;
@@ -85,7 +114,7 @@ fn a_segment_has_at_most_forty_cells(rt: HostRuntime) -> Result<(), Fail> {
 #[test]
 fn an_index_register_is_a_zone_over_the_tens(rt: HostRuntime) -> Result<(), Fail> {
     let source = b"     A         MLC  15+X2,A+1000+X1\n               END  A\n";
-    let image = assemble(rt.alloc(), source, 4_000)?;
+    let Assembly { image, .. } = assemble(rt.alloc(), source, 4_000)?;
     let [Segment { address, cells }] = image.segments.as_slice() else {
         panic!(rt; "not one segment");
     };

@@ -2,7 +2,7 @@
 ghost use Rattle.std.specs.Prelude.{◌≡◌, ◌<◌, ◌^◌, length, IfOk, IfErr};
 ghost use Rattle.autocoder_1401.specs.Fault.{IsMemory};
 ghost use Rattle.autocoder_1401.specs.Placement.{nothing_placed};
-ghost use Rattle.autocoder_1401.specs.Values.{base_value, address_value, is_in_core, are_in_core, operand_outside, places_outside, last_place, literals_outside, body_outside, line_outside, first_outside_from};
+ghost use Rattle.autocoder_1401.specs.Values.{base_value, address_value, operand_value, is_in_core, are_in_core, operand_outside, places_outside, last_place, literals_outside, body_outside, line_outside, first_outside_from};
 ghost use Rattle.autocoder_1401.specs.View.{places_of};
 
 use crate::fault::{AsmFault, AsmKind};
@@ -63,6 +63,22 @@ impl Placing {
         let base = self.base_value(here, address.base);
         let value = plus(base, i64::from(address.adjustment))?;
         Ok(value)
+    }
+
+    /// The value of the operand of EX or END, once all is placed.
+    pub(crate) fn operand_value(&self, field: OperandField) -> Result<i64, AsmFault>
+        ensures value { IfOk result (λ value. value ≡ operand_value (places_of self.now) field) }
+        ensures err { IfErr result IsMemory }
+    {
+        match field {
+            OperandField::Operand(Operand::Address(address)) => {
+                let value = self.address_value(0, address)?;
+                Ok(value)
+            },
+            OperandField::Operand(Operand::Literal(_))
+            | OperandField::Absent
+            | OperandField::Malformed => Ok(0),
+        }
     }
 
     /// Whether an operand is an address whose value isn't in core.

@@ -1,0 +1,133 @@
+-- The lines of a listing (Autocoder, "Assembler Control"; their columns own).
+use Rattle.std.specs.Prelude.{ℕ, ◌+◌, ◌-◌, List, [], ◌∷◌, ◌++◌, length, map, take, drop, replicate, slice_index}
+use Rattle.std.specs.Prelude.{ℤ, pos, negsuc, ◌+ℤ◌, nat_abs, Option, Some, None, codes}
+use Rattle.std.specs.List.{suffix_len}
+use Rattle.std.specs.Fmt.{decimal}
+use Rattle.bcd_1401.specs.Graphic.{graphics}
+use Rattle.bcd_1401.specs.declared.cell.Cell.{Cell}
+use Rattle.source_1401.specs.Constant.{bytes_of}
+use Rattle.source_1401.specs.SourceLine.{padded, is_blank}
+use Rattle.source_1401.specs.Statement.{line_of}
+use Rattle.source_1401.specs.declared.constant.Constant.{Constant}
+use Rattle.source_1401.specs.declared.constant.Constant.TheVariants as constants
+use Rattle.source_1401.specs.declared.statement.Body.{Body}
+use Rattle.source_1401.specs.declared.statement.Body.TheVariants as bodies
+use Rattle.source_1401.specs.declared.statement.Statement.{Statement}
+use Rattle.source_1401.specs.declared.statement.Line.{Line}
+use Rattle.autocoder_1401.specs.Cells.{body_cells, literal_cells}
+use Rattle.autocoder_1401.specs.Characters.{characters_of}
+use Rattle.autocoder_1401.specs.Placement.{Places, nothing_placed, value_so_far, behind_literal, after_line, placed}
+use Rattle.autocoder_1401.specs.Values.{operand_value}
+
+-- a number in decimal digits, with zeros in front where it has fewer than the width; one that has more has them all
+abbrev pub digits_in : ℕ → ℕ → List ℕ
+digits_in width number = replicate (width - length (decimal number)) 48 ++ decimal number
+
+-- the number of a line in at least four digits; four blanks for a line that isn't in the source
+unfoldable pub number_text : Option ℕ → List ℕ
+number_text None = codes "    "
+number_text (Some number) = digits_in 4 number
+
+-- an address in five digits; five blanks where a line has none
+unfoldable pub address_text : Option ℤ → List ℕ
+address_text None = codes "     "
+address_text (Some address) = digits_in 5 (nat_abs address)
+
+-- a cell by its graphic, whether it has a word mark or not
+abbrev pub graphic_of : Cell → ℕ
+graphic_of cell = slice_index graphics cell.char
+
+-- the first eight cells, with blanks behind them where there are fewer
+unfoldable pub characters_text : List Cell → List ℕ
+characters_text cells = padded 8 (map graphic_of (take 8 cells))
+
+-- a text without the blanks at its end
+unfoldable pub without_last_blanks : List ℕ → List ℕ
+without_last_blanks text = take (length text - suffix_len is_blank text) text
+
+-- a line of the listing: the number of a line of the source, an address, cells, and the line itself
+unfoldable pub listing_line : Option ℕ → Option ℤ → List Cell → List ℕ → List ℕ
+listing_line number address cells source =
+    without_last_blanks
+    (number_text number ++ codes " " ++ address_text address ++ codes " " ++ characters_text cells ++ codes " " ++ source)
+
+-- a constant as a source writes it
+unfoldable pub spelling : Constant → List ℕ
+spelling (constants.Text text) = codes "@" ++ bytes_of text ++ codes "@"
+spelling (constants.Number digits) = bytes_of digits
+spelling (constants.Plus digits) = codes "+" ++ bytes_of digits
+spelling (constants.Minus digits) = codes "-" ++ bytes_of digits
+spelling (constants.Blanks count) = codes "#" ++ digits_in 1 count
+
+-- the lines of literals that are placed one behind the other, each as it was first written
+abbrev pub literal_lines : ℤ → List Constant → List (List ℕ)
+literal_lines from [] = []
+literal_lines from (literal ∷ literals) =
+    listing_line None (Some from) (literal_cells (characters_of literal)) (spelling literal)
+    ∷ literal_lines (behind_literal from (characters_of literal)) literals
+
+-- how the literals were first written that a body places
+abbrev pub literals_at : Places → Body → List Constant
+literals_at this bodies.Unknown = []
+literals_at this (bodies.Instruction instruction of) = []
+literals_at this (bodies.MarkedConstant constant) = []
+literals_at this (bodies.Constant constant) = []
+literals_at this (bodies.Space places) = []
+literals_at this (bodies.Areas areas) = []
+literals_at this (bodies.Field span) = []
+literals_at this (bodies.Equate of) = []
+literals_at this (bodies.Origin of) = []
+literals_at this (bodies.Execute of) = drop (length this.addresses) this.spellings
+literals_at this (bodies.End of) = drop (length this.addresses) this.spellings
+
+-- the address of a body: its first place, that of a field in the first area; the value of EQU, ORG, EX and END
+abbrev pub address_at : Places → Places → Body → ℤ
+address_at all this bodies.Unknown = this.next
+address_at all this (bodies.Instruction instruction of) = this.next
+address_at all this (bodies.MarkedConstant constant) = this.next
+address_at all this (bodies.Constant constant) = this.next
+address_at all this (bodies.Space places) = this.next
+address_at all this (bodies.Areas areas) = this.next
+address_at all this (bodies.Field None) = this.next
+address_at all this (bodies.Field (Some span)) = this.areas +ℤ pos span.first +ℤ negsuc 0
+address_at all this (bodies.Equate of) = value_so_far this.values of.a
+address_at all this (bodies.Origin of) = value_so_far this.values of.a
+address_at all this (bodies.Execute of) = operand_value all of.a
+address_at all this (bodies.End of) = operand_value all of.a
+
+-- the cells that the line of a body shows: those of an instruction, a constant or areas
+abbrev pub cells_at : Places → Places → Body → List Line → List Cell
+cells_at all this bodies.Unknown lines = []
+cells_at all this (bodies.Instruction instruction of) lines = body_cells all this (bodies.Instruction instruction of) lines
+cells_at all this (bodies.MarkedConstant constant) lines = body_cells all this (bodies.MarkedConstant constant) lines
+cells_at all this (bodies.Constant constant) lines = body_cells all this (bodies.Constant constant) lines
+cells_at all this (bodies.Space places) lines = []
+cells_at all this (bodies.Areas areas) lines = body_cells all this (bodies.Areas areas) lines
+cells_at all this (bodies.Field span) lines = []
+cells_at all this (bodies.Equate of) lines = []
+cells_at all this (bodies.Origin of) lines = []
+cells_at all this (bodies.Execute of) lines = []
+cells_at all this (bodies.End of) lines = []
+
+-- how the literals were first written that a line places: before EX and END each has a line of its own
+abbrev pub literals_in : Places → Option Statement → List Constant
+literals_in this None = []
+literals_in this (Some statement) = literals_at this statement.body
+
+-- the line for a line of the source, with these lines behind it; a comment has no address
+abbrev pub line_for : Places → Places → ℕ → List ℕ → Option Statement → List Line → List ℕ
+line_for all this number source None lines = listing_line (Some number) None [] source
+line_for all this number source (Some statement) lines =
+    listing_line (Some number) (Some (address_at all this statement.body)) (cells_at all this statement.body lines) source
+
+-- the listing from a line on that has this number
+abbrev pub listing_from : Places → Places → ℕ → List (List ℕ) → List (List ℕ)
+listing_from all this number [] = []
+listing_from all this number (source ∷ sources) =
+    literal_lines this.next (literals_in this (line_of source).statement)
+    ++ line_for all this number source (line_of source).statement (map line_of sources)
+    ∷ listing_from all (after_line this (line_of source)) (number + 1) sources
+
+-- the listing of a source's lines
+abbrev pub listing_of : List (List ℕ) → List (List ℕ)
+listing_of sources = listing_from (placed (map line_of sources)) nothing_placed 1 sources

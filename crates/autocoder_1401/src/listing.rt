@@ -1,0 +1,288 @@
+//! The listing of a source: its lines with the addresses and the cells that they stand for.
+ghost use Rattle.std.specs.Prelude.{◌≡◌, ◌++◌, ◌<◌, ◌^◌, length, map, drop, Some, None, IfOk, IfErr, OnOk};
+ghost use Rattle.source_1401.specs.SourceLine.{lines_of};
+ghost use Rattle.source_1401.specs.Statement.{line_of};
+ghost use Rattle.autocoder_1401.specs.Fault.{IsMemory};
+ghost use Rattle.autocoder_1401.specs.Cells.{literal_cells};
+ghost use Rattle.autocoder_1401.specs.Characters.{characters_of};
+ghost use Rattle.autocoder_1401.specs.Listing.{listing_line, spelling, literal_lines, literals_at, address_at, cells_at};
+ghost use Rattle.autocoder_1401.specs.Listing.{literals_in, line_for, listing_from};
+ghost use Rattle.autocoder_1401.specs.Placement.{nothing_placed};
+ghost use Rattle.autocoder_1401.specs.View.{places_of};
+
+use crate::cells::{put_body, put_constant};
+use crate::characters::Characters;
+use crate::fault::AsmFault;
+use crate::placing::{Placing, plus};
+use crate::printing::{cut_last_blanks, put_address, put_characters, put_number, put_spelling};
+use crate::segments::lines_behind;
+use bcd_1401::Cell;
+use source_1401::{Body, Constant, Line, Statement, split_line};
+use std::alloc::Global;
+use std::marker::Model;
+
+/// A line of a listing. Contracts see the list of its bytes.
+#[derive(Debug, Drop)]
+pub struct ListingLine {
+    text: Vec<u8>,
+}
+
+impl Model for ListingLine {
+    ghost use Rattle.std.specs.Prelude.{ℕ, List};
+
+    ghost Value = { List ℕ };
+
+    ghost view = { λ line. line.text.items };
+}
+
+impl ListingLine {
+    /// The bytes of the line, of which a blank is never the last.
+    pub fn as_slice(&self) -> &[u8]
+        ensures { result.now ≡ self.now }
+    {
+        self.text.as_slice()
+    }
+}
+
+/// The lines of a listing, one behind the other. Contracts see the list of them.
+#[derive(Debug, Drop)]
+pub struct Listing {
+    lines: Vec<ListingLine>,
+}
+
+impl Model for Listing {
+    ghost use Rattle.std.specs.Prelude.{ℕ, List};
+
+    ghost Value = { List (List ℕ) };
+
+    ghost view = { λ listing. listing.lines.items };
+}
+
+impl Listing {
+    /// The lines.
+    pub fn as_slice(&self) -> &[ListingLine]
+        ensures { result.now ≡ self.now }
+    {
+        self.lines.as_slice()
+    }
+}
+
+/// A line with the number of a line of the source, an address and cells.
+#[tactic(auto, unfolding(crate::specs::Listing::listing_line))]
+fn listing_line(
+    alloc: Global,
+    number: Option<u64>,
+    address: Option<i64>,
+    cells: &[Cell],
+    source: &[u8],
+) -> Result<ListingLine, AsmFault>
+    ensures ok { IfOk result (λ line. line ≡ listing_line number address cells.now source.now) }
+    ensures err { IfErr result IsMemory }
+{
+    let mut text = Vec::new(alloc);
+    put_number(&mut text, number)?;
+    text.push(b' ')?;
+    put_address(&mut text, address)?;
+    text.push(b' ')?;
+    put_characters(&mut text, cells)?;
+    text.push(b' ')?;
+    text.extend_from_slice(source)?;
+    cut_last_blanks(&mut text);
+    Ok(ListingLine { text })
+}
+
+/// Adds the lines of literals that are placed one behind the other from a place on.
+fn put_literal_lines(
+    alloc: Global,
+    from: i64,
+    literals: &[Constant],
+    lines: &mut Vec<ListingLine>,
+) -> Result<(), AsmFault>
+    ensures ok { OnOk result (lines.new.items ≡ lines.old.items ++ literal_lines from literals.now) }
+    ensures err { IfErr result IsMemory }
+{
+    let mut next = from;
+    for literal in literals {
+        let characters = Characters::from_constant(*literal);
+        lines.push(literal_line(alloc, next, *literal)?)?;
+        next = plus(next, i64::from(characters.len))?;
+    }
+    Ok(())
+}
+
+/// The line of a literal that is placed at a place.
+fn literal_line(alloc: Global, from: i64, literal: Constant) -> Result<ListingLine, AsmFault>
+    ensures ok { IfOk result (λ line. line
+        ≡ listing_line None (Some from) (literal_cells (characters_of literal)) (spelling literal)) }
+    ensures err { IfErr result IsMemory }
+{
+    let mut cells = Vec::new(alloc);
+    put_constant(Some(literal), true, &mut cells)?;
+    let mut source = Vec::new(alloc);
+    put_spelling(&mut source, literal)?;
+    let line = listing_line(alloc, None, Some(from), &cells, &source)?;
+    Ok(line)
+}
+
+impl Placing {
+    /// How the literals were first written that are used and not placed.
+    fn pending_spellings(&self) -> &[Constant]
+        ensures { result.now ≡ drop (length (places_of self.now).addresses) (places_of self.now).spellings }
+    {
+        let first = self.addresses.len();
+        let all = self.spellings.as_slice();
+        if all.len() < first {
+            &[]
+        } else {
+            all.split_at(first).1
+        }
+    }
+
+    /// How the literals were first written that a body here places.
+    fn literals_at(&self, body: Body) -> &[Constant]
+        ensures { result.now ≡ literals_at (places_of self.now) body }
+    {
+        match body {
+            Body::Execute(_) | Body::End(_) => self.pending_spellings(),
+            Body::Unknown
+            | Body::Instruction(..)
+            | Body::MarkedConstant(_)
+            | Body::Constant(_)
+            | Body::Space(_)
+            | Body::Areas(_)
+            | Body::Field(_)
+            | Body::Equate(_)
+            | Body::Origin(_) => &[],
+        }
+    }
+
+    /// The address of a body here, by the values of all labels.
+    fn address_at(&self, all: &Placing, body: Body) -> Result<i64, AsmFault>
+        ensures value { IfOk result (λ at. at ≡ address_at (places_of all.now) (places_of self.now) body) }
+        ensures err { IfErr result IsMemory }
+    {
+        match body {
+            Body::Field(Some(span)) => plus(plus(self.areas, i64::from(span.first))?, -1),
+            Body::Equate(operands) | Body::Origin(operands) => self.value_so_far(operands.a),
+            Body::Execute(operands) | Body::End(operands) => all.operand_value(operands.a),
+            Body::Unknown
+            | Body::Instruction(..)
+            | Body::MarkedConstant(_)
+            | Body::Constant(_)
+            | Body::Space(_)
+            | Body::Areas(_)
+            | Body::Field(None) => Ok(self.next),
+        }
+    }
+
+    /// The cells that the line of a body here shows, with these lines behind it.
+    fn cells_at(
+        &self,
+        alloc: Global,
+        all: &Placing,
+        body: Body,
+        lines: &[Line],
+    ) -> Result<Vec<Cell>, AsmFault>
+        ensures ok { IfOk result (λ cells. cells.items ≡ cells_at (places_of all.now) (places_of self.now) body lines.now) }
+        ensures err { IfErr result IsMemory }
+    {
+        let mut cells = Vec::new(alloc);
+        match body {
+            Body::Instruction(..) | Body::MarkedConstant(_) | Body::Constant(_) | Body::Areas(_) =>
+                put_body(alloc, all, self, body, lines, &mut cells)?,
+            Body::Unknown
+            | Body::Space(_)
+            | Body::Field(_)
+            | Body::Equate(_)
+            | Body::Origin(_)
+            | Body::Execute(_)
+            | Body::End(_) => {},
+        }
+        Ok(cells)
+    }
+
+    /// How the literals were first written that a line here places.
+    fn literals_in(&self, line: &Line) -> &[Constant]
+        ensures { result.now ≡ literals_in (places_of self.now) line.now.statement }
+    {
+        match line.statement {
+            Some(Statement { body, .. }) => self.literals_at(body),
+            None => &[],
+        }
+    }
+
+    /// Adds the lines of the literals that a line here places.
+    fn put_literals_of(
+        &self,
+        alloc: Global,
+        line: &Line,
+        lines: &mut Vec<ListingLine>,
+    ) -> Result<(), AsmFault>
+        ensures ok { OnOk result (lines.new.items ≡ lines.old.items
+            ++ literal_lines (places_of self.now).next (literals_in (places_of self.now) line.now.statement)) }
+        ensures err { IfErr result IsMemory }
+    {
+        put_literal_lines(alloc, self.next, self.literals_in(line), lines)?;
+        Ok(())
+    }
+
+    /// The line of the listing for a line of the source here, with these lines behind it.
+    fn line_for(
+        &self,
+        alloc: Global,
+        all: &Placing,
+        number: u64,
+        source: &[u8],
+        line: &Line,
+        behind: &[Line],
+    ) -> Result<ListingLine, AsmFault>
+        ensures ok { IfOk result (λ text. text
+            ≡ line_for (places_of all.now) (places_of self.now) number source.now line.now.statement behind.now) }
+        ensures err { IfErr result IsMemory }
+    {
+        match line.statement {
+            Some(Statement { body, .. }) => {
+                let address = self.address_at(all, body)?;
+                let cells = self.cells_at(alloc, all, body, behind)?;
+                let text = listing_line(alloc, Some(number), Some(address), &cells, source)?;
+                Ok(text)
+            },
+            None => {
+                let text = listing_line(alloc, Some(number), None, &[], source)?;
+                Ok(text)
+            },
+        }
+    }
+}
+
+/// The listing of a source, which says these lines, once all is placed.
+///
+/// # Errors
+///
+/// `Memory` where there is no room for it.
+pub(crate) fn list(
+    alloc: Global,
+    all: &Placing,
+    source: &[u8],
+    lines: &[Line],
+) -> Result<Listing, AsmFault>
+    requires lines { lines.now ≡ map line_of (lines_of source.now) }
+    requires few { length lines.now < 2 ^ 32 }
+    ensures ok { IfOk result (λ listing. listing ≡ listing_from (places_of all.now) nothing_placed 1 (lines_of source.now)) }
+    ensures err { IfErr result IsMemory }
+{
+    let mut placing = Placing::new(alloc);
+    let mut listing = Vec::new(alloc);
+    let mut sources = source;
+    for (i, line) in lines.iter().enumerate() {
+        let Some((text, behind)) = split_line(sources) else {
+            unreachable!()
+        };
+        placing.put_literals_of(alloc, line, &mut listing)?;
+        let later = lines_behind(lines, i);
+        listing.push(placing.line_for(alloc, all, i as u64 + 1, text, line, later)?)?;
+        placing.place(line)?;
+        sources = behind;
+    }
+    Ok(Listing { lines: listing })
+}

@@ -1,0 +1,143 @@
+//! The text of a line of the listing.
+ghost use Rattle.std.specs.Prelude.{◌≡◌, ◌-◌, ◌++◌, length, map, replicate, IfErr, OnOk};
+ghost use Rattle.std.specs.List.{suffix_len};
+ghost use Rattle.source_1401.specs.SourceLine.{is_blank};
+ghost use Rattle.autocoder_1401.specs.Fault.{IsMemory};
+ghost use Rattle.autocoder_1401.specs.Listing.{digits_in, number_text, address_text, graphic_of, characters_text};
+ghost use Rattle.autocoder_1401.specs.Listing.{without_last_blanks, spelling};
+
+use crate::fault::AsmFault;
+use bcd_1401::Cell;
+use source_1401::Constant;
+
+/// How many digits the number of a line has at the least.
+const NUMBER_DIGITS: u8 = 4;
+
+/// How many digits an address has.
+const ADDRESS_DIGITS: u8 = 5;
+
+/// How many cells a line shows at the most.
+const SHOWN_CELLS: usize = 8;
+
+/// Adds a number, with zeros in front where it has fewer digits than the width.
+fn put_digits(text: &mut Vec<u8>, width: u8, number: u64) -> Result<(), AsmFault>
+    ensures ok { OnOk result (text.new.items ≡ text.old.items ++ digits_in width number) }
+    ensures err { IfErr result IsMemory }
+{
+    if width > 1 || number > 9 {
+        put_digits(text, width.saturating_sub(1), number / 10)?;
+    }
+    text.push(b'0' + (number % 10) as u8)?;
+    Ok(())
+}
+
+/// Adds blanks, as many as are asked for.
+fn put_blanks(text: &mut Vec<u8>, count: usize) -> Result<(), AsmFault>
+    ensures ok { OnOk result (text.new.items ≡ text.old.items ++ replicate count 32) }
+    ensures err { IfErr result IsMemory }
+{
+    let mut done = 0;
+    while done < count {
+        text.push(b' ')?;
+        done += 1;
+    }
+    Ok(())
+}
+
+/// Adds the number of a line of the source, or blanks for a line that isn't there.
+#[tactic(auto, unfolding(crate::specs::Listing::number_text))]
+pub(crate) fn put_number(text: &mut Vec<u8>, number: Option<u64>) -> Result<(), AsmFault>
+    ensures ok { OnOk result (text.new.items ≡ text.old.items ++ number_text number) }
+    ensures err { IfErr result IsMemory }
+{
+    match number {
+        Some(number) => put_digits(text, NUMBER_DIGITS, number)?,
+        None => text.extend_from_slice(b"    ")?,
+    }
+    Ok(())
+}
+
+/// Adds an address, or blanks for a line that has none.
+#[tactic(auto, unfolding(crate::specs::Listing::address_text))]
+pub(crate) fn put_address(text: &mut Vec<u8>, address: Option<i64>) -> Result<(), AsmFault>
+    ensures ok { OnOk result (text.new.items ≡ text.old.items ++ address_text address) }
+    ensures err { IfErr result IsMemory }
+{
+    match address {
+        Some(address) => put_digits(text, ADDRESS_DIGITS, address.unsigned_abs())?,
+        None => text.extend_from_slice(b"     ")?,
+    }
+    Ok(())
+}
+
+/// Adds cells by their graphics.
+fn put_graphics(text: &mut Vec<u8>, cells: &[Cell]) -> Result<(), AsmFault>
+    ensures ok { OnOk result (text.new.items ≡ text.old.items ++ map graphic_of cells.now) }
+    ensures err { IfErr result IsMemory }
+{
+    for cell in cells {
+        text.push(cell.char.graphic())?;
+    }
+    Ok(())
+}
+
+/// Adds the first eight cells by their graphics, with blanks behind them where there are fewer.
+#[tactic(auto, unfolding(crate::specs::Listing::characters_text))]
+pub(crate) fn put_characters(text: &mut Vec<u8>, cells: &[Cell]) -> Result<(), AsmFault>
+    ensures ok { OnOk result (text.new.items ≡ text.old.items ++ characters_text cells.now) }
+    ensures err { IfErr result IsMemory }
+{
+    let shown = &cells[..cells.len().min(SHOWN_CELLS)];
+    put_graphics(text, shown)?;
+    put_blanks(text, SHOWN_CELLS - shown.len())?;
+    Ok(())
+}
+
+/// Cuts off the blanks at the end of a text.
+#[tactic(auto, unfolding(crate::specs::Listing::without_last_blanks))]
+pub(crate) fn cut_last_blanks(text: &mut Vec<u8>)
+    ensures { text.new.items ≡ without_last_blanks text.old.items }
+{
+    let count = len_without_last_blanks(text.as_slice());
+    text.truncate(count);
+}
+
+/// How many bytes a text has without the blanks at its end.
+fn len_without_last_blanks(text: &[u8]) -> usize
+    ensures { result ≡ length text.now - suffix_len is_blank text.now }
+{
+    let mut count = text.len();
+    while count > 0 && text[count - 1] == b' ' {
+        count -= 1;
+    }
+    count
+}
+
+/// Adds a constant as a source writes it.
+#[tactic(auto, unfolding(crate::specs::Listing::spelling))]
+pub(crate) fn put_spelling(text: &mut Vec<u8>, constant: Constant) -> Result<(), AsmFault>
+    ensures ok { OnOk result (text.new.items ≡ text.old.items ++ spelling constant) }
+    ensures err { IfErr result IsMemory }
+{
+    match constant {
+        Constant::Text(letters) => {
+            text.push(b'@')?;
+            text.extend_from_slice(letters.as_slice())?;
+            text.push(b'@')?;
+        },
+        Constant::Number(digits) => text.extend_from_slice(digits.as_slice())?,
+        Constant::Plus(digits) => {
+            text.push(b'+')?;
+            text.extend_from_slice(digits.as_slice())?;
+        },
+        Constant::Minus(digits) => {
+            text.push(b'-')?;
+            text.extend_from_slice(digits.as_slice())?;
+        },
+        Constant::Blanks(count) => {
+            text.push(b'#')?;
+            put_digits(text, 1, u64::from(count))?;
+        },
+    }
+    Ok(())
+}
