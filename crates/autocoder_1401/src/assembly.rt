@@ -103,7 +103,8 @@ pub struct Assembly {
 /// # Errors
 ///
 /// `Memory` where memory is refused, or the source has too many lines. Else the fault of the first line that has one of
-/// kinds 2 to 8, 10 and 11, its lowest; and where no line has one, `OutOfCore` of the first line of which something isn't
+/// kinds 2 to 8, 10 and 11, its lowest; and where no line has one, `OutOfCore` of the first line of which something
+/// isn't
 /// in core.
 pub fn assemble(alloc: Global, source: &[u8], size: u16) -> Result<Assembly, AsmFault>
     // The image and the listing of the lines, or their first fault, memory aside.

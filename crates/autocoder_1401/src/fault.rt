@@ -4,7 +4,8 @@ ghost use Rattle.autocoder_1401.specs.declared.fault.AsmKind.TheVariants.{Memory
 
 use std::alloc::{AllocError, AllocFailed};
 
-/// The kinds of a fault, the lowest first. Kinds 2 to 8, 10 and 11 are looked for over the whole source first; only a source
+/// The kinds of a fault, the lowest first. Kinds 2 to 8, 10 and 11 are looked for over the whole source first; only a
+/// source
 /// without any of them is placed, and then looked at for kind 9.
 #[derive(Clone, Copy, Debug, PartialEq, Eq)]
 pub enum AsmKind {
