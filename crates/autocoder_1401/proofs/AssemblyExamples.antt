@@ -23,7 +23,8 @@ stands_for source = assembly_in 4000 source
 -- ?423420 and A423420 with their word marks
 zero_and_add : List Cell → List Cell
 zero_and_add more =
-    marked 58 ∷ plain 4 ∷ plain 2 ∷ plain 3 ∷ plain 4 ∷ plain 2 ∷ plain 10 ∷ marked 49 ∷ plain 4 ∷ plain 2 ∷ plain 3 ∷ plain 4 ∷ plain 2
+    marked 58 ∷ plain 4 ∷ plain 2 ∷ plain 3 ∷ plain 4 ∷ plain 2 ∷ plain 10 ∷ marked 49 ∷ plain 4 ∷ plain 2 ∷ plain 3
+    ∷ plain 4 ∷ plain 2
     ∷ plain 10 ∷ more
 
 -- .414 with its word mark, three blanks, HI and E with theirs
@@ -102,7 +103,8 @@ an_entry_past_core = refl
 
 -- behind 39 cells the next one closes the segment; a gap of two places parts the last
 three_segments : cut 333 (replicate 39 (plain 0)) ((372, plain 1) ∷ (373, plain 2) ∷ (376, marked 49) ∷ [])
-    ≡ record { address = 333; cells = replicate 39 (plain 0) ++ plain 1 ∷ [] } ∷ record { address = 373; cells = plain 2 ∷ [] }
+    ≡ record { address = 333; cells = replicate 39 (plain 0) ++ plain 1 ∷ [] }
+    ∷ record { address = 373; cells = plain 2 ∷ [] }
     ∷ record { address = 376; cells = marked 49 ∷ [] } ∷ []
 three_segments = refl
 

@@ -3,7 +3,8 @@ use Rattle.std.proofs.Common.{◌≡◌, ℕ, ◌+◌, ◌<◌, List, length, ta
 use Rattle.std.proofs.lemmas.List.{take_more, take_more_set, map_push}
 use Rattle.autocoder_1401.specs.Characters.{char_of}
 
-pub one_code_more : (codes graphics : List ℕ) (i code : ℕ) → i < length codes → i < length graphics → take i codes ≡ map char_of (take i graphics)
+pub one_code_more : (codes graphics : List ℕ) (i code : ℕ) → i < length codes → i < length graphics → take i codes
+    ≡ map char_of (take i graphics)
     → code ≡ char_of (get_or graphics i 0) → take (i + 1) (set codes i code) ≡ map char_of (take (i + 1) graphics)
 one_code_more codes graphics i code room there so_far one =
     let made = take_more_set codes i code room in

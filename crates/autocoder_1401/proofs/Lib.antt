@@ -1,6 +1,7 @@
 mod AssemblyExamples
 pub mod CellsLemmas
 pub mod CharactersLemmas
+pub mod CoreLemmas
 pub mod DigitLemmas
 pub mod FirstFaultLemmas
 pub mod ListingLemmas

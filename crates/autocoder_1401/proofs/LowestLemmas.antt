@@ -1,5 +1,6 @@
 -- The lowest kind of a line's faults: what is answered is one, and none is lower.
-use Rattle.std.proofs.Common.{◌≡◌, ℕ, ◌<◌, ◌⊎◌, Bool, true, false, cond, List, [], ◌∷◌, Option, Some, None, IfNone, IfSome, refl, sym, ap, ◌∙◌, inl, inr, arith}
+use Rattle.std.proofs.Common.{◌≡◌, ℕ, ◌<◌, ◌⊎◌, Bool, true, false, cond, List, [], ◌∷◌, Option, Some, None, IfNone}
+use Rattle.std.proofs.Common.{IfSome, refl, sym, ap, ◌∙◌, inl, inr, arith}
 use Rattle.source_1401.specs.declared.statement.Line.{Line}
 use Rattle.autocoder_1401.specs.declared.fault.AsmKind.{AsmKind}
 use Rattle.autocoder_1401.specs.declared.fault.AsmKind.TheVariants as kinds
@@ -26,20 +27,25 @@ above n (first ∷ kinds) kind ascends stands =
       | inr behind ↦ (let low = ascends.0 in let high = above (rank first) kinds kind ascends.1 behind in omega arith)
     ]
 
-found : (test : AsmKind → Bool) (kinds : List AsmKind) (kind : AsmKind) → first_of test kinds ≡ Some kind → test kind ≡ true
+found : (test : AsmKind → Bool) (kinds : List AsmKind) (kind : AsmKind) → first_of test kinds ≡ Some kind → test kind
+    ≡ true
 found test [] kind e = cc
 found test (first ∷ kinds) kind e = by (test first) refl e (found test kinds kind)
   where
-    by : (b : Bool) → test first ≡ b → cond b (Some first) (first_of test kinds) ≡ Some kind → (first_of test kinds ≡ Some kind → test kind ≡ true) → test kind ≡ true
+    by : (b : Bool) → test first ≡ b → cond b (Some first) (first_of test kinds) ≡ Some kind
+        → (first_of test kinds ≡ Some kind → test kind ≡ true) → test kind ≡ true
     by true passes e rest = let same : first ≡ kind = cc in ap test (sym same) ∙ passes
     by false fails e rest = rest e
 
-passed : (test : AsmKind → Bool) (n : ℕ) (kinds : List AsmKind) (kind lower : AsmKind) → first_of test kinds ≡ Some kind → Ascends n kinds → Stands lower kinds
+passed : (test : AsmKind → Bool) (n : ℕ) (kinds : List AsmKind) (kind lower : AsmKind) → first_of test kinds ≡ Some kind
+    → Ascends n kinds → Stands lower kinds
     → rank lower < rank kind → test lower ≡ false
 passed test n [] kind lower e ascends stands h = absurd stands
-passed test n (first ∷ kinds) kind lower e ascends stands h = by (test first) refl e (λ e behind. passed test (rank first) kinds kind lower e ascends.1 behind h)
+passed test n (first ∷ kinds) kind lower e ascends stands h =
+    by (test first) refl e (λ e behind. passed test (rank first) kinds kind lower e ascends.1 behind h)
   where
-    by : (b : Bool) → test first ≡ b → cond b (Some first) (first_of test kinds) ≡ Some kind → (first_of test kinds ≡ Some kind → Stands lower kinds → test lower ≡ false) → test lower ≡ false
+    by : (b : Bool) → test first ≡ b → cond b (Some first) (first_of test kinds) ≡ Some kind
+        → (first_of test kinds ≡ Some kind → Stands lower kinds → test lower ≡ false) → test lower ≡ false
     by true passes e rest =
         let same : first ≡ kind = cc in
         let ranks : rank first ≡ rank kind = ap rank same in
@@ -49,16 +55,19 @@ passed test n (first ∷ kinds) kind lower e ascends stands h = by (test first) 
         ]
     by false fails e rest = elim stands [ inl here ↦ ap test here ∙ fails | inr behind ↦ rest e behind ]
 
-none_passes : (test : AsmKind → Bool) (kinds : List AsmKind) (kind : AsmKind) → first_of test kinds ≡ None → Stands kind kinds → test kind ≡ false
+none_passes : (test : AsmKind → Bool) (kinds : List AsmKind) (kind : AsmKind) → first_of test kinds ≡ None
+    → Stands kind kinds → test kind ≡ false
 none_passes test [] kind e stands = absurd stands
 none_passes test (first ∷ kinds) kind e stands = by (test first) refl e (none_passes test kinds kind)
   where
-    by : (b : Bool) → test first ≡ b → cond b (Some first) (first_of test kinds) ≡ None → (first_of test kinds ≡ None → Stands kind kinds → test kind ≡ false) → test kind ≡ false
+    by : (b : Bool) → test first ≡ b → cond b (Some first) (first_of test kinds) ≡ None
+        → (first_of test kinds ≡ None → Stands kind kinds → test kind ≡ false) → test kind ≡ false
     by true passes e rest = cc
     by false fails e rest = elim stands [ inl here ↦ ap test here ∙ fails | inr behind ↦ rest e behind ]
 
 -- a kind is one that lines are looked at for, or no line has it
-either : (declared : Declared) (at : Place) (line : Line) (kind : AsmKind) → (has_fault declared at line kind ≡ false) ⊎ Stands kind scanned
+either : (declared : Declared) (at : Place) (line : Line) (kind : AsmKind) → (has_fault declared at line kind ≡ false)
+    ⊎ Stands kind scanned
 either declared at line kinds.Memory = inl refl
 either declared at line kinds.OutOfCore = inl refl
 either declared at line kinds.NoEnd = inl refl
@@ -72,18 +81,31 @@ either declared at line kinds.Operand = inr (inr (inr (inr (inr (inr (inr (inl r
 either declared at line kinds.AfterEnd = inr (inr (inr (inr (inr (inr (inr (inr (inl refl))))))))
 
 ascend : Ascends 1 scanned
-ascend = (omega arith, (omega arith, (omega arith, (omega arith, (omega arith, (omega arith, (omega arith, (omega arith, tt))))))))
+ascend = (
+  omega arith,
+  (omega arith, (omega arith, (omega arith, (omega arith, (omega arith, (omega arith, (omega arith, tt))))))),
+)
 
 -- a line without a kind that it is looked at for is clean
-pub clean_line : (declared : Declared) (at : Place) (line : Line) (kind : Option AsmKind) → kind ≡ lowest declared at line → IfNone kind (IsClean declared at line)
+pub clean_line : (declared : Declared) (at : Place) (line : Line) (kind : Option AsmKind) → kind
+    ≡ lowest declared at line → IfNone kind (IsClean declared at line)
 clean_line declared at line None e =
-    λ kind. elim (either declared at line kind) [ inl never ↦ never | inr stands ↦ none_passes (has_fault declared at line) scanned kind (sym e) stands ]
+    λ kind. elim (either declared at line kind) [
+      | inl never ↦ never
+      | inr stands ↦ none_passes
+          (has_fault declared at line) scanned kind (sym e) stands
+    ]
 clean_line declared at line (Some kind) e = tt
 
 -- the first kind that it has is its lowest
-pub lowest_line : (declared : Declared) (at : Place) (line : Line) (kind : Option AsmKind) → kind ≡ lowest declared at line → IfSome kind (λ k. IsLowest declared at line k)
+pub lowest_line : (declared : Declared) (at : Place) (line : Line) (kind : Option AsmKind) → kind
+    ≡ lowest declared at line → IfSome kind (λ k. IsLowest declared at line k)
 lowest_line declared at line None e = tt
 lowest_line declared at line (Some kind) e = (
   found (has_fault declared at line) scanned kind (sym e),
-  λ lower h. elim (either declared at line lower) [ inl never ↦ never | inr stands ↦ passed (has_fault declared at line) 1 scanned kind lower (sym e) ascend stands h ],
+  λ lower h. elim (either declared at line lower) [
+    | inl never ↦ never
+    | inr stands ↦ passed
+        (has_fault declared at line) 1 scanned kind lower (sym e) ascend stands h
+  ],
 )

@@ -1,5 +1,8 @@
--- The cells that a line places (Autocoder, "Instruction", "DCW", "DA"; A24-1403, "Addressing"; DA's blanks and marks own).
-use Rattle.std.specs.Prelude.{ℕ, suc, zero, ◌+◌, ◌-◌, ◌%◌, Bool, true, false, ◌&&◌, if◌then◌else◌, List, [], ◌∷◌, ◌++◌, map, fold, replicate, position, slice_get, slice_set, ℤ, pos, int_le, int_lt, nat_abs, unwrap_or, Option, Some, None}
+-- The cells that a line places (Autocoder, "Instruction", "DCW", "DA"; A24-1403, "Addressing"; DA's blanks and marks
+-- own).
+use Rattle.std.specs.Prelude.{ℕ, suc, zero, ◌+◌, ◌-◌, ◌%◌, Bool, true, false, ◌&&◌, if◌then◌else◌, List, [], ◌∷◌, ◌++◌}
+use Rattle.std.specs.Prelude.{map, fold, replicate, position, slice_get, slice_set, ℤ, pos, int_le, int_lt, nat_abs}
+use Rattle.std.specs.Prelude.{unwrap_or, Option, Some, None}
 use Rattle.std.specs.Option.{option_and_then}
 use Rattle.std.specs.List.{flat_map}
 use Rattle.bcd_1401.specs.Character.{with_zone_of}
@@ -48,17 +51,21 @@ with_index index (hundreds ∷ []) = hundreds ∷ []
 with_index index (hundreds ∷ tens ∷ units) = hundreds ∷ with_zone_of tens index ∷ units
 
 abbrev pub address_codes : Places → ℤ → Address → List ℕ
-address_codes all here address = with_index (address.index % 4) (spelling_of (place_of (address_value all here address)))
+address_codes all here address =
+    with_index (address.index % 4) (spelling_of (place_of (address_value all here address)))
 
 -- the units place of a literal
 abbrev pub literal_value : Places → Characters → ℤ
-literal_value all literal = unwrap_or (option_and_then (λ i. slice_get all.addresses i) (position (same_characters literal) all.literals)) (pos 0)
+literal_value all literal =
+    unwrap_or (option_and_then (λ i. slice_get all.addresses i) (position (same_characters literal) all.literals))
+    (pos 0)
 
 abbrev pub operand_codes : Places → ℤ → OperandField → List ℕ
 operand_codes all here fields.Absent = []
 operand_codes all here fields.Malformed = []
 operand_codes all here (fields.Operand (operands.Address address)) = address_codes all here address
-operand_codes all here (fields.Operand (operands.Literal constant)) = spelling_of (place_of (literal_value all (characters_of constant)))
+operand_codes all here (fields.Operand (operands.Literal constant)) =
+    spelling_of (place_of (literal_value all (characters_of constant)))
 
 abbrev pub d_codes : Option ℕ → List ℕ
 d_codes None = []
@@ -158,4 +165,5 @@ numbered at (cell ∷ cells) = (at, cell) ∷ numbered (at + 1) cells
 abbrev pub cells_from : Places → Places → List Line → List (ℕ × Cell)
 cells_from all this [] = []
 cells_from all this (line ∷ lines) =
-    numbered (place_of this.next) (statement_cells all this line.statement lines) ++ cells_from all (after_line this line) lines
+    numbered (place_of this.next) (statement_cells all this line.statement lines)
+    ++ cells_from all (after_line this line) lines

@@ -1,5 +1,6 @@
 -- The characters of constants and literals (Autocoder, "Literals", "DCW").
-use Rattle.std.specs.Prelude.{ℕ, ◌-◌, ◌==◌, nat_lt, Bool, ◌&&◌, if◌then◌else◌, List, map, take, replicate, position, unwrap_or, slice_index, slice_set}
+use Rattle.std.specs.Prelude.{ℕ, ◌-◌, ◌==◌, nat_lt, Bool, ◌&&◌, if◌then◌else◌, List, map, take, replicate, position}
+use Rattle.std.specs.Prelude.{unwrap_or, slice_index, slice_set}
 use Rattle.std.specs.Cmp.Lexicographic.{pointwise}
 use Rattle.bcd_1401.specs.Character.{with_zone_of}
 use Rattle.bcd_1401.specs.Graphic.{graphics}

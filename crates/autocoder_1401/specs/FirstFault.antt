@@ -1,5 +1,6 @@
 -- The faults of a line, and the first line of a source that has one, with its lowest kind (own).
-use Rattle.std.specs.Prelude.{◌≡◌, ℕ, ◌+◌, ◌<◌, Bool, true, false, not, ◌&&◌, ◌||◌, nat_lt, if◌then◌else◌, List, [], ◌∷◌, length, take, fold, slice_get, slice_index_or, Option, Some, None, is_none, is_some}
+use Rattle.std.specs.Prelude.{◌≡◌, ℕ, ◌+◌, ◌<◌, Bool, true, false, not, ◌&&◌, ◌||◌, nat_lt, if◌then◌else◌, List, []}
+use Rattle.std.specs.Prelude.{◌∷◌, length, take, fold, slice_get, slice_index_or, Option, Some, None, is_none, is_some}
 use Rattle.std.specs.Option.{option_map, option_map_or}
 use Rattle.std.specs.List.{list_any}
 use Rattle.source_1401.specs.Statement.{has_bad_label, has_bad_operands, is_end}
@@ -42,7 +43,8 @@ areas_with areas (bodies.Execute operands) = None
 areas_with areas (bodies.End operands) = None
 
 abbrev pub areas_behind : Option ℕ → Line → Option ℕ
-areas_behind areas line = option_map_or (λ (statement : Statement). areas_with areas statement.body) line.statement areas
+areas_behind areas line =
+    option_map_or (λ (statement : Statement). areas_with areas statement.body) line.statement areas
 
 -- the place of the first line of a source
 abbrev pub first_place : Place
@@ -113,7 +115,8 @@ is_undefined declared field = option_map_or (λ label. is_none (declared label))
 
 -- a symbol that no earlier line declares
 abbrev pub is_undefined_before : Declared → ℕ → OperandField → Bool
-is_undefined_before declared number field = option_map_or (λ label. not (is_before number (declared label))) (symbol_in field) false
+is_undefined_before declared number field =
+    option_map_or (λ label. not (is_before number (declared label))) (symbol_in field) false
 
 -- EQU and ORG take the labels of earlier lines alone
 abbrev pub undefined : Declared → ℕ → Body → Bool
@@ -171,9 +174,12 @@ has_fault declared at line kinds.Memory = false
 has_fault declared at line kinds.LongLine = is_long line.bytes
 has_fault declared at line kinds.Graphic = is_foreign line.bytes
 has_fault declared at line kinds.Label = up_to_end_has at line (bad_label at.areas)
-has_fault declared at line kinds.DoubleLabel = up_to_end_has at line (λ (this : Statement). double_label declared at.number this.label)
-has_fault declared at line kinds.Operation = up_to_end_has at line (λ (this : Statement). bad_operation at.areas this.body)
-has_fault declared at line kinds.Undefined = up_to_end_has at line (λ (this : Statement). undefined declared at.number this.body)
+has_fault declared at line kinds.DoubleLabel =
+    up_to_end_has at line (λ (this : Statement). double_label declared at.number this.label)
+has_fault declared at line kinds.Operation =
+    up_to_end_has at line (λ (this : Statement). bad_operation at.areas this.body)
+has_fault declared at line kinds.Undefined =
+    up_to_end_has at line (λ (this : Statement). undefined declared at.number this.body)
 has_fault declared at line kinds.Operand = up_to_end_has at line (λ (this : Statement). bad_operands at.areas this.body)
 has_fault declared at line kinds.OutOfCore = false
 has_fault declared at line kinds.NoEnd = false
@@ -187,7 +193,8 @@ first_of test (x ∷ xs) = if test x then Some x else first_of test xs
 -- the kinds that lines are looked at for, the lowest first
 abbrev pub scanned : List AsmKind
 scanned =
-    kinds.LongLine ∷ kinds.Graphic ∷ kinds.Label ∷ kinds.DoubleLabel ∷ kinds.Operation ∷ kinds.Undefined ∷ kinds.Operand ∷ kinds.AfterEnd ∷ []
+    kinds.LongLine ∷ kinds.Graphic ∷ kinds.Label ∷ kinds.DoubleLabel ∷ kinds.Operation ∷ kinds.Undefined ∷ kinds.Operand
+    ∷ kinds.AfterEnd ∷ []
 
 -- the lowest kind of a line's faults
 abbrev pub lowest : Declared → Place → Line → Option AsmKind
@@ -229,11 +236,13 @@ IsClean declared at line = (kind : AsmKind) → has_fault declared at line kind 
 -- a line has this fault, and none of a lower kind
 abbrev pub IsLowest : Declared → Place → Line → AsmKind → Type 0
 IsLowest declared at line kind =
-    (has_fault declared at line kind ≡ true) × ((lower : AsmKind) → rank lower < rank kind → has_fault declared at line lower ≡ false)
+    (has_fault declared at line kind ≡ true)
+    × ((lower : AsmKind) → rank lower < rank kind → has_fault declared at line lower ≡ false)
 
 -- each line below this index is without fault
 abbrev pub AreClean : Declared → List Line → ℕ → Type 0
-AreClean declared lines n = (k : ℕ) → k < n → (d : Line) → IsClean declared (place_at lines k) (slice_index_or lines k d)
+AreClean declared lines n =
+    (k : ℕ) → k < n → (d : Line) → IsClean declared (place_at lines k) (slice_index_or lines k d)
 
 -- the fault of the line with this index: its lowest, or that there was no END up to the last line
 abbrev pub IsFaultAt : Declared → List Line → ℕ → Option Line → AsmKind → Type 0

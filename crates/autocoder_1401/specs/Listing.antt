@@ -49,7 +49,8 @@ without_last_blanks text = take (length text - suffix_len is_blank text) text
 unfoldable pub listing_line : Option ℕ → Option ℤ → List Cell → List ℕ → List ℕ
 listing_line number address cells source =
     without_last_blanks
-    (number_text number ++ codes " " ++ address_text address ++ codes " " ++ characters_text cells ++ codes " " ++ source)
+    (number_text number ++ codes " " ++ address_text address ++ codes " " ++ characters_text cells ++ codes " "
+    ++ source)
 
 -- a constant as a source writes it
 unfoldable pub spelling : Constant → List ℕ
@@ -98,7 +99,8 @@ address_at all this (bodies.End of) = operand_value all of.a
 -- the cells that the line of a body shows: those of an instruction, a constant or areas
 abbrev pub cells_at : Places → Places → Body → List Line → List Cell
 cells_at all this bodies.Unknown lines = []
-cells_at all this (bodies.Instruction instruction of) lines = body_cells all this (bodies.Instruction instruction of) lines
+cells_at all this (bodies.Instruction instruction of) lines =
+    body_cells all this (bodies.Instruction instruction of) lines
 cells_at all this (bodies.MarkedConstant constant) lines = body_cells all this (bodies.MarkedConstant constant) lines
 cells_at all this (bodies.Constant constant) lines = body_cells all this (bodies.Constant constant) lines
 cells_at all this (bodies.Space places) lines = []
@@ -118,7 +120,8 @@ literals_in this (Some statement) = literals_at this statement.body
 abbrev pub line_for : Places → Places → ℕ → List ℕ → Option Statement → List Line → List ℕ
 line_for all this number source None lines = listing_line (Some number) None [] source
 line_for all this number source (Some statement) lines =
-    listing_line (Some number) (Some (address_at all this statement.body)) (cells_at all this statement.body lines) source
+    listing_line (Some number) (Some (address_at all this statement.body))
+    (cells_at all this statement.body lines) source
 
 -- the listing from a line on that has this number
 abbrev pub listing_from : Places → Places → ℕ → List (List ℕ) → List (List ℕ)

@@ -1,5 +1,6 @@
 -- Where statements and literals are placed (Autocoder, "Assembler Control", "Literals"; the first place own).
-use Rattle.std.specs.Prelude.{ℕ, ◌+◌, ◌*◌, if◌then◌else◌, List, [], ◌∷◌, ◌++◌, length, fold, drop, ℤ, pos, negsuc, ◌+ℤ◌, unwrap_or, Option, Some, None}
+use Rattle.std.specs.Prelude.{ℕ, ◌+◌, ◌*◌, if◌then◌else◌, List, [], ◌∷◌, ◌++◌, length, fold, drop, ℤ, pos, negsuc, ◌+ℤ◌}
+use Rattle.std.specs.Prelude.{unwrap_or, Option, Some, None}
 use Rattle.std.specs.Option.{option_map_or}
 use Rattle.std.specs.List.{list_any}
 use Rattle.std.specs.Map.{lookup}
@@ -23,7 +24,8 @@ use Rattle.autocoder_1401.specs.Characters.{characters_of, same_characters}
 use Rattle.autocoder_1401.specs.Symbols.{same_label}
 use Rattle.autocoder_1401.specs.declared.characters.Characters.{Characters}
 
--- what is placed so far: the next place, the first place of the last areas, the labels' values, the literals in order of
+-- what is placed so far: the next place, the first place of the last areas, the labels' values, the literals in order
+-- of
 -- first use with what each was first written as, and the units places of those that are placed
 pub record Places : Type 0 where
   pub next : ℤ
@@ -90,13 +92,18 @@ behind_literals from literals = fold behind_literal from literals
 -- the units places of literals that begin at a place
 abbrev pub units_from : ℤ → List Characters → List ℤ
 units_from from [] = []
-units_from from (literal ∷ literals) = (behind_literal from literal +ℤ negsuc 0) ∷ units_from (behind_literal from literal) literals
+units_from from (literal ∷ literals) =
+    (behind_literal from literal +ℤ negsuc 0) ∷ units_from (behind_literal from literal) literals
 
 -- a literal that is used: a new one goes last
 abbrev pub with_literal : Places → Constant → Places
 with_literal this constant =
     if list_any (same_characters (characters_of constant)) this.literals then this
-    else record this { literals = this.literals ++ characters_of constant ∷ []; spellings = this.spellings ++ constant ∷ [] }
+    else record this {
+      literals = this.literals ++ characters_of constant ∷ [];
+      spellings =
+          this.spellings ++ constant ∷ [];
+    }
 
 abbrev pub with_operand : Places → OperandField → Places
 with_operand this fields.Absent = this
@@ -107,7 +114,11 @@ with_operand this (fields.Operand (operands.Literal constant)) = with_literal th
 -- EX and END place the literals that are used and not placed
 abbrev pub with_pending : Places → Places
 with_pending this =
-    record this { next = behind_literals this.next (pending this); addresses = this.addresses ++ units_from this.next (pending this) }
+    record this {
+      next = behind_literals this.next (pending this);
+      addresses =
+          this.addresses ++ units_from this.next (pending this);
+    }
 
 abbrev pub with_next : Places → ℤ → Places
 with_next this next = record this { next = next }
@@ -127,7 +138,8 @@ behind_body this (bodies.Origin operands) = with_next this (value_so_far this.va
 behind_body this (bodies.Execute operands) = with_pending this
 behind_body this (bodies.End operands) = with_pending this
 
--- the value of a label: the units place of a constant, the last place of DS, the last place of a field in the first area,
+-- the value of a label: the units place of a constant, the last place of DS, the last place of a field in the first
+-- area,
 -- the value of EQU, and else the first place
 abbrev pub label_value : Places → Body → ℤ
 label_value this bodies.Unknown = this.next

@@ -9,7 +9,8 @@ within at = if nat_lt at 16000 then at else 0
 
 -- a segment with these cells, if there are any
 abbrev pub closed : ℕ → List Cell → List Segment
-closed at cells = if nat_le 1 (length cells) && nat_le (length cells) 40 then record { address = within at; cells = cells } ∷ [] else []
+closed at cells = if nat_le 1 (length cells) && nat_le (length cells) 40
+    then record { address = within at; cells = cells } ∷ [] else []
 
 -- a cell at this address goes on with a segment
 abbrev pub goes_on : ℕ → List Cell → ℕ → Bool
@@ -19,7 +20,8 @@ goes_on at cells next = (next == at + length cells) && nat_lt (length cells) 40
 abbrev pub cut : ℕ → List Cell → List (ℕ × Cell) → List Segment
 cut at cells [] = closed at cells
 cut at cells (next ∷ more) =
-    if goes_on at cells next.0 then cut at (cells ++ next.1 ∷ []) more else closed at cells ++ cut next.0 (next.1 ∷ []) more
+    if goes_on at cells next.0 then cut at (cells ++ next.1 ∷ []) more else closed at cells
+    ++ cut next.0 (next.1 ∷ []) more
 
 -- the segments of cells in the order of placing
 abbrev pub segments_of : List (ℕ × Cell) → List Segment

@@ -1,5 +1,6 @@
 -- The values of addresses once all is placed, and what isn't in core (Autocoder, "Operand"; what is looked at own).
-use Rattle.std.specs.Prelude.{ℕ, ◌+◌, Bool, false, not, ◌&&◌, ◌||◌, nat_lt, if◌then◌else◌, List, [], ◌∷◌, length, ℤ, pos, negsuc, ◌+ℤ◌, int_le, int_lt, unwrap_or, Option, Some, None}
+use Rattle.std.specs.Prelude.{ℕ, ◌+◌, Bool, false, not, ◌&&◌, ◌||◌, nat_lt, if◌then◌else◌, List, [], ◌∷◌, length, ℤ}
+use Rattle.std.specs.Prelude.{pos, negsuc, ◌+ℤ◌, int_le, int_lt, unwrap_or, Option, Some, None}
 use Rattle.std.specs.Option.{option_map_or}
 use Rattle.std.specs.Map.{lookup}
 use Rattle.source_1401.specs.declared.address.Address.{Address}
@@ -12,7 +13,8 @@ use Rattle.source_1401.specs.declared.statement.Body.{Body}
 use Rattle.source_1401.specs.declared.statement.Body.TheVariants as bodies
 use Rattle.source_1401.specs.declared.statement.Statement.{Statement}
 use Rattle.source_1401.specs.declared.statement.Line.{Line}
-use Rattle.autocoder_1401.specs.Placement.{Places, nothing_placed, instruction_length, length_of, pending, behind_literals, value_so_far, after_line, placed}
+use Rattle.autocoder_1401.specs.Placement.{Places, nothing_placed, instruction_length, length_of, pending}
+use Rattle.autocoder_1401.specs.Placement.{behind_literals, value_so_far, after_line, placed}
 use Rattle.autocoder_1401.specs.Symbols.{same_label}
 use Rattle.autocoder_1401.specs.declared.fault.AsmKind.TheVariants as kinds
 use Rattle.autocoder_1401.specs.declared.fault.AsmFault.{AsmFault}
@@ -54,31 +56,38 @@ places_outside size first length = nat_lt 0 length && not (are_in_core size firs
 abbrev pub operand_outside : ℕ → Places → ℤ → OperandField → Bool
 operand_outside size all here fields.Absent = false
 operand_outside size all here fields.Malformed = false
-operand_outside size all here (fields.Operand (operands.Address address)) = not (is_in_core size (address_value all here address))
+operand_outside size all here (fields.Operand (operands.Address address)) =
+    not (is_in_core size (address_value all here address))
 operand_outside size all here (fields.Operand (operands.Literal constant)) = false
 
 -- a literal that is placed here and isn't in core
 abbrev pub literals_outside : ℕ → Places → Bool
-literals_outside size this = nat_lt 0 (length (pending this)) && not (are_in_core size this.next (behind_literals this.next (pending this)))
+literals_outside size this =
+    nat_lt 0 (length (pending this)) && not (are_in_core size this.next (behind_literals this.next (pending this)))
 
 -- a place of a body that isn't in core, or a value; that of ORG may be the core's size
 abbrev pub body_outside : ℕ → Places → Places → Body → Bool
 body_outside size all this bodies.Unknown = false
 body_outside size all this (bodies.Instruction instruction of) =
     let here = last_place this.next (instruction_length of) in
-    places_outside size this.next (instruction_length of) || operand_outside size all here of.a || operand_outside size all here of.b
-body_outside size all this (bodies.MarkedConstant constant) = places_outside size this.next (length_of (bodies.MarkedConstant constant))
-body_outside size all this (bodies.Constant constant) = places_outside size this.next (length_of (bodies.Constant constant))
+    places_outside size this.next (instruction_length of) || operand_outside size all here of.a
+    || operand_outside size all here of.b
+body_outside size all this (bodies.MarkedConstant constant) =
+    places_outside size this.next (length_of (bodies.MarkedConstant constant))
+body_outside size all this (bodies.Constant constant) =
+    places_outside size this.next (length_of (bodies.Constant constant))
 body_outside size all this (bodies.Space places) = places_outside size this.next (length_of (bodies.Space places))
 body_outside size all this (bodies.Areas areas) = places_outside size this.next (length_of (bodies.Areas areas))
 body_outside size all this (bodies.Field span) = false
 body_outside size all this (bodies.Equate of) = not (is_in_core size (value_so_far this.values of.a))
-body_outside size all this (bodies.Origin of) = not (are_in_core size (value_so_far this.values of.a) (value_so_far this.values of.a))
+body_outside size all this (bodies.Origin of) =
+    not (are_in_core size (value_so_far this.values of.a) (value_so_far this.values of.a))
 body_outside size all this (bodies.Execute of) = literals_outside size this || operand_outside size all (pos 0) of.a
 body_outside size all this (bodies.End of) = literals_outside size this || operand_outside size all (pos 0) of.a
 
 abbrev pub line_outside : ℕ → Places → Places → Line → Bool
-line_outside size all this line = option_map_or (λ (statement : Statement). body_outside size all this statement.body) line.statement false
+line_outside size all this line =
+    option_map_or (λ (statement : Statement). body_outside size all this statement.body) line.statement false
 
 -- the first line of which something isn't in core
 abbrev pub first_outside_from : ℕ → Places → ℕ → Places → List Line → Option AsmFault

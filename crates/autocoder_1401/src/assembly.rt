@@ -1,9 +1,12 @@
 //! The passes of the assembler, one behind the other.
-ghost use Rattle.std.specs.Prelude.{◌≡◌, ◌<◌, ◌^◌, ◌⊎◌, length, IfOk, IfErr, OnOk, IfNone, IfSome};
+ghost use Rattle.std.specs.Prelude.{◌≡◌, ◌<◌, ◌^◌, ◌⊎◌, length, None, true, IfOk, IfErr, OnOk, IfNone, IfSome};
 ghost use Rattle.autocoder_1401.specs.Fault.{IsMemory, Gives};
 ghost use Rattle.autocoder_1401.specs.Symbols.{declared_at};
 ghost use Rattle.autocoder_1401.specs.FirstFault.{first_fault, IsFaultless, IsFirstFault};
+ghost use Rattle.core_1401.specs.Storage.{is_core_size};
+ghost use Rattle.image_1401.specs.Image.{IsInCore};
 ghost use Rattle.autocoder_1401.specs.Placement.{placed};
+ghost use Rattle.autocoder_1401.specs.Values.{first_outside};
 ghost use Rattle.autocoder_1401.specs.Assembly.{lines_in, entry_in, image_of, unless_fault, assembly_in, IsFaultOf};
 ghost use Rattle.autocoder_1401.specs.View.{places_of};
 
@@ -59,6 +62,7 @@ fn place_lines(alloc: Global, lines: &[Line], size: u16) -> Result<Placing, AsmF
     ensures exact { Gives places_of result (unless_fault size lines.now (placed lines.now)) }
     ensures faultless { OnOk result (IsFaultless (declared_at lines.now) lines.now) }
     ensures first { IfErr result (λ fault. IsMemory fault ⊎ IsFaultOf size lines.now fault) }
+    ensures inside { OnOk result (first_outside size lines.now ≡ None) }
 {
     if let Some(fault) = scan(alloc, lines)? {
         return Err(fault);
@@ -99,7 +103,8 @@ pub struct Assembly {
 /// # Errors
 ///
 /// `Memory` where memory is refused, or the source has too many lines. Else the fault of the first line that has one of
-/// kinds 2 to 8, 10 and 11, its lowest; and where no line has one, `OutOfCore` of the first line of which something isn't
+/// kinds 2 to 8, 10 and 11, its lowest; and where no line has one, `OutOfCore` of the first line of which something
+/// isn't
 /// in core.
 pub fn assemble(alloc: Global, source: &[u8], size: u16) -> Result<Assembly, AsmFault>
     // The image and the listing of the lines, or their first fault, memory aside.
@@ -107,6 +112,9 @@ pub fn assemble(alloc: Global, source: &[u8], size: u16) -> Result<Assembly, Asm
 
     // They come of a source without a fault alone.
     ensures faultless { OnOk result (IsFaultless (declared_at (lines_in source.now)) (lines_in source.now)) }
+
+    // All of the image is in core.
+    ensures in_core { is_core_size size ≡ true → IfOk result (λ assembly. IsInCore assembly.image) }
 
     // A fault is the lowest of the first line that has one, or something of a faultless source isn't in core.
     ensures first { IfErr result (λ fault. IsMemory fault ⊎ IsFaultOf size (lines_in source.now) fault) }

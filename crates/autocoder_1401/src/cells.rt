@@ -4,7 +4,10 @@ ghost use Rattle.std.specs.List.{flat_map};
 ghost use Rattle.core_1401.specs.Address.{spelling_of};
 ghost use Rattle.autocoder_1401.specs.Fault.{IsMemory};
 ghost use Rattle.autocoder_1401.specs.Characters.{char_with};
-ghost use Rattle.autocoder_1401.specs.Cells.{place_of, plain, with_word_mark, with_index, literal_value, operand_codes, d_codes, operands_cells, instruction_cells, constant_cells, literal_cells, fields_behind, with_mark_at, with_field, repeated, areas_cells, body_cells, statement_cells};
+ghost use Rattle.autocoder_1401.specs.Cells.{place_of, plain, with_word_mark, with_index, literal_value, operand_codes};
+ghost use Rattle.autocoder_1401.specs.Cells.{d_codes, operands_cells, instruction_cells, constant_cells, literal_cells};
+ghost use Rattle.autocoder_1401.specs.Cells.{fields_behind, with_mark_at, with_field, repeated, areas_cells};
+ghost use Rattle.autocoder_1401.specs.Cells.{body_cells, statement_cells};
 ghost use Rattle.autocoder_1401.specs.View.{places_of};
 
 use crate::characters::{Characters, char_of, char_with};
@@ -100,7 +103,8 @@ impl Placing {
         field: OperandField,
         out: &mut Vec<Cell>,
     ) -> Result<(), AsmFault>
-        ensures ok { OnOk result (out.new.items ≡ out.old.items ++ map plain (operand_codes (places_of self.now) here field)) }
+        ensures ok { OnOk result
+            (out.new.items ≡ out.old.items ++ map plain (operand_codes (places_of self.now) here field)) }
         ensures err { IfErr result IsMemory }
     {
         match field {
@@ -147,7 +151,8 @@ impl Placing {
         operands: Operands,
         out: &mut Vec<Cell>,
     ) -> Result<(), AsmFault>
-        ensures ok { OnOk result (out.new.items ≡ out.old.items ++ instruction_cells (places_of self.now) here instruction operands) }
+        ensures ok { OnOk result
+            (out.new.items ≡ out.old.items ++ instruction_cells (places_of self.now) here instruction operands) }
         ensures err { IfErr result IsMemory }
     {
         out.push(Cell {
@@ -274,7 +279,8 @@ pub(crate) fn put_body(
     lines: &[Line],
     out: &mut Vec<Cell>,
 ) -> Result<(), AsmFault>
-    ensures ok { OnOk result (out.new.items ≡ out.old.items ++ body_cells (places_of all.now) (places_of here.now) body lines.now) }
+    ensures ok { OnOk result
+        (out.new.items ≡ out.old.items ++ body_cells (places_of all.now) (places_of here.now) body lines.now) }
     ensures err { IfErr result IsMemory }
 {
     match body {
@@ -300,7 +306,8 @@ pub(crate) fn cells_of(
     line: &Line,
     lines: &[Line],
 ) -> Result<Vec<Cell>, AsmFault>
-    ensures ok { IfOk result (λ cells. cells.items ≡ statement_cells (places_of all.now) (places_of here.now) line.now.statement lines.now) }
+    ensures ok { IfOk result
+        (λ cells. cells.items ≡ statement_cells (places_of all.now) (places_of here.now) line.now.statement lines.now) }
     ensures err { IfErr result IsMemory }
 {
     let mut out = Vec::new(alloc);

@@ -3,8 +3,10 @@ ghost use Rattle.std.specs.Prelude.{◌≡◌};
 ghost use Rattle.autocoder_1401.specs.declared.fault.AsmKind.TheVariants.{Memory};
 
 use std::alloc::{AllocError, AllocFailed};
+use std::fmt;
 
-/// The kinds of a fault, the lowest first. Kinds 2 to 8, 10 and 11 are looked for over the whole source first; only a source
+/// The kinds of a fault, the lowest first. Kinds 2 to 8, 10 and 11 are looked for over the whole source first; only a
+/// source
 /// without any of them is placed, and then looked at for kind 9.
 #[derive(Clone, Copy, Debug, PartialEq, Eq)]
 pub enum AsmKind {
@@ -32,6 +34,24 @@ pub enum AsmKind {
     AfterEnd,
 }
 
+impl fmt::Display for AsmKind {
+    fn fmt<W: fmt::Write>(&self, f: &mut fmt::Formatter<W>) -> fmt::Result {
+        f.write_str(match self {
+            AsmKind::Memory => "1 MEMORY",
+            AsmKind::LongLine => "2 LONG LINE",
+            AsmKind::Graphic => "3 GRAPHIC",
+            AsmKind::Label => "4 LABEL",
+            AsmKind::DoubleLabel => "5 DOUBLE LABEL",
+            AsmKind::Operation => "6 OPERATION",
+            AsmKind::Undefined => "7 UNDEFINED",
+            AsmKind::Operand => "8 OPERAND",
+            AsmKind::OutOfCore => "9 OUT OF CORE",
+            AsmKind::NoEnd => "10 NO END",
+            AsmKind::AfterEnd => "11 AFTER END",
+        })
+    }
+}
+
 /// The first line with a fault, counted from 1, and its lowest kind. With Memory the line is 0.
 #[derive(Clone, Copy, Debug, PartialEq, Eq)]
 pub struct AsmFault {
@@ -39,6 +59,12 @@ pub struct AsmFault {
     pub line: u64,
     /// What is wrong with it.
     pub kind: AsmKind,
+}
+
+impl fmt::Display for AsmFault {
+    fn fmt<W: fmt::Write>(&self, f: &mut fmt::Formatter<W>) -> fmt::Result {
+        write!(f, "line {}: {}", self.line, self.kind)
+    }
 }
 
 impl AsmFault {

@@ -2,7 +2,11 @@
 ghost use Rattle.std.specs.Prelude.{◌≡◌, ◌+◌, ◌<◌, ◌^◌, length, IfNone, IfSome};
 ghost use Rattle.indexmap.specs.IndexMap.{get};
 ghost use Rattle.autocoder_1401.specs.Symbols.{same_label, is_before};
-ghost use Rattle.autocoder_1401.specs.FirstFault.{first_place, place_behind, areas_behind, is_field_of, bad_label, double_label, bad_operation, symbol_in, is_undefined, is_undefined_before, undefined, is_past_areas, bad_operands, lowest_in, lowest, first_fault_from, IsClean, IsLowest, IsFaultless, IsFirstFault};
+ghost use Rattle.autocoder_1401.specs.FirstFault.{first_place, place_behind, areas_behind, is_field_of, bad_label};
+ghost use Rattle.autocoder_1401.specs.FirstFault.{double_label, bad_operation, symbol_in, is_undefined};
+ghost use Rattle.autocoder_1401.specs.FirstFault.{is_undefined_before, undefined, is_past_areas, bad_operands};
+ghost use Rattle.autocoder_1401.specs.FirstFault.{lowest_in, lowest, first_fault_from, IsClean, IsLowest, IsFaultless};
+ghost use Rattle.autocoder_1401.specs.FirstFault.{IsFirstFault};
 
 use crate::fault::{AsmFault, AsmKind};
 use crate::symbols::Labels;

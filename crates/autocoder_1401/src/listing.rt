@@ -5,7 +5,8 @@ ghost use Rattle.source_1401.specs.Statement.{line_of};
 ghost use Rattle.autocoder_1401.specs.Fault.{IsMemory};
 ghost use Rattle.autocoder_1401.specs.Cells.{literal_cells};
 ghost use Rattle.autocoder_1401.specs.Characters.{characters_of};
-ghost use Rattle.autocoder_1401.specs.Listing.{listing_line, spelling, literal_lines, literals_at, address_at, cells_at};
+ghost use Rattle.autocoder_1401.specs.Listing.{listing_line, spelling, literal_lines, literals_at, address_at};
+ghost use Rattle.autocoder_1401.specs.Listing.{cells_at};
 ghost use Rattle.autocoder_1401.specs.Listing.{literals_in, line_for, listing_from};
 ghost use Rattle.autocoder_1401.specs.Placement.{nothing_placed};
 ghost use Rattle.autocoder_1401.specs.View.{places_of};
@@ -183,7 +184,8 @@ impl Placing {
         body: Body,
         lines: &[Line],
     ) -> Result<Vec<Cell>, AsmFault>
-        ensures ok { IfOk result (λ cells. cells.items ≡ cells_at (places_of all.now) (places_of self.now) body lines.now) }
+        ensures ok { IfOk result
+            (λ cells. cells.items ≡ cells_at (places_of all.now) (places_of self.now) body lines.now) }
         ensures err { IfErr result IsMemory }
     {
         let mut cells = Vec::new(alloc);
@@ -268,7 +270,8 @@ pub(crate) fn list(
 ) -> Result<Listing, AsmFault>
     requires lines { lines.now ≡ map line_of (lines_of source.now) }
     requires few { length lines.now < 2 ^ 32 }
-    ensures ok { IfOk result (λ listing. listing ≡ listing_from (places_of all.now) nothing_placed 1 (lines_of source.now)) }
+    ensures ok { IfOk result
+        (λ listing. listing ≡ listing_from (places_of all.now) nothing_placed 1 (lines_of source.now)) }
     ensures err { IfErr result IsMemory }
 {
     let mut placing = Placing::new(alloc);

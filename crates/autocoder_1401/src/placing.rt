@@ -5,7 +5,10 @@ ghost use Rattle.source_1401.specs.Statement.{well_formed};
 ghost use Rattle.autocoder_1401.specs.Characters.{same_characters};
 ghost use Rattle.autocoder_1401.specs.Fault.{IsMemory};
 ghost use Rattle.autocoder_1401.specs.Symbols.{same_label};
-ghost use Rattle.autocoder_1401.specs.Placement.{nothing_placed, with_literal, with_operand, with_pending, behind_body, pending, behind_literals, units_from, instruction_length, constant_length, length_of, base_so_far, value_so_far, label_value, with_label, after_line, placed};
+ghost use Rattle.autocoder_1401.specs.Placement.{nothing_placed, with_literal, with_operand, with_pending, behind_body};
+ghost use Rattle.autocoder_1401.specs.Placement.{pending, behind_literals, units_from, instruction_length};
+ghost use Rattle.autocoder_1401.specs.Placement.{constant_length, length_of, base_so_far, value_so_far, label_value};
+ghost use Rattle.autocoder_1401.specs.Placement.{with_label, after_line, placed};
 ghost use Rattle.autocoder_1401.specs.View.{places_of};
 ghost use Rattle.source_1401.specs.Operands.{count_of};
 

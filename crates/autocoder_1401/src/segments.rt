@@ -62,7 +62,8 @@ impl Builder {
 
     /// Closes the segment that may go on, if it has a cell.
     fn close(&mut self) -> Result<(), AsmFault>
-        ensures ok { OnOk result (self.new.done.items ≡ self.old.done.items ++ closed self.old.address self.old.cells.items) }
+        ensures ok { OnOk result
+            (self.new.done.items ≡ self.old.done.items ++ closed self.old.address self.old.cells.items) }
         ensures empty { OnOk result (self.new.cells.items ≡ []) }
         ensures err { IfErr result IsMemory }
     {
@@ -78,7 +79,8 @@ impl Builder {
 
     /// Puts a cell at an address.
     fn put(&mut self, address: usize, cell: Cell) -> Result<(), AsmFault>
-        ensures ok { OnOk result ((rest : List (ℕ × ACell)) → built self.new rest ≡ built self.old ((address, cell) ∷ rest)) }
+        ensures ok { OnOk result
+            ((rest : List (ℕ × ACell)) → built self.new rest ≡ built self.old ((address, cell) ∷ rest)) }
         ensures err { IfErr result IsMemory }
     {
         if !self.goes_on(address) {
@@ -91,7 +93,8 @@ impl Builder {
 
     /// Puts cells from an address on.
     fn put_all(&mut self, address: u16, cells: &[Cell]) -> Result<(), AsmFault>
-        ensures ok { OnOk result ((rest : List (ℕ × ACell)) → built self.new rest ≡ built self.old (numbered address cells.now ++ rest)) }
+        ensures ok { OnOk result
+            ((rest : List (ℕ × ACell)) → built self.new rest ≡ built self.old (numbered address cells.now ++ rest)) }
         ensures err { IfErr result IsMemory }
     {
         let mut at = usize::from(address);
@@ -126,7 +129,8 @@ pub(crate) fn lines_behind(lines: &[Line], i: usize) -> &[Line]
 ///
 /// `Memory` where there is no room for them.
 pub(crate) fn emit(alloc: Global, all: &Placing, lines: &[Line]) -> Result<Vec<Segment>, AsmFault>
-    ensures ok { IfOk result (λ segments. segments.items ≡ segments_of (cells_from (places_of all.now) nothing_placed lines.now)) }
+    ensures ok { IfOk result
+        (λ segments. segments.items ≡ segments_of (cells_from (places_of all.now) nothing_placed lines.now)) }
     ensures err { IfErr result IsMemory }
 {
     let mut placing = Placing::new(alloc);

@@ -17,7 +17,8 @@ pub(crate) type Labels = IndexMap<Label, u64>;
 /// Notes a line's label, unless an earlier line has it.
 fn note(labels: &mut Labels, line: &Line, number: u64) -> Result<(), AsmFault>
     ensures noted { OnOk result ((label : ALabel) →
-        get same_label labels.new label ≡ or_number (get same_label labels.old label) number (has_label label (label_of_line line.now))) }
+        get same_label labels.new label
+        ≡ or_number (get same_label labels.old label) number (has_label label (label_of_line line.now))) }
     ensures err { IfErr result IsMemory }
 {
     if let Some(label) = line.label() {
@@ -35,7 +36,8 @@ fn note(labels: &mut Labels, line: &Line, number: u64) -> Result<(), AsmFault>
 /// `Memory` where there is no room for them.
 pub(crate) fn declared(alloc: Global, lines: &[Line]) -> Result<Labels, AsmFault>
     requires { length lines.now < 2 ^ 32 }
-    ensures lines { IfOk result (λ labels. (label : ALabel) → get same_label labels label ≡ declared_at lines.now label) }
+    ensures lines { IfOk result
+        (λ labels. (label : ALabel) → get same_label labels label ≡ declared_at lines.now label) }
     ensures err { IfErr result IsMemory }
 {
     let mut labels = IndexMap::new(alloc);

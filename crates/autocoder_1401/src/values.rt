@@ -2,7 +2,9 @@
 ghost use Rattle.std.specs.Prelude.{◌≡◌, ◌<◌, ◌^◌, length, IfOk, IfErr};
 ghost use Rattle.autocoder_1401.specs.Fault.{IsMemory};
 ghost use Rattle.autocoder_1401.specs.Placement.{nothing_placed};
-ghost use Rattle.autocoder_1401.specs.Values.{base_value, address_value, operand_value, is_in_core, are_in_core, operand_outside, places_outside, last_place, literals_outside, body_outside, line_outside, first_outside_from};
+ghost use Rattle.autocoder_1401.specs.Values.{base_value, address_value, operand_value, is_in_core, are_in_core};
+ghost use Rattle.autocoder_1401.specs.Values.{operand_outside, places_outside, last_place, literals_outside};
+ghost use Rattle.autocoder_1401.specs.Values.{body_outside, line_outside, first_outside_from};
 ghost use Rattle.autocoder_1401.specs.View.{places_of};
 
 use crate::fault::{AsmFault, AsmKind};
@@ -114,7 +116,8 @@ impl Placing {
 
     /// Whether a place of a body here isn't in core, or an address that it names, by the values of all labels.
     fn is_body_outside(&self, size: u16, all: &Placing, body: Body) -> Result<bool, AsmFault>
-        ensures value { IfOk result (λ outside. outside ≡ body_outside size (places_of all.now) (places_of self.now) body) }
+        ensures value { IfOk result
+            (λ outside. outside ≡ body_outside size (places_of all.now) (places_of self.now) body) }
         ensures err { IfErr result IsMemory }
     {
         match body {
@@ -149,7 +152,8 @@ impl Placing {
 
     /// Whether something of a line here isn't in core.
     fn is_line_outside(&self, size: u16, all: &Placing, line: &Line) -> Result<bool, AsmFault>
-        ensures value { IfOk result (λ outside. outside ≡ line_outside size (places_of all.now) (places_of self.now) line.now) }
+        ensures value { IfOk result
+            (λ outside. outside ≡ line_outside size (places_of all.now) (places_of self.now) line.now) }
         ensures err { IfErr result IsMemory }
     {
         match line.statement {

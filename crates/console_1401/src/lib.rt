@@ -31,7 +31,7 @@ pub use image_loading::put_image;
 pub use line::{LINE_LIMIT, Line, LineFault, parse_line};
 pub use session_end::SessionEnd;
 pub use sessions::session;
-pub use sink::Sink;
+pub use sink::{Sink, put_all};
 pub use source::Source;
 pub use to_writer::ToWriter;
 

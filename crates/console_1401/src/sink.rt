@@ -31,7 +31,11 @@ pub trait Sink {
 }
 
 /// Hands all these bytes to the sink, in as many pieces as it likes.
-pub(crate) fn put_all<W: Sink>(writer: &mut W, bytes: &[u8]) -> Result<(), Failed>
+///
+/// # Errors
+///
+/// Where a write has failed or fails, or takes nothing.
+pub fn put_all<W: Sink>(writer: &mut W, bytes: &[u8]) -> Result<(), Failed>
     ensures ok { OnOk result (Appends (W.received writer.old) (W.received writer.new) bytes.now) }
     ensures part { OnErr result (AppendsPart (W.received writer.old) (W.received writer.new) bytes.now) }
     ensures good { OnOk result (W.has_failed writer.new ≡ W.has_failed writer.old) }

@@ -1,3 +1,4 @@
+pub mod Assemble
 pub mod Console
 pub mod Load
 pub mod Status

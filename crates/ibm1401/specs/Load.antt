@@ -35,6 +35,7 @@ IsWhyNotLoaded text fault.Output = ⊥
 IsWhyNotLoaded text fault.Size = ⊥
 IsWhyNotLoaded text (fault.Unread name) = ⊥
 IsWhyNotLoaded text (fault.Image why) = IsRefused text why
+IsWhyNotLoaded text (fault.Source why) = ⊥
 IsWhyNotLoaded text fault.JournalFull = IsTooLong text
 IsWhyNotLoaded text fault.Memory = (image : Image) × IsTextOf text image
 IsWhyNotLoaded text fault.Read = ⊥

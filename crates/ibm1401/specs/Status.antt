@@ -13,6 +13,7 @@ status_of fault.Output = 1
 status_of fault.Size = 1
 status_of (fault.Unread name) = 1
 status_of (fault.Image why) = 1
+status_of (fault.Source why) = 1
 status_of fault.JournalFull = 1
 status_of fault.Memory = 1
 status_of fault.Read = 1

@@ -1,7 +1,7 @@
 //! The command line.
 
-use clap::{Arg, Command, Error, value_parser};
-use std::alloc::Global;
+use clap::{Arg, ArgAction, ArgMatches, Command, Error, value_parser};
+use std::alloc::{AllocError, Global};
 use std::convert::AsStr;
 
 /// The size of core storage where none is named.
@@ -18,6 +18,15 @@ Lines, each with one reply:
   RUN N           carries out at most N instructions, 1 to 1000000
   QUIT            ends the session, of which nothing is kept";
 
+/// What `assemble` writes.
+#[derive(Clone, Copy, Debug, PartialEq, Eq)]
+pub enum Product {
+    /// The text of the core image.
+    Image,
+    /// The listing.
+    Listing,
+}
+
 /// What the command line asks for.
 #[derive(Debug, Drop, PartialEq, Eq)]
 pub enum Call {
@@ -26,11 +35,87 @@ pub enum Call {
         /// How many places core storage has.
         size: u16,
     },
-    /// The same on a room that has an image loaded.
+    /// The image of a source, or its listing, on standard output.
+    Assemble {
+        /// The name of the source's file.
+        file: String,
+        /// How many places core storage has.
+        size: u16,
+        /// Which of the two is written.
+        product: Product,
+    },
+    /// A session on a room that has an image loaded.
     Load {
         /// The name of the image's file.
         file: String,
     },
+}
+
+/// The size of core storage, as an option.
+fn size_arg<'a>(alloc: Global) -> Arg<'a> {
+    Arg::new(alloc, "size")
+        .long("size")
+        .value_name("N")
+        .help("The places of core storage: 1400, 2000 or 4000")
+        .default_value("4000")
+        .value_parser(value_parser!(u16))
+}
+
+/// The subcommand `assemble`.
+fn assemble_command<'a>(alloc: Global) -> Result<Command<'a>, AllocError> {
+    let list = Arg::new(alloc, "list")
+        .long("list")
+        .help("Writes the listing in place of the image")
+        .action(ArgAction::SetTrue);
+    let file = Arg::new(alloc, "file")
+        .value_name("FILE")
+        .help("The file of the source; - is a name like any other")
+        .required(true);
+    Command::new(alloc, "assemble")
+        .about("Assembles a source, and writes its core image")
+        .arg(list)?
+        .arg(size_arg(alloc))?
+        .arg(file)
+}
+
+/// The subcommand `load`.
+fn load_command<'a>(alloc: Global) -> Result<Command<'a>, AllocError> {
+    let file = Arg::new(alloc, "file")
+        .value_name("FILE")
+        .help("The file of the image; - is a name like any other")
+        .required(true);
+    Command::new(alloc, "load")
+        .about("Loads a core image, and then does as console does")
+        .after_help(LINES)
+        .arg(file)
+}
+
+/// The subcommand `console`.
+fn console_command<'a>(alloc: Global) -> Result<Command<'a>, AllocError> {
+    Command::new(alloc, "console")
+        .about("Carries out the lines of standard input, and writes their replies")
+        .after_help(LINES)
+        .arg(size_arg(alloc))
+}
+
+/// The size that the options of a subcommand name.
+fn size_in(matches: &ArgMatches<'_>) -> u16 {
+    matches.get_one::<u16>("size").unwrap_or(DEFAULT_SIZE)
+}
+
+/// What the options of `assemble` ask for.
+fn assemble_call(alloc: Global, matches: &ArgMatches<'_>, file: &str) -> Result<Call, Error> {
+    let file = String::from_str(alloc, file)?;
+    let product = if matches.get_flag("list") {
+        Product::Listing
+    } else {
+        Product::Image
+    };
+    Ok(Call::Assemble {
+        file,
+        size: size_in(matches),
+        product,
+    })
 }
 
 /// Reads the command line, the program's own name in front.
@@ -39,30 +124,18 @@ pub enum Call {
 ///
 /// What is wrong with the command line, the text of the help, or want of memory.
 pub fn read_call(alloc: Global, words: &[impl AsStr]) -> Result<Call, Error> {
-    let size = Arg::new(alloc, "size")
-        .long("size")
-        .value_name("N")
-        .help("The places of core storage: 1400, 2000 or 4000")
-        .default_value("4000")
-        .value_parser(value_parser!(u16));
-    let console = Command::new(alloc, "console")
-        .about("Carries out the lines of standard input, and writes their replies")
-        .after_help(LINES)
-        .arg(size)?;
-    let file = Arg::new(alloc, "file")
-        .value_name("FILE")
-        .help("The file of the image; - is a name like any other")
-        .required(true);
-    let load = Command::new(alloc, "load")
-        .about("Loads a core image, and then does as console does")
-        .after_help(LINES)
-        .arg(file)?;
     let program = Command::new(alloc, "ibm1401")
         .about("An IBM 1401 card system, each operation of it proved")
         .subcommand_required(true)
-        .subcommand(console)?
-        .subcommand(load)?;
+        .subcommand(console_command(alloc)?)?
+        .subcommand(assemble_command(alloc)?)?
+        .subcommand(load_command(alloc)?)?;
     let matches = program.try_get_matches_from(words)?;
+    if let Some(assemble) = matches.subcommand_matches("assemble") {
+        if let Some(file) = assemble.get_str("file") {
+            return assemble_call(alloc, assemble, file);
+        }
+    }
     if let Some(file) = matches
         .subcommand_matches("load")
         .and_then(|load| load.get_str("file"))
@@ -72,7 +145,6 @@ pub fn read_call(alloc: Global, words: &[impl AsStr]) -> Result<Call, Error> {
     }
     let size = matches
         .subcommand_matches("console")
-        .and_then(|console| console.get_one::<u16>("size"))
-        .unwrap_or(DEFAULT_SIZE);
+        .map_or(DEFAULT_SIZE, size_in);
     Ok(Call::Console { size })
 }

@@ -2,6 +2,7 @@
 ghost use Rattle.std.specs.Prelude.{◌≡◌};
 ghost use Rattle.ibm1401.specs.Status.{outcome_of, run_status, status_of};
 
+use autocoder_1401::AsmFault;
 use clap::Error as Refusal;
 use console_1401::SessionEnd;
 use image_1401::ImageFault;
@@ -22,7 +23,7 @@ pub enum Fault {
     /// The command line asks for nothing that the program does.
     #[error("{0}")]
     Usage(Refusal),
-    /// Standard output didn't take the help.
+    /// Standard output didn't take what was asked for: the help, an image or a listing.
     #[error("cannot write")]
     Output,
     /// No core storage of the size named is made.
@@ -31,13 +32,16 @@ pub enum Fault {
     /// The file of this name can't be read, or is longer than any image.
     #[error("cannot read {0}")]
     Unread(String),
+    /// The file has no source that can be assembled.
+    #[error("{0}")]
+    Source(AsmFault),
     /// The file has no image's text.
     #[error("image refused: {0}")]
     Image(ImageFault),
     /// The journal has no place for all commands that load the image.
     #[error("journal full")]
     JournalFull,
-    /// Memory was refused before the session.
+    /// Memory was refused before the session, or for the text of an image or a listing.
     #[error("memory refused")]
     Memory,
     /// A read of the session failed.
@@ -63,6 +67,7 @@ impl Fault {
             Fault::Text | Fault::Usage(_) => MISUSED,
             Fault::Output | Fault::Size | Fault::Memory => FAILED,
             Fault::Unread(_) | Fault::Image(_) | Fault::JournalFull => FAILED,
+            Fault::Source(_) => FAILED,
             Fault::Read | Fault::Write | Fault::Bound | Fault::Reply => FAILED,
         }
     }

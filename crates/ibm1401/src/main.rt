@@ -2,6 +2,7 @@
 #![tactic(auto)]
 
 mod args;
+mod assembling;
 mod fault;
 mod loading;
 mod subcommands;
@@ -9,6 +10,7 @@ mod subcommands;
 mod tests;
 
 use crate::args::{Call, read_call};
+use crate::assembling::{check_size, write_assembly};
 use crate::fault::{Fault, report};
 use crate::loading::{load, read_file};
 use crate::subcommands::{console, tell};
@@ -34,6 +36,18 @@ fn run(rt: &(impl Env + Files + Input + Print + AllocGlobal)) -> Result<(), Faul
             let mut reader = FromReader::new(rt.reader());
             let mut writer = ToWriter::new(io::writer(rt));
             console(rt.alloc(), size, &mut reader, &mut writer)
+        }
+        Ok(
+            Call::Assemble {
+                file,
+                size,
+                product,
+            },
+        ) => {
+            check_size(size)?;
+            let source = read_file(rt, file)?;
+            let mut writer = ToWriter::new(io::writer(rt));
+            write_assembly(rt.alloc(), source.as_slice(), size, product, &mut writer)
         }
         Ok(Call::Load { file }) => {
             let text = read_file(rt, file)?;

@@ -1,6 +1,7 @@
 //! Whole sessions by theme: the lines, then the replies, worked out by hand.
 
 mod arithmetic;
+mod assembling;
 mod branches;
 mod command_line;
 mod editing;

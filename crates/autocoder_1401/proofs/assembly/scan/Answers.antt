@@ -15,9 +15,12 @@ returns-clause-ok c =
 pub returns-clause-faultless : goal.returns-clause-faultless
 returns-clause-faultless c =
     subst (λ (declared : Declared). IfNone c.first_fault-fault.result (IsFaultless declared c.args.lines.now))
-    (same_declared (get same_label c.in_ok-labels.labels) (declared_at c.args.lines.now) c.in_ok-labels.ensures.lines) c.first_fault-fault.ensures.faultless
+    (same_declared (get same_label c.in_ok-labels.labels)
+    (declared_at c.args.lines.now) c.in_ok-labels.ensures.lines) c.first_fault-fault.ensures.faultless
 
 pub returns-clause-first : goal.returns-clause-first
 returns-clause-first c =
-    subst (λ (declared : Declared). IfSome c.first_fault-fault.result (λ fault. IsFirstFault declared c.args.lines.now fault))
-    (same_declared (get same_label c.in_ok-labels.labels) (declared_at c.args.lines.now) c.in_ok-labels.ensures.lines) c.first_fault-fault.ensures.first
+    subst (λ (declared : Declared). IfSome c.first_fault-fault.result
+    (λ fault. IsFirstFault declared c.args.lines.now fault))
+    (same_declared (get same_label c.in_ok-labels.labels)
+    (declared_at c.args.lines.now) c.in_ok-labels.ensures.lines) c.first_fault-fault.ensures.first

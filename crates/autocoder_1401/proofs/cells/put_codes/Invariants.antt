@@ -6,4 +6,5 @@ use Rattle.autocoder_1401.proofs.cells.put_codes.Given as goal
 
 abbrev pub invariant-loop-code : goal.invariant-loop-code
 invariant-loop-code l =
-    l.out.items ++ map plain (map char_with (drop l.code-index l.codes)) ≡ l.initial.out.items ++ map plain (map char_with l.codes)
+    l.out.items ++ map plain (map char_with (drop l.code-index l.codes)) ≡ l.initial.out.items
+    ++ map plain (map char_with l.codes)

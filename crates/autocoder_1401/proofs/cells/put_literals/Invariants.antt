@@ -6,4 +6,5 @@ use Rattle.autocoder_1401.proofs.cells.put_literals.Given as goal
 
 abbrev pub invariant-loop-literal : goal.invariant-loop-literal
 invariant-loop-literal l =
-    l.out.items ++ flat_map literal_cells (drop l.literal-index l.literals) ≡ l.initial.out.items ++ flat_map literal_cells l.literals
+    l.out.items ++ flat_map literal_cells (drop l.literal-index l.literals) ≡ l.initial.out.items
+    ++ flat_map literal_cells l.literals

@@ -7,7 +7,8 @@ use Rattle.autocoder_1401.proofs.first_fault.first_fault.Given as goal
 
 abbrev pub invariant-loop-line : goal.invariant-loop-line
 invariant-loop-line l = record {
-  value : first_fault_from (get same_label l.labels) l.at (drop l.line-index l.lines) ≡ first_fault_from (get same_label l.labels) first_place l.lines;
+  value : first_fault_from (get same_label l.labels) l.at (drop l.line-index l.lines)
+      ≡ first_fault_from (get same_label l.labels) first_place l.lines;
   place : l.at ≡ place_at l.lines l.line-index;
   clean : AreClean (get same_label l.labels) l.lines l.line-index;
 }

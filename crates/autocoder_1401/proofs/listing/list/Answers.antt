@@ -18,7 +18,8 @@ loop-i-preserved c = record {
       c.in_ok-line_for.field-0 _ c.loop-i-test.true c.loop-i.invariant.left c.in-Some.ensures.0
       c.loop-i.invariant.listed c.lines_behind-later.ensures c.in_ok-put_literals_of.ensures.ok
       c.in_ok-line_for.ensures.ok c.in_ok-push.ensures.items c.in_ok-place.ensures.ok;
-  left = (next_left c.args.lines.now c.loop-i.i (line_of c.in-Some.text.now) c.loop-i.sources.now c.in-Some.text.now c.in-Some.behind.now
+  left = (next_left c.args.lines.now c.loop-i.i
+      (line_of c.in-Some.text.now) c.loop-i.sources.now c.in-Some.text.now c.in-Some.behind.now
       c.loop-i-test.true c.loop-i.invariant.left c.in-Some.ensures.0).1;
 }
 

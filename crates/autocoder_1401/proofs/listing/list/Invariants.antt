@@ -1,4 +1,5 @@
--- What is listed, with what is left to list, is the whole listing; the lines that are left are those of the source left.
+-- What is listed, with what is left to list, is the whole listing; the lines that are left are those of the source
+-- left.
 use Rattle.std.proofs.Common.{◌≡◌, ◌+◌, ◌++◌, drop, map}
 use Rattle.source_1401.specs.SourceLine.{lines_of}
 use Rattle.source_1401.specs.Statement.{line_of}

@@ -4,4 +4,5 @@ use Rattle.autocoder_1401.specs.Placement.{behind_literals}
 use Rattle.autocoder_1401.proofs.placing.behind_literals.Given as goal
 
 abbrev pub invariant-loop-characters : goal.invariant-loop-characters
-invariant-loop-characters l = behind_literals l.next (drop l.characters-index l.literals) ≡ behind_literals l.from l.literals
+invariant-loop-characters l =
+    behind_literals l.next (drop l.characters-index l.literals) ≡ behind_literals l.from l.literals

@@ -8,4 +8,5 @@ use Rattle.autocoder_1401.proofs.symbols.declared.Given as goal
 
 abbrev pub invariant-loop-i : goal.invariant-loop-i
 invariant-loop-i l =
-    (label : Label) → option_or (get same_label l.labels label) (first_from (l.i + 1) (up_to_end (drop l.i l.lines)) label) ≡ declared_at l.lines label
+    (label : Label) → option_or (get same_label l.labels label)
+    (first_from (l.i + 1) (up_to_end (drop l.i l.lines)) label) ≡ declared_at l.lines label

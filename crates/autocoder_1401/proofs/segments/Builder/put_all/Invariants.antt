@@ -7,4 +7,5 @@ use Rattle.autocoder_1401.proofs.segments.Builder.put_all.Given as goal
 
 abbrev pub invariant-loop-cell : goal.invariant-loop-cell
 invariant-loop-cell l =
-    (rest : List (ℕ × Cell)) → built l.self (numbered l.at (drop l.cell-index l.cells) ++ rest) ≡ built l.initial.self (numbered l.address l.cells ++ rest)
+    (rest : List (ℕ × Cell)) → built l.self (numbered l.at (drop l.cell-index l.cells) ++ rest)
+    ≡ built l.initial.self (numbered l.address l.cells ++ rest)

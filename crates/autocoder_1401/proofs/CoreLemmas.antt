@@ -1,0 +1,386 @@
+-- Where nothing of any line is outside core storage, the image lies in it.
+use Rattle.std.proofs.Common.{◌≡◌, ℕ, zero, suc, ◌+◌, ◌-◌, ◌*◌, ◌<◌, ◌≤◌, ◌⊎◌, Bool, true, false, ◌&&◌, ◌||◌, cond, not}
+use Rattle.std.proofs.Common.{List, [], ◌∷◌, ◌++◌, length, map, take, drop, replicate, ℤ, pos, negsuc, ◌+ℤ◌, Option}
+use Rattle.std.proofs.Common.{None}
+use Rattle.std.proofs.Common.{Some, refl, sym, ap, subst, ◌∙◌, inl, inr, arith}
+use Rattle.std.specs.Prelude.{fold, nat_lt, nat_le, ◌==◌, if◌then◌else◌}
+use Rattle.std.specs.Option.{option_map_or}
+use Rattle.std.specs.List.{list_all, flat_map}
+use Rattle.std.proofs.lemmas.Bool.{true≢false, not-false, both_ways, and_parts, and_cases, cases_Bool, leb-true}
+use Rattle.std.proofs.lemmas.Bool.{ltb-true}
+use Rattle.std.proofs.lemmas.Bool.{le-leb, lt-ltb, eqb-true, and_from}
+use Rattle.std.proofs.Math.IntN.{+ℤ_assoc, +ℤ_idr}
+use Rattle.std.proofs.Math.Nat.{suc-mul}
+use Rattle.std.proofs.lemmas.Bool.Decides.{nat_tests}
+use Rattle.std.proofs.lemmas.List.{length-map, length-append, length-set, length-take, length-replicate}
+use Rattle.std.proofs.lemmas.List.Folds.{list_all-append}
+use Rattle.bcd_1401.specs.declared.cell.Cell.{Cell}
+use Rattle.core_1401.specs.Storage.{is_core_size, blank}
+use Rattle.image_1401.specs.Image.{is_inside, IsInCore}
+use Rattle.image_1401.specs.declared.image.Segment.{Segment}
+use Rattle.source_1401.specs.declared.constant.Constant.{Constant}
+use Rattle.source_1401.specs.declared.mnemonic.Instruction.{Instruction}
+use Rattle.source_1401.specs.declared.operands.Operand.TheVariants as operands
+use Rattle.source_1401.specs.declared.operands.OperandField.{OperandField}
+use Rattle.source_1401.specs.declared.operands.OperandField.TheVariants as fields
+use Rattle.source_1401.specs.declared.operands.Operands.{Operands}
+use Rattle.source_1401.specs.declared.statement.Areas.{Areas}
+use Rattle.source_1401.specs.declared.statement.Span.{Span}
+use Rattle.source_1401.specs.declared.statement.Body.{Body}
+use Rattle.source_1401.specs.declared.statement.Body.TheVariants as bodies
+use Rattle.source_1401.specs.declared.statement.Statement.{Statement}
+use Rattle.source_1401.specs.declared.statement.Line.{Line}
+use Rattle.source_1401.specs.Operands.{count_of}
+use Rattle.autocoder_1401.specs.Assembly.{entry_by, entry_with, entry_in, image_of}
+use Rattle.autocoder_1401.specs.Cells.{place_of, plain, with_word_mark, operand_codes, d_codes, instruction_cells}
+use Rattle.autocoder_1401.specs.Cells.{constant_codes, constant_cells, literal_cells, with_mark_at, with_field}
+use Rattle.autocoder_1401.specs.Cells.{area_cells}
+use Rattle.autocoder_1401.specs.Cells.{repeated, areas_cells, body_cells, statement_cells, numbered, cells_from}
+use Rattle.autocoder_1401.specs.Cells.{fields_behind}
+use Rattle.autocoder_1401.specs.Characters.{char_with, characters_of, codes_in}
+use Rattle.autocoder_1401.specs.declared.characters.Characters.{Characters}
+use Rattle.autocoder_1401.specs.declared.fault.AsmKind.TheVariants as kinds
+use Rattle.autocoder_1401.specs.Placement.{Places, nothing_placed, instruction_length, constant_length, areas_length}
+use Rattle.autocoder_1401.specs.Placement.{pending, behind_literal, behind_literals, after_line, placed}
+use Rattle.autocoder_1401.specs.Segments.{within, closed, goes_on, cut, segments_of}
+use Rattle.autocoder_1401.specs.Values.{is_in_core, are_in_core, operand_value, operand_outside, places_outside}
+use Rattle.autocoder_1401.specs.Values.{literals_outside, body_outside, line_outside, first_outside_from, first_outside}
+use Rattle.autocoder_1401.specs.Values.{last_place}
+
+-- the sizes of core storage are addresses, or the one behind the last
+size_bound : (size : ℕ) → is_core_size size ≡ true → (0 < size) × (size ≤ 16000)
+size_bound size h = (grind (arith, nat_tests), grind (arith, nat_tests))
+
+-- places that are in core begin at an address, and end in core
+place_inside : (size : ℕ) (next : ℤ) (n : ℕ) → size ≤ 16000 → 0 < n → are_in_core size next (next +ℤ pos n) ≡ true
+    → place_of next + n ≤ size
+place_inside size (pos k) n small some inside = grind (arith, nat_tests)
+place_inside size (negsuc k) n small some inside = absurd (true≢false (sym inside))
+
+-- a value in core is the address of a place in core
+value_inside : (size : ℕ) (value : ℤ) → size ≤ 16000 → is_in_core size value ≡ true → place_of value < size
+value_inside size (pos k) small inside = grind (arith, nat_tests)
+value_inside size (negsuc k) small inside = absurd (true≢false (sym inside))
+
+-- cells with their addresses, each of which is below the size
+abbrev are_below : ℕ → List (ℕ × Cell) → Bool
+are_below size cells = list_all (λ (cell : ℕ × Cell). nat_lt cell.0 size) cells
+
+numbered_below : (size at : ℕ) (cells : List Cell) → (0 < length cells → at + length cells ≤ size)
+    → are_below size (numbered at cells) ≡ true
+numbered_below size at [] inside = refl
+numbered_below size at (cell ∷ cells) inside =
+    let whole = inside (omega arith) in
+    let here : nat_lt at size ≡ true = lt-ltb at size (omega (arith, whole)) in
+    rw here (numbered_below size (at + 1) cells (λ some. omega (arith, whole)))
+
+-- as many cells as there are places, or fewer, from a place on
+placed_below : (size : ℕ) (next : ℤ) (n : ℕ) (cells : List Cell) → size ≤ 16000 → places_outside size next n ≡ false
+    → length cells ≤ n → are_below size (numbered (place_of next) cells) ≡ true
+placed_below size next n cells small inside few =
+    numbered_below size (place_of next) cells
+    (λ some. by some (and_cases (nat_lt 0 n) (not (are_in_core size next (next +ℤ pos n))) inside))
+  where
+    by : 0 < length cells → (nat_lt 0 n ≡ false) ⊎ (not (are_in_core size next (next +ℤ pos n)) ≡ false)
+        → place_of next + length cells ≤ size
+    by some (inl none) = absurd (both_ways (nat_lt 0 n) none (lt-ltb 0 n (omega (arith, some, few))))
+    by some (inr core) =
+        let whole = place_inside size next n small (omega (arith, some, few))
+        (not-false (are_in_core size next (next +ℤ pos n)) core) in
+        omega (arith, whole, few)
+
+-- how many cells an operand has
+operand_length : (all : Places) (here : ℤ) (field : OperandField)
+    → length (operand_codes all here field) ≤ 3 * count_of field
+operand_length all here fields.Absent = omega arith
+operand_length all here fields.Malformed = omega arith
+operand_length all here (fields.Operand (operands.Address address)) = omega arith
+operand_length all here (fields.Operand (operands.Literal constant)) = omega arith
+
+d_length : (d : Option ℕ) → length (d_codes d) ≡ option_map_or (λ (graphic : ℕ). 1) d 0
+d_length None = refl
+d_length (Some graphic) = refl
+
+instruction_few : (all : Places) (here : ℤ) (instruction : Instruction) (of : Operands)
+    → length (instruction_cells all here instruction of) ≤ instruction_length of
+instruction_few all here instruction of =
+    let a = map plain (operand_codes all here of.a) in
+    let b = map plain (operand_codes all here of.b) in
+    let d = map plain (d_codes of.d) in
+    omega (
+      arith,
+      length-append (a ++ b) d,
+      length-append a b,
+      length-map (operand_codes all here of.a) plain,
+      length-map (operand_codes all here of.b) plain,
+      length-map (d_codes of.d) plain,
+      operand_length all here of.a,
+      operand_length all here of.b,
+      d_length of.d,
+    )
+
+marked_length : (codes : List ℕ) → length (with_word_mark codes) ≡ length codes
+marked_length [] = refl
+marked_length (first ∷ more) = ap suc (length-map more plain)
+
+codes_few : (characters : Characters) → length (codes_in characters) ≤ characters.len
+codes_few characters =
+    let held = take characters.len characters.codes in
+    omega (arith, length-map held char_with, length-take characters.len characters.codes)
+
+constant_few : (mark : Bool) (constant : Option Constant)
+    → length (constant_cells mark constant) ≤ constant_length constant
+constant_few true None = omega arith
+constant_few false None = omega arith
+constant_few true (Some constant) =
+    omega (arith, marked_length (constant_codes (Some constant)), codes_few (characters_of constant))
+constant_few false (Some constant) =
+    omega (arith, length-map (constant_codes (Some constant)) plain, codes_few (characters_of constant))
+
+fields_length : (area : List Cell) (spans : List Span) → length (fold with_field area spans) ≡ length area
+fields_length area [] = refl
+fields_length area (span ∷ spans) =
+    fields_length (with_field area span) spans ∙ length-set area (span.first - 1) (record { char = 0; mark = true })
+
+area_length : (length_is : ℕ) (spans : List Span) → length (area_cells length_is spans) ≡ length_is
+area_length length_is spans =
+    fields_length (with_mark_at (replicate length_is blank) 0) spans
+    ∙ length-set (replicate length_is blank) 0 (record { char = 0; mark = true }) ∙ length-replicate length_is blank
+
+repeated_length : (n : ℕ) (area : List Cell) → length (repeated n area) ≡ n * length area
+repeated_length zero area = omega arith
+repeated_length (suc n) area =
+    length-append area (repeated n area) ∙ ap (λ (behind : ℕ). length area + behind) (repeated_length n area)
+    ∙ omega (arith, suc-mul n (length area))
+
+areas_few : (areas : Option Areas) (lines : List Line) → length (areas_cells areas lines) ≤ areas_length areas
+areas_few None lines = omega arith
+areas_few (Some areas) lines =
+    let one = area_length areas.length (fields_behind lines) in
+    let all : length (areas_cells (Some areas) lines) ≡ areas.count * areas.length =
+    repeated_length areas.count (area_cells areas.length (fields_behind lines)) ∙ ap (λ (n : ℕ). areas.count * n) one in
+    omega (arith, all)
+
+-- how many places literals take
+abbrev total : List Characters → ℕ
+total [] = 0
+total (literal ∷ literals) = literal.len + total literals
+
+behind_total : (from : ℤ) (literals : List Characters) → behind_literals from literals ≡ from +ℤ pos (total literals)
+behind_total from [] = sym (+ℤ_idr from)
+behind_total from (literal ∷ literals) =
+    behind_total (from +ℤ pos literal.len) literals ∙ +ℤ_assoc from (pos literal.len) (pos (total literals))
+
+literals_few : (literals : List Characters) → length (flat_map literal_cells literals) ≤ total literals
+literals_few [] = omega arith
+literals_few (literal ∷ literals) =
+    omega (
+      arith,
+      length-append (literal_cells literal) (flat_map literal_cells literals),
+      marked_length (codes_in literal),
+      codes_few literal,
+      literals_few literals,
+    )
+
+-- literals that are in core, one behind the other
+literals_below : (size : ℕ) (this : Places) → size ≤ 16000 → literals_outside size this ≡ false
+    → are_below size (numbered (place_of this.next) (flat_map literal_cells (pending this))) ≡ true
+literals_below size this small inside = by (pending this) refl
+  where
+    some_core : (used : List Characters) → 0 < length used
+        → (nat_lt 0 (length used) && not (are_in_core size this.next (behind_literals this.next used))) ≡ false
+        → not (are_in_core size this.next (behind_literals this.next used)) ≡ false
+    some_core used some h =
+        elim (and_cases (nat_lt 0 (length used))
+        (not (are_in_core size this.next (behind_literals this.next used))) h) [
+          | inl none ↦ absurd (both_ways (nat_lt 0 (length used)) none (lt-ltb 0 (length used) some))
+          | inr core ↦ core
+        ]
+
+    by : (literals : List Characters) → pending this ≡ literals
+        → are_below size (numbered (place_of this.next) (flat_map literal_cells literals)) ≡ true
+    by [] is = refl
+    by (literal ∷ literals) is =
+        let core : are_in_core size this.next (behind_literals this.next (literal ∷ literals)) ≡ true =
+        not-false (are_in_core size this.next (behind_literals this.next (literal ∷ literals)))
+        (some_core (literal ∷ literals) (omega arith)
+        (sym (ap (λ (used : List Characters). nat_lt 0 (length used)
+        && not (are_in_core size this.next (behind_literals this.next used))) is)
+        ∙ inside)) in
+        let n = total (literal ∷ literals) in
+        let fits : are_in_core size this.next (this.next +ℤ pos n) ≡ true =
+        ap (are_in_core size this.next) (sym (behind_total this.next (literal ∷ literals))) ∙ core in
+        numbered_below size (place_of this.next) (flat_map literal_cells (literal ∷ literals))
+        (λ some.
+        let few = literals_few (literal ∷ literals) in
+        let whole = place_inside size this.next n small (omega (arith, some, few)) fits in
+        omega (arith, whole, few))
+
+-- none of two is so where one of them isn't
+neither : (x y : Bool) → (x || y) ≡ false → (x ≡ false) × (y ≡ false)
+neither true y h = absurd (true≢false h)
+neither false y h = (refl, h)
+
+body_below : (size : ℕ) (all this : Places) (body : Body) (lines : List Line) → size ≤ 16000
+    → body_outside size all this body ≡ false
+    → are_below size (numbered (place_of this.next) (body_cells all this body lines)) ≡ true
+body_below size all this bodies.Unknown lines small inside = refl
+body_below size all this (bodies.Instruction instruction of) lines small inside =
+    let here = last_place this.next (instruction_length of) in
+    let places = places_outside size this.next (instruction_length of) in
+    let a = operand_outside size all here of.a in
+    let b = operand_outside size all here of.b in
+    placed_below size this.next (instruction_length of) (instruction_cells all here instruction of) small
+    (neither places a (neither (places || a) b inside).0).0 (instruction_few all here instruction of)
+body_below size all this (bodies.MarkedConstant constant) lines small inside =
+    placed_below size this.next (constant_length constant) (constant_cells true constant) small inside
+    (constant_few true constant)
+body_below size all this (bodies.Constant constant) lines small inside =
+    placed_below size this.next (constant_length constant) (constant_cells false constant) small inside
+    (constant_few false constant)
+body_below size all this (bodies.Space places) lines small inside = refl
+body_below size all this (bodies.Areas areas) lines small inside =
+    placed_below size this.next (areas_length areas) (areas_cells areas lines) small inside (areas_few areas lines)
+body_below size all this (bodies.Field span) lines small inside = refl
+body_below size all this (bodies.Equate of) lines small inside = refl
+body_below size all this (bodies.Origin of) lines small inside = refl
+body_below size all this (bodies.Execute of) lines small inside =
+    literals_below size this small
+    (neither (literals_outside size this) (operand_outside size all (pos 0) of.a) inside).0
+body_below size all this (bodies.End of) lines small inside =
+    literals_below size this small
+    (neither (literals_outside size this) (operand_outside size all (pos 0) of.a) inside).0
+
+line_below : (size : ℕ) (all this : Places) (line : Line) (lines : List Line) → size ≤ 16000
+    → line_outside size all this line ≡ false
+    → are_below size (numbered (place_of this.next) (statement_cells all this line.statement lines)) ≡ true
+line_below size all this line lines small inside = by line.statement inside
+  where
+    by : (statement : Option Statement)
+        → option_map_or (λ (found : Statement). body_outside size all this found.body) statement false ≡ false
+        → are_below size (numbered (place_of this.next) (statement_cells all this statement lines)) ≡ true
+    by None h = refl
+    by (Some statement) h = body_below size all this statement.body lines small h
+
+-- where nothing is outside, nothing of the first line is, and nothing of those behind it
+one_line : (size : ℕ) (all : Places) (number : ℕ) (this : Places) (line : Line) (lines : List Line)
+    → first_outside_from size all number this (line ∷ lines) ≡ None
+    → (line_outside size all this line ≡ false)
+    × (first_outside_from size all (number + 1) (after_line this line) lines ≡ None)
+one_line size all number this line lines none = by (line_outside size all this line) refl none
+  where
+    by : (b : Bool) → line_outside size all this line ≡ b
+        → cond b (Some (record { line = number; kind = kinds.OutOfCore }))
+        (first_outside_from size all (number + 1) (after_line this line) lines) ≡ None
+        → (line_outside size all this line ≡ false)
+        × (first_outside_from size all (number + 1) (after_line this line) lines ≡ None)
+    by true is h = cc
+    by false is h = (is, h)
+
+cells_below : (size : ℕ) (all : Places) (number : ℕ) (this : Places) (lines : List Line) → size ≤ 16000
+    → first_outside_from size all number this lines ≡ None → are_below size (cells_from all this lines) ≡ true
+cells_below size all number this [] small none = refl
+cells_below size all number this (line ∷ lines) small none =
+    let parts = one_line size all number this line lines none in
+    let first = numbered (place_of this.next) (statement_cells all this line.statement lines) in
+    let more = cells_from all (after_line this line) lines in
+    list_all-append (λ (cell : ℕ × Cell). nat_lt cell.0 size) first more
+    ∙ and_from (are_below size first) (are_below size more) (line_below size all this line lines small parts.0)
+    (cells_below size all (number + 1) (after_line this line) lines small parts.1)
+
+-- a segment of cells that end in core
+closed_inside : (size at : ℕ) (cells : List Cell) → size ≤ 16000 → (0 < length cells → at + length cells ≤ size)
+    → list_all (is_inside size) (closed at cells) ≡ true
+closed_inside size at cells small inside = by (nat_le 1 (length cells) && nat_le (length cells) 40) refl
+  where
+    by : (b : Bool) → (nat_le 1 (length cells) && nat_le (length cells) 40) ≡ b
+        → list_all (is_inside size) (if b then record { address = within at; cells = cells } ∷ [] else []) ≡ true
+    by false is = refl
+    by true is =
+        let some = leb-true 1 (length cells) (and_parts (nat_le 1 (length cells)) (nat_le (length cells) 40) is).0 in
+        let whole = inside (omega (arith, some)) in
+        let same : within at ≡ at = grind (arith, nat_tests) in
+        rw same (rw (le-leb (at + length cells) size whole) refl)
+
+cut_inside : (size at : ℕ) (cells : List Cell) (rest : List (ℕ × Cell)) → size ≤ 16000
+    → (0 < length cells → at + length cells ≤ size) → are_below size rest ≡ true
+    → list_all (is_inside size) (cut at cells rest) ≡ true
+cut_inside size at cells [] small inside below = closed_inside size at cells small inside
+cut_inside size at cells (next ∷ more) small inside below =
+    let parts = and_parts (nat_lt next.0 size) (are_below size more) below in
+    by (goes_on at cells next.0) refl (ltb-true next.0 size parts.0) parts.1
+    (cut_inside size at (cells ++ next.1 ∷ []) more small) (cut_inside size next.0 (next.1 ∷ []) more small)
+  where
+    by : (b : Bool) → goes_on at cells next.0 ≡ b → next.0 < size → are_below size more ≡ true
+        → ((0 < length (cells ++ next.1 ∷ []) → at + length (cells ++ next.1 ∷ []) ≤ size) → are_below size more ≡ true
+        → list_all (is_inside size) (cut at (cells ++ next.1 ∷ []) more) ≡ true)
+        → ((0 < 1 → next.0 + 1 ≤ size) → are_below size more ≡ true
+        → list_all (is_inside size) (cut next.0 (next.1 ∷ []) more) ≡ true)
+        → list_all (is_inside size)
+        (if b then cut at (cells ++ next.1 ∷ []) more else closed at cells ++ cut next.0 (next.1 ∷ []) more) ≡ true
+    by true is low rest longer anew =
+        let same = eqb-true next.0 (at + length cells)
+        (and_parts (next.0 == at + length cells) (nat_lt (length cells) 40) is).0 in
+        longer (λ some. omega (arith, length-append cells (next.1 ∷ []), same, low)) rest
+    by false is low rest longer anew =
+        list_all-append (is_inside size) (closed at cells) (cut next.0 (next.1 ∷ []) more)
+        ∙ and_from (list_all (is_inside size) (closed at cells))
+        (list_all (is_inside size) (cut next.0 (next.1 ∷ []) more))
+        (closed_inside size at cells small inside) (anew (λ some. omega (arith, low)) rest)
+
+-- the operand of END is in core
+entry_inside : (size : ℕ) (all : Places) (field : OperandField) → (0 < size) × (size ≤ 16000)
+    → operand_outside size all (pos 0) field ≡ false → place_of (operand_value all field) < size
+entry_inside size all fields.Absent bounds h = omega (arith, bounds.0)
+entry_inside size all fields.Malformed bounds h = omega (arith, bounds.0)
+entry_inside size all (fields.Operand (operands.Address address)) bounds h =
+    value_inside size (operand_value all (fields.Operand (operands.Address address))) bounds.1
+    (not-false (is_in_core size (operand_value all (fields.Operand (operands.Address address)))) h)
+entry_inside size all (fields.Operand (operands.Literal constant)) bounds h = omega (arith, bounds.0)
+
+body_entry : (size : ℕ) (all this : Places) (body : Body) (behind : ℤ) → (0 < size) × (size ≤ 16000)
+    → body_outside size all this body ≡ false → place_of behind < size → place_of (entry_by all body behind) < size
+body_entry size all this bodies.Unknown behind bounds h low = low
+body_entry size all this (bodies.Instruction instruction of) behind bounds h low = low
+body_entry size all this (bodies.MarkedConstant constant) behind bounds h low = low
+body_entry size all this (bodies.Constant constant) behind bounds h low = low
+body_entry size all this (bodies.Space places) behind bounds h low = low
+body_entry size all this (bodies.Areas areas) behind bounds h low = low
+body_entry size all this (bodies.Field span) behind bounds h low = low
+body_entry size all this (bodies.Equate of) behind bounds h low = low
+body_entry size all this (bodies.Origin of) behind bounds h low = low
+body_entry size all this (bodies.Execute of) behind bounds h low = low
+body_entry size all this (bodies.End of) behind bounds h low =
+    entry_inside size all of.a bounds (neither (literals_outside size this) (operand_outside size all (pos 0) of.a) h).1
+
+line_entry : (size : ℕ) (all this : Places) (line : Line) (behind : ℤ) → (0 < size) × (size ≤ 16000)
+    → line_outside size all this line ≡ false → place_of behind < size
+    → place_of (entry_with all line.statement behind) < size
+line_entry size all this line behind bounds inside low = by line.statement inside
+  where
+    by : (statement : Option Statement)
+        → option_map_or (λ (found : Statement). body_outside size all this found.body) statement false ≡ false
+        → place_of (entry_with all statement behind) < size
+    by None h = low
+    by (Some statement) h = body_entry size all this statement.body behind bounds h low
+
+entry_below : (size : ℕ) (all : Places) (number : ℕ) (this : Places) (lines : List Line) → (0 < size) × (size ≤ 16000)
+    → first_outside_from size all number this lines ≡ None → place_of (entry_in all lines) < size
+entry_below size all number this [] bounds none = omega (arith, bounds.0)
+entry_below size all number this (line ∷ lines) bounds none =
+    let parts = one_line size all number this line lines none in
+    line_entry size all this line (entry_in all lines) bounds parts.0
+    (entry_below size all (number + 1) (after_line this line) lines bounds parts.1)
+
+-- the image of lines of which nothing is outside
+pub image_inside : (size : ℕ) (lines : List Line) → is_core_size size ≡ true → first_outside size lines ≡ None
+    → IsInCore (image_of size lines)
+image_inside size lines size_is none =
+    let bounds = size_bound size size_is in
+    let all = placed lines in
+    record {
+      size = size_is;
+      segments = cut_inside size 0 [] (cells_from all nothing_placed lines) bounds.1 (λ some. omega (arith, some))
+          (cells_below size all 1 nothing_placed lines bounds.1 none);
+      start = lt-ltb (place_of (entry_in all lines)) size (entry_below size all 1 nothing_placed lines bounds none);
+    }

@@ -1,0 +1,13 @@
+-- Nothing of any line is outside core storage, so the image lies in it.
+use Rattle.std.proofs.Common.{sym, ap, subst, ◌∙◌}
+use Rattle.image_1401.specs.Image.{IsInCore}
+use Rattle.autocoder_1401.specs.Assembly.{image_of}
+use Rattle.autocoder_1401.specs.Values.{first_outside}
+use Rattle.autocoder_1401.proofs.CoreLemmas.{image_inside}
+use Rattle.autocoder_1401.proofs.assembly.assemble.Goals as goal
+
+pub returns-clause-in_core : goal.returns-clause-in_core
+returns-clause-in_core c size_is =
+    subst IsInCore (sym c.in_ok-image.ensures.ok)
+    (image_inside c.args.size c.deref-2.result.now size_is
+    (ap (first_outside c.args.size) (c.deref-2.ensures.value ∙ sym c.deref.ensures.value) ∙ c.in_ok-all.ensures.inside))

@@ -1,0 +1,68 @@
+-- What a call that assembles a source has written and told, once the file is read (own).
+use Rattle.std.specs.Prelude.{◌≡◌, ◌⊎◌, ℕ, ⊤, List, ◌++◌, Option, Result, Ok, Err, IsOk, codes}
+use Rattle.std.specs.Io.KnownBytes.{Appends, Keeps}
+use Rattle.std.specs.List.{flat_map}
+use Rattle.autocoder_1401.specs.Assembly.{assembly_in}
+use Rattle.autocoder_1401.specs.Fault.{IsMemory}
+use Rattle.autocoder_1401.specs.declared.assembly.Assembly.{Assembly}
+use Rattle.console_1401.specs.Sink.{AppendsPart}
+use Rattle.image_1401.specs.ImageText.{IsTextOf}
+use Rattle.ibm1401.specs.declared.args.Product.{Product}
+use Rattle.ibm1401.specs.declared.args.Product.TheVariants as product
+use Rattle.ibm1401.specs.declared.fault.Fault.{Fault}
+use Rattle.ibm1401.specs.declared.fault.Fault.TheVariants as fault
+
+-- a line of a listing with the line feed behind it
+abbrev pub line_text : List ℕ → List ℕ
+line_text line = line ++ codes "\n"
+
+-- the lines of a listing, each with a line feed behind it
+unfoldable pub listing_text : List (List ℕ) → List ℕ
+listing_text lines = flat_map line_text lines
+
+-- the text is what is written of an assembly: that of its image, or its listing
+abbrev pub IsProduct : Product → Assembly → List ℕ → Type 0
+IsProduct product.Image assembly text = IsTextOf text assembly.image
+IsProduct product.Listing assembly text = text ≡ listing_text assembly.listing
+
+-- why nothing was written: the source's own fault, or want of memory for it; or want of memory for the text
+abbrev pub IsWhyNotAssembled : ℕ → List ℕ → Fault → Type 0
+IsWhyNotAssembled size source fault.Text = ⊥
+IsWhyNotAssembled size source (fault.Usage refusal) = ⊥
+IsWhyNotAssembled size source fault.Output = ⊥
+IsWhyNotAssembled size source fault.Size = ⊥
+IsWhyNotAssembled size source (fault.Unread name) = ⊥
+IsWhyNotAssembled size source (fault.Image why) = ⊥
+IsWhyNotAssembled size source (fault.Source why) = IsMemory why ⊎ (assembly_in size source ≡ Err why)
+IsWhyNotAssembled size source fault.JournalFull = ⊥
+IsWhyNotAssembled size source fault.Memory = IsOk (assembly_in size source)
+IsWhyNotAssembled size source fault.Read = ⊥
+IsWhyNotAssembled size source fault.Write = ⊥
+IsWhyNotAssembled size source fault.Bound = ⊥
+IsWhyNotAssembled size source fault.Reply = ⊥
+
+-- what standard output received of a text: all of it, or a beginning where a write failed
+abbrev pub Wrote : List ℕ → Option (List ℕ) → Option (List ℕ) → Result ⊤ Fault → Type 0
+Wrote text old new outcome =
+    ((outcome ≡ Ok tt) × Appends old new text) ⊎ ((outcome ≡ Err fault.Output) × AppendsPart old new text)
+
+-- Nothing was written.
+pub record NotAssembled (size : ℕ) (source : List ℕ) (old new : Option (List ℕ)) (outcome : Result ⊤ Fault) : Type 0 where
+  pub why : Fault
+  pub told : outcome ≡ Err why
+  pub reason : IsWhyNotAssembled size source why
+  pub unwritten : new ≡ old
+
+-- What the source stands for was written, and nothing else.
+pub record WroteAssembly (size : ℕ) (source : List ℕ) (product : Product) (old new : Option (List ℕ))
+    (outcome : Result ⊤ Fault) : Type 0 where
+  pub assembly : Assembly
+  pub stands_for : assembly_in size source ≡ Ok assembly
+  pub text : List ℕ
+  pub text_is : IsProduct product assembly text
+  pub written : Wrote text old new outcome
+
+-- what a call did
+abbrev pub AssembleDid : ℕ → List ℕ → Product → Option (List ℕ) → Option (List ℕ) → Result ⊤ Fault → Type 0
+AssembleDid size source product old new outcome =
+    NotAssembled size source old new outcome ⊎ WroteAssembly size source product old new outcome

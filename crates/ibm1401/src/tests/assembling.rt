@@ -1,0 +1,160 @@
+//! Sources that are assembled, from the command line to what is written.
+
+use crate::args::{Call, Product, read_call};
+use crate::assembling::{check_size, write_assembly};
+use crate::fault::Fault;
+use autocoder_1401::{AsmFault, AsmKind, assemble};
+use console_1401::{FromReader, SessionEnd, ToWriter, put_image, session};
+use room_1401::Room;
+use std::process::Abort;
+use std::test::Fail;
+
+/// Five is put into a field, and added to it.
+const FIVE_AND_FIVE: &[u8] = b"               ORG  400
+     START     ZA   +5,TOTAL
+               A    +5,TOTAL
+               H    *-3
+     TOTAL     DCW  #3
+     NAME      DCW  @HI@
+     * ONE LITERAL, TWO USES
+               END  START
+";
+
+/// Compares what is written of a source for core storage of 4,000 places.
+fn expect_written(rt: &(impl Abort + AllocGlobal), source: &[u8], product: Product, text: &[u8]) {
+    let mut writer = ToWriter::new(Vec::new(rt.alloc()));
+    let outcome = write_assembly(rt.alloc(), source, 4_000, product, &mut writer);
+    assert!(rt; outcome.is_ok());
+    assert_eq!(rt; writer.into_inner().as_slice(), text);
+}
+
+#[test]
+fn an_image_or_a_listing_is_written(rt: HostRuntime) {
+    expect_written(
+        &rt,
+        FIVE_AND_FIVE,
+        Product::Image,
+        b"IMAGE1 4000\n0400 24 ~?423420~A423420~.414~   ~HI~E\nEND 0400\n",
+    );
+    expect_written(
+        &rt,
+        FIVE_AND_FIVE,
+        Product::Listing,
+        b"\
+0001 00400                         ORG  400
+0002 00400 ?423420       START     ZA   +5,TOTAL
+0003 00407 A423420                 A    +5,TOTAL
+0004 00414 .414                    H    *-3
+0005 00418               TOTAL     DCW  #3
+0006 00421 HI            NAME      DCW  @HI@
+0007                     * ONE LITERAL, TWO USES
+     00423 E        +5
+0008 00400                         END  START
+",
+    );
+    let areas = b"               ORG  500
+     REC       DA   2X4
+     KEY            3,4
+               END  KEY
+";
+    let image = b"IMAGE1 4000\n0500 08 ~  ~  ~  ~  \nEND 0503\n";
+    expect_written(&rt, areas, Product::Image, image);
+}
+
+#[test]
+fn a_source_is_assembled_loaded_and_run(rt: HostRuntime) -> Result<(), Fail> {
+    let assembly = assemble(rt.alloc(), FIVE_AND_FIVE, 4_000)?;
+    let mut room = Room::power_on(rt.alloc(), assembly.image.size)?;
+    put_image(&mut room, &assembly.image)?;
+    let mut reader = FromReader::new(b"RUN 10\nEXAMINE 0418 3\n".as_slice());
+    let mut writer = ToWriter::new(Vec::new(rt.alloc()));
+    let end = session(rt.alloc(), &mut room, &mut reader, &mut writer);
+    assert_eq!(rt; end, SessionEnd::EndOfInput);
+    let replies = b"STOP 02 HALT STEPS 3 I 00414\n~01?\n";
+    assert_eq!(rt; writer.into_inner().as_slice(), replies.as_slice());
+    assert_eq!(rt; room.journal().len(), 4);
+    Ok(())
+}
+
+#[test]
+fn nothing_is_written_of_a_source_with_a_fault(rt: HostRuntime) {
+    let mut writer = ToWriter::new(Vec::new(rt.alloc()));
+    let mut source = [b' '; 100];
+    source[15..18].copy_from_slice(b"ZZZ");
+    source[18] = b'\n';
+    let outcome = write_assembly(rt.alloc(), &source, 4_000, Product::Image, &mut writer);
+    let kind = AsmKind::Operation;
+    assert!(rt;
+        matches!(outcome, Err(Fault::Source(AsmFault { line: 1, kind: found })) if found == kind)
+    );
+    assert!(rt; writer.into_inner().is_empty());
+}
+
+#[test]
+fn a_fault_is_told_by_its_line_its_number_and_its_name(rt: HostRuntime) -> Result<(), Fail> {
+    for (line, kind, text) in [
+        (0, AsmKind::Memory, "line 0: 1 MEMORY"),
+        (1, AsmKind::LongLine, "line 1: 2 LONG LINE"),
+        (2, AsmKind::Graphic, "line 2: 3 GRAPHIC"),
+        (3, AsmKind::Label, "line 3: 4 LABEL"),
+        (4, AsmKind::DoubleLabel, "line 4: 5 DOUBLE LABEL"),
+        (5, AsmKind::Operation, "line 5: 6 OPERATION"),
+        (6, AsmKind::Undefined, "line 6: 7 UNDEFINED"),
+        (7, AsmKind::Operand, "line 7: 8 OPERAND"),
+        (8, AsmKind::OutOfCore, "line 8: 9 OUT OF CORE"),
+        (9, AsmKind::NoEnd, "line 9: 10 NO END"),
+        (12_345, AsmKind::AfterEnd, "line 12345: 11 AFTER END"),
+    ] {
+        let fault = Fault::Source(AsmFault { line, kind });
+        let told = format!(in rt.alloc(); "{fault}")?;
+        assert_eq!(rt; told.as_str(), text);
+    }
+    Ok(())
+}
+
+#[test]
+fn a_size_that_is_not_made_is_refused(rt: HostRuntime) {
+    for (size, is_made) in [
+        (1_400, true),
+        (2_000, true),
+        (4_000, true),
+        (0, false),
+        (4_001, false),
+    ] {
+        assert_eq!(rt; check_size(size).is_ok(), is_made);
+    }
+}
+
+#[test]
+fn a_source_is_named_with_its_size_and_what_is_written(rt: HostRuntime) -> Result<(), Fail> {
+    for (words, size, product) in [
+        (
+            ["ibm1401", "assemble", "a source", "", ""].as_slice(),
+            4_000,
+            Product::Image,
+        ),
+        (
+            ["ibm1401", "assemble", "--list", "a source", ""].as_slice(),
+            4_000,
+            Product::Listing,
+        ),
+        (
+            ["ibm1401", "assemble", "a source", "--size", "1400"].as_slice(),
+            1_400,
+            Product::Image,
+        ),
+    ] {
+        let count = words.iter().take_while(|word| !word.is_empty()).count();
+        let file = String::from_str(rt.alloc(), "a source")?;
+        let call = read_call(rt.alloc(), &words[..count])?;
+        assert_eq!(rt;
+            call,
+            Call::Assemble {
+                file,
+                size,
+                product
+            }
+        );
+    }
+    Ok(())
+}
