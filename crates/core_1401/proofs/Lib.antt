@@ -3,6 +3,7 @@ pub mod AddressTableLemmas
 pub mod BitLemmas
 pub mod CellsLemmas
 pub mod CompareLemmas
+pub mod EightCellsLemmas
 mod FieldExamples
 pub mod FieldLemmas
 pub mod HeldLemmas

@@ -33,6 +33,11 @@ value_at storage at = value_of (cell_at storage at).char (cell_at storage (at + 
 abbrev pub index_register : ℕ → ℕ
 index_register number = 5 * number + 82
 
+-- an address of this value, with that of an index register added; the number 0 is for none
+abbrev pub indexed_by : Storage → ℕ → ℕ → ℕ
+indexed_by storage value number =
+    if number == 0 then value else (value + value_at storage (index_register number)) % addresses
+
 -- the address that three characters stand for: with a zone over the tens, the index register's value is added
 abbrev pub effective_at : Storage → ℕ → ℕ
 effective_at storage at =

@@ -13,6 +13,7 @@
 pub mod address;
 mod address_tables;
 pub mod cells;
+pub mod eight_cells;
 pub mod fault;
 pub mod indexing;
 pub mod lengths;
@@ -22,6 +23,7 @@ pub mod stretches;
 
 pub use address::{ADDRESSES, decode, encode};
 pub use cells::{Cells, MOST_CELLS};
+pub use eight_cells::EightCells;
 pub use fault::CoreFault;
 pub use storage::Core;
 

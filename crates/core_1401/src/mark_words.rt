@@ -3,7 +3,7 @@ ghost use Rattle.std.specs.Prelude.{◌≡◌, ◌==◌, ℕ, ◌+◌, ◌-◌, 
 ghost use Rattle.std.specs.Prelude.{slice_index_or, take};
 ghost use Rattle.std.specs.Int.{bit_at};
 ghost use Rattle.core_1401.specs.MarkWords.{IsWindowDown, IsWindowUp, IsFirstMark, IsFirstPair, IsNextMark, IsWithBit};
-ghost use Rattle.core_1401.specs.MarkWords.{IsCleared, AreCleared, AreMarkWords};
+ghost use Rattle.core_1401.specs.MarkWords.{IsCleared, AreCleared, AreMarkWords, mark_bit};
 
 use crate::storage::Core;
 
@@ -65,6 +65,15 @@ fn window_up(words: &[u64], at: usize) -> u64
 {
     let both = joined(words[at / 64 + 2], words[at / 64 + 1]);
     ((both >> (at % 64)) & u128::from(u64::MAX)) as u64
+}
+
+/// The marks of the eight places from one up: its own is the lowest bit.
+#[inline(always)]
+pub(crate) fn marks_up(words: &[u64], at: usize) -> u8
+    requires { at / 64 + 2 < length words.now }
+    ensures { (j : ℕ) → j < 8 → bit_at result j ≡ mark_bit words.now (at + j) }
+{
+    (window_up(words, at) % 256) as u8
 }
 
 /// How far below a place the first mark stands; more than there are places where there is none.

@@ -1,6 +1,7 @@
 mod BranchExamples
 mod CardsExamples
 pub mod CardsAndPrinterLemmas
+pub mod DecodedLemmas
 pub mod ExampleCells
 mod RegisterExamples
 pub mod RunLemmas

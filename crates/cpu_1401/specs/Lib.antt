@@ -1,5 +1,6 @@
 pub mod Branch
 pub mod CardsAndPrinter
+pub mod Decoded
 pub mod FieldStep
 pub mod Instruction
 pub mod Operation

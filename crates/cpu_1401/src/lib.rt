@@ -10,9 +10,11 @@
 pub mod asked;
 mod branch_steps;
 pub mod condition;
+mod decoded;
 mod device_steps;
 mod field_steps;
 pub mod instruction;
+mod kept;
 mod loading;
 pub mod machine;
 pub mod operation;

@@ -3,6 +3,7 @@ ghost use Rattle.std.specs.Prelude.{◌≡◌, ◌<◌, ◌↔◌, false, length
 ghost use Rattle.core_1401.specs.Storage.{is_core_size};
 ghost use Rattle.cpu_1401.specs.State.{IsInRange, power_on, regs_of, with_cell, with_switch};
 
+use crate::kept::Instructions;
 use crate::regs::Regs;
 use bcd_1401::Cell;
 use core_1401::{Core, CoreFault};
@@ -14,6 +15,7 @@ use std::marker::Model;
 #[derive(Drop)]
 pub struct Machine {
     pub(crate) core: Core,
+    pub(crate) kept: Instructions,
     pub(crate) i: u16,
     pub(crate) a: u16,
     pub(crate) b: u16,
@@ -58,8 +60,12 @@ impl Machine {
         let Ok(devices) = Devices::power_on(alloc) else {
             return Err(CoreFault::Memory);
         };
+        let Ok(kept) = Instructions::none(alloc, size) else {
+            return Err(CoreFault::Memory);
+        };
         Ok(Machine {
             core,
+            kept,
             i: 0,
             a: 0,
             b: 0,

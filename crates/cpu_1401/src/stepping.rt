@@ -1,10 +1,13 @@
 //! One step of the machine: the checks in their order, then what the operation does.
-ghost use Rattle.std.specs.Prelude.{◌≡◌, ◌≢◌, ◌+◌, ◌<◌, ◌≤◌, length, Some, IfSome};
+ghost use Rattle.std.specs.Prelude.{◌≡◌, ◌≢◌, ◌+◌, ◌<◌, ◌≤◌, length, Some, IfSome, IfOk, IfErr, true};
 ghost use Rattle.core_1401.specs.Address.{addresses};
 ghost use Rattle.core_1401.specs.Storage.{cell_at};
-ghost use Rattle.cpu_1401.specs.Instruction.{begins_at, instruction_of, length_at};
+ghost use Rattle.cpu_1401.specs.Instruction.{begins_at, instruction_of, length_at, longest_at};
 ghost use Rattle.cpu_1401.specs.Step.{perform, step};
+ghost use Rattle.cpu_1401.specs.Decoded.{IsAddress, Says};
+ghost use Rattle.cpu_1401.specs.Stepped.{stopped};
 
+use crate::decoded::{Address, Decoded};
 use crate::instruction::Instruction;
 use crate::machine::Machine;
 use crate::operation::{Operation, is_unfitted};
@@ -31,12 +34,61 @@ impl Machine {
         ensures limit { result ≢ Some Stop.Limit }
         ensures size { length self.new.storage ≡ length self.old.storage }
     {
+        match self.fetch() {
+            Ok((operation, this)) => self.perform(operation, this),
+            Err(stop) => Some(stop),
+        }
+    }
+
+    /// The operation of the instruction at the I register, and what the instruction says; or why none is carried out.
+    #[inline(always)]
+    #[tactic(auto, using(crate::proofs::DecodedLemmas::says_step))]
+    fn fetch(&mut self) -> Result<(Operation, Instruction), Stop>
+        ensures ok { IfOk result (λ fetched. step self.old ≡ perform fetched.0 fetched.1 self.old) }
+        ensures a { IfOk result (λ fetched. fetched.1.a < addresses) }
+        ensures b { IfOk result (λ fetched. fetched.1.b < addresses) }
+        ensures next { IfOk result (λ fetched. fetched.1.next < addresses) }
+        ensures err { IfErr result (λ stop. step self.old ≡ stopped stop self.old) }
+        ensures no_halt { IfErr result (λ stop. stop ≢ Stop.Halt) }
+        ensures no_limit { IfErr result (λ stop. stop ≢ Stop.Limit) }
+        ensures same { self.new ≡ self.old }
+    {
+        if let Some(fetched) = self.recall() {
+            return Ok(fetched);
+        }
+        let said = self.decode()?;
+        self.kept.keep(&self.core, self.i, said);
+        Ok((said.operation, self.instruction(&said)))
+    }
+
+    /// The same, where the instruction at the I register is kept.
+    #[inline(always)]
+    #[tactic(auto, using(crate::proofs::DecodedLemmas::says_step))]
+    fn recall(&self) -> Option<(Operation, Instruction)>
+        ensures step { IfSome result (λ fetched. step self.now ≡ perform fetched.0 fetched.1 self.now) }
+        ensures a { IfSome result (λ fetched. fetched.1.a < addresses) }
+        ensures b { IfSome result (λ fetched. fetched.1.b < addresses) }
+        ensures next { IfSome result (λ fetched. fetched.1.next < addresses) }
+    {
+        let said = self.kept.find(&self.core, self.i)?;
+        Some((said.operation, self.instruction(said)))
+    }
+
+    /// Decodes the instruction at the I register, or says why it can't be carried out.
+    #[inline(never)]
+    #[tactic(auto, unfolding(crate::specs::Step::step))]
+    fn decode(&self) -> Result<Decoded, Stop>
+        ensures ok { IfOk result (λ said. Says self.now.storage self.now.i said) }
+        ensures err { IfErr result (λ stop. step self.now ≡ stopped stop self.now) }
+        ensures no_halt { IfErr result (λ stop. stop ≢ Stop.Halt) }
+        ensures no_limit { IfErr result (λ stop. stop ≢ Stop.Limit) }
+    {
         if !self.begins() {
-            return Some(Stop::NoMark);
+            return Err(Stop::NoMark);
         }
         let char = self.core.get(self.i).char;
         let Some(operation) = Operation::from_char(char) else {
-            return Some(if is_unfitted(char) {
+            return Err(if is_unfitted(char) {
                 Stop::NotFitted
             } else {
                 Stop::OpCode
@@ -44,13 +96,34 @@ impl Machine {
         };
         let len = self.len(operation);
         if operation.is_unfitted_length(len) {
-            return Some(Stop::NotFitted);
+            return Err(Stop::NotFitted);
         }
         if !operation.has_length(len) {
-            return Some(Stop::Length);
+            return Err(Stop::Length);
         }
-        let this = self.instruction(operation, len);
-        self.perform(operation, this)
+        Ok(Decoded {
+            operation,
+            len,
+            d: self.core.get(self.i + len - 1).char,
+            a: self.address(self.i + 1, len >= 4),
+            b: self.address(self.i + 4, len >= 7),
+        })
+    }
+
+    /// The address that the three characters from this place on spell, if there are such.
+    fn address(&self, at: u16, is_there: bool) -> Address
+        requires { is_there ≡ true → at + 2 < length self.now.storage }
+        ensures { is_there ≡ true → IsAddress self.now.storage at result }
+    {
+        if is_there {
+            let (value, register) = self.core.decode_at(at);
+            Address { value, register }
+        } else {
+            Address {
+                value: 0,
+                register: 0,
+            }
+        }
     }
 
     /// Whether an instruction begins at the I register.
@@ -66,6 +139,7 @@ impl Machine {
         ensures value { result ≡ length_at self.now.storage operation self.now.i }
         ensures some { 0 < result }
         ensures most { result ≤ 8 }
+        ensures near { longest_at self.now.storage operation self.now.i ≤ 8 }
         ensures inside { self.now.i + result ≤ length self.now.storage }
     {
         let fifth = self.char_at(self.i + 4);
@@ -83,35 +157,60 @@ impl Machine {
         }
     }
 
-    /// The instruction of this length at the I register.
-    fn instruction(&self, operation: Operation, len: u16) -> Instruction
-        requires some { 0 < len }
-        requires most { len ≤ 8 }
-        requires inside { self.now.i + len ≤ length self.now.storage }
-        ensures value { result ≡ instruction_of operation len self.now }
+    /// The instruction at the I register, by what it says itself, by the registers and by index registers.
+    #[inline(always)]
+    fn instruction(&self, said: &Decoded) -> Instruction
+        requires { Says self.now.storage self.now.i said.now }
+        ensures value { result ≡ instruction_of said.now.operation said.now.len self.now }
         ensures a { result.a < addresses }
         ensures b { result.b < addresses }
         ensures next { result.next < addresses }
     {
-        let a = if len >= 4 {
-            self.core.effective(self.i + 1)
-        } else {
-            self.a
-        };
-        let b = if len >= 7 {
-            self.core.effective(self.i + 4)
-        } else if len >= 4 && operation.loads_both() {
-            a
-        } else {
-            self.b
-        };
-        let d = self.core.get(self.i + len - 1).char;
+        let len = said.len;
         let next = if self.i + len < ADDRESSES {
             self.i + len
         } else {
             self.i + len - ADDRESSES
         };
-        Instruction { len, a, b, d, next }
+        Instruction {
+            len,
+            a: self.a_address(said),
+            b: self.b_address(said),
+            d: said.d,
+            next,
+        }
+    }
+
+    /// What the instruction has for its A address: its own, or the A register as it stands.
+    #[inline(always)]
+    #[tactic(auto, using(crate::proofs::DecodedLemmas::effective_is))]
+    fn a_address(&self, said: &Decoded) -> u16
+        requires { Says self.now.storage self.now.i said.now }
+        ensures value { result ≡ (instruction_of said.now.operation said.now.len self.now).a }
+        ensures range { result < addresses }
+    {
+        if said.len >= 4 {
+            self.core.indexed(said.a.value, said.a.register)
+        } else {
+            self.a
+        }
+    }
+
+    /// What it has for its B address: its own, or its only address, or the B register as it stands.
+    #[inline(always)]
+    #[tactic(auto, using(crate::proofs::DecodedLemmas::effective_is))]
+    fn b_address(&self, said: &Decoded) -> u16
+        requires { Says self.now.storage self.now.i said.now }
+        ensures value { result ≡ (instruction_of said.now.operation said.now.len self.now).b }
+        ensures range { result < addresses }
+    {
+        if said.len >= 7 {
+            self.core.indexed(said.b.value, said.b.register)
+        } else if said.len >= 4 && said.operation.loads_both() {
+            self.core.indexed(said.a.value, said.a.register)
+        } else {
+            self.b
+        }
     }
 
     /// Does what the operation does.

@@ -1,0 +1,89 @@
+//! Instructions kept as they were decoded: one that is carried out again isn't decoded again.
+ghost use Rattle.std.specs.Prelude.{◌≡◌, ◌<◌, IfSome, length};
+ghost use Rattle.core_1401.specs.Address.{addresses};
+ghost use Rattle.cpu_1401.specs.Decoded.{AlwaysSay, Says};
+
+use crate::decoded::{Address, Decoded};
+use crate::operation::Operation;
+use bcd_1401::Char;
+use core_1401::{Core, EightCells};
+use std::alloc::{AllocError, Global};
+
+/// How many places the longest instruction has.
+const LONGEST: usize = 8;
+
+/// Eight cells, and the instruction that they are.
+#[derive(Clone, Copy)]
+struct Kept {
+    cells: EightCells,
+    decoded: Decoded,
+    ghost says: { AlwaysSay cells.codes cells.marks decoded },
+}
+
+/// For each place the instruction that was decoded there last, with the cells that it was decoded from.
+#[derive(Drop)]
+pub(crate) struct Instructions {
+    kept: Vec<Kept>,
+}
+
+impl Instructions {
+    /// No instruction, with room for one at each place.
+    ///
+    /// # Errors
+    ///
+    /// Where there is no memory for it.
+    pub(crate) fn none(alloc: Global, size: u16) -> Result<Instructions, AllocError> {
+        let kept = vec![in alloc; nothing_kept(); usize::from(size)]?;
+        Ok(Instructions { kept })
+    }
+
+    /// The instruction at a place, if it was decoded there from cells like those that stand there now.
+    #[inline(always)]
+    pub(crate) fn find(&self, core: &Core, at: u16) -> Option<&Decoded>
+        ensures { IfSome result (λ decoded. Says core.now at decoded.now) }
+    {
+        let place = usize::from(at);
+        if place + LONGEST > usize::from(core.size()) || place >= self.kept.len() {
+            return None;
+        }
+        let kept = &self.kept[place];
+        if core.eight_cells(at) != kept.cells {
+            return None;
+        }
+        Some(&kept.decoded)
+    }
+
+    /// Keeps the instruction at a place, but not where fewer than eight places are left up to the end of core.
+    #[tactic(auto, using(crate::proofs::DecodedLemmas::always_say))]
+    pub(crate) fn keep(&mut self, core: &Core, at: u16, decoded: Decoded)
+        requires { Says core.now at decoded }
+    {
+        let place = usize::from(at);
+        if place + LONGEST > usize::from(core.size()) || place >= self.kept.len() {
+            return;
+        }
+        let cells = core.eight_cells(at);
+        self.kept[place] = Kept { cells, decoded };
+    }
+}
+
+/// What is kept before anything is decoded: no eight characters have these codes.
+fn nothing_kept() -> Kept {
+    let none = Address {
+        value: 0,
+        register: 0,
+    };
+    Kept {
+        cells: EightCells {
+            codes: u64::MAX,
+            marks: 0,
+        },
+        decoded: Decoded {
+            operation: Operation::NoOperation,
+            len: 1,
+            d: Char::BLANK,
+            a: none,
+            b: none,
+        },
+    }
+}
