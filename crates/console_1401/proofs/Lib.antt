@@ -1,6 +1,7 @@
 pub mod AnsweringLemmas
 mod ConsoleLineExamples
 pub mod DigitLemmas
+mod GlanceExamples
 pub mod ImageLoadingLemmas
 mod LineTextExamples
 pub mod LineTextLemmas

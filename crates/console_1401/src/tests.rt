@@ -2,6 +2,7 @@
 
 mod answers;
 mod failures;
+mod glances;
 mod lines;
 mod order;
 mod sessions;
