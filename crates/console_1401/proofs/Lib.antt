@@ -1,4 +1,5 @@
 pub mod AnsweringLemmas
+pub mod AttendedLemmas
 mod ConsoleLineExamples
 pub mod DigitLemmas
 mod GlanceExamples

@@ -10,6 +10,8 @@
 
 pub mod answer_text;
 mod answering;
+pub mod attending;
+pub mod door;
 pub mod failure;
 pub mod from_reader;
 pub mod image_loading;
@@ -25,6 +27,8 @@ pub mod to_writer;
 mod words;
 
 pub use answer_text::reply_text;
+pub use attending::attend;
+pub use door::{Door, OpenDoor};
 pub use failure::Failed;
 pub use from_reader::FromReader;
 pub use image_loading::put_image;

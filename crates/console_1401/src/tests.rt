@@ -1,6 +1,7 @@
 //! Lines, answers, sources and sinks, and whole sessions, worked out by hand.
 
 mod answers;
+mod attending;
 mod failures;
 mod glances;
 mod lines;
