@@ -9,6 +9,7 @@ pub mod LineTextLemmas
 pub mod NumberLemmas
 pub mod ReadingLemmas
 mod ReplyTextExamples
+pub mod ServedLemmas
 mod SessionEndExamples
 mod SessionExamples
 pub mod SessionLemmas

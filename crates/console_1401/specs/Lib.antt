@@ -7,6 +7,7 @@ pub mod Limits
 pub mod LineText
 pub mod ReplyText
 pub mod SeatTurns
+pub mod Served
 pub mod Session
 pub mod Sink
 pub mod Text
