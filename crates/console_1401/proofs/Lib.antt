@@ -1,12 +1,15 @@
 pub mod AnsweringLemmas
+pub mod AttendedLemmas
 mod ConsoleLineExamples
 pub mod DigitLemmas
+mod GlanceExamples
 pub mod ImageLoadingLemmas
 mod LineTextExamples
 pub mod LineTextLemmas
 pub mod NumberLemmas
 pub mod ReadingLemmas
 mod ReplyTextExamples
+pub mod ServedLemmas
 mod SessionEndExamples
 mod SessionExamples
 pub mod SessionLemmas

@@ -14,12 +14,12 @@ use Rattle.cpu_1401.specs.declared.switch_name.SwitchName.TheVariants.{A, B, C, 
 use Rattle.room_1401.specs.CarryOut.{most_cells}
 use Rattle.room_1401.specs.declared.command.Command.TheVariants as command
 use Rattle.console_1401.specs.declared.line.Line.{Line}
-use Rattle.console_1401.specs.declared.line.Line.TheVariants.{Empty, Command, Quit}
+use Rattle.console_1401.specs.declared.line.Line.TheVariants.{Empty, Command, Glance, Quit}
 use Rattle.console_1401.specs.declared.words.Keyword.{Keyword}
 use Rattle.console_1401.specs.declared.words.Keyword.TheVariants as keyword
 use Rattle.console_1401.specs.Bytes.{blank}
 use Rattle.console_1401.specs.ConsoleLine.{said_in_words, said_with, ended, spelled, cells_of, deposit_of, examine_of}
-use Rattle.console_1401.specs.ConsoleLine.{start_of, switch_said, run_of}
+use Rattle.console_1401.specs.ConsoleLine.{start_of, switch_said, run_of, glance_of}
 use Rattle.console_1401.specs.Limits.{most_digits}
 use Rattle.console_1401.specs.LineText.{Part, IsTyped, IsTypedBehind, IsParted, CanBeSaid, text_of, setting_text}
 use Rattle.console_1401.specs.LineText.{one_cell}
@@ -43,6 +43,7 @@ keyword_is_word keyword.Regs = record { some = omega arith; whole = refl }
 keyword_is_word keyword.Start = record { some = omega arith; whole = refl }
 keyword_is_word keyword.Switch = record { some = omega arith; whole = refl }
 keyword_is_word keyword.Run = record { some = omega arith; whole = refl }
+keyword_is_word keyword.Glance = record { some = omega arith; whole = refl }
 keyword_is_word keyword.Quit = record { some = omega arith; whole = refl }
 
 keyword_is_known : (k : Keyword) → keyword_of (name_of k) ≡ Some k
@@ -53,6 +54,7 @@ keyword_is_known keyword.Regs = refl
 keyword_is_known keyword.Start = refl
 keyword_is_known keyword.Switch = refl
 keyword_is_known keyword.Run = refl
+keyword_is_known keyword.Glance = refl
 keyword_is_known keyword.Quit = refl
 
 letter_is_word : (switch : SwitchName) → IsWord (letter_of switch)
@@ -140,6 +142,14 @@ start_says : (address : ℕ) (line : List ℕ) → address < addresses → IsTyp
     → start_of line ≡ Ok (Command (command.SetI address))
 unfolding start_of
 start_says address line in_range t =
+    let n = numeral address t.1 (omega arith) t.4 in
+    let s = split_number address t.0 t.1 t.2 line n t.3 t.5 in
+    rw (s.word_is, s.rest_is, address_is address t.1 in_range n.says) (ended_by_blanks _ t.6.0 t.2 t.6.1)
+
+glance_says : (address : ℕ) (line : List ℕ) → address < addresses → IsTyped (Numeral address ∷ []) [] line
+    → glance_of line ≡ Ok (Glance address)
+unfolding glance_of
+glance_says address line in_range t =
     let n = numeral address t.1 (omega arith) t.4 in
     let s = split_number address t.0 t.1 t.2 line n t.3 t.5 in
     rw (s.word_is, s.rest_is, address_is address t.1 in_range n.says) (ended_by_blanks _ t.6.0 t.2 t.6.1)
@@ -263,6 +273,8 @@ in_words (Command (command.Switch switch on)) line can t =
     by_keyword keyword.Switch [] parts line _ t (switch_says switch on t.2 t.6)
 in_words (Command (command.Run limit)) line can t =
     by_keyword keyword.Run [] (Numeral limit ∷ []) line _ t (run_says limit t.2 can t.6)
+in_words (Glance address) line can t =
+    by_keyword keyword.Glance [] (Numeral address ∷ []) line _ t (glance_says address t.2 can t.6)
 in_words Quit line can t = by_keyword keyword.Quit [] [] line _ t (ended_by_blanks _ t.6.0 t.2 t.6.1)
 
 -- an address alone

@@ -89,6 +89,8 @@ none_with (Ok line.Empty) memory_refused spare left turns here few none =
 none_with (Ok (line.Command command)) memory_refused spare left turns here few none =
     let turn : Turn = record { said = Ok (line.Command command); memory_refused = memory_refused } in
     none_in_front spare left turn (commands_in turns) here few none
+none_with (Ok (line.Glance address)) memory_refused spare left turns here few none =
+    none_of_fewer spare left (commands_in turns) (omega arith) none
 none_with (Ok line.Quit) memory_refused spare left turns here few none =
     none_of_fewer spare left (commands_in turns) (omega arith) none
 none_with (Err fault) memory_refused spare left turns here few none =
@@ -100,6 +102,7 @@ spare_with : (said : Said) (memory_refused : Bool) (spare middle left : ℕ) (tu
     → spare ≤ left + length (commands_in (record { said = said; memory_refused = memory_refused } ∷ turns))
 spare_with (Ok line.Empty) memory_refused spare middle left turns here rest = omega arith
 spare_with (Ok (line.Command command)) memory_refused spare middle left turns here rest = omega arith
+spare_with (Ok (line.Glance address)) memory_refused spare middle left turns here rest = omega arith
 spare_with (Ok line.Quit) memory_refused spare middle left turns here rest = omega arith
 spare_with (Err fault) memory_refused spare middle left turns here rest = omega arith
 

@@ -8,7 +8,7 @@ use Rattle.bcd_1401.specs.Graphic.{graphics}
 use Rattle.room_1401.specs.CarryOut.{most_cells}
 use Rattle.room_1401.specs.declared.command.Command.TheVariants as command
 use Rattle.console_1401.specs.declared.line.Line.{Line}
-use Rattle.console_1401.specs.declared.line.Line.TheVariants.{Empty, Command, Quit}
+use Rattle.console_1401.specs.declared.line.Line.TheVariants.{Empty, Command, Glance, Quit}
 use Rattle.console_1401.specs.declared.line.LineFault.{LineFault}
 use Rattle.console_1401.specs.declared.line.LineFault.TheVariants.{Word, Graphic, Length, Extra}
 use Rattle.console_1401.specs.declared.words.Keyword.{Keyword}
@@ -79,6 +79,12 @@ run_of operands = do
   limit ← number_of (word_in operands)
   ended (behind_word operands) (Command (command.Run limit))
 
+-- GLANCE a
+unfoldable pub glance_of : List ℕ → Said
+glance_of operands = do
+  address ← address_of (word_in operands)
+  ended (behind_word operands) (Glance address)
+
 -- what a line says by its first word and what stands behind that
 unfoldable pub said_with : Option Keyword → List ℕ → Said
 said_with None operands = Err Word
@@ -88,6 +94,7 @@ said_with (Some keyword.Regs) operands = ended operands (Command command.Registe
 said_with (Some keyword.Start) operands = start_of operands
 said_with (Some keyword.Switch) operands = switch_said operands
 said_with (Some keyword.Run) operands = run_of operands
+said_with (Some keyword.Glance) operands = glance_of operands
 said_with (Some keyword.Quit) operands = ended operands Quit
 
 -- a line of blanks alone is empty

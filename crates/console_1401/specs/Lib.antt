@@ -1,10 +1,13 @@
 pub mod Answering
+pub mod Attended
 pub mod Bytes
 pub mod ConsoleLine
 pub mod ImageLoading
 pub mod Limits
 pub mod LineText
 pub mod ReplyText
+pub mod SeatTurns
+pub mod Served
 pub mod Session
 pub mod Sink
 pub mod Text

@@ -43,6 +43,7 @@ text_of (line.Command (command.SetI address)) = words_alone (Name (codes "START"
 text_of (line.Command (command.Switch n on)) =
     words_alone (Name (codes "SWITCH") ∷ Name (letter_of n) ∷ Name (setting_text on) ∷ [])
 text_of (line.Command (command.Run limit)) = words_alone (Name (codes "RUN") ∷ Numeral limit ∷ [])
+text_of (line.Glance address) = words_alone (Name (codes "GLANCE") ∷ Numeral address ∷ [])
 text_of line.Quit = words_alone (Name (codes "QUIT") ∷ [])
 
 -- how a part is typed: a number in seven digits at the most, with as many zeros in front as one likes
@@ -78,6 +79,7 @@ CanBeSaid (line.Command command.Registers) = Unit {0}
 CanBeSaid (line.Command (command.SetI address)) = address < addresses
 CanBeSaid (line.Command (command.Switch n on)) = Unit {0}
 CanBeSaid (line.Command (command.Run limit)) = limit < 10 ^ most_digits
+CanBeSaid (line.Glance address) = address < addresses
 CanBeSaid line.Quit = Unit {0}
 
 -- The line is what is typed for what it says.

@@ -12,6 +12,8 @@ use Rattle.room_1401.specs.declared.answer.Answer.{Answer}
 use Rattle.room_1401.specs.declared.answer.Answer.TheVariants as answer
 use Rattle.room_1401.specs.declared.answer.Refusal.{Refusal}
 use Rattle.room_1401.specs.declared.answer.Refusal.TheVariants as refusal
+use Rattle.room_1401.specs.declared.fault.GlanceFault.{GlanceFault}
+use Rattle.room_1401.specs.declared.fault.GlanceFault.TheVariants as glance_fault
 use Rattle.room_1401.specs.declared.fault.RoomFault.{RoomFault}
 use Rattle.room_1401.specs.declared.fault.RoomFault.TheVariants as room_fault
 use Rattle.console_1401.specs.declared.line.LineFault.{LineFault}
@@ -98,10 +100,21 @@ room_fault_text room_fault.Memory = codes "FAULT 1 MEMORY"
 room_fault_text room_fault.JournalFull = codes "FAULT 2 JOURNAL FULL"
 room_fault_text room_fault.NoReading = codes "FAULT 3 NO READING"
 
+-- a glance: after how many commands, and the cell that stands there then
+unfoldable pub glance_text : ℕ → Cell → List ℕ
+glance_text after cell = codes "AFTER " ++ digits_in 1 after ++ codes " " ++ cell_text cell
+
+-- a glance that shows nothing
+abbrev pub glance_fault_text : GlanceFault → List ℕ
+glance_fault_text glance_fault.Range = codes "GLANCE FAULT 1 RANGE"
+glance_fault_text glance_fault.Gone = codes "GLANCE FAULT 2 GONE"
+
 -- the text of a reply
 unfoldable pub text_of_reply : Reply → List ℕ
 text_of_reply (reply.Answer answer) = answer_text answer
 text_of_reply (reply.RoomFault fault) = room_fault_text fault
+text_of_reply (reply.Glance glance) = glance_text glance.after glance.cell
+text_of_reply (reply.GlanceFault fault) = glance_fault_text fault
 text_of_reply (reply.LineFault fault) = fault_text fault
 text_of_reply reply.Bye = codes "BYE"
 

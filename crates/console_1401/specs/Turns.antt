@@ -1,11 +1,13 @@
 -- What a line is answered at the console of a room, and what it leaves (own).
 use Rattle.std.specs.Prelude.{◌≡◌, ℕ, ◌+◌, ◌<◌, ◌≤◌, Bool, false, All, List, [], ◌∷◌, ◌++◌, ◌||◌, length, take, map}
-use Rattle.std.specs.Prelude.{if◌then◌else◌, Option, None, Some, Ok, Err}
+use Rattle.std.specs.Prelude.{nat_lt, if◌then◌else◌, Option, None, Some, Ok, Err}
 use Rattle.room_1401.specs.declared.command.Command.{Command}
 use Rattle.room_1401.specs.declared.entry.Entry.{Entry}
+use Rattle.room_1401.specs.declared.fault.GlanceFault.TheVariants.{Range}
 use Rattle.room_1401.specs.declared.fault.RoomFault.TheVariants.{Memory, JournalFull}
 use Rattle.room_1401.specs.Account.{Account}
-use Rattle.room_1401.specs.Journal.{entry, answer_to, is_full}
+use Rattle.room_1401.specs.Journal.{entry, answer_to, is_full, pairs_of}
+use Rattle.room_1401.specs.Replay.{cell_after}
 use Rattle.console_1401.specs.declared.line.Line.TheVariants as line
 use Rattle.console_1401.specs.declared.reply.Reply.{Reply}
 use Rattle.console_1401.specs.declared.reply.Reply.TheVariants as reply
@@ -23,11 +25,20 @@ command_reply size journal command memory_refused =
     if is_full journal then reply.RoomFault JournalFull
     else (if memory_refused then reply.RoomFault Memory else reply.Answer (answer_to size journal command))
 
+-- what a glance is answered after these entries: how many there are, and the cell that stands at the address; or that
+-- the address isn't in core
+abbrev pub glance_reply : ℕ → List Entry → ℕ → Reply
+glance_reply size journal address =
+    if nat_lt address size
+    then reply.Glance (record { after = length journal; cell = cell_after size (pairs_of journal) address })
+    else reply.GlanceFault Range
+
 -- what a line is answered after these entries: an empty one has no reply
 abbrev pub reply_of : ℕ → List Entry → Said → Bool → Option Reply
 reply_of size journal (Ok line.Empty) memory_refused = None
 reply_of size journal (Ok (line.Command command)) memory_refused =
     Some (command_reply size journal command memory_refused)
+reply_of size journal (Ok (line.Glance address)) memory_refused = Some (glance_reply size journal address)
 reply_of size journal (Ok line.Quit) memory_refused = Some reply.Bye
 reply_of size journal (Err fault) memory_refused = Some (reply.LineFault fault)
 
@@ -37,6 +48,7 @@ journal_with size journal (Ok (line.Command command)) memory_refused =
     if is_full journal || memory_refused then journal
     else journal ++ entry 0 command (answer_to size journal command) ∷ []
 journal_with size journal (Ok line.Empty) memory_refused = journal
+journal_with size journal (Ok (line.Glance address)) memory_refused = journal
 journal_with size journal (Ok line.Quit) memory_refused = journal
 journal_with size journal (Err fault) memory_refused = journal
 
@@ -44,6 +56,7 @@ journal_with size journal (Err fault) memory_refused = journal
 abbrev pub entries_of : Said → ℕ
 entries_of (Ok line.Empty) = 0
 entries_of (Ok (line.Command command)) = 1
+entries_of (Ok (line.Glance address)) = 0
 entries_of (Ok line.Quit) = 0
 entries_of (Err fault) = 0
 

@@ -3,12 +3,12 @@ ghost use Rattle.std.specs.Prelude.{◌≡◌, [], ◌∷◌, ◌++◌, map, IfO
 ghost use Rattle.console_1401.specs.ConsoleLine.{spelled};
 ghost use Rattle.console_1401.specs.ReplyText.{answer_text, IsReadAgain, cell_text, cells_text, regs_text, ran_text};
 ghost use Rattle.console_1401.specs.ReplyText.{digits_in, indicator_text, switch_text, switches_text, refusal_text};
-ghost use Rattle.console_1401.specs.ReplyText.{fault_text, room_fault_text};
+ghost use Rattle.console_1401.specs.ReplyText.{fault_text, room_fault_text, glance_text, glance_fault_text};
 
 use crate::line::LineFault;
 use bcd_1401::Cell;
 use cpu_1401::{Regs, Stop};
-use room_1401::{Answer, Refusal, RoomFault};
+use room_1401::{Answer, GlanceFault, Refusal, RoomFault};
 use std::alloc::{AllocError, Global};
 
 /// The text of an answer.
@@ -96,11 +96,11 @@ fn put_number(text: &mut Vec<u8>, name: &[u8], width: u8, number: u32) -> Result
     ensures { OnOk result (text.new.items ≡ text.old.items ++ name.now ++ digits_in width number) }
 {
     text.extend_from_slice(name)?;
-    put_digits(text, width, number)
+    put_digits(text, width, u64::from(number))
 }
 
 /// Adds a number, with zeros in front where it has fewer digits than the width.
-fn put_digits(text: &mut Vec<u8>, width: u8, number: u32) -> Result<(), AllocError>
+fn put_digits(text: &mut Vec<u8>, width: u8, number: u64) -> Result<(), AllocError>
     ensures { OnOk result (text.new.items ≡ text.old.items ++ digits_in width number) }
 {
     if width > 1 || number > 9 {
@@ -149,6 +149,18 @@ fn refusal_reply(why: Refusal) -> &'static [u8]
     }
 }
 
+/// A glance: after how many commands, and the cell that stands there then.
+#[tactic(auto, unfolding(crate::specs::ReplyText::glance_text))]
+pub(crate) fn glance_text(alloc: Global, after: u64, cell: Cell) -> Result<Vec<u8>, AllocError>
+    ensures { IfOk result (λ text. text.items ≡ glance_text after cell) }
+{
+    let mut text = Vec::from_slice(alloc, b"AFTER ")?;
+    put_digits(&mut text, 1, after)?;
+    text.extend_from_slice(b" ")?;
+    put_cell(&mut text, cell)?;
+    Ok(text)
+}
+
 /// The text of a line's fault.
 pub(crate) fn fault_reply(fault: LineFault) -> &'static [u8]
     ensures { result.now ≡ fault_text fault }
@@ -170,5 +182,15 @@ pub(crate) fn room_fault_reply(fault: RoomFault) -> &'static [u8]
         RoomFault::Memory => b"FAULT 1 MEMORY",
         RoomFault::JournalFull => b"FAULT 2 JOURNAL FULL",
         RoomFault::NoReading => b"FAULT 3 NO READING",
+    }
+}
+
+/// The text of a glance's fault.
+pub(crate) fn glance_fault_reply(fault: GlanceFault) -> &'static [u8]
+    ensures { result.now ≡ glance_fault_text fault }
+{
+    match fault {
+        GlanceFault::Range => b"GLANCE FAULT 1 RANGE",
+        GlanceFault::Gone => b"GLANCE FAULT 2 GONE",
     }
 }

@@ -10,6 +10,8 @@
 
 pub mod answer_text;
 mod answering;
+pub mod attending;
+pub mod door;
 pub mod failure;
 pub mod from_reader;
 pub mod image_loading;
@@ -17,6 +19,7 @@ pub mod line;
 mod line_buffer;
 mod reply;
 mod responder;
+pub mod serving;
 pub mod session_end;
 pub mod sessions;
 pub mod sink;
@@ -25,10 +28,13 @@ pub mod to_writer;
 mod words;
 
 pub use answer_text::reply_text;
+pub use attending::attend;
+pub use door::{Door, OpenDoor};
 pub use failure::Failed;
 pub use from_reader::FromReader;
 pub use image_loading::put_image;
 pub use line::{LINE_LIMIT, Line, LineFault, parse_line};
+pub use serving::{ServeFault, Served, serve};
 pub use session_end::SessionEnd;
 pub use sessions::session;
 pub use sink::{Sink, put_all};

@@ -2,7 +2,7 @@
 ghost use Rattle.std.specs.Prelude.{◌≡◌, ℕ, ◌<◌, [], ◌∷◌, length, MatchOption};
 ghost use Rattle.console_1401.specs.declared.line.Line.{Line};
 ghost use Rattle.console_1401.specs.ConsoleLine.{cell_of, spelled, cells_of, ended, deposit_of, examine_of, start_of};
-ghost use Rattle.console_1401.specs.ConsoleLine.{switch_said, run_of, said_with, said_in_words, said_by};
+ghost use Rattle.console_1401.specs.ConsoleLine.{switch_said, run_of, glance_of, said_with, said_in_words, said_by};
 ghost use Rattle.console_1401.specs.LineText.{IsLineOf, IsExamineOf, one_cell};
 
 use crate::words::{Keyword, address, count, number, setting, split_word, switch};
@@ -20,6 +20,8 @@ pub enum Line {
     Empty,
     /// A command for the machine.
     Command(Command),
+    /// A glance at the cell at an address, which is no command.
+    Glance(u16),
     /// The end of the session.
     Quit,
 }
@@ -84,6 +86,7 @@ fn parse_operands(keyword: Option<Keyword>, operands: &[u8]) -> Result<Line, Lin
         Some(Keyword::Start) => start(operands),
         Some(Keyword::Switch) => switch_line(operands),
         Some(Keyword::Run) => run(operands),
+        Some(Keyword::Glance) => glance(operands),
         Some(Keyword::Quit) => end(operands, Line::Quit),
         None => Err(LineFault::Word),
     }
@@ -155,6 +158,16 @@ fn run(operands: &[u8]) -> Result<Line, LineFault>
     let (word, behind) = split_word(operands);
     let limit = number(word)?;
     end(behind, Line::Command(Command::Run { limit }))
+}
+
+/// GLANCE a.
+#[tactic(auto, unfolding(crate::specs::ConsoleLine::glance_of))]
+fn glance(operands: &[u8]) -> Result<Line, LineFault>
+    ensures { result ≡ glance_of operands.now }
+{
+    let (word, behind) = split_word(operands);
+    let address = address(word)?;
+    end(behind, Line::Glance(address))
 }
 
 /// The cells that a text spells.

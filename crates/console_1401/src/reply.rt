@@ -2,9 +2,11 @@
 ghost use Rattle.std.specs.Prelude.{◌≡◌, IfOk, Some};
 ghost use Rattle.console_1401.specs.ReplyText.{bytes_of};
 
-use crate::answer_text::{fault_reply, reply_text, room_fault_reply};
+use crate::answer_text::{
+    fault_reply, glance_fault_reply, glance_text, reply_text, room_fault_reply,
+};
 use crate::line::LineFault;
-use room_1401::{Answer, RoomFault};
+use room_1401::{Answer, Glance, GlanceFault, RoomFault};
 use std::alloc::{AllocError, Global};
 
 /// What a line is answered.
@@ -14,6 +16,10 @@ pub(crate) enum Reply {
     Answer(Answer),
     /// Why the room can't carry a command out.
     RoomFault(RoomFault),
+    /// What a glance shows.
+    Glance(Glance),
+    /// Why a glance shows nothing.
+    GlanceFault(GlanceFault),
     /// Why the line says nothing that the console knows.
     LineFault(LineFault),
     /// The end of the session.
@@ -28,6 +34,8 @@ pub(crate) fn reply_bytes(alloc: Global, reply: Reply) -> Result<Vec<u8>, AllocE
     let mut bytes = match reply {
         Reply::Answer(answer) => reply_text(alloc, &answer)?,
         Reply::RoomFault(fault) => Vec::from_slice(alloc, room_fault_reply(fault))?,
+        Reply::Glance(glance) => glance_text(alloc, glance.after, glance.cell)?,
+        Reply::GlanceFault(fault) => Vec::from_slice(alloc, glance_fault_reply(fault))?,
         Reply::LineFault(fault) => Vec::from_slice(alloc, fault_reply(fault))?,
         Reply::Bye => Vec::from_slice(alloc, b"BYE")?,
     };

@@ -1,6 +1,6 @@
 //! A session at the console of a room.
 ghost use Rattle.std.specs.Prelude.{◌≡◌, ◌≢◌, false, IsTrue};
-ghost use Rattle.console_1401.specs.Turns.{Answered, RoomResponds};
+ghost use Rattle.console_1401.specs.Turns.{Answered, RoomResponds, glance_reply};
 ghost use Rattle.console_1401.specs.Session.{SessionDid};
 
 use crate::answering::answer_lines;
@@ -10,7 +10,7 @@ use crate::responder::Responder;
 use crate::session_end::SessionEnd;
 use crate::sink::Sink;
 use crate::source::Source;
-use room_1401::Room;
+use room_1401::{Glance, GlanceFault, Room};
 use std::alloc::Global;
 
 /// The seat of a console that isn't shared.
@@ -28,12 +28,27 @@ impl Responder for Room {
                 Ok(answer) => Some(Reply::Answer(answer)),
                 Err(fault) => Some(Reply::RoomFault(fault)),
             },
+            Ok(Line::Glance(address)) => Some(glance_at(self, address)),
             Ok(Line::Quit) => Some(Reply::Bye),
             Err(fault) => Some(Reply::LineFault(fault)),
         }
     }
 
     fn after(&mut self, _line: u64) {}
+}
+
+/// What a glance at the room itself is answered: all its commands count.
+fn glance_at(room: &Room, address: u16) -> Reply
+    ensures { result ≡ glance_reply room.now.size room.now.journal address }
+{
+    let core = room.machine().core();
+    if !core.in_core(address) {
+        return Reply::GlanceFault(GlanceFault::Range);
+    }
+    Reply::Glance(Glance {
+        after: room.journal().len() as u64,
+        cell: core.get(address),
+    })
 }
 
 /// Answers lines at the console of a room, as seat 0, until QUIT, the end of input, a failure or the bound. A byte is

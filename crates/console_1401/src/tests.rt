@@ -1,7 +1,9 @@
 //! Lines, answers, sources and sinks, and whole sessions, worked out by hand.
 
 mod answers;
+mod attending;
 mod failures;
+mod glances;
 mod lines;
 mod order;
 mod sessions;

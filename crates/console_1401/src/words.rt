@@ -26,19 +26,22 @@ pub(crate) enum Keyword {
     Switch,
     /// RUN: instructions, up to a number of them.
     Run,
+    /// GLANCE: the cell at an address, without a command.
+    Glance,
     /// QUIT: the end of the session.
     Quit,
 }
 
 impl Keyword {
     /// All of them.
-    const ALL: [Keyword; 7] = [
+    const ALL: [Keyword; 8] = [
         Keyword::Deposit,
         Keyword::Examine,
         Keyword::Regs,
         Keyword::Start,
         Keyword::Switch,
         Keyword::Run,
+        Keyword::Glance,
         Keyword::Quit,
     ];
 
@@ -53,6 +56,7 @@ impl Keyword {
             Keyword::Start => b"START",
             Keyword::Switch => b"SWITCH",
             Keyword::Run => b"RUN",
+            Keyword::Glance => b"GLANCE",
             Keyword::Quit => b"QUIT",
         }
     }

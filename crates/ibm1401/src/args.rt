@@ -16,6 +16,7 @@ Lines, each with one reply:
   START A         sets the I register, and runs nothing
   SWITCH X ON     turns sense switch X on, A to G; SWITCH X OFF turns it off
   RUN N           carries out at most N instructions, 1 to 1000000
+  GLANCE A        shows the cell at address A, and after how many commands; it isn't recorded
   QUIT            ends the session, of which nothing is kept";
 
 /// What `assemble` writes.

@@ -6,6 +6,7 @@ mod branches;
 mod command_line;
 mod editing;
 mod faults;
+mod glances;
 mod loading;
 mod moves;
 mod programs;

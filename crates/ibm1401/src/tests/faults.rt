@@ -107,6 +107,7 @@ fn the_help_names_each_line(rt: HostRuntime) -> Result<(), Fail> {
         "\n  START A ",
         "\n  SWITCH X ON ",
         "\n  RUN N ",
+        "\n  GLANCE A ",
         "\n  QUIT ",
     ] {
         assert!(rt; text.as_str().contains(line), "{line}");

@@ -1,0 +1,61 @@
+-- What a line is answered at a seat of a shared room, and what the seat has seen and made then (own).
+use Rattle.std.specs.Prelude.{◌≡◌, ℕ, ◌+◌, ◌<◌, ◌≤◌, length, Option, None, Some, Ok, Err}
+use mathlib.Core.List.{IsPrefix}
+use Rattle.room_1401.specs.declared.command.Command.{Command}
+use Rattle.room_1401.specs.declared.fault.GlanceFault.{GlanceFault}
+use Rattle.room_1401.specs.declared.fault.GlanceFault.TheVariants.{Range, Gone}
+use Rattle.room_1401.specs.declared.fault.RoomFault.TheVariants.{JournalFull}
+use Rattle.room_1401.specs.Journal.{most_entries}
+use Rattle.room_1401.specs.Replay.{cell_after}
+use Rattle.room_1401.specs.Seen.{Knows, Carries}
+use Rattle.console_1401.specs.declared.line.Line.TheVariants as line
+use Rattle.console_1401.specs.declared.reply.Reply.{Reply}
+use Rattle.console_1401.specs.declared.reply.Reply.TheVariants as reply
+use Rattle.console_1401.specs.ConsoleLine.{Said}
+
+-- a command is carried out for the seat, and answered as the sequential machine answers it; or the room takes none, and
+-- the seat has seen no less
+abbrev pub CommandResponds : ℕ → Knows → Command → Reply → Knows → Type 0
+CommandResponds size before command (reply.Answer answer) after =
+    Carries size before.list after.list before.number command answer × (after.made ≡ before.made + 1)
+CommandResponds size before command (reply.RoomFault fault) after =
+    IsPrefix before.list after.list × (after.made ≡ before.made)
+    × (fault ≡ JournalFull → length after.list ≡ most_entries)
+CommandResponds size before command (reply.Glance glance) after = ⊥
+CommandResponds size before command (reply.GlanceFault fault) after = ⊥
+CommandResponds size before command (reply.LineFault fault) after = ⊥
+CommandResponds size before command reply.Bye after = ⊥
+
+-- why a glance shows nothing: the address isn't in core, or else nothing is published any more
+abbrev pub GlanceRefused : ℕ → ℕ → GlanceFault → Type 0
+GlanceRefused size address Range = size ≤ address
+GlanceRefused size address Gone = address < size
+
+-- a glance shows the cell after a list of commands that goes on from what the seat had seen, and how long that is
+abbrev pub GlanceResponds : ℕ → Knows → ℕ → Reply → Knows → Type 0
+GlanceResponds size before address (reply.Glance glance) after =
+    (address < size) × IsPrefix before.list after.list × (glance.after ≡ length after.list)
+    × (glance.cell ≡ cell_after size after.list address) × (after.made ≡ before.made)
+GlanceResponds size before address (reply.GlanceFault fault) after =
+    GlanceRefused size address fault × (after ≡ before)
+GlanceResponds size before address (reply.Answer answer) after = ⊥
+GlanceResponds size before address (reply.RoomFault fault) after = ⊥
+GlanceResponds size before address (reply.LineFault fault) after = ⊥
+GlanceResponds size before address reply.Bye after = ⊥
+
+-- by what the line says: an empty one has no reply, and but for commands and glances nothing is seen or made
+abbrev pub LineResponds : ℕ → Knows → Said → Option Reply → Knows → Type 0
+LineResponds size before (Ok line.Empty) given after = (given ≡ None) × (after ≡ before)
+LineResponds size before (Ok (line.Command command)) None after = ⊥
+LineResponds size before (Ok (line.Command command)) (Some given) after =
+    CommandResponds size before command given after
+LineResponds size before (Ok (line.Glance address)) None after = ⊥
+LineResponds size before (Ok (line.Glance address)) (Some given) after =
+    GlanceResponds size before address given after
+LineResponds size before (Ok line.Quit) given after = (given ≡ Some reply.Bye) × (after ≡ before)
+LineResponds size before (Err fault) given after = (given ≡ Some (reply.LineFault fault)) × (after ≡ before)
+
+-- One line was answered at a seat of a room of this size, whose number stays.
+pub record SeatResponds (size : ℕ) (before : Knows) (said : Said) (given : Option Reply) (after : Knows) : Type 0 where
+  pub number_is : after.number ≡ before.number
+  pub line : LineResponds size before said given after
