@@ -48,7 +48,7 @@ use Rattle.autocoder_1401.specs.Values.{literals_outside, body_outside, line_out
 use Rattle.autocoder_1401.specs.Values.{last_place}
 
 -- the sizes of core storage are addresses, or the one behind the last
-size_bound : (size : ℕ) → is_core_size size ≡ true → (0 < size) × (size ≤ 16000)
+pub size_bound : (size : ℕ) → is_core_size size ≡ true → (0 < size) × (size ≤ 16000)
 size_bound size h = (grind (arith, nat_tests), grind (arith, nat_tests))
 
 -- places that are in core begin at an address, and end in core
@@ -63,7 +63,7 @@ value_inside size (pos k) small inside = grind (arith, nat_tests)
 value_inside size (negsuc k) small inside = absurd (true≢false (sym inside))
 
 -- cells with their addresses, each of which is below the size
-abbrev are_below : ℕ → List (ℕ × Cell) → Bool
+abbrev pub are_below : ℕ → List (ℕ × Cell) → Bool
 are_below size cells = list_all (λ (cell : ℕ × Cell). nat_lt cell.0 size) cells
 
 numbered_below : (size at : ℕ) (cells : List Cell) → (0 < length cells → at + length cells ≤ size)
@@ -263,7 +263,7 @@ line_below size all this line lines small inside = by line.statement inside
     by (Some statement) h = body_below size all this statement.body lines small h
 
 -- where nothing is outside, nothing of the first line is, and nothing of those behind it
-one_line : (size : ℕ) (all : Places) (number : ℕ) (this : Places) (line : Line) (lines : List Line)
+pub one_line : (size : ℕ) (all : Places) (number : ℕ) (this : Places) (line : Line) (lines : List Line)
     → first_outside_from size all number this (line ∷ lines) ≡ None
     → (line_outside size all this line ≡ false)
     × (first_outside_from size all (number + 1) (after_line this line) lines ≡ None)
@@ -277,7 +277,7 @@ one_line size all number this line lines none = by (line_outside size all this l
     by true is h = cc
     by false is h = (is, h)
 
-cells_below : (size : ℕ) (all : Places) (number : ℕ) (this : Places) (lines : List Line) → size ≤ 16000
+pub cells_below : (size : ℕ) (all : Places) (number : ℕ) (this : Places) (lines : List Line) → size ≤ 16000
     → first_outside_from size all number this lines ≡ None → are_below size (cells_from all this lines) ≡ true
 cells_below size all number this [] small none = refl
 cells_below size all number this (line ∷ lines) small none =

@@ -4,6 +4,7 @@ pub mod CharactersLemmas
 pub mod CoreLemmas
 pub mod DigitLemmas
 pub mod FirstFaultLemmas
+pub mod LawLemmas
 pub mod ListingLemmas
 pub mod LowestLemmas
 pub mod SegmentsLemmas

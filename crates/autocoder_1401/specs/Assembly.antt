@@ -1,5 +1,6 @@
 -- The answer of the assembler, memory aside (Autocoder, "Assembler Control").
 use Rattle.std.specs.Prelude.{◌≡◌, ◌⊎◌, ℕ, List, [], ◌∷◌, map, ℤ, pos, Option, None, Some, Result, Ok, Err}
+use Rattle.bcd_1401.specs.declared.cell.Cell.{Cell}
 use Rattle.image_1401.specs.declared.image.Image.{Image}
 use Rattle.source_1401.specs.SourceLine.{lines_of}
 use Rattle.source_1401.specs.Statement.{line_of}
@@ -9,6 +10,7 @@ use Rattle.source_1401.specs.declared.statement.Statement.{Statement}
 use Rattle.source_1401.specs.declared.statement.Line.{Line}
 use Rattle.autocoder_1401.specs.Cells.{place_of, cells_from}
 use Rattle.autocoder_1401.specs.FirstFault.{first_fault, IsFaultless, IsFirstFault}
+use Rattle.autocoder_1401.specs.Laws.{IsFirstOutside}
 use Rattle.autocoder_1401.specs.Listing.{listing_of}
 use Rattle.autocoder_1401.specs.Placement.{Places, nothing_placed, placed}
 use Rattle.autocoder_1401.specs.Segments.{segments_of}
@@ -44,12 +46,16 @@ abbrev pub entry_in : Places → List Line → ℤ
 entry_in all [] = pos 0
 entry_in all (line ∷ lines) = entry_with all line.statement (entry_in all lines)
 
+-- the cells that lines place, each with its address
+abbrev pub placed_cells : List Line → List (ℕ × Cell)
+placed_cells lines = cells_from (placed lines) nothing_placed lines
+
 -- the image that lines without a fault stand for
 abbrev pub image_of : ℕ → List Line → Image
 image_of size lines =
     record {
       size = size;
-      segments = segments_of (cells_from (placed lines) nothing_placed lines);
+      segments = segments_of (placed_cells lines);
       start = place_of (entry_in (placed lines) lines);
     }
 
@@ -76,4 +82,4 @@ assembly_in size source = unless_fault size (lines_in source) (assembly_of size 
 abbrev pub IsFaultOf : ℕ → List Line → AsmFault → Type 0
 IsFaultOf size lines fault =
     IsFirstFault (declared_at lines) lines fault
-    ⊎ (IsFaultless (declared_at lines) lines × (first_outside size lines ≡ Some fault))
+    ⊎ (IsFaultless (declared_at lines) lines × IsFirstOutside size lines fault)

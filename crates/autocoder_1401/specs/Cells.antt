@@ -7,7 +7,7 @@ use Rattle.std.specs.Option.{option_and_then}
 use Rattle.std.specs.List.{flat_map}
 use Rattle.bcd_1401.specs.Character.{with_zone_of}
 use Rattle.bcd_1401.specs.declared.cell.Cell.{Cell}
-use Rattle.core_1401.specs.Address.{spelling_of}
+use Rattle.core_1401.specs.Address.{addresses, spelling_of}
 use Rattle.core_1401.specs.Storage.{blank}
 use Rattle.source_1401.specs.declared.address.Address.{Address}
 use Rattle.source_1401.specs.declared.constant.Constant.{Constant}
@@ -29,7 +29,7 @@ use Rattle.autocoder_1401.specs.declared.characters.Characters.{Characters}
 
 -- the place that a value is the address of; one that is no address counts as 0, and is a fault of its line
 abbrev pub place_of : ℤ → ℕ
-place_of value = if int_le (pos 0) value && int_lt value (pos 16000) then nat_abs value else 0
+place_of value = if int_le (pos 0) value && int_lt value (pos addresses) then nat_abs value else 0
 
 -- a character without a word mark
 abbrev pub plain : ℕ → Cell

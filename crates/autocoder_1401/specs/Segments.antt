@@ -1,20 +1,25 @@
 -- The segments of an image (own).
 use Rattle.std.specs.Prelude.{ℕ, ◌+◌, ◌==◌, Bool, ◌&&◌, nat_le, nat_lt, if◌then◌else◌, List, [], ◌∷◌, ◌++◌, length}
 use Rattle.bcd_1401.specs.declared.cell.Cell.{Cell}
+use Rattle.core_1401.specs.Address.{addresses}
 use Rattle.image_1401.specs.declared.image.Segment.{Segment}
+
+-- how many cells a segment has at the most
+abbrev pub most_cells : ℕ
+most_cells = 40
 
 -- an address; one that is none counts as 0, and is a fault of its line
 abbrev pub within : ℕ → ℕ
-within at = if nat_lt at 16000 then at else 0
+within at = if nat_lt at addresses then at else 0
 
 -- a segment with these cells, if there are any
 abbrev pub closed : ℕ → List Cell → List Segment
-closed at cells = if nat_le 1 (length cells) && nat_le (length cells) 40
+closed at cells = if nat_le 1 (length cells) && nat_le (length cells) most_cells
     then record { address = within at; cells = cells } ∷ [] else []
 
 -- a cell at this address goes on with a segment
 abbrev pub goes_on : ℕ → List Cell → ℕ → Bool
-goes_on at cells next = (next == at + length cells) && nat_lt (length cells) 40
+goes_on at cells next = (next == at + length cells) && nat_lt (length cells) most_cells
 
 -- the segments of the cells so far, and of those behind them
 abbrev pub cut : ℕ → List Cell → List (ℕ × Cell) → List Segment

@@ -7,7 +7,9 @@ ghost use Rattle.core_1401.specs.Storage.{is_core_size};
 ghost use Rattle.image_1401.specs.Image.{IsInCore};
 ghost use Rattle.autocoder_1401.specs.Placement.{placed};
 ghost use Rattle.autocoder_1401.specs.Values.{first_outside};
-ghost use Rattle.autocoder_1401.specs.Assembly.{lines_in, entry_in, image_of, unless_fault, assembly_in, IsFaultOf};
+ghost use Rattle.autocoder_1401.specs.Assembly.{lines_in, entry_in, image_of, placed_cells, unless_fault, assembly_in};
+ghost use Rattle.autocoder_1401.specs.Assembly.{IsFaultOf};
+ghost use Rattle.autocoder_1401.specs.Laws.{IsFirstOutside, IsCutOf};
 ghost use Rattle.autocoder_1401.specs.View.{places_of};
 
 use crate::cells::place_of;
@@ -33,6 +35,23 @@ fn scan(alloc: Global, lines: &[Line]) -> Result<Option<AsmFault>, AsmFault>
 {
     let labels = declared(alloc, lines)?;
     let fault = first_fault(&labels, lines);
+    Ok(fault)
+}
+
+/// The first line of which something isn't in core, once all is placed.
+fn look_outside(
+    alloc: Global,
+    size: u16,
+    all: &Placing,
+    lines: &[Line],
+) -> Result<Option<AsmFault>, AsmFault>
+    requires few { length lines.now < 2 ^ 32 }
+    requires placed { places_of all.now ≡ placed lines.now }
+    ensures ok { IfOk result (λ fault. fault ≡ first_outside size lines.now) }
+    ensures outside { IfOk result (λ fault. IfSome fault (IsFirstOutside size lines.now)) }
+    ensures err { IfErr result IsMemory }
+{
+    let fault = first_outside(alloc, size, all, lines)?;
     Ok(fault)
 }
 
@@ -68,7 +87,7 @@ fn place_lines(alloc: Global, lines: &[Line], size: u16) -> Result<Placing, AsmF
         return Err(fault);
     }
     let all = place_all(alloc, lines)?;
-    if let Some(fault) = first_outside(alloc, size, &all, lines)? {
+    if let Some(fault) = look_outside(alloc, size, &all, lines)? {
         return Err(fault);
     }
     Ok(all)
@@ -115,6 +134,12 @@ pub fn assemble(alloc: Global, source: &[u8], size: u16) -> Result<Assembly, Asm
 
     // All of the image is in core.
     ensures in_core { is_core_size size ≡ true → IfOk result (λ assembly. IsInCore assembly.image) }
+
+    // The segments have the cells that the lines place, in their order: 1 to 40 each, and no fewer than fit but before
+    // a
+    // gap.
+    ensures segments { is_core_size size ≡ true → IfOk result (λ assembly.
+        IsCutOf (placed_cells (lines_in source.now)) assembly.image.segments) }
 
     // A fault is the lowest of the first line that has one, or something of a faultless source isn't in core.
     ensures first { IfErr result (λ fault. IsMemory fault ⊎ IsFaultOf size (lines_in source.now) fault) }

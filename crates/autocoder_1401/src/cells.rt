@@ -1,7 +1,7 @@
 //! The cells that a line places.
 ghost use Rattle.std.specs.Prelude.{◌≡◌, ◌++◌, ◌<◌, ◌%◌, map, fold, IfOk, IfErr, OnOk};
 ghost use Rattle.std.specs.List.{flat_map};
-ghost use Rattle.core_1401.specs.Address.{spelling_of};
+ghost use Rattle.core_1401.specs.Address.{addresses, spelling_of};
 ghost use Rattle.autocoder_1401.specs.Fault.{IsMemory};
 ghost use Rattle.autocoder_1401.specs.Characters.{char_with};
 ghost use Rattle.autocoder_1401.specs.Cells.{place_of, plain, with_word_mark, with_index, literal_value, operand_codes};
@@ -24,7 +24,7 @@ use std::alloc::Global;
 /// The place that a value is the address of, and 0 where it is none.
 pub(crate) fn place_of(value: i64) -> u16
     ensures value { result ≡ place_of value }
-    ensures range { result < 16000 }
+    ensures range { result < addresses }
 {
     if value >= 0 && value < i64::from(ADDRESSES) {
         value as u16
@@ -78,7 +78,7 @@ fn put_marked(out: &mut Vec<Cell>, codes: &[u8]) -> Result<(), AsmFault>
 
 /// The characters of an address, with the number of an index register as the zone over its tens.
 fn address_chars(address: u16, index: u8) -> [Char; 3]
-    requires { address < 16000 }
+    requires { address < addresses }
     ensures { result ≡ with_index (index % 4) (spelling_of address) }
 {
     let [hundreds, tens, units] = encode(address);
