@@ -1,3 +1,4 @@
+mod CardExamples
 mod CarryOutExamples
 pub mod CellsLemmas
 pub mod ClosingLemmas

@@ -1,17 +1,23 @@
 -- What a command does to the machine, and what it is answered (own).
-use Rattle.std.specs.Prelude.{ℕ, ◌+◌, ◌&&◌, Bool, List, ◌++◌}
+use Rattle.std.specs.Prelude.{ℕ, ◌+◌, ◌==◌, ◌&&◌, Bool, List, [], ◌∷◌, ◌++◌}
 use Rattle.std.specs.Prelude.{length, take, drop, nat_le, if◌then◌else◌, Option, Some, None}
 use Rattle.bcd_1401.specs.declared.cell.Cell.{Cell}
 use Rattle.core_1401.specs.Storage.{Storage, is_in_core}
+use Rattle.cpu_1401.specs.CardsAndPrinter.{load, with_devices}
 use Rattle.cpu_1401.specs.Run.{Finished, most_steps, run_for}
 use Rattle.cpu_1401.specs.State.{State, regs_of, with_switch}
 use Rattle.cpu_1401.specs.SwitchName.{switch_number}
+use Rattle.devices_1401.specs.Devices.{after_card, after_line, fed, is_full}
+use Rattle.devices_1401.specs.declared.card.Card.{Card}
+use Rattle.devices_1401.specs.declared.print_line.PrintLine.{PrintLine}
 use Rattle.room_1401.specs.declared.answer.Answer.{Answer}
 use Rattle.room_1401.specs.declared.answer.Answer.TheVariants.{Done, Cells, Regs, Ran, Refused}
+use Rattle.room_1401.specs.declared.answer.Answer.TheVariants as answer
 use Rattle.room_1401.specs.declared.answer.Refusal.{Refusal}
-use Rattle.room_1401.specs.declared.answer.Refusal.TheVariants.{Address, Limit, Count}
+use Rattle.room_1401.specs.declared.answer.Refusal.TheVariants.{Address, Hopper, Reader, Empty, Limit, Count}
 use Rattle.room_1401.specs.declared.command.Command.{Command}
-use Rattle.room_1401.specs.declared.command.Command.TheVariants.{Deposit, Examine, Registers, SetI, Switch, Run}
+use Rattle.room_1401.specs.declared.command.Command.TheVariants.{Deposit, Examine, Registers, SetI, Switch, Feed}
+use Rattle.room_1401.specs.declared.command.Command.TheVariants.{LoadKey, Run, TakeLine, TakeCard}
 
 -- how many cells a command takes or shows at the most
 abbrev pub most_cells : ℕ
@@ -67,6 +73,14 @@ examine storage address count =
 abbrev pub set_i : ℕ → State → Carried
 set_i address s = if is_in_core s.storage address then change_to (record s { i = address }) else refuse Address s
 
+-- a card put behind those in the hopper, where it has room for one more
+abbrev pub feed : Card → State → Carried
+feed card s = if is_full s.devices.hopper then refuse Hopper s else change_to (with_devices (fed s.devices card) s)
+
+-- the load key, where there is a card in the hopper
+abbrev pub load_key : State → Carried
+load_key s = if length s.devices.hopper == 0 then refuse Reader s else change_to (load s)
+
 -- what a run leaves, with the I register afterwards
 abbrev pub run_answer : Finished → Carried
 run_answer run = record { state = run.state; answer = Ran run.steps run.stop run.state.i }
@@ -75,6 +89,22 @@ run_answer run = record { state = run.state; answer = Ran run.steps run.stop run
 abbrev pub run : ℕ → State → Carried
 run limit s = if nat_le 1 limit && nat_le limit most_steps then run_answer (run_for limit s) else refuse Limit s
 
+-- the oldest line taken from the paper, if there is one
+abbrev pub oldest_line : List PrintLine → State → Carried
+oldest_line [] s = refuse Empty s
+oldest_line (line ∷ lines) s = record { state = with_devices (after_line s.devices) s; answer = answer.Line line }
+
+abbrev pub take_line : State → Carried
+take_line s = oldest_line s.devices.paper s
+
+-- the oldest card taken from the stacker, if there is one
+abbrev pub oldest_card : List Card → State → Carried
+oldest_card [] s = refuse Empty s
+oldest_card (card ∷ cards) s = record { state = with_devices (after_card s.devices) s; answer = answer.Card card }
+
+abbrev pub take_card : State → Carried
+take_card s = oldest_card s.devices.stacker s
+
 -- what a command does, and what it is answered
 unfoldable pub carry_out : State → Command → Carried
 carry_out s (Deposit address cells) = deposit address cells s
@@ -82,7 +112,11 @@ carry_out s (Examine address count) = tell (examine s.storage address count) s
 carry_out s Registers = tell (Regs (regs_of s)) s
 carry_out s (SetI address) = set_i address s
 carry_out s (Switch n on) = change_to (with_switch s (switch_number n) on)
+carry_out s (Feed card) = feed card s
+carry_out s LoadKey = load_key s
 carry_out s (Run limit) = run limit s
+carry_out s TakeLine = take_line s
+carry_out s TakeCard = take_card s
 
 -- the machine after a command, if there is one
 abbrev pub moved : State → Option Command → State

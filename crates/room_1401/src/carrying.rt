@@ -1,13 +1,14 @@
 //! A command carried out on the machine.
 ghost use Rattle.std.specs.Prelude.{◌≡◌, ◌+◌, ◌<◌, ◌≤◌, ◌^◌, IsTrue, length};
 ghost use Rattle.room_1401.specs.CarryOut.{are_in_core, carry_out, deposit, deposited, examine, examined};
-ghost use Rattle.room_1401.specs.CarryOut.{most_cells, run, set_i};
+ghost use Rattle.room_1401.specs.CarryOut.{feed, load_key, most_cells, run, set_i, take_card, take_line};
 
 use crate::answer::{Answer, Refusal};
 use crate::command::Command;
 use bcd_1401::Cell;
 use core_1401::{Cells, Core, MOST_CELLS};
 use cpu_1401::Machine;
+use devices_1401::Card;
 
 /// How many instructions a run has at the most.
 const MOST_STEPS: u32 = 1_000_000;
@@ -29,7 +30,11 @@ pub fn carry_out(machine: &mut Machine, command: &Command) -> Answer
             machine.switch(n.number(), on);
             Answer::Done
         }
+        Command::Feed { card } => feed(machine, card),
+        Command::LoadKey => load_key(machine),
         Command::Run { limit } => run(machine, limit),
+        Command::TakeLine => take_line(machine),
+        Command::TakeCard => take_card(machine),
     }
 }
 
@@ -113,6 +118,30 @@ fn set_i(machine: &mut Machine, address: u16) -> Answer
     Answer::Done
 }
 
+/// Puts a card into the hopper, where there is room for it.
+fn feed(machine: &mut Machine, card: Card) -> Answer
+    ensures state { machine.new ≡ (feed card machine.old).state }
+    ensures answer { result ≡ (feed card machine.old).answer }
+    ensures size { length machine.new.storage ≡ length machine.old.storage }
+{
+    match machine.feed(Card(card.0)) {
+        Ok(()) => Answer::Done,
+        Err(_) => Answer::Refused(Refusal::Hopper),
+    }
+}
+
+/// Presses the load key, where there is a card.
+fn load_key(machine: &mut Machine) -> Answer
+    ensures state { machine.new ≡ (load_key machine.old).state }
+    ensures answer { result ≡ (load_key machine.old).answer }
+    ensures size { length machine.new.storage ≡ length machine.old.storage }
+{
+    match machine.load_key() {
+        Ok(()) => Answer::Done,
+        Err(_) => Answer::Refused(Refusal::Reader),
+    }
+}
+
 /// Runs the machine, where the limit is one that a run has.
 fn run(machine: &mut Machine, limit: u32) -> Answer
     ensures state { machine.new ≡ (run limit machine.old).state }
@@ -127,5 +156,29 @@ fn run(machine: &mut Machine, limit: u32) -> Answer
         steps: ran.steps,
         stop: ran.stop,
         i: machine.regs().i,
+    }
+}
+
+/// Takes the oldest printed line, where there is one.
+fn take_line(machine: &mut Machine) -> Answer
+    ensures state { machine.new ≡ (take_line machine.old).state }
+    ensures answer { result ≡ (take_line machine.old).answer }
+    ensures size { length machine.new.storage ≡ length machine.old.storage }
+{
+    match machine.take_line() {
+        Some(line) => Answer::Line(line),
+        None => Answer::Refused(Refusal::Empty),
+    }
+}
+
+/// Takes the oldest punched card, where there is one.
+fn take_card(machine: &mut Machine) -> Answer
+    ensures state { machine.new ≡ (take_card machine.old).state }
+    ensures answer { result ≡ (take_card machine.old).answer }
+    ensures size { length machine.new.storage ≡ length machine.old.storage }
+{
+    match machine.take_card() {
+        Some(card) => Answer::Card(card),
+        None => Answer::Refused(Refusal::Empty),
     }
 }

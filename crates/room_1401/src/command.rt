@@ -2,6 +2,7 @@
 
 use core_1401::Cells;
 use cpu_1401::SwitchName;
+use devices_1401::Card;
 
 /// What an operator asks of the machine. An address may be any number; one that isn't in core is refused.
 #[derive(Clone, Copy, Debug, PartialEq, Eq)]
@@ -34,9 +35,20 @@ pub enum Command {
         /// Whether it is on afterwards.
         on: bool,
     },
+    /// Puts a card behind those in the hopper.
+    Feed {
+        /// The card.
+        card: Card,
+    },
+    /// Presses the load key: the first card of the hopper is read as a program's first instructions.
+    LoadKey,
     /// Carries out instructions until one stops the machine.
     Run {
         /// How many instructions at the most: 1 to 1,000,000, and any other number is refused.
         limit: u32,
     },
+    /// Takes the oldest printed line from the paper.
+    TakeLine,
+    /// Takes the oldest punched card from the stacker.
+    TakeCard,
 }

@@ -1,5 +1,5 @@
 //! A machine with the journal that explains it.
-ghost use Rattle.std.specs.Prelude.{◌≡◌, ◌+◌, ◌<◌, ◌≤◌, ◌↔◌, [], ◌∷◌, ◌++◌, true, false, length};
+ghost use Rattle.std.specs.Prelude.{◌≡◌, ◌+◌, ◌<◌, ◌≤◌, ◌↔◌, [], ◌∷◌, ◌++◌, true, false, length, vec_len, vec_capacity};
 ghost use Rattle.std.specs.Prelude.{IsOk, IfOk, IfErr, OnOk, OnErr};
 ghost use Rattle.core_1401.specs.Storage.{is_core_size};
 ghost use Rattle.room_1401.specs.Journal.{IsLegal, answer_to, entry, is_full, most_entries, refusal_of, state_of};
@@ -13,6 +13,7 @@ use core_1401::CoreFault;
 use cpu_1401::Machine;
 use std::alloc::Global;
 use std::marker::Model;
+use std::slice::from_ref;
 
 /// How many entries a journal has at the most.
 const MOST_ENTRIES: usize = 100_000;
@@ -136,11 +137,22 @@ impl Room {
         ensures answer { result ≡ answer_to self.old.size self.old.journal command }
         ensures recorded { self.new.journal ≡ self.old.journal ++ entry seat command result ∷ [] }
         ensures size { self.new.size ≡ self.old.size }
-        ensures spare { self.new.spare + 1 ≡ self.old.spare }
+        ensures spare { self.old.spare ≤ self.new.spare + 1 }
     {
         let answer = carry_out(&mut self.machine, &command);
-        self.journal
-            .push_reserved(Entry::new(seat, &command, &answer));
+        record(&mut self.journal, &Entry::new(seat, &command, &answer));
         answer
+    }
+}
+
+/// Copies an entry behind those of a journal that has room for it.
+fn record(journal: &mut Vec<Entry>, entry: &Entry)
+    requires { vec_len journal.old < vec_capacity journal.old }
+    ensures items { journal.new.items ≡ journal.old.items ++ entry.now ∷ [] }
+    ensures len { vec_len journal.new ≡ vec_len journal.old + 1 }
+    ensures capacity { vec_capacity journal.old ≤ vec_capacity journal.new }
+{
+    if journal.extend_from_slice(from_ref(entry)).is_err() {
+        unreachable!();
     }
 }

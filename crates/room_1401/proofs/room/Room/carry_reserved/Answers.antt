@@ -13,8 +13,8 @@ invariant_of-self c =
     let last : Entry = entry c.args.seat c.args.command c.carry_out-answer.result in
     let is = ap (λ (room : Account). room.journal) c.self.view_is in
     let few : length journal < most_entries = grind (arith, nat_tests, ap length is, c.requires.not_full) in
-    let more : c.push_reserved.new.self.items ≡ journal ++ last ∷ [] =
-    c.push_reserved.ensures.items ∙ ap (λ (each : Entry). journal ++ each ∷ []) c.new.ensures in
+    let more : c.record.new.journal.items ≡ journal ++ last ∷ [] =
+    c.record.ensures.items ∙ ap (λ (each : Entry). journal ++ each ∷ []) c.new.ensures in
     subst (λ (items : List Entry). IsExplained c.carry_out-answer.new.machine items) (sym more)
     (explained-append c.self.inside.machine c.carry_out-answer.new.machine c.args.seat journal c.args.command
     c.carry_out-answer.result c.self.invariant few c.carry_out-answer.ensures.state
