@@ -3,18 +3,20 @@ use Rattle.std.proofs.Common.{◌≡◌, ℕ, true, false, List, [], ◌∷◌, 
 use Rattle.std.specs.Prelude.{Ok, Err, codes}
 use Rattle.bcd_1401.specs.declared.cell.Cell.{Cell}
 use Rattle.bcd_1401.specs.Graphic.{graphics}
-use Rattle.room_1401.specs.declared.command.Command.TheVariants.{Deposit, Examine, Registers, SetI, Switch, Run}
+use Rattle.room_1401.specs.declared.command.Command.TheVariants.{Deposit, Examine, Registers, SetI, Switch, Feed}
+use Rattle.room_1401.specs.declared.command.Command.TheVariants.{LoadKey, Run, TakeLine, TakeCard}
 use Rattle.cpu_1401.specs.declared.switch_name.SwitchName.TheVariants.{A, B, C, D, E, F, G}
 use Rattle.console_1401.specs.declared.line.Line.TheVariants.{Empty, Command, Quit}
 use Rattle.console_1401.specs.declared.line.LineFault.TheVariants.{Word, Number, Graphic, Length, Extra}
 use Rattle.console_1401.specs.Words.{word_in, behind_word, keyword_of, number_of, address_of, count_of, switch_named}
 use Rattle.console_1401.specs.Words.{setting_of}
 use Rattle.console_1401.specs.ConsoleLine.{Said, said_by, said_in_words, said_with, ended, spelled, cells_of}
-use Rattle.console_1401.specs.ConsoleLine.{deposit_of, examine_of, start_of, switch_said, run_of}
+use Rattle.console_1401.specs.ConsoleLine.{deposit_of, examine_of, start_of, switch_said, feed_of, run_of}
+use Rattle.console_1401.specs.CardText.{chars_of, card_of}
 
 -- what a line says, with all that its grammar consists of open
 says : List ℕ → Said
-unfolding said_by said_in_words said_with ended spelled cells_of deposit_of examine_of start_of switch_said run_of word_in behind_word keyword_of number_of address_of count_of switch_named setting_of graphics
+unfolding said_by said_in_words said_with ended spelled cells_of chars_of card_of deposit_of examine_of start_of switch_said feed_of run_of word_in behind_word keyword_of number_of address_of count_of switch_named setting_of graphics
 says line = said_by line
 
 -- each of these lines says what stands beside it
@@ -51,7 +53,10 @@ words_alone : AllSay (
     (codes "REGS", Ok (Command Registers)) ∷
     (codes " REGS ", Ok (Command Registers)) ∷
     (codes "QUIT", Ok Quit) ∷
-    (codes "  QUIT  ", Ok Quit) ∷ [])
+    (codes "  QUIT  ", Ok Quit) ∷
+    (codes "LOAD", Ok (Command LoadKey)) ∷
+    (codes " LINE ", Ok (Command TakeLine)) ∷
+    (codes "CARD", Ok (Command TakeCard)) ∷ [])
 unfolding says
 words_alone = refl
 
@@ -150,6 +155,42 @@ up_to_the_fortieth_cell_a_graphic_is_missed_first : AllSay (
 unfolding says
 up_to_the_fortieth_cell_a_graphic_is_missed_first = refl
 
+-- a card with these characters in its first columns, and blanks in the others
+abbrev fed : List ℕ → Said
+fed chars = Ok (Command (Feed (record { 0 = chars })))
+
+the_columns_behind_a_text_are_blank : AllSay (
+    (codes "FEED A", fed (49 ∷ replicate 79 0)) ∷
+    (codes " FEED A ", fed (49 ∷ replicate 79 0)) ∷
+    (codes "FEED  A", fed (0 ∷ 49 ∷ replicate 78 0)) ∷ [])
+unfolding says
+the_columns_behind_a_text_are_blank = refl
+
+feed_alone_is_a_blank_card : AllSay (
+    (codes "FEED", fed (replicate 80 0)) ∷
+    (codes "FEED ", fed (replicate 80 0)) ∷
+    (codes "FEED" ++ replicate 81 32, fed (replicate 80 0)) ∷ [])
+unfolding says
+feed_alone_is_a_blank_card = refl
+
+eighty_columns_are_the_most : AllSay (
+    (codes "FEED " ++ replicate 80 65, fed (replicate 80 49)) ∷
+    (codes "FEED " ++ replicate 81 65, Err Length) ∷
+    (codes "FEED " ++ replicate 81 32, Err Length) ∷
+    (codes "FEED " ++ replicate 80 65 ++ codes " ", Err Length) ∷
+    (codes "FEED " ++ replicate 80 65 ++ codes "a", Err Length) ∷ [])
+unfolding says
+eighty_columns_are_the_most = refl
+
+a_column_that_is_no_graphic : AllSay (
+    (codes "FEED a", Err Graphic) ∷
+    (codes "FEED ~A", Err Graphic) ∷
+    (codes "FEED A" ++ 9 ∷ [], Err Graphic) ∷
+    (codes "FEED " ++ replicate 79 65 ++ codes "a", Err Graphic) ∷
+    (codes "FEED " ++ replicate 79 65 ++ codes "aA", Err Graphic) ∷ [])
+unfolding says
+a_column_that_is_no_graphic = refl
+
 a_missing_number : AllSay (
     (codes "EXAMINE", Err Number) ∷
     (codes "EXAMINE  ", Err Number) ∷
@@ -200,7 +241,10 @@ more_than_a_line_says : AllSay (
     (codes "START 1 X", Err Extra) ∷
     (codes "SWITCH A ON X", Err Extra) ∷
     (codes "SWITCH A OFF ON", Err Extra) ∷
-    (codes "RUN 1 1", Err Extra) ∷ [])
+    (codes "RUN 1 1", Err Extra) ∷
+    (codes "LOAD 1", Err Extra) ∷
+    (codes "LINE X", Err Extra) ∷
+    (codes "CARD 1", Err Extra) ∷ [])
 unfolding says
 more_than_a_line_says = refl
 
@@ -211,7 +255,11 @@ other_words : AllSay (
     (codes "QUITX", Err Word) ∷
     (codes "QUI", Err Word) ∷
     (codes "DEPOSIT0500 A", Err Word) ∷
-    (codes "0500", Err Word) ∷ [])
+    (codes "0500", Err Word) ∷
+    (codes "FEEDA", Err Word) ∷
+    (codes "LOADS", Err Word) ∷
+    (codes "LIN", Err Word) ∷
+    (codes "CARDS", Err Word) ∷ [])
 unfolding says
 other_words = refl
 

@@ -1,5 +1,6 @@
 pub mod AnsweringLemmas
 pub mod AttendedLemmas
+pub mod CardTextLemmas
 mod ConsoleLineExamples
 pub mod DigitLemmas
 mod GlanceExamples

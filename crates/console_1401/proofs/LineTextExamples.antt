@@ -1,5 +1,5 @@
 -- Lines as they may be typed, computed.
-use Rattle.std.proofs.Common.{◌<◌, true, false, [], ◌∷◌, refl, arith}
+use Rattle.std.proofs.Common.{◌≡◌, ℕ, ◌<◌, true, false, List, [], ◌∷◌, drop, refl, arith}
 use Rattle.std.proofs.lemmas.List.Elements.{All-nil, All-cons}
 use Rattle.std.specs.Fmt.{digits}
 use Rattle.std.specs.Prelude.{codes}
@@ -8,7 +8,9 @@ use Rattle.bcd_1401.specs.Graphic.{graphics}
 use Rattle.cpu_1401.specs.declared.switch_name.SwitchName.TheVariants.{C}
 use Rattle.room_1401.specs.declared.command.Command.TheVariants.{Deposit, Examine, Switch}
 use Rattle.console_1401.specs.declared.line.Line.TheVariants.{Empty, Command}
-use Rattle.console_1401.specs.LineText.{IsLineOf, IsExamineOf}
+use Rattle.console_1401.specs.CardText.{card_with, graphics_of}
+use Rattle.console_1401.specs.LineText.{IsLineOf, IsExamineOf, IsTypedBehind}
+use Rattle.console_1401.specs.LineText.Text.{Columns}
 use Rattle.console_1401.specs.ReplyText.{cells_text}
 
 -- blanks in front, between and behind, and zeros in front of numbers
@@ -83,6 +85,19 @@ a_text_begins_behind_one_blank = record {
     (1, codes "7", codes "  ~0", refl, (0, refl, omega arith), refl, refl),
   );
 }
+
+abbrev a_and_b : List ℕ
+a_and_b = 0 ∷ 49 ∷ 0 ∷ 50 ∷ []
+
+-- behind FEED and one blank all is the card, and blanks behind it may be typed or not
+a_card_is_typed_as_it_is :
+    (line : List ℕ) → (drop 1 line ≡ codes " A B" → IsTypedBehind (Columns (card_with a_and_b)) line)
+unfolding graphics_of graphics
+a_card_is_typed_as_it_is line is = (a_and_b, is, refl)
+
+no_column_needs_no_blank : IsTypedBehind (Columns (card_with [])) []
+unfolding graphics_of
+no_column_needs_no_blank = ([], refl, refl)
 
 nothing_but_blanks : IsLineOf Empty (codes "   ")
 nothing_but_blanks = record { can_be = tt; short = omega arith; typed = (3, refl) }

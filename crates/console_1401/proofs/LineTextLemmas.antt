@@ -1,9 +1,10 @@
 -- What is typed for a line says it.
-use Rattle.std.proofs.Common.{◌≡◌, ℕ, zero, suc, ◌^◌, ◌<◌, ◌≤◌, ◌==◌, ◌&&◌, Bool, true, false, List, [], ◌∷◌, ◌++◌}
-use Rattle.std.proofs.Common.{length, drop, map, replicate, Option, None, Some, refl, ◌∙◌, ap, subst, arith, inl, inr}
+use Rattle.std.proofs.Common.{◌≡◌, ℕ, zero, suc, ◌^◌, ◌-◌, ◌<◌, ◌≤◌, ◌==◌, ◌&&◌, Bool, true, false, List, [], ◌∷◌, ◌++◌}
+use Rattle.std.proofs.Common.{length, drop, map, replicate, Option, None, Some, refl, sym, ◌∙◌, ap, subst, arith, inl}
+use Rattle.std.proofs.Common.{inr, length-append}
 use Rattle.std.proofs.lemmas.Bool.{cases_lt, eqb-true}
 use Rattle.std.proofs.lemmas.Bool.Decides.{nat_tests}
-use Rattle.std.proofs.lemmas.List.Elements.{All-head, All-tail}
+use Rattle.std.proofs.lemmas.List.Elements.{All-nil, All-cons, All-head, All-tail}
 use Rattle.std.specs.List.{list_all, flat_map}
 use Rattle.std.specs.Prelude.{codes, All, Ok, is_some, position, slice_index}
 use Rattle.bcd_1401.specs.declared.cell.Cell.{Cell}
@@ -11,6 +12,8 @@ use Rattle.bcd_1401.specs.Graphic.{graphics}
 use Rattle.core_1401.specs.Address.{addresses}
 use Rattle.cpu_1401.specs.declared.switch_name.SwitchName.{SwitchName}
 use Rattle.cpu_1401.specs.declared.switch_name.SwitchName.TheVariants.{A, B, C, D, E, F, G}
+use Rattle.cpu_1401.specs.CardsAndPrinter.{card_columns}
+use Rattle.devices_1401.specs.declared.card.Card.{Card}
 use Rattle.room_1401.specs.CarryOut.{most_cells}
 use Rattle.room_1401.specs.declared.command.Command.TheVariants as command
 use Rattle.console_1401.specs.declared.line.Line.{Line}
@@ -19,14 +22,16 @@ use Rattle.console_1401.specs.declared.words.Keyword.{Keyword}
 use Rattle.console_1401.specs.declared.words.Keyword.TheVariants as keyword
 use Rattle.console_1401.specs.Bytes.{blank}
 use Rattle.console_1401.specs.ConsoleLine.{said_in_words, said_with, ended, spelled, cells_of, deposit_of, examine_of}
-use Rattle.console_1401.specs.ConsoleLine.{start_of, switch_said, run_of, glance_of}
+use Rattle.console_1401.specs.ConsoleLine.{start_of, switch_said, feed_of, run_of, glance_of}
 use Rattle.console_1401.specs.Limits.{most_digits}
-use Rattle.console_1401.specs.LineText.{Part, IsTyped, IsTypedBehind, IsParted, CanBeSaid, text_of, setting_text}
-use Rattle.console_1401.specs.LineText.{one_cell}
+use Rattle.console_1401.specs.LineText.{Part, Text, IsTyped, IsTypedBehind, IsParted, CanBeSaid, text_of}
+use Rattle.console_1401.specs.LineText.{setting_text, one_cell}
 use Rattle.console_1401.specs.LineText.Part.{Name, Numeral}
+use Rattle.console_1401.specs.LineText.Text.{Blanks, Cells, Columns}
 use Rattle.console_1401.specs.ReplyText.{cell_text, cells_text}
 use Rattle.console_1401.specs.Words.{word_in, behind_word, name_of, keyword_of, number_of, address_of, count_of}
 use Rattle.console_1401.specs.Words.{letter_of, switch_named, switch_of, setting_of}
+use Rattle.console_1401.proofs.CardTextLemmas.{card_of-all, graphics_again}
 use Rattle.console_1401.proofs.SpelledLemmas.{second, first, cell_again, spelled-append, cells_of-some}
 use Rattle.console_1401.proofs.WordLemmas.{Stands, IsNumeral, in_word, numeral, word_in-typed, behind_word-typed}
 use Rattle.console_1401.proofs.WordLemmas.{word_in-blanks, behind_word-blanks}
@@ -42,7 +47,11 @@ keyword_is_word keyword.Examine = record { some = omega arith; whole = refl }
 keyword_is_word keyword.Regs = record { some = omega arith; whole = refl }
 keyword_is_word keyword.Start = record { some = omega arith; whole = refl }
 keyword_is_word keyword.Switch = record { some = omega arith; whole = refl }
+keyword_is_word keyword.Feed = record { some = omega arith; whole = refl }
+keyword_is_word keyword.Load = record { some = omega arith; whole = refl }
 keyword_is_word keyword.Run = record { some = omega arith; whole = refl }
+keyword_is_word keyword.Line = record { some = omega arith; whole = refl }
+keyword_is_word keyword.Card = record { some = omega arith; whole = refl }
 keyword_is_word keyword.Glance = record { some = omega arith; whole = refl }
 keyword_is_word keyword.Quit = record { some = omega arith; whole = refl }
 
@@ -53,7 +62,11 @@ keyword_is_known keyword.Examine = refl
 keyword_is_known keyword.Regs = refl
 keyword_is_known keyword.Start = refl
 keyword_is_known keyword.Switch = refl
+keyword_is_known keyword.Feed = refl
+keyword_is_known keyword.Load = refl
 keyword_is_known keyword.Run = refl
+keyword_is_known keyword.Line = refl
+keyword_is_known keyword.Card = refl
 keyword_is_known keyword.Glance = refl
 keyword_is_known keyword.Quit = refl
 
@@ -138,7 +151,7 @@ split_number : (number blanks : ℕ) (word rest line : List ℕ) → IsNumeral n
 split_number number blanks word rest line n is parted =
     split_by blanks word rest line is (record { some = n.some; whole = n.whole }) parted
 
-start_says : (address : ℕ) (line : List ℕ) → address < addresses → IsTyped (Numeral address ∷ []) [] line
+start_says : (address : ℕ) (line : List ℕ) → address < addresses → IsTyped (Numeral address ∷ []) Blanks line
     → start_of line ≡ Ok (Command (command.SetI address))
 unfolding start_of
 start_says address line in_range t =
@@ -146,7 +159,7 @@ start_says address line in_range t =
     let s = split_number address t.0 t.1 t.2 line n t.3 t.5 in
     rw (s.word_is, s.rest_is, address_is address t.1 in_range n.says) (ended_by_blanks _ t.6.0 t.2 t.6.1)
 
-glance_says : (address : ℕ) (line : List ℕ) → address < addresses → IsTyped (Numeral address ∷ []) [] line
+glance_says : (address : ℕ) (line : List ℕ) → address < addresses → IsTyped (Numeral address ∷ []) Blanks line
     → glance_of line ≡ Ok (Glance address)
 unfolding glance_of
 glance_says address line in_range t =
@@ -154,7 +167,7 @@ glance_says address line in_range t =
     let s = split_number address t.0 t.1 t.2 line n t.3 t.5 in
     rw (s.word_is, s.rest_is, address_is address t.1 in_range n.says) (ended_by_blanks _ t.6.0 t.2 t.6.1)
 
-run_says : (limit : ℕ) (line : List ℕ) → limit < 10 ^ most_digits → IsTyped (Numeral limit ∷ []) [] line
+run_says : (limit : ℕ) (line : List ℕ) → limit < 10 ^ most_digits → IsTyped (Numeral limit ∷ []) Blanks line
     → run_of line ≡ Ok (Command (command.Run limit))
 unfolding run_of
 run_says limit line in_range t =
@@ -163,7 +176,7 @@ run_says limit line in_range t =
     rw (s.word_is, s.rest_is, n.says) (ended_by_blanks _ t.6.0 t.2 t.6.1)
 
 examine_says : (address count : ℕ) (line : List ℕ) → address < addresses → count < 10 ^ most_digits
-    → IsTyped (Numeral address ∷ Numeral count ∷ []) [] line
+    → IsTyped (Numeral address ∷ Numeral count ∷ []) Blanks line
     → examine_of line ≡ Ok (Command (command.Examine address count))
 unfolding examine_of
 examine_says address count line in_range small t =
@@ -176,7 +189,7 @@ examine_says address count line in_range small t =
     (ended_by_blanks _ u.6.0 u.2 u.6.1)
 
 switch_says : (switch : SwitchName) (on : Bool) (line : List ℕ)
-    → IsTyped (Name (letter_of switch) ∷ Name (setting_text on) ∷ []) [] line
+    → IsTyped (Name (letter_of switch) ∷ Name (setting_text on) ∷ []) Blanks line
     → switch_said line ≡ Ok (Command (command.Switch switch on))
 unfolding switch_said
 switch_says switch on line t =
@@ -232,14 +245,12 @@ all_again (cell ∷ cells) all =
     spelled-append (cell_text cell) (flat_map cell_text cells) there ∙ rw (one, more) refl
 
 text_says : (cells : List Cell) (rest : List ℕ) → 1 ≤ length cells → length cells ≤ most_cells
-    → All (λ cell. cell.char < 64) cells → IsTypedBehind cells rest
+    → All (λ cell. cell.char < 64) cells → IsTypedBehind (Cells cells) rest
     → cells_of (spelled (drop 1 rest)) ≡ Ok cells
-text_says [] rest some few all t = absurd (omega arith)
-text_says (cell ∷ cells) rest some few all t =
-    rw (t, all_again (cell ∷ cells) all) (cells_of-some (cell ∷ cells) some few)
+text_says cells rest some few all t = rw (t, all_again cells all) (cells_of-some cells some few)
 
 deposit_says : (address : ℕ) (cells : List Cell) (line : List ℕ) → CanBeSaid (Command (command.Deposit address cells))
-    → IsTyped (Numeral address ∷ []) cells line
+    → IsTyped (Numeral address ∷ []) (Cells cells) line
     → deposit_of line ≡ Ok (Command (command.Deposit address cells))
 unfolding deposit_of
 deposit_says address cells line can t =
@@ -247,38 +258,74 @@ deposit_says address cells line can t =
     let s = split_number address t.0 t.1 t.2 line n t.3 t.5 in
     rw (s.word_is, s.rest_is, address_is address t.1 can.0 n.says, text_says cells t.2 can.1 can.2 can.3 t.6) refl
 
+-- a card's characters have graphics of their own
+all_own : (chars : List ℕ) → All (λ char. char < 64) chars
+    → All (λ char. position (λ each. each == slice_index graphics char) graphics ≡ Some char) chars
+all_own [] all = All-nil (λ char. position (λ each. each == slice_index graphics char) graphics ≡ Some char)
+all_own (char ∷ chars) all =
+    let P : ℕ → Type 0 = λ char. char < 64 in
+    let Own : ℕ → Type 0 = λ char. position (λ each. each == slice_index graphics char) graphics ≡ Some char in
+    All-cons Own char chars (own_graphic char (All-head P char chars all)) (all_own chars (All-tail P char chars all))
+
+All-front : (P : ℕ → Type 0) (xs ys : List ℕ) → All P (xs ++ ys) → All P xs
+All-front P [] ys all = All-nil P
+All-front P (x ∷ xs) ys all =
+    All-cons P x xs (All-head P x (xs ++ ys) all) (All-front P xs ys (All-tail P x (xs ++ ys) all))
+
+feed_says : (card : Card) (rest : List ℕ) → CanBeSaid (Command (command.Feed card))
+    → IsTypedBehind (Columns card) rest
+    → feed_of rest ≡ Ok (Command (command.Feed card))
+unfolding feed_of
+feed_says card rest can t =
+    let columns : List ℕ = t.0 in
+    let P : ℕ → Type 0 = λ char. char < 64 in
+    let blanks : List ℕ = replicate (card_columns - length columns) 0 in
+    let is : card.0 ≡ columns ++ blanks = ap (λ (card : Card). card.0) t.2 in
+    let few : length columns ≤ 80 = omega (arith, can.0, ap length is, length-append columns blanks) in
+    let all : All P columns = All-front P columns blanks (subst (All P) is can.1) in
+    rw (t.1, graphics_again columns (all_own columns all), card_of-all columns few)
+    (ap (λ (card : Card). Ok (Command (command.Feed card))) (sym t.2))
+
 -- by its first word
-by_keyword : (k : Keyword) (cells : List Cell) (parts : List Part) (line : List ℕ) (said : Line)
-    → (t : IsTyped (Name (name_of k) ∷ parts) cells line)
+by_keyword : (k : Keyword) (behind : Text) (parts : List Part) (line : List ℕ) (said : Line)
+    → (t : IsTyped (Name (name_of k) ∷ parts) behind line)
     → said_with (Some k) t.2 ≡ Ok said → said_in_words line ≡ Ok said
-by_keyword k cells parts line said t says =
+by_keyword k behind parts line said t says =
     said_by_keyword k t.2 line (split_name (name_of k) t.0 t.1 t.2 line (keyword_is_word k) t.3 t.4 t.5) ∙ says
 
 -- what is typed for a line is what its words say
-pub in_words : (said : Line) (line : List ℕ) → CanBeSaid said → IsTyped (text_of said).parts (text_of said).cells line
+pub in_words : (said : Line) (line : List ℕ) → CanBeSaid said → IsTyped (text_of said).parts (text_of said).behind line
     → said_in_words line ≡ Ok said
 unfolding said_in_words said_with
 in_words Empty line can t = rw (word_in-blanks t.0 line t.1) refl
 in_words (Command (command.Deposit address cells)) line can t =
-    by_keyword keyword.Deposit cells (Numeral address ∷ []) line _ t (deposit_says address cells t.2 can t.6)
+    by_keyword keyword.Deposit (Cells cells) (Numeral address ∷ []) line _ t (deposit_says address cells t.2 can t.6)
 in_words (Command (command.Examine address count)) line can t =
     let parts = Numeral address ∷ Numeral count ∷ [] in
-    by_keyword keyword.Examine [] parts line _ t (examine_says address count t.2 can.0 can.1 t.6)
+    by_keyword keyword.Examine Blanks parts line _ t (examine_says address count t.2 can.0 can.1 t.6)
 in_words (Command command.Registers) line can t =
-    by_keyword keyword.Regs [] [] line _ t (ended_by_blanks _ t.6.0 t.2 t.6.1)
+    by_keyword keyword.Regs Blanks [] line _ t (ended_by_blanks _ t.6.0 t.2 t.6.1)
 in_words (Command (command.SetI address)) line can t =
-    by_keyword keyword.Start [] (Numeral address ∷ []) line _ t (start_says address t.2 can t.6)
+    by_keyword keyword.Start Blanks (Numeral address ∷ []) line _ t (start_says address t.2 can t.6)
 in_words (Command (command.Switch switch on)) line can t =
     let parts = Name (letter_of switch) ∷ Name (setting_text on) ∷ [] in
-    by_keyword keyword.Switch [] parts line _ t (switch_says switch on t.2 t.6)
+    by_keyword keyword.Switch Blanks parts line _ t (switch_says switch on t.2 t.6)
+in_words (Command (command.Feed card)) line can t =
+    by_keyword keyword.Feed (Columns card) [] line _ t (feed_says card t.2 can t.6)
+in_words (Command command.LoadKey) line can t =
+    by_keyword keyword.Load Blanks [] line _ t (ended_by_blanks _ t.6.0 t.2 t.6.1)
 in_words (Command (command.Run limit)) line can t =
-    by_keyword keyword.Run [] (Numeral limit ∷ []) line _ t (run_says limit t.2 can t.6)
+    by_keyword keyword.Run Blanks (Numeral limit ∷ []) line _ t (run_says limit t.2 can t.6)
+in_words (Command command.TakeLine) line can t =
+    by_keyword keyword.Line Blanks [] line _ t (ended_by_blanks _ t.6.0 t.2 t.6.1)
+in_words (Command command.TakeCard) line can t =
+    by_keyword keyword.Card Blanks [] line _ t (ended_by_blanks _ t.6.0 t.2 t.6.1)
 in_words (Glance address) line can t =
-    by_keyword keyword.Glance [] (Numeral address ∷ []) line _ t (glance_says address t.2 can t.6)
-in_words Quit line can t = by_keyword keyword.Quit [] [] line _ t (ended_by_blanks _ t.6.0 t.2 t.6.1)
+    by_keyword keyword.Glance Blanks (Numeral address ∷ []) line _ t (glance_says address t.2 can t.6)
+in_words Quit line can t = by_keyword keyword.Quit Blanks [] line _ t (ended_by_blanks _ t.6.0 t.2 t.6.1)
 
 -- an address alone
-one_says : (address : ℕ) (line : List ℕ) → address < addresses → IsTyped (Numeral address ∷ []) [] line
+one_says : (address : ℕ) (line : List ℕ) → address < addresses → IsTyped (Numeral address ∷ []) Blanks line
     → examine_of line ≡ Ok (one_cell address)
 unfolding examine_of count_of
 one_says address line in_range t =
@@ -290,7 +337,7 @@ one_says address line in_range t =
 
 -- EXAMINE and an address are what its words say
 pub in_words-one : (address : ℕ) (line : List ℕ) → address < addresses
-    → IsTyped (Name (codes "EXAMINE") ∷ Numeral address ∷ []) [] line → said_in_words line ≡ Ok (one_cell address)
+    → IsTyped (Name (codes "EXAMINE") ∷ Numeral address ∷ []) Blanks line → said_in_words line ≡ Ok (one_cell address)
 unfolding said_with
 in_words-one address line in_range t =
-    by_keyword keyword.Examine [] (Numeral address ∷ []) line _ t (one_says address t.2 in_range t.6)
+    by_keyword keyword.Examine Blanks (Numeral address ∷ []) line _ t (one_says address t.2 in_range t.6)

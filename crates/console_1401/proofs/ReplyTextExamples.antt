@@ -1,5 +1,5 @@
 -- Answers and their texts, computed.
-use Rattle.std.proofs.Common.{◌≡◌, ℕ, true, false, List, [], ◌∷◌, map, refl}
+use Rattle.std.proofs.Common.{◌≡◌, ℕ, true, false, List, [], ◌∷◌, ◌++◌, map, replicate, refl}
 use Rattle.std.specs.Prelude.{codes}
 use Rattle.std.specs.Fmt.{digits}
 use Rattle.bcd_1401.specs.declared.cell.Cell.{Cell}
@@ -8,12 +8,14 @@ use Rattle.cpu_1401.specs.declared.regs.Regs.{Regs}
 use Rattle.cpu_1401.specs.declared.stop.Stop.TheVariants as stop
 use Rattle.room_1401.specs.declared.answer.Answer.{Answer}
 use Rattle.room_1401.specs.declared.answer.Answer.TheVariants as answer
-use Rattle.room_1401.specs.declared.answer.Refusal.TheVariants.{Address, Limit, Count}
-use Rattle.console_1401.specs.ReplyText.{answer_text, cells_text, switches_text, regs_text, ran_text}
+use Rattle.room_1401.specs.declared.answer.Refusal.TheVariants.{Address, Hopper, Reader, Empty, Limit, Count}
+use Rattle.console_1401.specs.ReplyText.{answer_text, cells_text, switches_text, regs_text, ran_text, line_text}
+use Rattle.console_1401.specs.ReplyText.{card_text}
+use Rattle.console_1401.specs.CardText.{graphics_of, trimmed}
 
 -- the text of an answer, with all that it consists of open
 text : Answer → List ℕ
-unfolding answer_text cells_text switches_text regs_text ran_text digits graphics
+unfolding answer_text cells_text switches_text regs_text ran_text line_text card_text graphics_of trimmed digits graphics
 text given = answer_text given
 
 -- each of these answers has the text that stands beside it
@@ -105,8 +107,38 @@ a_run_tells_its_stop_and_its_steps : AllRead (
 unfolding text
 a_run_tells_its_stop_and_its_steps = refl
 
+-- a line at this place of a form
+abbrev printed : ℕ → ℕ → List ℕ → Answer
+printed form line text = answer.Line (record { form = form; line = line; text = text })
+
+abbrev card : List ℕ → Answer
+card chars = answer.Card (record { 0 = chars })
+
+a_line_tells_its_place_and_ends_before_its_blanks : AllRead (
+    (printed 1 4 (56 ∷ 53 ∷ replicate 130 0), codes "LINE 0001 04 HE") ∷
+    (printed 9999 66 (0 ∷ 49 ∷ 0 ∷ 49 ∷ replicate 128 0), codes "LINE 9999 66  A A") ∷
+    (printed 0 60 (replicate 131 0 ++ 49 ∷ []), codes "LINE 0000 60 " ++ replicate 131 32 ++ codes "A") ∷ [])
+unfolding text
+a_line_tells_its_place_and_ends_before_its_blanks = refl
+
+a_card_ends_before_its_blanks : AllRead (
+    (card (49 ∷ 0 ∷ 50 ∷ replicate 77 0), codes "CARD A B") ∷
+    (card (0 ∷ 10 ∷ replicate 78 0), codes "CARD  0") ∷
+    (card (replicate 80 15), codes "CARD " ++ replicate 80 40) ∷ [])
+unfolding text
+a_card_ends_before_its_blanks = refl
+
+the_blank_behind_a_name_and_a_number_stays : AllRead (
+    (printed 12 1 (replicate 132 0), codes "LINE 0012 01 ") ∷
+    (card (replicate 80 0), codes "CARD ") ∷ [])
+unfolding text
+the_blank_behind_a_name_and_a_number_stays = refl
+
 a_refusal_has_its_number_and_its_name : AllRead (
     (answer.Refused Address, codes "REFUSED 1 ADDRESS") ∷
+    (answer.Refused Hopper, codes "REFUSED 2 HOPPER") ∷
+    (answer.Refused Reader, codes "REFUSED 3 READER") ∷
+    (answer.Refused Empty, codes "REFUSED 4 EMPTY") ∷
     (answer.Refused Limit, codes "REFUSED 5 LIMIT") ∷
     (answer.Refused Count, codes "REFUSED 6 COUNT") ∷ [])
 unfolding text

@@ -16,6 +16,7 @@ use Rattle.console_1401.specs.declared.words.Keyword.TheVariants as keyword
 use Rattle.console_1401.specs.Words.{◌>>=◌, word_in, behind_word, keyword_of, number_of, address_of, count_of}
 use Rattle.console_1401.specs.Words.{switch_of, setting_of}
 use Rattle.console_1401.specs.Bytes.{tilde}
+use Rattle.console_1401.specs.CardText.{card_of, chars_of}
 use Rattle.console_1401.specs.Limits.{most_line_bytes}
 
 -- what a line says, or its first fault from left to right
@@ -73,6 +74,12 @@ switch_said operands = do
   on ← setting_of (word_in (behind_word operands))
   ended (behind_word (behind_word operands)) (Command (command.Switch switch on))
 
+-- FEED a text: behind one blank all bytes are the text, and a card without a text is blank
+unfoldable pub feed_of : List ℕ → Said
+feed_of operands = do
+  card ← card_of (chars_of (drop 1 operands))
+  Ok (Command (command.Feed card))
+
 -- RUN n
 unfoldable pub run_of : List ℕ → Said
 run_of operands = do
@@ -93,7 +100,11 @@ said_with (Some keyword.Examine) operands = examine_of operands
 said_with (Some keyword.Regs) operands = ended operands (Command command.Registers)
 said_with (Some keyword.Start) operands = start_of operands
 said_with (Some keyword.Switch) operands = switch_said operands
+said_with (Some keyword.Feed) operands = feed_of operands
+said_with (Some keyword.Load) operands = ended operands (Command command.LoadKey)
 said_with (Some keyword.Run) operands = run_of operands
+said_with (Some keyword.Line) operands = ended operands (Command command.TakeLine)
+said_with (Some keyword.Card) operands = ended operands (Command command.TakeCard)
 said_with (Some keyword.Glance) operands = glance_of operands
 said_with (Some keyword.Quit) operands = ended operands Quit
 

@@ -1,6 +1,7 @@
 pub mod Answering
 pub mod Attended
 pub mod Bytes
+pub mod CardText
 pub mod ConsoleLine
 pub mod ImageLoading
 pub mod Limits

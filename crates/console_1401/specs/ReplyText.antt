@@ -1,5 +1,5 @@
 -- What the console replies (own).
-use Rattle.std.specs.Prelude.{◌≡◌, ℕ, ◌-◌, Bool, if◌then◌else◌, List, [], ◌∷◌, ◌++◌, length, map, replicate}
+use Rattle.std.specs.Prelude.{◌≡◌, ℕ, ◌-◌, Bool, if◌then◌else◌, List, [], ◌∷◌, ◌++◌, length, drop, map, replicate}
 use Rattle.std.specs.Prelude.{slice_index, Option, None, Some, Ok, codes}
 use Rattle.std.specs.List.{flat_map, zip}
 use Rattle.std.specs.Fmt.{decimal}
@@ -8,10 +8,13 @@ use Rattle.bcd_1401.specs.Graphic.{graphics}
 use Rattle.cpu_1401.specs.declared.regs.Regs.{Regs}
 use Rattle.cpu_1401.specs.declared.stop.Stop.{Stop}
 use Rattle.cpu_1401.specs.Stop.{stop_number, stop_name}
+use Rattle.devices_1401.specs.declared.card.Card.{Card}
+use Rattle.devices_1401.specs.declared.print_line.PrintLine.{PrintLine}
 use Rattle.room_1401.specs.declared.answer.Answer.{Answer}
 use Rattle.room_1401.specs.declared.answer.Answer.TheVariants as answer
 use Rattle.room_1401.specs.declared.answer.Refusal.{Refusal}
 use Rattle.room_1401.specs.declared.answer.Refusal.TheVariants as refusal
+use Rattle.room_1401.specs.declared.command.Command.TheVariants as command
 use Rattle.room_1401.specs.declared.fault.GlanceFault.{GlanceFault}
 use Rattle.room_1401.specs.declared.fault.GlanceFault.TheVariants as glance_fault
 use Rattle.room_1401.specs.declared.fault.RoomFault.{RoomFault}
@@ -20,7 +23,9 @@ use Rattle.console_1401.specs.declared.line.LineFault.{LineFault}
 use Rattle.console_1401.specs.declared.line.LineFault.TheVariants as line_fault
 use Rattle.console_1401.specs.declared.reply.Reply.{Reply}
 use Rattle.console_1401.specs.declared.reply.Reply.TheVariants as reply
-use Rattle.console_1401.specs.ConsoleLine.{spelled, cells_of}
+use Rattle.console_1401.specs.declared.line.Line.TheVariants as line
+use Rattle.console_1401.specs.CardText.{graphics_of, trimmed}
+use Rattle.console_1401.specs.ConsoleLine.{spelled, cells_of, feed_of}
 use Rattle.console_1401.specs.Bytes.{line_feed, tilde}
 
 -- a number in decimal digits, with zeros in front where it has fewer than the width; one that has more has them all
@@ -64,9 +69,22 @@ ran_text steps stop i =
     codes "STOP " ++ digits_in 2 (stop_number stop) ++ codes " " ++ stop_name stop
     ++ codes " STEPS " ++ digits_in 1 steps ++ codes " I " ++ digits_in 5 i
 
+-- a printed line: its form and its line, and its characters without the blanks at their end
+unfoldable pub line_text : PrintLine → List ℕ
+line_text line =
+    codes "LINE " ++ digits_in 4 line.form ++ codes " " ++ digits_in 2 line.line ++ codes " "
+    ++ graphics_of (trimmed line.text)
+
+-- a card: its characters without the blanks at their end
+unfoldable pub card_text : Card → List ℕ
+card_text card = codes "CARD " ++ graphics_of (trimmed card.0)
+
 -- a refusal by number and name
 abbrev pub refusal_text : Refusal → List ℕ
 refusal_text refusal.Address = codes "REFUSED 1 ADDRESS"
+refusal_text refusal.Hopper = codes "REFUSED 2 HOPPER"
+refusal_text refusal.Reader = codes "REFUSED 3 READER"
+refusal_text refusal.Empty = codes "REFUSED 4 EMPTY"
 refusal_text refusal.Limit = codes "REFUSED 5 LIMIT"
 refusal_text refusal.Count = codes "REFUSED 6 COUNT"
 
@@ -76,14 +94,22 @@ answer_text answer.Done = codes "OK"
 answer_text (answer.Cells cells) = cells_text cells
 answer_text (answer.Regs regs) = regs_text regs
 answer_text (answer.Ran steps why i) = ran_text steps why i
+answer_text (answer.Line line) = line_text line
+answer_text (answer.Card card) = card_text card
 answer_text (answer.Refused why) = refusal_text why
 
--- cells that are shown are read again from their text, as DEPOSIT reads one
+-- what stands behind CARD is read as that card where it stands behind FEED
+abbrev pub IsFedAgain : Card → List ℕ → Type 0
+IsFedAgain card text = feed_of (drop (length (codes "CARD")) text) ≡ Ok (line.Command (command.Feed card))
+
+-- cells that are shown are read again from their text, as DEPOSIT reads one, and so is a card, as FEED reads one
 abbrev pub IsReadAgain : Answer → List ℕ → Type 0
 IsReadAgain answer.Done text = Unit {0}
 IsReadAgain (answer.Cells cells) text = cells_of (spelled text) ≡ Ok cells
 IsReadAgain (answer.Regs regs) text = Unit {0}
 IsReadAgain (answer.Ran steps why i) text = Unit {0}
+IsReadAgain (answer.Line line) text = Unit {0}
+IsReadAgain (answer.Card card) text = IsFedAgain card text
 IsReadAgain (answer.Refused why) text = Unit {0}
 
 -- a line that can't be read

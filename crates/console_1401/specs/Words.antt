@@ -10,8 +10,8 @@ use Rattle.cpu_1401.specs.declared.switch_name.SwitchName.TheVariants.{A, B, C, 
 use Rattle.console_1401.specs.declared.line.LineFault.{LineFault}
 use Rattle.console_1401.specs.declared.line.LineFault.TheVariants.{Word, Number}
 use Rattle.console_1401.specs.declared.words.Keyword.{Keyword}
-use Rattle.console_1401.specs.declared.words.Keyword.TheVariants.{Deposit, Examine, Regs, Start, Switch, Run, Glance}
-use Rattle.console_1401.specs.declared.words.Keyword.TheVariants.{Quit}
+use Rattle.console_1401.specs.declared.words.Keyword.TheVariants.{Deposit, Examine, Regs, Start, Switch, Feed, Load}
+use Rattle.console_1401.specs.declared.words.Keyword.TheVariants.{Run, Line, Card, Glance, Quit}
 use Rattle.console_1401.specs.Bytes.{blank}
 use Rattle.console_1401.specs.Limits.{most_digits}
 
@@ -44,12 +44,17 @@ name_of Examine = codes "EXAMINE"
 name_of Regs = codes "REGS"
 name_of Start = codes "START"
 name_of Switch = codes "SWITCH"
+name_of Feed = codes "FEED"
+name_of Load = codes "LOAD"
 name_of Run = codes "RUN"
+name_of Line = codes "LINE"
+name_of Card = codes "CARD"
 name_of Glance = codes "GLANCE"
 name_of Quit = codes "QUIT"
 
 abbrev pub keywords : List Keyword
-keywords = Deposit ∷ Examine ∷ Regs ∷ Start ∷ Switch ∷ Run ∷ Glance ∷ Quit ∷ []
+keywords =
+    Deposit ∷ Examine ∷ Regs ∷ Start ∷ Switch ∷ Feed ∷ Load ∷ Run ∷ Line ∷ Card ∷ Glance ∷ Quit ∷ []
 
 -- the one of them that a word is
 unfoldable pub keyword_of : List ℕ → Option Keyword

@@ -1,13 +1,17 @@
 //! The texts of replies, without the line feed behind them.
 ghost use Rattle.std.specs.Prelude.{◌≡◌, [], ◌∷◌, ◌++◌, map, IfOk, OnOk};
 ghost use Rattle.console_1401.specs.ConsoleLine.{spelled};
-ghost use Rattle.console_1401.specs.ReplyText.{answer_text, IsReadAgain, cell_text, cells_text, regs_text, ran_text};
+ghost use Rattle.console_1401.specs.ReplyText.{answer_text, IsReadAgain, IsFedAgain, cell_text, cells_text};
+ghost use Rattle.console_1401.specs.ReplyText.{regs_text, ran_text};
 ghost use Rattle.console_1401.specs.ReplyText.{digits_in, indicator_text, switch_text, switches_text, refusal_text};
-ghost use Rattle.console_1401.specs.ReplyText.{fault_text, room_fault_text, glance_text, glance_fault_text};
+ghost use Rattle.console_1401.specs.ReplyText.{line_text, card_text, fault_text, room_fault_text, glance_text};
+ghost use Rattle.console_1401.specs.ReplyText.{glance_fault_text};
 
+use crate::card_text::{put_chars, trimmed};
 use crate::line::LineFault;
 use bcd_1401::Cell;
 use cpu_1401::{Regs, Stop};
+use devices_1401::{Card, PrintLine};
 use room_1401::{Answer, GlanceFault, Refusal, RoomFault};
 use std::alloc::{AllocError, Global};
 
@@ -20,7 +24,7 @@ use std::alloc::{AllocError, Global};
 pub fn reply_text(alloc: Global, answer: &Answer) -> Result<Vec<u8>, AllocError>
     ensures text { IfOk result (λ text. text.items ≡ answer_text answer.now) }
 
-    // Cells that are shown can be deposited as they stand.
+    // Cells that are shown can be deposited as they stand, and a card that is shown can be fed.
     ensures again { IfOk result (λ text. IsReadAgain answer.now text.items) }
 {
     match answer {
@@ -28,6 +32,8 @@ pub fn reply_text(alloc: Global, answer: &Answer) -> Result<Vec<u8>, AllocError>
         Answer::Cells(cells) => cells_reply(alloc, cells.as_slice()),
         Answer::Regs(regs) => regs_reply(alloc, regs),
         Answer::Ran { steps, stop, i } => ran_reply(alloc, *steps, *stop, *i),
+        Answer::Line(line) => line_reply(alloc, line),
+        Answer::Card(card) => card_reply(alloc, card),
         Answer::Refused(why) => Vec::from_slice(alloc, refusal_reply(*why)),
     }
 }
@@ -91,6 +97,30 @@ fn ran_reply(alloc: Global, steps: u32, stop: Stop, i: u16) -> Result<Vec<u8>, A
     Ok(text)
 }
 
+/// A printed line: its form, its line, and its characters without the blanks at their end.
+#[tactic(auto, unfolding(crate::specs::ReplyText::line_text))]
+fn line_reply(alloc: Global, line: &PrintLine) -> Result<Vec<u8>, AllocError>
+    ensures { IfOk result (λ text. text.items ≡ line_text line.now) }
+{
+    let mut text = Vec::new(alloc);
+    put_number(&mut text, b"LINE ", 4, u32::from(line.form))?;
+    put_number(&mut text, b" ", 2, u32::from(line.line))?;
+    text.extend_from_slice(b" ")?;
+    put_chars(&mut text, trimmed(&line.text))?;
+    Ok(text)
+}
+
+/// A card: its characters without the blanks at their end.
+#[tactic(auto, unfolding(crate::specs::ReplyText::card_text))]
+fn card_reply(alloc: Global, card: &Card) -> Result<Vec<u8>, AllocError>
+    ensures text { IfOk result (λ text. text.items ≡ card_text card.now) }
+    ensures again { IfOk result (λ text. IsFedAgain card.now text.items) }
+{
+    let mut text = Vec::from_slice(alloc, b"CARD ")?;
+    put_chars(&mut text, trimmed(&card.0))?;
+    Ok(text)
+}
+
 /// Adds a name, and behind it a number, with zeros in front where it has fewer digits than the width.
 fn put_number(text: &mut Vec<u8>, name: &[u8], width: u8, number: u32) -> Result<(), AllocError>
     ensures { OnOk result (text.new.items ≡ text.old.items ++ name.now ++ digits_in width number) }
@@ -144,6 +174,9 @@ fn refusal_reply(why: Refusal) -> &'static [u8]
 {
     match why {
         Refusal::Address => b"REFUSED 1 ADDRESS",
+        Refusal::Hopper => b"REFUSED 2 HOPPER",
+        Refusal::Reader => b"REFUSED 3 READER",
+        Refusal::Empty => b"REFUSED 4 EMPTY",
         Refusal::Limit => b"REFUSED 5 LIMIT",
         Refusal::Count => b"REFUSED 6 COUNT",
     }

@@ -49,8 +49,10 @@ fn deposit(room: &mut Room, segment: &Segment) -> Result<(), RoomFault>
         address: segment.address,
         cells: segment.cells,
     };
-    room.carry(SEAT, command)?;
-    Ok(())
+    match room.carry(SEAT, command) {
+        Ok(_) => Ok(()),
+        Err(fault) => Err(fault),
+    }
 }
 
 /// Sets the I register to an entry that lies in core storage.
@@ -64,6 +66,8 @@ fn start(room: &mut Room, address: u16) -> Result<(), RoomFault>
 {
     // The machine has as many places as the room says.
     let _machine = room.machine();
-    room.carry(SEAT, Command::SetI { address })?;
-    Ok(())
+    match room.carry(SEAT, Command::SetI { address }) {
+        Ok(_) => Ok(()),
+        Err(fault) => Err(fault),
+    }
 }

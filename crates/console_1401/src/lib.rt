@@ -11,6 +11,7 @@
 pub mod answer_text;
 mod answering;
 pub mod attending;
+mod card_text;
 pub mod door;
 pub mod failure;
 pub mod from_reader;

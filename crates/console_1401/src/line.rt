@@ -2,12 +2,15 @@
 ghost use Rattle.std.specs.Prelude.{◌≡◌, ℕ, ◌<◌, [], ◌∷◌, length, MatchOption};
 ghost use Rattle.console_1401.specs.declared.line.Line.{Line};
 ghost use Rattle.console_1401.specs.ConsoleLine.{cell_of, spelled, cells_of, ended, deposit_of, examine_of, start_of};
-ghost use Rattle.console_1401.specs.ConsoleLine.{switch_said, run_of, glance_of, said_with, said_in_words, said_by};
+ghost use Rattle.console_1401.specs.ConsoleLine.{switch_said, feed_of, run_of, glance_of, said_with, said_in_words};
+ghost use Rattle.console_1401.specs.ConsoleLine.{said_by};
 ghost use Rattle.console_1401.specs.LineText.{IsLineOf, IsExamineOf, one_cell};
 
+use crate::card_text::card;
 use crate::words::{Keyword, address, count, number, setting, split_word, switch};
 use bcd_1401::{Cell, Char};
 use core_1401::{Cells, MOST_CELLS};
+use devices_1401::Card;
 use room_1401::Command;
 
 /// How many bytes a line has at the most.
@@ -85,7 +88,11 @@ fn parse_operands(keyword: Option<Keyword>, operands: &[u8]) -> Result<Line, Lin
         Some(Keyword::Regs) => end(operands, Line::Command(Command::Registers)),
         Some(Keyword::Start) => start(operands),
         Some(Keyword::Switch) => switch_line(operands),
+        Some(Keyword::Feed) => feed(operands),
+        Some(Keyword::Load) => end(operands, Line::Command(Command::LoadKey)),
         Some(Keyword::Run) => run(operands),
+        Some(Keyword::Line) => end(operands, Line::Command(Command::TakeLine)),
+        Some(Keyword::Card) => end(operands, Line::Command(Command::TakeCard)),
         Some(Keyword::Glance) => glance(operands),
         Some(Keyword::Quit) => end(operands, Line::Quit),
         None => Err(LineFault::Word),
@@ -148,6 +155,15 @@ fn switch_line(operands: &[u8]) -> Result<Line, LineFault>
     let (word, behind) = split_word(behind);
     let on = setting(word)?;
     end(behind, Line::Command(Command::Switch { n, on }))
+}
+
+/// FEED a text: behind one blank all bytes are the text, and a card without a text is blank.
+#[tactic(auto, unfolding(crate::specs::ConsoleLine::feed_of))]
+fn feed(operands: &[u8]) -> Result<Line, LineFault>
+    ensures { result ≡ feed_of operands.now }
+{
+    let card = card(operands.get(1..).unwrap_or(&[]))?;
+    Ok(Line::Command(Command::Feed { card: Card(card.0) }))
 }
 
 /// RUN n.

@@ -24,8 +24,16 @@ pub(crate) enum Keyword {
     Start,
     /// SWITCH: a sense switch, on or off.
     Switch,
+    /// FEED: a card.
+    Feed,
+    /// LOAD: the load key.
+    Load,
     /// RUN: instructions, up to a number of them.
     Run,
+    /// LINE: the oldest printed line.
+    Line,
+    /// CARD: the oldest punched card.
+    Card,
     /// GLANCE: the cell at an address, without a command.
     Glance,
     /// QUIT: the end of the session.
@@ -34,13 +42,17 @@ pub(crate) enum Keyword {
 
 impl Keyword {
     /// All of them.
-    const ALL: [Keyword; 8] = [
+    const ALL: [Keyword; 12] = [
         Keyword::Deposit,
         Keyword::Examine,
         Keyword::Regs,
         Keyword::Start,
         Keyword::Switch,
+        Keyword::Feed,
+        Keyword::Load,
         Keyword::Run,
+        Keyword::Line,
+        Keyword::Card,
         Keyword::Glance,
         Keyword::Quit,
     ];
@@ -55,7 +67,11 @@ impl Keyword {
             Keyword::Regs => b"REGS",
             Keyword::Start => b"START",
             Keyword::Switch => b"SWITCH",
+            Keyword::Feed => b"FEED",
+            Keyword::Load => b"LOAD",
             Keyword::Run => b"RUN",
+            Keyword::Line => b"LINE",
+            Keyword::Card => b"CARD",
             Keyword::Glance => b"GLANCE",
             Keyword::Quit => b"QUIT",
         }

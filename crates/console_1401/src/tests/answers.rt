@@ -2,7 +2,9 @@
 
 use super::marked_zero_and_k;
 use crate::reply_text;
+use bcd_1401::Char;
 use cpu_1401::{Regs, Stop};
+use devices_1401::{Card, PrintLine};
 use room_1401::{Answer, Refusal};
 
 /// The registers at power-on.
@@ -62,10 +64,29 @@ fn an_answer_has_its_text(rt: HostRuntime) {
             "STOP 12 NOTFITTED STEPS 1000000 I 00600",
         ),
         (Answer::Refused(Refusal::Address), "REFUSED 1 ADDRESS"),
+        (Answer::Refused(Refusal::Hopper), "REFUSED 2 HOPPER"),
+        (Answer::Refused(Refusal::Reader), "REFUSED 3 READER"),
+        (Answer::Refused(Refusal::Empty), "REFUSED 4 EMPTY"),
         (Answer::Refused(Refusal::Limit), "REFUSED 5 LIMIT"),
         (Answer::Refused(Refusal::Count), "REFUSED 6 COUNT"),
     ] {
         let reply = reply_text(rt.alloc(), &answer).expect(&rt, text);
         assert_eq!(rt; reply.as_slice(), text.as_bytes(), "{text}");
     }
+}
+
+#[test]
+fn a_line_and_a_card_have_their_texts(rt: HostRuntime) {
+    let mut text = [Char::BLANK; 132];
+    text[1] = Char::of_digit(7, 3);
+    let line = Answer::Line(PrintLine {
+        form: 1,
+        line: 4,
+        text,
+    });
+    let reply = reply_text(rt.alloc(), &line).expect(&rt, "a line");
+    assert_eq!(rt; reply.as_slice(), b"LINE 0001 04  G".as_slice());
+    let card = Answer::Card(Card([Char::BLANK; 80]));
+    let reply = reply_text(rt.alloc(), &card).expect(&rt, "a card");
+    assert_eq!(rt; reply.as_slice(), b"CARD ".as_slice());
 }

@@ -50,8 +50,11 @@ fn a_line_says_a_command(rt: HostRuntime) {
                 on: false,
             },
         ),
+        ("LOAD ", Command::LoadKey),
         ("RUN 0", Command::Run { limit: 0 }),
         ("RUN 9999999", Command::Run { limit: 9_999_999 }),
+        ("LINE", Command::TakeLine),
+        ("  CARD", Command::TakeCard),
     ] {
         assert_eq!(rt;
             parse_line(line.as_bytes()),
@@ -90,9 +93,14 @@ fn a_line_has_its_first_fault(rt: HostRuntime) {
             "DEPOSIT 0500 ABCDEFGHIJABCDEFGHIJABCDEFGHIJABCDEFGHIJ~",
             LineFault::Length,
         ),
+        ("FEED a", LineFault::Graphic),
+        ("FEED ~A", LineFault::Graphic),
         ("EXAMINE 1 2 3", LineFault::Extra),
         ("REGS X", LineFault::Extra),
         ("SWITCH A ON X", LineFault::Extra),
+        ("LOAD 1", LineFault::Extra),
+        ("LINE X", LineFault::Extra),
+        ("CARD X", LineFault::Extra),
         ("QUIT X", LineFault::Extra),
     ] {
         assert_eq!(rt; parse_line(line.as_bytes()), Err(fault), "{line}");
@@ -104,4 +112,17 @@ fn a_line_has_200_bytes_at_the_most(rt: HostRuntime) {
     let blanks = [b' '; LINE_LIMIT + 1];
     assert_eq!(rt; parse_line(&blanks[..LINE_LIMIT]), Ok(Line::Empty));
     assert_eq!(rt; parse_line(&blanks), Err(LineFault::Length));
+}
+
+#[test]
+fn a_card_has_80_columns_at_the_most(rt: HostRuntime) {
+    let mut line = [b'9'; 86];
+    line[..5].copy_from_slice(b"FEED ");
+    let Ok(Line::Command(Command::Feed { card })) = parse_line(&line[..85]) else {
+        panic!(rt; "no card");
+    };
+    assert!(rt; card.0.iter().all(|char| char.graphic() == b'9'));
+    assert_eq!(rt; parse_line(&line), Err(LineFault::Length));
+    line[84] = b'9' + 128;
+    assert_eq!(rt; parse_line(&line), Err(LineFault::Graphic));
 }
