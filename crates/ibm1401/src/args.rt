@@ -15,7 +15,11 @@ Lines, each with one reply:
   REGS            shows registers, indicators, switches and devices
   START A         sets the I register, and runs nothing
   SWITCH X ON     turns sense switch X on, A to G; SWITCH X OFF turns it off
+  FEED TEXT       puts a card with TEXT in its first columns into the hopper
+  LOAD            presses the load key: reads a card to 001 and starts there
   RUN N           carries out at most N instructions, 1 to 1000000
+  LINE            takes the oldest printed line, with its form and line
+  CARD            takes the oldest punched card
   GLANCE A        shows the cell at address A, and after how many commands; it isn't recorded
   QUIT            ends the session, of which nothing is kept";
 

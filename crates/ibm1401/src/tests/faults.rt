@@ -106,7 +106,11 @@ fn the_help_names_each_line(rt: HostRuntime) -> Result<(), Fail> {
         "\n  REGS ",
         "\n  START A ",
         "\n  SWITCH X ON ",
+        "\n  FEED TEXT ",
+        "\n  LOAD ",
         "\n  RUN N ",
+        "\n  LINE ",
+        "\n  CARD ",
         "\n  GLANCE A ",
         "\n  QUIT ",
     ] {
