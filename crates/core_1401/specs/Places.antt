@@ -1,5 +1,5 @@
 -- The places of a field written at once (own).
-use Rattle.std.specs.Prelude.{ℕ, ◌+◌, ◌-◌, ◌==◌, ◌&&◌, not, Bool, length, map, nat_le, nat_lt, if◌then◌else◌}
+use Rattle.std.specs.Prelude.{ℕ, ◌+◌, ◌-◌, ◌==◌, ◌&&◌, not, Bool, List, length, slice_index_or, map, nat_le, nat_lt, if◌then◌else◌}
 use Rattle.std.specs.List.{range_with_len}
 use Rattle.bcd_1401.specs.declared.cell.Cell.{Cell}
 use Rattle.core_1401.specs.Storage.{Storage, cell_at}
@@ -27,3 +27,7 @@ with_chars storage at n char_of = with_cells storage at n (rewritten_cell storag
 -- whether the characters of pair i differ, counted from the units
 abbrev pub is_unequal_pair : Storage → ℕ → ℕ → ℕ → Bool
 is_unequal_pair storage a b i = not ((cell_at storage (a - i)).char == (cell_at storage (b - i)).char)
+
+-- the same in a list of characters by address
+abbrev pub are_unequal : List ℕ → ℕ → ℕ → ℕ → Bool
+are_unequal chars a b i = not (slice_index_or chars (a - i) 0 == slice_index_or chars (b - i) 0)

@@ -2,7 +2,7 @@
 ghost use Rattle.std.specs.Prelude.{◌≡◌, ℕ, ◌+◌, ◌-◌, ◌<◌, ◌≤◌, Some, length, slice_index_or};
 ghost use Rattle.std.specs.List.{list_any, range_with_len};
 ghost use Rattle.core_1401.specs.Field.{field_len_of};
-ghost use Rattle.core_1401.specs.Places.{with_cells, with_chars, is_unequal_pair};
+ghost use Rattle.core_1401.specs.Places.{with_cells, with_chars, is_unequal_pair, are_unequal};
 ghost use Rattle.core_1401.specs.Storage.{blank, cell_at};
 
 use crate::mark_words::{clear_marks, with_bit};
@@ -66,18 +66,33 @@ impl Core {
     }
 
     /// Whether two characters of the n places from a down and of those from b down differ, pair by pair.
+    #[inline]
+    #[tactic(auto, using(crate::proofs::HeldLemmas::length_held, crate::proofs::CompareLemmas::same_pairs))]
     pub fn chars_differ(&self, a: u16, b: u16, n: u16) -> bool
         requires a { (n ≤ a + 1) × (a < length self.now) }
         requires b { (n ≤ b + 1) × (b < length self.now) }
         ensures { result ≡ list_any (is_unequal_pair self.now a b) (range_with_len 0 n) }
     {
-        for i in 0..n {
-            if self.get(a - i).char != self.get(b - i).char {
-                return true;
-            }
-        }
-        false
+        any_differ(&self.chars, usize::from(a), usize::from(b), usize::from(n))
     }
+}
+
+/// Whether two characters of the n from a down and of those from b down differ, pair by pair. Each pair is looked at,
+/// also behind one that differs, so that a processor can look at many of them at once.
+#[inline(always)]
+#[tactic(auto, using(crate::proofs::CompareLemmas::any_more, crate::proofs::CompareLemmas::any_of_all))]
+fn any_differ(chars: &[Char], a: usize, b: usize, n: usize) -> bool
+    requires a_in { a < length chars.now }
+    requires b_in { b < length chars.now }
+    requires a_places { n ≤ a + 1 }
+    requires b_places { n ≤ b + 1 }
+    ensures { result ≡ list_any (are_unequal chars.now a b) (range_with_len 0 n) }
+{
+    let mut differ = false;
+    for i in 0..n {
+        differ |= chars[a - i] != chars[b - i];
+    }
+    differ
 }
 
 /// Copies n characters from a down to those from b down, all of them read before one is written.

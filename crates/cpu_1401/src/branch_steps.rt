@@ -13,6 +13,7 @@ use fields_1401::below;
 impl Machine {
     /// Carries out a `B`: of four characters it branches always, of five on a condition, and of eight where the
     /// character at the B address is the d-character.
+    #[inline(always)]
     pub(crate) fn branch(&mut self, this: Instruction) -> Option<Stop>
         requires a { this.a < addresses }
         requires b { this.b < addresses }
@@ -39,6 +40,7 @@ impl Machine {
 
     /// Carries out a `V`: it branches where the cell at the B address has the word mark or the zone that the
     /// d-character looks for.
+    #[inline(always)]
     pub(crate) fn branch_on_cell(&mut self, this: Instruction) -> Option<Stop>
         requires a { this.a < addresses }
         requires b { this.b < addresses }
@@ -56,6 +58,7 @@ impl Machine {
     }
 
     /// Branches on the condition that the d-character stands for. The overflow indicator is turned off by its test.
+    #[inline(always)]
     fn branch_on(&mut self, this: Instruction)
         requires a { this.a < addresses }
         requires b { this.b < addresses }
@@ -75,6 +78,7 @@ impl Machine {
 
     /// Whether the condition of a branch is so. There are no cards and no paper yet: the hopper is empty, and the
     /// carriage stands at the first line.
+    #[inline(always)]
     fn is_so(&self, condition: Condition) -> bool
         ensures { result ≡ is_so self.now condition }
     {
@@ -90,6 +94,7 @@ impl Machine {
 
     /// Takes the branch to the A address, with the next instruction's place in the B register; or passes it by, with
     /// this in the B register. The A register holds the branch address in either case.
+    #[inline(always)]
     pub(crate) fn branch_if(&mut self, taken: bool, b: u16, this: Instruction)
         requires a { this.a < addresses }
         requires b { b < addresses }
@@ -107,6 +112,7 @@ impl Machine {
     }
 
     /// Goes on at the address, as a branch does, or at the next instruction with the registers as they stand.
+    #[inline(always)]
     pub(crate) fn go_on(&mut self, has_address: bool, this: Instruction) -> Option<Stop>
         requires a { this.a < addresses }
         requires next { this.next < addresses }
@@ -122,6 +128,7 @@ impl Machine {
     }
 
     /// Halts, and goes on at the address or at the next instruction.
+    #[inline(always)]
     pub(crate) fn halt(&mut self, this: Instruction) -> Option<Stop>
         requires a { this.a < addresses }
         requires next { this.next < addresses }

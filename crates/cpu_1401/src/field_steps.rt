@@ -15,6 +15,7 @@ use fields_1401::{Done, FieldStop, clear_down, compare};
 impl Machine {
     /// Takes the registers that an operation on fields left, turns the overflow indicator on where a sum was too large,
     /// and goes on to the next instruction.
+    #[inline(always)]
     pub(crate) fn after_field(
         &mut self,
         this: Instruction,
@@ -45,6 +46,7 @@ impl Machine {
 
     /// Compares the fields and sets the unequal indicator. A compare without an address leaves an unequal result
     /// unequal.
+    #[inline(always)]
     pub(crate) fn compare(&mut self, this: Instruction) -> Option<Stop>
         requires a { this.a < addresses }
         requires b { this.b < addresses }
@@ -68,6 +70,7 @@ impl Machine {
 
     /// Clears storage from the B address down to its hundred. With two addresses it branches to the first, and else the
     /// A register stays.
+    #[inline(always)]
     pub(crate) fn clear_storage(&mut self, this: Instruction) -> Option<Stop>
         requires a { this.a < addresses }
         requires b { this.b < addresses }

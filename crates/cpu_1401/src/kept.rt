@@ -55,15 +55,18 @@ impl Instructions {
 
     /// Keeps the instruction at a place, but not where fewer than eight places are left up to the end of core.
     #[tactic(auto, using(crate::proofs::DecodedLemmas::always_say))]
-    pub(crate) fn keep(&mut self, core: &Core, at: u16, decoded: Decoded)
-        requires { Says core.now at decoded }
+    pub(crate) fn keep(&mut self, core: &Core, at: u16, decoded: &Decoded)
+        requires { Says core.now at decoded.now }
     {
         let place = usize::from(at);
         if place + LONGEST > usize::from(core.size()) || place >= self.kept.len() {
             return;
         }
         let cells = core.eight_cells(at);
-        self.kept[place] = Kept { cells, decoded };
+        self.kept[place] = Kept {
+            cells,
+            decoded: *decoded,
+        };
     }
 }
 

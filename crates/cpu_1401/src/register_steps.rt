@@ -12,6 +12,7 @@ use fields_1401::below;
 impl Machine {
     /// Stores an address in the three places that end at the A address. The word marks there stay, and so does the zone
     /// over the tens.
+    #[inline(always)]
     pub(crate) fn store(&mut self, this: Instruction, address: u16) -> Option<Stop>
         requires a { this.a < addresses }
         requires next { this.next < addresses }

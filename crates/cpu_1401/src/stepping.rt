@@ -22,7 +22,8 @@ use fields_1401::{
 impl Machine {
     /// Carries out the instruction at the I register, or says why it can't. A halt is carried out; any other stop
     /// leaves the machine as it was.
-    #[tactic(auto, unfolding(crate::specs::Step::step))]
+    #[inline]
+    #[tactic(auto, using(crate::proofs::DecodedLemmas::says_step))]
     pub fn step(&mut self) -> Option<Stop>
         ensures stop { result ≡ (step self.old).stop }
         ensures state { self.new ≡ (step self.old).state }
@@ -34,48 +35,32 @@ impl Machine {
         ensures limit { result ≢ Some Stop.Limit }
         ensures size { length self.new.storage ≡ length self.old.storage }
     {
-        match self.fetch() {
-            Ok((operation, this)) => self.perform(operation, this),
-            Err(stop) => Some(stop),
-        }
+        let machine = &*self;
+        let fetched = match machine.kept.find(&machine.core, machine.i) {
+            Some(said) => (said.operation, machine.instruction(said)),
+            None => match self.decode_anew() {
+                Ok(said) => (said.operation, self.instruction(&said)),
+                Err(stop) => return Some(stop),
+            },
+        };
+        self.perform(fetched.0, fetched.1)
     }
 
-    /// The operation of the instruction at the I register, and what the instruction says; or why none is carried out.
-    #[inline(always)]
-    #[tactic(auto, using(crate::proofs::DecodedLemmas::says_step))]
-    fn fetch(&mut self) -> Result<(Operation, Instruction), Stop>
-        ensures ok { IfOk result (λ fetched. step self.old ≡ perform fetched.0 fetched.1 self.old) }
-        ensures a { IfOk result (λ fetched. fetched.1.a < addresses) }
-        ensures b { IfOk result (λ fetched. fetched.1.b < addresses) }
-        ensures next { IfOk result (λ fetched. fetched.1.next < addresses) }
+    /// Decodes the instruction at the I register and keeps it, or says why it can't be carried out.
+    #[inline(never)]
+    fn decode_anew(&mut self) -> Result<Decoded, Stop>
+        ensures ok { IfOk result (λ said. Says self.old.storage self.old.i said) }
         ensures err { IfErr result (λ stop. step self.old ≡ stopped stop self.old) }
         ensures no_halt { IfErr result (λ stop. stop ≢ Stop.Halt) }
         ensures no_limit { IfErr result (λ stop. stop ≢ Stop.Limit) }
         ensures same { self.new ≡ self.old }
     {
-        if let Some(fetched) = self.recall() {
-            return Ok(fetched);
-        }
         let said = self.decode()?;
-        self.kept.keep(&self.core, self.i, said);
-        Ok((said.operation, self.instruction(&said)))
-    }
-
-    /// The same, where the instruction at the I register is kept.
-    #[inline(always)]
-    #[tactic(auto, using(crate::proofs::DecodedLemmas::says_step))]
-    fn recall(&self) -> Option<(Operation, Instruction)>
-        ensures step { IfSome result (λ fetched. step self.now ≡ perform fetched.0 fetched.1 self.now) }
-        ensures a { IfSome result (λ fetched. fetched.1.a < addresses) }
-        ensures b { IfSome result (λ fetched. fetched.1.b < addresses) }
-        ensures next { IfSome result (λ fetched. fetched.1.next < addresses) }
-    {
-        let said = self.kept.find(&self.core, self.i)?;
-        Some((said.operation, self.instruction(said)))
+        self.kept.keep(&self.core, self.i, &said);
+        Ok(said)
     }
 
     /// Decodes the instruction at the I register, or says why it can't be carried out.
-    #[inline(never)]
     #[tactic(auto, unfolding(crate::specs::Step::step))]
     fn decode(&self) -> Result<Decoded, Stop>
         ensures ok { IfOk result (λ said. Says self.now.storage self.now.i said) }
@@ -214,6 +199,7 @@ impl Machine {
     }
 
     /// Does what the operation does.
+    #[inline(always)]
     fn perform(&mut self, operation: Operation, this: Instruction) -> Option<Stop>
         requires a { this.a < addresses }
         requires b { this.b < addresses }

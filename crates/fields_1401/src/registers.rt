@@ -13,7 +13,11 @@ pub fn below(at: u16, by: u16) -> u16
     ensures value { result ≡ below_by at by }
     ensures range { result < addresses }
 {
-    (at + ADDRESSES - by) % ADDRESSES
+    if by <= at {
+        at - by
+    } else {
+        at + ADDRESSES - by
+    }
 }
 
 /// The registers afterwards, and no indicator.
