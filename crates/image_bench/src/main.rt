@@ -20,7 +20,7 @@ const ROUNDS: u32 = 5;
 
 fn main(rt: HostRuntime) -> io::Result<()> {
     if env::args(&rt)?.len() < 2 {
-        return println!(rt; "image_bench measure: segments of an image read and written a second");
+        return println!(rt; "image_bench measure: segments of images read and written a second");
     }
     for segments in [1_000, 10_000, 99_000] {
         time_image(&rt, rt.alloc(), segments)?;
