@@ -1,5 +1,5 @@
 -- How many seats a room has.
-use Rattle.std.proofs.Common.{◌≡◌, ℕ, zero, suc, List, [], ◌∷◌, ◌++◌, length, map, refl, ◌∙◌, sym, ap, arith}
+use Rattle.std.proofs.Common.{◌≡◌, ℕ, zero, suc, List, length, refl, ◌∙◌, sym, ap, arith}
 use Rattle.std.proofs.lemmas.List.{length-map, length_push}
 use Rattle.room_1401.specs.Seen.{Knows, newcomer, newcomers}
 use Rattle.console_1401.specs.Served.{AreAllSeats, numbers_of}

@@ -6,6 +6,7 @@ mod failures;
 mod glances;
 mod lines;
 mod order;
+mod serving;
 mod sessions;
 
 use bcd_1401::{Cell, Char};

@@ -13,4 +13,4 @@ pub returns-clause-consoles : goal.returns-clause-consoles
 returns-clause-consoles g c =
     let consoles = c.attend_seats-seats.result in
     subst (λ (n : ℕ). CountsConsoles n consoles.count consoles.fault)
-        (length_all g.J.Naming.seats c.args.seats.items c.requires.seats) c.attend_seats-seats.ensures
+    (length_all g.J.Naming.seats c.args.seats.items c.requires.seats) c.attend_seats-seats.ensures

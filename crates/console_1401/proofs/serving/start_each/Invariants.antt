@@ -1,5 +1,5 @@
 -- Of the seats so far each has a thread, is kept, or was lost with a thread that was refused.
-use Rattle.std.proofs.Common.{◌≡◌, ◌+◌, ◌≤◌, length, vec_capacity, vec_len}
+use Rattle.std.proofs.Common.{◌+◌, ◌≤◌, length, vec_capacity, vec_len}
 use Rattle.console_1401.specs.Served.{CountsConsoles}
 use Rattle.console_1401.proofs.serving.start_each.Given as goal
 
