@@ -40,6 +40,10 @@ IsWhyNotAssembled size source fault.Read = ⊥
 IsWhyNotAssembled size source fault.Write = ⊥
 IsWhyNotAssembled size source fault.Bound = ⊥
 IsWhyNotAssembled size source fault.Reply = ⊥
+IsWhyNotAssembled size source fault.NoReader = ⊥
+IsWhyNotAssembled size source fault.Port = ⊥
+IsWhyNotAssembled size source fault.Accept = ⊥
+IsWhyNotAssembled size source fault.Thread = ⊥
 
 -- what standard output received of a text: all of it, or a beginning where a write failed
 abbrev pub Wrote : List ℕ → Option (List ℕ) → Option (List ℕ) → Result ⊤ Fault → Type 0

@@ -42,6 +42,10 @@ IsWhyNotLoaded text fault.Read = ⊥
 IsWhyNotLoaded text fault.Write = ⊥
 IsWhyNotLoaded text fault.Bound = ⊥
 IsWhyNotLoaded text fault.Reply = ⊥
+IsWhyNotLoaded text fault.NoReader = ⊥
+IsWhyNotLoaded text fault.Port = ⊥
+IsWhyNotLoaded text fault.Accept = ⊥
+IsWhyNotLoaded text fault.Thread = ⊥
 
 -- No image was loaded: nothing was read, and nothing written.
 pub record NotLoaded (text : List ℕ) (old new : Streams) (outcome : Result ⊤ Fault) : Type 0 where

@@ -1,5 +1,9 @@
 -- How a run of the program ends (own).
-use Rattle.std.specs.Prelude.{ℕ, ⊤, Result, Ok, Err}
+use Rattle.std.specs.Prelude.{ℕ, ⊤, Option, None, Some, Result, Ok, Err}
+use Rattle.room_1401.specs.declared.fault.StartFault.{StartFault}
+use Rattle.room_1401.specs.declared.fault.StartFault.TheVariants as start
+use Rattle.console_1401.specs.declared.serving.ServeFault.{ServeFault}
+use Rattle.console_1401.specs.declared.serving.ServeFault.TheVariants as serve
 use Rattle.console_1401.specs.declared.session_end.SessionEnd.{SessionEnd}
 use Rattle.console_1401.specs.declared.session_end.SessionEnd.TheVariants as end
 use Rattle.ibm1401.specs.declared.fault.Fault.{Fault}
@@ -20,6 +24,10 @@ status_of fault.Read = 1
 status_of fault.Write = 1
 status_of fault.Bound = 1
 status_of fault.Reply = 1
+status_of fault.NoReader = 1
+status_of fault.Port = 1
+status_of fault.Accept = 1
+status_of fault.Thread = 1
 
 -- the status that a run ends with
 abbrev pub run_status : Result ⊤ Fault → ℕ
@@ -34,3 +42,16 @@ outcome_of end.Read = Err fault.Read
 outcome_of end.Write = Err fault.Write
 outcome_of end.Bound = Err fault.Bound
 outcome_of end.Memory = Err fault.Reply
+
+-- what a room that couldn't be opened is for the program: of seats that it can't have no reader has a place
+abbrev pub start_fault : StartFault → Fault
+start_fault start.Memory = fault.Memory
+start_fault start.Size = fault.Size
+start_fault start.Seats = fault.NoReader
+start_fault start.NoReader = fault.NoReader
+
+-- what the end of the service is for the program
+abbrev pub service_outcome : Option ServeFault → Result ⊤ Fault
+service_outcome None = Ok tt
+service_outcome (Some serve.Accept) = Err fault.Accept
+service_outcome (Some serve.Thread) = Err fault.Thread

@@ -1,5 +1,6 @@
 //! The command line.
 
+use crate::serving::Service;
 use clap::{Arg, ArgAction, ArgMatches, Command, Error, value_parser};
 use std::alloc::{AllocError, Global};
 use std::convert::AsStr;
@@ -54,6 +55,8 @@ pub enum Call {
         /// The name of the image's file.
         file: String,
     },
+    /// A room that operators share.
+    Serve(Service),
 }
 
 /// The size of core storage, as an option.
@@ -103,6 +106,28 @@ fn console_command<'a>(alloc: Global) -> Result<Command<'a>, AllocError> {
         .arg(size_arg(alloc))
 }
 
+/// The subcommand `serve`.
+fn serve_command<'a>(alloc: Global) -> Result<Command<'a>, AllocError> {
+    let port = Arg::new(alloc, "port")
+        .long("port")
+        .value_name("P")
+        .help("The port on 127.0.0.1, 1 to 65535")
+        .required(true)
+        .value_parser(value_parser!(u16).range(1..));
+    let seats = Arg::new(alloc, "seats")
+        .long("seats")
+        .value_name("K")
+        .help("How many operators there are, 1 to 8")
+        .required(true)
+        .value_parser(value_parser!(u8).range(1..=8));
+    Command::new(alloc, "serve")
+        .about("Opens a machine to operators, each with a connection of his own")
+        .after_help(LINES)
+        .arg(port)?
+        .arg(seats)?
+        .arg(size_arg(alloc))
+}
+
 /// The size that the options of a subcommand name.
 fn size_in(matches: &ArgMatches<'_>) -> u16 {
     matches.get_one::<u16>("size").unwrap_or(DEFAULT_SIZE)
@@ -134,7 +159,8 @@ pub fn read_call(alloc: Global, words: &[impl AsStr]) -> Result<Call, Error> {
         .subcommand_required(true)
         .subcommand(console_command(alloc)?)?
         .subcommand(assemble_command(alloc)?)?
-        .subcommand(load_command(alloc)?)?;
+        .subcommand(load_command(alloc)?)?
+        .subcommand(serve_command(alloc)?)?;
     let matches = program.try_get_matches_from(words)?;
     if let Some(assemble) = matches.subcommand_matches("assemble") {
         if let Some(file) = assemble.get_str("file") {
@@ -147,6 +173,12 @@ pub fn read_call(alloc: Global, words: &[impl AsStr]) -> Result<Call, Error> {
     {
         let file = String::from_str(alloc, file)?;
         return Ok(Call::Load { file });
+    }
+    if let Some(serve) = matches.subcommand_matches("serve") {
+        if let (Some(port), Some(seats)) = (serve.get_one("port"), serve.get_one("seats")) {
+            let size = size_in(serve);
+            return Ok(Call::Serve(Service { size, seats, port }));
+        }
     }
     let size = matches
         .subcommand_matches("console")

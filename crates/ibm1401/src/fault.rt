@@ -41,6 +41,9 @@ pub enum Fault {
     /// The journal has no place for all commands that load the image.
     #[error("journal full")]
     JournalFull,
+    /// There is no place for a seat's reader.
+    #[error("no reader")]
+    NoReader,
     /// Memory was refused before the session, or for the text of an image or a listing.
     #[error("memory refused")]
     Memory,
@@ -56,6 +59,15 @@ pub enum Fault {
     /// The memory for a reply was refused.
     #[error("session ended: MEMORY")]
     Reply,
+    /// The port can't be had.
+    #[error("port refused")]
+    Port,
+    /// A connection couldn't be accepted, and not each seat had its console.
+    #[error("accept failed")]
+    Accept,
+    /// A thread was refused, and not each seat had its console.
+    #[error("thread refused")]
+    Thread,
 }
 
 impl Fault {
@@ -69,6 +81,7 @@ impl Fault {
             Fault::Unread(_) | Fault::Image(_) | Fault::JournalFull => FAILED,
             Fault::Source(_) => FAILED,
             Fault::Read | Fault::Write | Fault::Bound | Fault::Reply => FAILED,
+            Fault::NoReader | Fault::Port | Fault::Accept | Fault::Thread => FAILED,
         }
     }
 }

@@ -5,6 +5,7 @@ mod args;
 mod assembling;
 mod fault;
 mod loading;
+mod serving;
 mod subcommands;
 #[cfg(test)]
 mod tests;
@@ -13,10 +14,14 @@ use crate::args::{Call, read_call};
 use crate::assembling::{check_size, write_assembly};
 use crate::fault::{Fault, report};
 use crate::loading::{load, read_file};
+use crate::serving::open_room;
 use crate::subcommands::{console, tell};
 use console_1401::{FromReader, ToWriter};
+use std::net::{Net, TcpListener, TcpStream};
 use std::process::ExitCode;
 use std::rt::{Env, Files};
+use std::sync::Wait;
+use std::thread::Threads;
 use std::{env, io};
 
 fn main(rt: HostRuntime) -> ExitCode {
@@ -29,7 +34,17 @@ fn main(rt: HostRuntime) -> ExitCode {
 ///
 /// `Text`, `Usage` or `Memory` where the command line can't be read, `Output` where its help can't be written, else
 /// what the subcommand fails by.
-fn run(rt: &(impl Env + Files + Input + Print + AllocGlobal)) -> Result<(), Fault> {
+fn run<
+    R: Env
+        + Files
+        + Input
+        + Print
+        + AllocGlobal
+        + Threads
+        + Wait
+        + Sync
+        + Net<Listener = TcpListener, Stream = TcpStream>,
+>(rt: &R) -> Result<(), Fault> {
     let words = command_line(rt)?;
     match read_call(rt.alloc(), words.as_slice()) {
         Ok(Call::Console { size }) => {
@@ -55,6 +70,7 @@ fn run(rt: &(impl Env + Files + Input + Print + AllocGlobal)) -> Result<(), Faul
             let mut writer = ToWriter::new(io::writer(rt));
             load(rt.alloc(), text.as_slice(), &mut reader, &mut writer)
         }
+        Ok(Call::Serve(service)) => open_room(rt, service),
         Err(error) => tell(rt, error),
     }
 }

@@ -12,6 +12,7 @@ mod moves;
 mod programs;
 mod recorder;
 mod refusals;
+mod serving;
 mod storage;
 mod wiring;
 

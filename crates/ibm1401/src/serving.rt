@@ -1,0 +1,94 @@
+//! What the subcommand `serve` does.
+ghost use Rattle.std.specs.Prelude.{◌≡◌};
+ghost use Rattle.ibm1401.specs.Status.{service_outcome, start_fault};
+
+use crate::fault::Fault;
+use console_1401::{OpenDoor, ServeFault, serve};
+use room_1401::{Naming, Opened, SharedRoom, StartFault};
+use std::alloc::Global;
+use std::marker::Brand;
+use std::net::{Ipv4Addr, Net, TcpListener, TcpStream};
+use std::sync::Wait;
+use std::thread::Threads;
+
+/// How many places the machine has, how many operators share it, and the port at which they come.
+#[derive(Clone, Copy, Debug, PartialEq, Eq)]
+pub struct Service {
+    /// How many places core storage has.
+    pub size: u16,
+    /// How many seats there are, from 1 to 8.
+    pub seats: u8,
+    /// The port on 127.0.0.1.
+    pub port: u16,
+}
+
+/// What a room that couldn't be opened means for the program. The command line asks for no other seats than 1 to 8, so
+/// that there are places for their readers, or there are none.
+fn start_fault(fault: StartFault) -> Fault
+    ensures { result ≡ start_fault fault }
+{
+    match fault {
+        StartFault::Size => Fault::Size,
+        StartFault::Seats | StartFault::NoReader => Fault::NoReader,
+        StartFault::Memory => Fault::Memory,
+    }
+}
+
+/// What the end of the service means for the program.
+///
+/// # Errors
+///
+/// Where not each seat had its console.
+fn service_outcome(fault: Option<ServeFault>) -> Result<(), Fault>
+    ensures { result ≡ service_outcome fault }
+{
+    match fault {
+        None => Ok(()),
+        Some(ServeFault::Accept) => Err(Fault::Accept),
+        Some(ServeFault::Thread) => Err(Fault::Thread),
+    }
+}
+
+/// Opens a new machine to operators, a console for each seat, and tells on standard output when it listens, and at the
+/// end how many commands the journal has.
+///
+/// # Errors
+///
+/// `Size`, `NoReader` or `Memory` where there is no such room, `Port` where the port is refused, `Output` where
+/// standard output takes nothing; or `Accept` or `Thread` where not each seat had its console.
+pub fn open_room<
+    R: Threads
+        + Wait
+        + Sync
+        + Print
+        + AllocGlobal
+        + Net<Listener = TcpListener, Stream = TcpStream>,
+>(rt: &R, service: Service) -> Result<(), Fault> {
+    serve_room::<Brand, R>(rt, rt.alloc(), service, Opened::new(service.seats))
+}
+
+/// The same for a room of this name.
+fn serve_room<
+    J: Naming + Send + Sync,
+    R: Threads + Wait + Sync + Print + Net<Listener = TcpListener, Stream = TcpStream>,
+>(rt: &R, alloc: Global, service: Service, opened: Opened) -> Result<(), Fault>
+    requires history { opened.book ≡ J.book }
+    requires ledger { (opened.ledger ≡ J.name) × (opened.parts ≡ J.parts) × (J.parts ≡ J.seats) }
+    requires named { (service.size ≡ J.size) × (service.seats ≡ J.seats) }
+{
+    let Service { size, seats, port } = service;
+    let (room, seats) = match SharedRoom::<J, &R>::power_on(rt, alloc, size, seats, opened) {
+        Ok(opened) => opened,
+        Err(fault) => return Err(start_fault(fault)),
+    };
+    let Ok(listener) = TcpListener::bind(rt, (Ipv4Addr::LOCALHOST, port)) else {
+        return Err(Fault::Port);
+    };
+    if println!(rt; "READY").is_err() {
+        return Err(Fault::Output);
+    }
+    let served = serve(alloc, rt, room, seats, &listener, &OpenDoor);
+    let told = println!(rt; "JOURNAL {}", served.room.journal().len());
+    service_outcome(served.fault)?;
+    told.map_err(|_| Fault::Output)
+}
