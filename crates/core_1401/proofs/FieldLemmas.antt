@@ -181,7 +181,8 @@ pub pair_len_marked : (chars words : List ℕ) (storage : Storage) (a b p q n : 
     → ArePlaces storage a b p q → IsFirstPair words p q n → n ≤ min a b → Some (n + 1) ≡ pair_len_of storage a b
 pair_len_marked chars words storage a b p q n view at first le =
     let size : length storage ≡ length chars = ap length (sym view) ∙ length_held chars words in
-    pair_len_found chars words p q n (omega (arith, size, at.is_a, at.a_in)) (omega (arith, size, at.is_b, at.b_in)) first
+    pair_len_found chars words p q n (omega (arith, size, at.is_a, at.a_in))
+    (omega (arith, size, at.is_b, at.b_in)) first
     (omega (arith, at.is_a, le)) (omega (arith, at.is_b, le))
     ∙ ap (λ (place : ℕ). pair_len_of (held chars words) place q) at.is_a
     ∙ ap (λ (place : ℕ). pair_len_of (held chars words) a place) at.is_b
@@ -191,7 +192,8 @@ pub pair_len_unmarked : (chars words : List ℕ) (storage : Storage) (a b p q n 
     → ArePlaces storage a b p q → IsFirstPair words p q n → min a b < n → None ≡ pair_len_of storage a b
 pair_len_unmarked chars words storage a b p q n view at first over =
     let size : length storage ≡ length chars = ap length (sym view) ∙ length_held chars words in
-    pair_len_none chars words p q n (omega (arith, size, at.is_a, at.a_in)) (omega (arith, size, at.is_b, at.b_in)) first
+    pair_len_none chars words p q n (omega (arith, size, at.is_a, at.a_in))
+    (omega (arith, size, at.is_b, at.b_in)) first
     (omega (arith, at.is_a, at.is_b, over))
     ∙ ap (λ (place : ℕ). pair_len_of (held chars words) place q) at.is_a
     ∙ ap (λ (place : ℕ). pair_len_of (held chars words) a place) at.is_b

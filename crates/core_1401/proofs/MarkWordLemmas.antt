@@ -36,7 +36,7 @@ window_marks words at both e fits j within le =
           ∙ same_bit words (at / 64 + 1) (i - 64) (at - j) (omega (arith, above, le)) (omega (arith, above, le, within))
     ])
 
--- so many marks below a place are none
+-- none of the marks below a place, down to this far
 abbrev pub NoneBelow : List ℕ → ℕ → ℕ → Type 0
 NoneBelow words at n = (j : ℕ) → j < n → j ≤ at → mark_bit words (at - j) ≡ 0
 

@@ -6,7 +6,7 @@ use Rattle.cpu_1401.specs.Run.{Finished, one_more, carried_out_by, run_on, run_f
 use Rattle.cpu_1401.specs.State.{State}
 use Rattle.cpu_1401.specs.Step.{step}
 
--- a run before which so many instructions were carried out
+-- a run before which this many instructions were carried out
 abbrev pub after_steps : ℕ → Finished → Finished
 after_steps steps run = record { state = run.state; steps = steps + run.steps; stop = run.stop }
 

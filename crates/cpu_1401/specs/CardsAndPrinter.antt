@@ -20,7 +20,7 @@ use Rattle.cpu_1401.specs.Branch.{branch_to, go_on}
 use Rattle.cpu_1401.specs.State.{State}
 use Rattle.cpu_1401.specs.Stepped.{Stepped, step_to, stopped}
 
--- the characters of so many places from one on upwards
+-- the characters of n places from one on upwards
 abbrev pub chars_from : Storage → ℕ → ℕ → List ℕ
 chars_from storage at n = map (λ i. (cell_at storage (at + i)).char) (range_with_len 0 n)
 

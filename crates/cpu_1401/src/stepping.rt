@@ -161,8 +161,8 @@ impl Machine {
             len,
             a: self.a_address(said),
             b: self.b_address(said),
-            d: said.d,
             next,
+            d: said.d,
         }
     }
 

@@ -14,7 +14,7 @@ use Rattle.fields_1401.specs.Places.{with_cells}
 use Rattle.fields_1401.proofs.PlacesLemmas.{with_cells_more, cell_at-within, cell_at-outside, is_within-inside}
 use Rattle.fields_1401.proofs.PlacesLemmas.{length-with_cells}
 
--- so many characters as places
+-- there is a character for each place
 pub length-across : (s : Storage) (at n : ℕ) → at < length s → n ≤ at + 1 → length (chars_across s at n) ≡ n
 unfolding chars_across
 length-across s at n in_core above =
@@ -42,7 +42,7 @@ pub char_unzoned : (chars : List ℕ) (i : ℕ) → i < length chars → get_or 
 unfolding units_unzoned
 char_unzoned chars i within = get_or-map-range_with_len (unzoned_at chars) 0 (length chars) i i 0 within (omega arith)
 
--- so many characters, the units without their zone
+-- and one with the units without their zone
 pub length-unzoned_across : (s : Storage) (at n : ℕ) → at < length s → n ≤ at + 1
     → length (units_unzoned (chars_across s at n)) ≡ n
 length-unzoned_across s at n in_core above =
@@ -90,7 +90,9 @@ pub across_unmarked : (s t : Storage) (at n : ℕ) (chars : List ℕ) → t ≡ 
 unfolding with_across
 across_unmarked s t at n chars e size in_core above i within =
     ap (λ (u : Storage). (cell_at u (at - i)).mark) e
-    ∙ ap (λ (cell : Cell). cell.mark) (cell_at-within s at (length chars) (unmarked_cell chars) (at - i) (omega arith) (is_within-inside at (length chars) (at - i) (omega arith) (omega arith)))
+    ∙ ap (λ (cell : Cell). cell.mark)
+    (cell_at-within s at (length chars) (unmarked_cell chars) (at - i) (omega arith)
+    (is_within-inside at (length chars) (at - i) (omega arith) (omega arith)))
 
 -- each other place is as it was
 pub across_outside : (s t : Storage) (at n : ℕ) (chars : List ℕ) → t ≡ with_across s at chars → length chars ≡ n
@@ -115,7 +117,9 @@ across_again s t at n chars e size in_core above =
     let q = at - (n - 1 - i) in
     char_across t at n i (omega arith) above (omega arith)
     ∙ ap (λ (u : Storage). (cell_at u q).char) e
-    ∙ ap (λ (cell : Cell). cell.char) (cell_at-within s at (length chars) (unmarked_cell chars) q (omega arith) (is_within-inside at (length chars) q (omega arith) (omega arith)))
+    ∙ ap (λ (cell : Cell). cell.char)
+    (cell_at-within s at (length chars) (unmarked_cell chars) q (omega arith)
+    (is_within-inside at (length chars) q (omega arith) (omega arith)))
     ∙ ap (λ k. get_or chars k 0) (omega arith))
 
 -- the same characters where each place is as it was

@@ -72,7 +72,8 @@ unfolding edited before_significant limit_of chars_of_graphics graphics
 a_shorter_field_loses_its_comma = refl
 
 -- two are left over
-a_comma_right_of_the_first_taken_stays : edited (chars_of_graphics (codes "   ,   ")) (chars_of_graphics (codes "0123")) Plus ≡ chars_of_graphics (codes "  0,123")
+a_comma_right_of_the_first_taken_stays : edited (chars_of_graphics (codes "   ,   "))
+    (chars_of_graphics (codes "0123")) Plus ≡ chars_of_graphics (codes "  0,123")
 unfolding edited before_significant limit_of chars_of_graphics graphics
 a_comma_right_of_the_first_taken_stays = refl
 
@@ -191,50 +192,60 @@ a_longer_field : edit_at (marked 1 ∷ plain 2 ∷ plain 3 ∷ plain 4 ∷ plain
           ∷ [],
       registers_of 1 4,
     )
-unfolding edit_at edit_lengths_at with_edited with_across with_cells edited before_significant limit_of units_unzoned chars_across
+unfolding edit_at edit_lengths_at with_edited with_across with_cells edited before_significant limit_of units_unzoned
+    chars_across
 a_longer_field = refl
 
 -- 0N is -5: two places of three are filled, and the sign stays
 a_minus_field : edit_at (marked 10 ∷ plain 37 ∷ marked 0 ∷ plain 0 ∷ plain 0 ∷ plain 32 ∷ []) 1 5
     ≡ Ok (marked 10 ∷ plain 37 ∷ plain 0 ∷ plain 10 ∷ plain 5 ∷ plain 32 ∷ [], registers_of 15999 1)
-unfolding edit_at edit_lengths_at with_edited with_across with_cells edited before_significant limit_of units_unzoned chars_across
+unfolding edit_at edit_lengths_at with_edited with_across with_cells edited before_significant limit_of units_unzoned
+    chars_across
 a_minus_field = refl
 
 -- nothing is taken, and the character at 0 still has the sign; it needs no word mark
 the_sign_alone : edit_at (plain 37 ∷ marked 51 ∷ plain 41 ∷ []) 0 2
     ≡ Ok (plain 37 ∷ plain 51 ∷ plain 41 ∷ [], registers_of 0 0)
-unfolding edit_at edit_lengths_at with_edited with_across with_cells edited before_significant limit_of units_unzoned chars_across
+unfolding edit_at edit_lengths_at with_edited with_across with_cells edited before_significant limit_of units_unzoned
+    chars_across
 the_sign_alone = refl
 
 -- both places that the control word takes are there, though no word mark is
 enough_places : edit_at (plain 1 ∷ plain 2 ∷ marked 0 ∷ plain 0 ∷ []) 1 3
     ≡ Ok (plain 1 ∷ plain 2 ∷ plain 1 ∷ plain 2 ∷ [], registers_of 15999 1)
-unfolding edit_at edit_lengths_at with_edited with_across with_cells edited before_significant limit_of units_unzoned chars_across
+unfolding edit_at edit_lengths_at with_edited with_across with_cells edited before_significant limit_of units_unzoned
+    chars_across
 enough_places = refl
 
 too_few_places : edit_at (plain 1 ∷ plain 2 ∷ marked 0 ∷ plain 0 ∷ plain 0 ∷ []) 1 4 ≡ Err Address
-unfolding edit_at edit_lengths_at with_edited with_across with_cells edited before_significant limit_of units_unzoned chars_across
+unfolding edit_at edit_lengths_at with_edited with_across with_cells edited before_significant limit_of units_unzoned
+    chars_across
 too_few_places = refl
 
 no_control_word : edit_at (marked 1 ∷ plain 2 ∷ []) 0 2 ≡ Err Address
-unfolding edit_at edit_lengths_at with_edited with_across with_cells edited before_significant limit_of units_unzoned chars_across
+unfolding edit_at edit_lengths_at with_edited with_across with_cells edited before_significant limit_of units_unzoned
+    chars_across
 no_control_word = refl
 
 the_sign_is_not_in_core : edit_at (marked 51 ∷ plain 41 ∷ []) 2 1 ≡ Err Address
-unfolding edit_at edit_lengths_at with_edited with_across with_cells edited before_significant limit_of units_unzoned chars_across
+unfolding edit_at edit_lengths_at with_edited with_across with_cells edited before_significant limit_of units_unzoned
+    chars_across
 the_sign_is_not_in_core = refl
 
 -- a field is no control word for itself
 the_same_field : edit_at (marked 1 ∷ marked 2 ∷ []) 1 1 ≡ Err Overlap
-unfolding edit_at edit_lengths_at with_edited with_across with_cells edited before_significant limit_of units_unzoned chars_across
+unfolding edit_at edit_lengths_at with_edited with_across with_cells edited before_significant limit_of units_unzoned
+    chars_across
 the_same_field = refl
 
 -- the last place of A is the first of the control word
 a_shared_place : edit_at (marked 1 ∷ plain 2 ∷ marked 0 ∷ plain 0 ∷ []) 2 3 ≡ Err Overlap
-unfolding edit_at edit_lengths_at with_edited with_across with_cells edited before_significant limit_of units_unzoned chars_across
+unfolding edit_at edit_lengths_at with_edited with_across with_cells edited before_significant limit_of units_unzoned
+    chars_across
 a_shared_place = refl
 
 -- no place is taken, but the sign stands in the control word
 a_shared_sign : edit_at (marked 51 ∷ plain 41 ∷ []) 0 1 ≡ Err Overlap
-unfolding edit_at edit_lengths_at with_edited with_across with_cells edited before_significant limit_of units_unzoned chars_across
+unfolding edit_at edit_lengths_at with_edited with_across with_cells edited before_significant limit_of units_unzoned
+    chars_across
 a_shared_sign = refl

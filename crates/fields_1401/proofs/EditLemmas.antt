@@ -33,7 +33,9 @@ pub takes_one : (digits : List ℕ) (own behind t : ℕ) → length digits ≡ t
 takes_one digits own behind t size replaceable lt =
     ap (λ n. Some (get_or digits (n - 1 - behind) 0)) (sym size)
     ∙ sym (cond-true (is_replaceable own
-    && nat_lt behind (length digits)) _ _ (and_from (is_replaceable own) (nat_lt behind (length digits)) replaceable (lt-ltb behind (length digits) (omega arith))))
+    && nat_lt behind (length digits)) _ _
+    (and_from (is_replaceable own) (nat_lt behind (length digits)) replaceable
+    (lt-ltb behind (length digits) (omega arith))))
 
 -- another place takes none
 pub takes_none : (digits : List ℕ) (own behind t : ℕ) → length digits ≡ t → (is_replaceable own ≡ false) ⊎ (t ≤ behind)
@@ -43,9 +45,10 @@ takes_none digits own behind t size (inl fails) =
     && nat_lt behind (length digits)) _ _ (and_left (is_replaceable own) (nat_lt behind (length digits)) fails))
 takes_none digits own behind t size (inr le) =
     sym (cond-false (is_replaceable own
-    && nat_lt behind (length digits)) _ _ (and_right (is_replaceable own) (nat_lt behind (length digits)) (le-ltb behind (length digits) (omega arith))))
+    && nat_lt behind (length digits)) _ _
+    (and_right (is_replaceable own) (nat_lt behind (length digits)) (le-ltb behind (length digits) (omega arith))))
 
--- so many places stand left of the first significant one
+-- how many places stand left of the first significant one
 pub before_significant_is : (word digits : List ℕ) (i : ℕ) → i ≤ length word
     → ((k : ℕ) → k < i → is_significant (taken_by word digits k) ≡ false)
     → (i < length word → is_significant (taken_by word digits i) ≡ true) → before_significant word digits ≡ i
@@ -55,7 +58,8 @@ before_significant_is word digits i le none here =
     let size : length places ≡ length word = length-map-range_with_len (taken_by word digits) 0 (length word) in
     let at : (k : ℕ) → k < length word → is_significant (get_or places k None)
     ≡ is_significant (taken_by word digits k) =
-    λ k lt. ap is_significant (get_or-map-range_with_len (taken_by word digits) 0 (length word) k k None lt (omega arith)) in
+    λ k lt. ap is_significant
+    (get_or-map-range_with_len (taken_by word digits) 0 (length word) k k None lt (omega arith)) in
     position_or_len_is is_significant places i None (omega arith) (λ k lt. at k (omega arith)
     ∙ none k lt) (λ lt. at i (omega arith) ∙ here (omega arith))
 
@@ -97,21 +101,26 @@ unfolding edited
 length-edited word digits sign = length-map-range_with_len (shown_at word digits sign) 0 (length word)
 
 -- what a place shows, by what the rules go by
-pub shown_place : (word digits : List ℕ) (sign : Sign) (j t replaceable behind : ℕ) (suppressed : Bool) (taken : Option ℕ) (own : ℕ) → j < length word
+pub shown_place : (word digits : List ℕ) (sign : Sign) (j t replaceable behind : ℕ) (suppressed : Bool)
+    (taken : Option ℕ) (own : ℕ) → j < length word
     → t ≡ length digits → replaceable ≡ replaceable_in word → behind ≡ replaceable_behind word j → suppressed
     ≡ is_suppressed word digits j
     → taken ≡ taken_from digits own behind → own ≡ get_or word j 0
     → shown t replaceable sign behind suppressed taken own ≡ get_or (edited word digits sign) j 0
 unfolding edited
-shown_place word digits sign j t replaceable behind suppressed taken own within e_t e_replaceable e_behind e_suppressed e_taken e_own =
+shown_place word digits sign j t replaceable behind suppressed taken own within e_t e_replaceable e_behind e_suppressed
+    e_taken e_own =
     let takes : taken ≡ taken_by word digits j = e_taken ∙ ap (λ k. taken_from digits k behind) e_own
     ∙ ap (taken_from digits (get_or word j 0)) e_behind in
     ap (λ k. shown k replaceable sign behind suppressed taken own) e_t
     ∙ ap (λ k. shown (length digits) k sign behind suppressed taken own) e_replaceable
     ∙ ap (λ k. shown (length digits) (replaceable_in word) sign k suppressed taken own) e_behind
-    ∙ ap (λ (test : Bool). shown (length digits) (replaceable_in word) sign (replaceable_behind word j) test taken own) e_suppressed
-    ∙ ap (λ (o : Option ℕ). shown (length digits) (replaceable_in word) sign (replaceable_behind word j) (is_suppressed word digits j) o own) takes
-    ∙ ap (λ k. shown (length digits) (replaceable_in word) sign (replaceable_behind word j) (is_suppressed word digits j) (taken_by word digits j) k) e_own
+    ∙ ap (λ (test : Bool). shown (length digits) (replaceable_in word) sign
+    (replaceable_behind word j) test taken own) e_suppressed
+    ∙ ap (λ (o : Option ℕ). shown (length digits) (replaceable_in word) sign (replaceable_behind word j)
+    (is_suppressed word digits j) o own) takes
+    ∙ ap (λ k. shown (length digits) (replaceable_in word) sign (replaceable_behind word j)
+    (is_suppressed word digits j) (taken_by word digits j) k) e_own
     ∙ sym (get_or-map-range_with_len (shown_at word digits sign) 0 (length word) j j 0 within (omega arith))
 
 -- those from a place on, where it is one of them or it isn't

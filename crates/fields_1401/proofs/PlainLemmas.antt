@@ -35,7 +35,8 @@ plain_right : (word digits : List ℕ) (j : ℕ) → IsPlain word → j < length
     → taken_by word digits j ≡ Some (get_or digits (j - (length word - length digits)) 0)
 plain_right word digits j plain within fewer right =
     let behind = plain_count word plain (length word - 1 - j) (j + 1) (omega arith) in
-    sym (takes_one digits (get_or word j 0) (replaceable_behind word j) (length digits) refl (plain j within) (omega arith))
+    sym (takes_one digits (get_or word j 0) (replaceable_behind word j) (length digits) refl (plain j within)
+    (omega arith))
     ∙ ap (λ k. let taken : Option ℕ = Some (get_or digits k 0) in taken) (omega arith)
 
 -- left of the first significant place none is
@@ -44,7 +45,8 @@ not_significant : (word digits : List ℕ) (k : ℕ) → k < before_significant 
 unfolding before_significant
 not_significant word digits k lt within =
     let places = map (taken_by word digits) (range_with_len 0 (length word)) in
-    ap is_significant (sym (get_or-map-range_with_len (taken_by word digits) 0 (length word) k k None within (omega arith)))
+    ap is_significant
+    (sym (get_or-map-range_with_len (taken_by word digits) 0 (length word) k k None within (omega arith)))
     ∙ fails_before_first is_significant places k None lt
 
 before_significant-le : (word digits : List ℕ) → before_significant word digits ≤ length word
@@ -115,7 +117,8 @@ plain_shows word digits sign plain fewer =
           (λ j lt. elim (cases_lt j (m - (t - hidden))) [
             | inl left ↦ elim (cases_lt (j + t) m) [
               | inl none ↦ plain_place word digits sign j plain (omega arith) fewer
-                  ∙ plain_kept word digits sign j plain (omega arith) (plain_left word digits j plain (omega arith) none)
+                  ∙ plain_kept word digits sign j plain (omega arith)
+                  (plain_left word digits j plain (omega arith) none)
               | inr right ↦ at j (omega arith) right
                   ∙ ap (λ b. taken_char b (get_or digits (j - (m - t)) 0)) (lt-ltb j far (omega arith))
                   ∙ suppressed_blank (get_or digits (j - (m - t)) 0) (insignificant j (omega arith) right)
@@ -130,5 +133,6 @@ plain_shows word digits sign plain fewer =
           ]);
       zeros =
           λ k lt. ap (λ i. is_replaceable (get_or digits i 0)) (omega arith)
-          ∙ blank_or_zero (get_or digits (k + (m - t) - (m - t)) 0) (insignificant (k + (m - t)) (omega arith) (omega arith));
+          ∙ blank_or_zero (get_or digits (k + (m - t) - (m - t)) 0)
+          (insignificant (k + (m - t)) (omega arith) (omega arith));
     }

@@ -48,7 +48,7 @@ replaceable_in word = count_by is_replaceable word
 abbrev pub replaceable_behind : List ℕ → ℕ → ℕ
 replaceable_behind word i = count_by is_replaceable (drop (i + 1) word)
 
--- What a place of the control word takes of A, where so many replaceable places stand right of it: of the replaceable
+-- What a place of the control word takes of A, by how many replaceable places stand right of it: of the replaceable
 -- places the last takes the last character, the one before it the one before that, and so on; none takes one that isn't
 -- there.
 abbrev pub taken_from : List ℕ → ℕ → ℕ → Option ℕ
@@ -174,8 +174,8 @@ edit_at storage a b = on_lengths (edit_lengths_at storage a b) (λ t m. with_edi
 abbrev pub IsPlain : List ℕ → Type 0
 IsPlain word = (i : ℕ) → i < length word → is_replaceable (slice_index word i) ≡ true
 
--- These characters are those of A with blanks in front. So many of the first aren't shown: each of them is a zero or a
--- blank.
+-- These characters are those of A with blanks in front. The hidden ones, which are the first, aren't shown: each of
+-- them is a zero or a blank.
 pub record ShowsWithBlanks (shown digits : List ℕ) : Type 0 where
   pub hidden : ℕ
   pub fewer : hidden ≤ length digits

@@ -79,7 +79,7 @@ impl ControlWord {
         })
     }
 
-    /// What a place with this character takes of the A field, where so many replaceable places stand right of it.
+    /// What a place with this character takes of the A field, by how many replaceable places stand right of it.
     pub(crate) fn takes(self, core: &Core, own: Char, behind: u16) -> Option<Char>
         requires { self.a < length core.now }
         ensures { result ≡ taken_from (units_unzoned (chars_across core.now self.a self.taken)) own behind }
@@ -166,7 +166,7 @@ fn count_replaceable(core: &Core, at: u16, n: u16) -> u16
     count
 }
 
-/// How many characters of A are taken by so many replaceable places; none where a place that is needed isn't in core.
+/// How many characters of A are taken by this many replaceable places; none where a place that is needed isn't in core.
 fn taken_len(core: &Core, a: u16, replaceable: u16) -> Option<u16>
     requires { a < addresses }
     ensures value { result ≡ used_len_of core.now a replaceable }

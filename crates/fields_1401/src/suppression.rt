@@ -81,7 +81,7 @@ fn before_figures(core: &Core, at: u16, n: u16) -> u16
 }
 
 /// Puts the n characters of the A field, the units without their zone, to b and the places below it without word
-/// marks, with so many blanks on the left.
+/// marks, with that many blanks on the left.
 fn put_suppressed(core: &mut Core, a: u16, b: u16, n: u16, blanks: u16)
     requires a_in { a < length core.old }
     requires b_in { b < length core.old }

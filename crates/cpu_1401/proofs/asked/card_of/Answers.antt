@@ -8,4 +8,5 @@ use Rattle.cpu_1401.proofs.asked.card_of.Goals as goal
 pub returns : goal.returns
 returns c =
     ap (λ (columns : List ℕ). let card : Card = record { 0 = columns } in card)
-    (all_of (λ i. (cell_at c.args.core.now (101 + i)).char) 80 c.loop-i.columns c.loop-i.invariant.len (λ k within. c.loop-i.invariant.read k (omega arith)))
+    (all_of (λ i. (cell_at c.args.core.now (101 + i)).char) 80 c.loop-i.columns c.loop-i.invariant.len
+    (λ k within. c.loop-i.invariant.read k (omega arith)))

@@ -7,4 +7,5 @@ use Rattle.cpu_1401.proofs.asked.marks_line.Goals as goal
 
 pub returns : goal.returns
 returns c =
-    all_of (λ i. mark_char (cell_at c.args.core.now (201 + i))) 132 c.loop-i.line c.loop-i.invariant.len (λ k within. c.loop-i.invariant.read k (omega arith))
+    all_of (λ i. mark_char (cell_at c.args.core.now (201 + i))) 132 c.loop-i.line c.loop-i.invariant.len
+    (λ k within. c.loop-i.invariant.read k (omega arith))

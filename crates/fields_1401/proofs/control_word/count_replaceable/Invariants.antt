@@ -1,4 +1,4 @@
--- So many of the places passed are replaceable.
+-- How many of the places passed are replaceable.
 use Rattle.std.proofs.Common.{◌≡◌, ◌≤◌, take}
 use Rattle.std.specs.List.{count_by}
 use Rattle.fields_1401.specs.Across.{chars_across}

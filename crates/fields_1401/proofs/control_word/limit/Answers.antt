@@ -36,4 +36,5 @@ pub returns : goal.returns
 returns c =
     let word = chars_across c.args.core.now c.args.at c.args.n in
     let size = length-across c.args.core.now c.args.at c.args.n c.requires.at c.requires.n in
-    sym (limit_is word 0 (omega arith) (λ k le lt. c.loop-i.invariant k (omega arith) (omega arith)) (λ lt. absurd (omega arith)))
+    sym (limit_is word 0 (omega arith) (λ k le lt. c.loop-i.invariant k (omega arith) (omega arith))
+    (λ lt. absurd (omega arith)))

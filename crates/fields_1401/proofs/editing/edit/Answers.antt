@@ -18,7 +18,8 @@ returns-clause-marks c =
     let digits = units_unzoned (chars_across old o.a o.taken) in
     let b_in : o.b < length old = omega (arith, at_b.0, at_b.1) in
     let size = length-edited control digits (sign_at old o.a) ∙ length-across old o.b o.len b_in o.b_above in
-    let unmarked : IsUnmarked new o.b o.len = across_unmarked old new o.b o.len (edited control digits (sign_at old o.a)) c.put_edited.ensures.put size b_in o.b_above in
+    let unmarked : IsUnmarked new o.b o.len = across_unmarked old new o.b o.len
+    (edited control digits (sign_at old o.a)) c.put_edited.ensures.put size b_in o.b_above in
     let at_b_unmarked = subst (λ (b : ℕ). IsUnmarked new b o.len) at_b.0 unmarked in
     subst (λ (n : Option ℕ). IfSome n (λ k. IsUnmarked new c.args.b k)) (sym c.in_ok-word.ensures.field) at_b_unmarked
 
@@ -32,9 +33,11 @@ returns-clause-outside c =
     let digits = units_unzoned (chars_across old o.a o.taken) in
     let b_in : o.b < length old = omega (arith, at_b.0, at_b.1) in
     let size = length-edited control digits (sign_at old o.a) ∙ length-across old o.b o.len b_in o.b_above in
-    let outside : IsSameOutside old new o.b o.len = across_outside old new o.b o.len (edited control digits (sign_at old o.a)) c.put_edited.ensures.put size in
+    let outside : IsSameOutside old new o.b o.len = across_outside old new o.b o.len
+    (edited control digits (sign_at old o.a)) c.put_edited.ensures.put size in
     let at_b_outside = subst (λ (b : ℕ). IsSameOutside old new b o.len) at_b.0 outside in
-    subst (λ (n : Option ℕ). IfSome n (λ k. IsSameOutside old new c.args.b k)) (sym c.in_ok-word.ensures.field) at_b_outside
+    subst (λ (n : Option ℕ). IfSome n (λ k. IsSameOutside old new c.args.b k))
+    (sym c.in_ok-word.ensures.field) at_b_outside
 
 -- a control word of blanks and zeros
 pub returns-clause-plain : goal.returns-clause-plain
@@ -51,17 +54,20 @@ returns-clause-plain c =
     let b_in : o.b < length old = omega (arith, at_b.0, at_b.1) in
     let control_size = length-across old o.b o.len b_in o.b_above in
     let size = length-edited control digits sign ∙ control_size in
-    let fewer : length digits ≤ length control = let taken = o.fewer in let some = o.within in omega (arith, length-unzoned_across old o.a o.taken a_in o.a_above) in
+    let fewer : length digits ≤ length control = let taken = o.fewer in let some = o.within in omega
+    (arith, length-unzoned_across old o.a o.taken a_in o.a_above) in
     let read =
     across_again old new o.b o.len (edited control digits sign) c.put_edited.ensures.put size b_in o.b_above in
     let shows : IsPlain control → ShowsWithBlanks (chars_across new o.b o.len) digits =
-    λ plain. subst (λ (cs : List ℕ). ShowsWithBlanks cs digits) (sym read) (plain_shows control digits sign plain fewer) in
+    λ plain. subst (λ (cs : List ℕ). ShowsWithBlanks cs digits) (sym read)
+    (plain_shows control digits sign plain fewer) in
     let at_b_shows =
     subst (λ (b : ℕ). IsPlain (chars_across old b o.len)
     → ShowsWithBlanks (chars_across new b o.len) digits) at_b.0 shows in
     let at_a_shows =
     subst (λ (a : ℕ). IsPlain (chars_across old c.args.b o.len)
-    → ShowsWithBlanks (chars_across new c.args.b o.len) (units_unzoned (chars_across old a o.taken))) at_a.0 at_b_shows in
+    → ShowsWithBlanks (chars_across new c.args.b o.len)
+    (units_unzoned (chars_across old a o.taken))) at_a.0 at_b_shows in
     let P : Option (ℕ × ℕ) → Type 0 =
     λ found. IfSome found (λ taken. IsPlain (chars_across old c.args.b taken.1)
     → ShowsWithBlanks (chars_across new c.args.b taken.1) (units_unzoned (chars_across old c.args.a taken.0))) in

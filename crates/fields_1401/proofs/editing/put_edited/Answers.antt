@@ -75,20 +75,23 @@ loop-i-preserved c =
     let shows : c.shown-char.result
     ≡ get_or (edited control digits (sign_at old a)) (length (edited control digits (sign_at old a)) - 1 - i) 0 =
     c.shown-char.ensures
-    ∙ shown_place control digits sign j c.args.rules.taken c.args.rules.replaceable c.loop-i.behind (nat_lt j c.args.rules.suppressing) c.takes.result c.get-own.result.char (omega arith)
+    ∙ shown_place control digits sign j c.args.rules.taken c.args.rules.replaceable c.loop-i.behind
+    (nat_lt j c.args.rules.suppressing) c.takes.result c.get-own.result.char (omega arith)
     (c.requires.taken
     ∙ sym (length-unzoned_across old a t a_in a_above)) c.requires.replaceable behind suppressed taken own
     ∙ ap (λ (s : Sign). get_or (edited control digits s) j 0) c.requires.sign
     ∙ ap (λ k. get_or (edited control digits (sign_at old a)) k 0) (omega arith) in
     let more =
-    replaceable_more control j c.get-own.result.char c.loop-i.behind c.if-is_replaceable.behind (omega arith) own behind (elim c.if-is_replaceable.branch [
+    replaceable_more control j c.get-own.result.char c.loop-i.behind c.if-is_replaceable.behind
+    (omega arith) own behind (elim c.if-is_replaceable.branch [
       | then-is_replaceable w ↦ inl (sym c.is_replaceable.ensures ∙ w.if-is_replaceable.true, w.behind-is)
       | else-is_replaceable w ↦ inr (sym c.is_replaceable.ensures ∙ w.if-is_replaceable.false, w.behind-is)
     ]) in
     record {
       put =
           c.put_cell.ensures
-          ∙ ap (λ (s : Storage). let cell : Cell = record { char = c.shown-char.result; mark = false } in set s (b - i) cell) put
+          ∙ ap (λ (s : Storage). let cell : Cell = record { char = c.shown-char.result; mark = false } in set s
+          (b - i) cell) put
           ∙ across_more old b i (edited control digits (sign_at old a)) c.shown-char.result b_in (omega arith) shows;
       behind = more ∙ ap (λ k. count_by is_replaceable (drop k control)) (omega arith);
       bound =
@@ -103,4 +106,5 @@ returns-clause-put c =
     let control = chars_across old o.b o.len in
     let digits = units_unzoned (chars_across old o.a o.taken) in
     let size = length-edited control digits (sign_at old o.a) ∙ length-across old o.b o.len c.requires.b o.b_above in
-    across_all old c.loop-i.core o.b c.loop-i.i (edited control digits (sign_at old o.a)) c.loop-i.invariant.put (omega arith)
+    across_all old c.loop-i.core o.b c.loop-i.i (edited control digits (sign_at old o.a)) c.loop-i.invariant.put
+    (omega arith)

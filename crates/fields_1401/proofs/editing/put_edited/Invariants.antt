@@ -1,4 +1,4 @@
--- So many places, from the right, show what they are to show.
+-- The places so far, from the right, show what they are to show.
 use Rattle.std.proofs.Common.{◌≡◌, ◌-◌, ◌≤◌, length, drop}
 use Rattle.std.specs.List.{count_by}
 use Rattle.fields_1401.specs.Across.{chars_across, units_unzoned, unmarked_cell}

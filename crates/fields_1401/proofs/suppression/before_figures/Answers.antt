@@ -22,4 +22,5 @@ pub returns-clause-value : goal.returns-clause-value
 returns-clause-value c =
     let xs = units_unzoned (chars_across c.args.core.now c.args.at c.args.n) in
     let size = length-unzoned_across c.args.core.now c.args.at c.args.n c.requires.at c.requires.n in
-    sym (position_or_len_is is_figure xs c.args.n 0 (omega arith) (λ k lt. c.loop-i.invariant k (omega arith)) (λ lt. absurd (omega arith)))
+    sym (position_or_len_is is_figure xs c.args.n 0 (omega arith) (λ k lt. c.loop-i.invariant k (omega arith))
+    (λ lt. absurd (omega arith)))

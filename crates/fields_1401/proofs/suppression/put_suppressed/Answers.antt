@@ -16,7 +16,8 @@ use Rattle.fields_1401.proofs.suppression.put_suppressed.Goals.{then-n-i, else-n
 pub loop-i-init : goal.loop-i-init
 loop-i-init c = record {
   put =
-      with_cells_none c.args.core.now c.args.b (unmarked_cell (suppressed (units_unzoned (chars_across c.args.core.now c.args.a c.args.n))));
+      with_cells_none c.args.core.now c.args.b
+      (unmarked_cell (suppressed (units_unzoned (chars_across c.args.core.now c.args.a c.args.n))));
   size = refl;
 }
 
@@ -51,7 +52,8 @@ loop-i-preserved c =
     record {
       put =
           c.put_cell.ensures
-          ∙ ap (λ (t : Storage). let cell : Cell = record { char = c.if-n-i.char; mark = false } in set t (b - i) cell) c.loop-i.invariant.put
+          ∙ ap (λ (t : Storage). let cell : Cell = record { char = c.if-n-i.char; mark = false } in set t
+          (b - i) cell) c.loop-i.invariant.put
           ∙ across_more old b i (suppressed xs) c.if-n-i.char c.requires.b_in (omega arith) shows;
       size = ap length c.put_cell.ensures ∙ length-set now (b - i) _ ∙ c.loop-i.invariant.size;
     }

@@ -1,4 +1,4 @@
--- So many places hold what they are to show.
+-- The places so far hold what they are to show.
 use Rattle.std.proofs.Common.{◌≡◌, length}
 use Rattle.fields_1401.specs.Across.{chars_across, units_unzoned, unmarked_cell}
 use Rattle.fields_1401.specs.Places.{with_cells}

@@ -16,7 +16,9 @@ returns-clause-marks c =
     let size =
     length-suppressed xs
     ∙ length-unzoned_across c.args.core.now c.args.a c.in-Some.n c.in-Some.ensures.in_core c.in-Some.ensures.places in
-    subst P c.in-Some.ensures.value (across_unmarked c.args.core.now c.put_suppressed.new.core c.args.b c.in-Some.n (suppressed xs) c.put_suppressed.ensures.put size b_in b_places)
+    subst P c.in-Some.ensures.value
+    (across_unmarked c.args.core.now c.put_suppressed.new.core c.args.b c.in-Some.n
+    (suppressed xs) c.put_suppressed.ensures.put size b_in b_places)
 
 pub returns-clause-outside : goal.returns-clause-outside
 returns-clause-outside c =
@@ -26,7 +28,9 @@ returns-clause-outside c =
     let size =
     length-suppressed xs
     ∙ length-unzoned_across c.args.core.now c.args.a c.in-Some.n c.in-Some.ensures.in_core c.in-Some.ensures.places in
-    subst P c.in-Some.ensures.value (across_outside c.args.core.now c.put_suppressed.new.core c.args.b c.in-Some.n (suppressed xs) c.put_suppressed.ensures.put size)
+    subst P c.in-Some.ensures.value
+    (across_outside c.args.core.now c.put_suppressed.new.core c.args.b c.in-Some.n
+    (suppressed xs) c.put_suppressed.ensures.put size)
 
 pub returns-clause-again : goal.returns-clause-again
 returns-clause-again c =
@@ -41,5 +45,6 @@ returns-clause-again c =
     length-suppressed xs
     ∙ length-unzoned_across c.args.core.now c.args.a c.in-Some.n c.in-Some.ensures.in_core c.in-Some.ensures.places in
     let read : chars_across c.put_suppressed.new.core c.args.b c.in-Some.n ≡ suppressed xs =
-    across_again c.args.core.now c.put_suppressed.new.core c.args.b c.in-Some.n (suppressed xs) c.put_suppressed.ensures.put size b_in b_places in
+    across_again c.args.core.now c.put_suppressed.new.core c.args.b c.in-Some.n
+    (suppressed xs) c.put_suppressed.ensures.put size b_in b_places in
     subst P c.in-Some.ensures.value (ap suppressed read ∙ suppressed_again xs ∙ sym read)

@@ -29,7 +29,8 @@ loop-i-preserved c =
     let digits = units_unzoned (chars_across c.args.core.now o.a o.taken) in
     let size = length-across c.args.core.now o.b o.len c.requires.b o.b_above in
     let behind =
-    replaceable_passed word c.loop-i.i c.char_across-own.result c.loop-i.behind c.if-is_replaceable.behind (omega arith) c.char_across-own.ensures c.loop-i.invariant.behind
+    replaceable_passed word c.loop-i.i c.char_across-own.result c.loop-i.behind c.if-is_replaceable.behind
+    (omega arith) c.char_across-own.ensures c.loop-i.invariant.behind
     (elim c.if-is_replaceable.branch [
       | then-is_replaceable w ↦ inl (sym c.is_replaceable.ensures ∙ w.if-is_replaceable.true, w.behind-is)
       | else-is_replaceable w ↦ inr (sym c.is_replaceable.ensures ∙ w.if-is_replaceable.false, w.behind-is)
@@ -51,7 +52,8 @@ returns-then-is_significant c =
     let digits = units_unzoned (chars_across c.args.core.now o.a o.taken) in
     let size = length-across c.args.core.now o.b o.len c.requires.b o.b_above in
     let behind =
-    replaceable_passed word c.loop-i.i c.char_across-own.result c.loop-i.behind c.if-is_replaceable.behind (omega arith) c.char_across-own.ensures c.loop-i.invariant.behind
+    replaceable_passed word c.loop-i.i c.char_across-own.result c.loop-i.behind c.if-is_replaceable.behind
+    (omega arith) c.char_across-own.ensures c.loop-i.invariant.behind
     (elim c.if-is_replaceable.branch [
       | then-is_replaceable w ↦ inl (sym c.is_replaceable.ensures ∙ w.if-is_replaceable.true, w.behind-is)
       | else-is_replaceable w ↦ inr (sym c.is_replaceable.ensures ∙ w.if-is_replaceable.false, w.behind-is)
@@ -68,4 +70,5 @@ returns c =
     let word = chars_across c.args.core.now o.b o.len in
     let digits = units_unzoned (chars_across c.args.core.now o.a o.taken) in
     let size = length-across c.args.core.now o.b o.len c.requires.b o.b_above in
-    sym (before_significant_is word digits o.len (omega arith) (λ k lt. c.loop-i.invariant.none k (omega arith)) (λ lt. absurd (omega arith)))
+    sym (before_significant_is word digits o.len (omega arith) (λ k lt. c.loop-i.invariant.none k (omega arith))
+    (λ lt. absurd (omega arith)))

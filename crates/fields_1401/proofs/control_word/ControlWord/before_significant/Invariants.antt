@@ -1,4 +1,4 @@
--- None of the places passed is significant, and so many of the others are replaceable.
+-- None of the places passed is significant, and behind counts the replaceable ones of the others.
 use Rattle.std.proofs.Common.{◌≡◌, ℕ, ◌<◌, false, drop}
 use Rattle.std.specs.List.{count_by}
 use Rattle.fields_1401.specs.Across.{chars_across, units_unzoned}
