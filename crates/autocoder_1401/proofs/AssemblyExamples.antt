@@ -17,7 +17,8 @@ use Rattle.autocoder_1401.specs.declared.fault.AsmKind.TheVariants as kinds
 
 -- what a source stands for in 4,000 places, with all tables open
 stands_for : List ℕ → Result Assembly AsmFault
-unfolding columns_of instructions assembler_operations graphics number_text address_text characters_text without_last_blanks listing_line spelling digits
+unfolding columns_of instructions assembler_operations graphics number_text address_text characters_text
+    without_last_blanks listing_line spelling digits
 stands_for source = assembly_in 4000 source
 
 -- ?423420 and A423420 with their word marks

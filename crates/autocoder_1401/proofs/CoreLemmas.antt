@@ -42,6 +42,7 @@ use Rattle.autocoder_1401.specs.declared.characters.Characters.{Characters}
 use Rattle.autocoder_1401.specs.declared.fault.AsmKind.TheVariants as kinds
 use Rattle.autocoder_1401.specs.Placement.{Places, nothing_placed, instruction_length, constant_length, areas_length}
 use Rattle.autocoder_1401.specs.Placement.{pending, behind_literal, behind_literals, after_line, placed}
+use Rattle.autocoder_1401.specs.PlacementLaws.{total}
 use Rattle.autocoder_1401.specs.Segments.{within, closed, goes_on, cut, segments_of}
 use Rattle.autocoder_1401.specs.Values.{is_in_core, are_in_core, operand_value, operand_outside, places_outside}
 use Rattle.autocoder_1401.specs.Values.{literals_outside, body_outside, line_outside, first_outside_from, first_outside}
@@ -161,12 +162,9 @@ areas_few (Some areas) lines =
     repeated_length areas.count (area_cells areas.length (fields_behind lines)) ∙ ap (λ (n : ℕ). areas.count * n) one in
     omega (arith, all)
 
--- how many places literals take
-abbrev total : List Characters → ℕ
-total [] = 0
-total (literal ∷ literals) = literal.len + total literals
-
-behind_total : (from : ℤ) (literals : List Characters) → behind_literals from literals ≡ from +ℤ pos (total literals)
+-- what literals take, one behind the other
+pub behind_total : (from : ℤ) (literals : List Characters) → behind_literals from literals
+    ≡ from +ℤ pos (total literals)
 behind_total from [] = sym (+ℤ_idr from)
 behind_total from (literal ∷ literals) =
     behind_total (from +ℤ pos literal.len) literals ∙ +ℤ_assoc from (pos literal.len) (pos (total literals))

@@ -7,4 +7,5 @@ pub mod FirstFaultLemmas
 pub mod LawLemmas
 pub mod ListingLemmas
 pub mod LowestLemmas
+pub mod PlacementLawLemmas
 pub mod SegmentsLemmas

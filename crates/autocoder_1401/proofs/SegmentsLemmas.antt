@@ -16,7 +16,8 @@ pub next_line : (all here next : Places) (lines : List Line) (i : ℕ) (d : Line
     → ((rest : List (ℕ × Cell)) → built after rest ≡ built builder (numbered place cells ++ rest)) → next
     ≡ after_line here (get_or lines i d)
     → built after (cells_from all next (drop (i + 1) lines)) ≡ segments
-next_line all here next lines i d builder after place cells behind segments inside so_far same_behind same_cells same_place put same_next =
+next_line all here next lines i d builder after place cells behind segments inside so_far same_behind same_cells
+    same_place put same_next =
     let first : drop i lines ≡ get_or lines i d ∷ drop (i + 1) lines = rw add-one (drop-cons lines i d inside) in
     let whole : cells_from all here (drop i lines) ≡ cells_from all here (get_or lines i d ∷ drop (i + 1) lines) =
     ap (cells_from all here) first in

@@ -128,7 +128,7 @@ with_field area span = with_mark_at area (span.first - 1)
 abbrev pub area_cells : ℕ → List Span → List Cell
 area_cells length spans = fold with_field (with_mark_at (replicate length blank) 0) spans
 
--- so many areas
+-- this many areas
 abbrev pub repeated : ℕ → List Cell → List Cell
 repeated zero area = []
 repeated (suc n) area = area ++ repeated n area

@@ -7,6 +7,7 @@ pub mod FirstFault
 pub mod Laws
 pub mod Listing
 pub mod Placement
+pub mod PlacementLaws
 pub mod Segments
 pub mod Symbols
 pub mod Values

@@ -44,11 +44,11 @@ is_in_core size value = int_le (pos 0) value && int_lt value (pos size)
 abbrev pub are_in_core : ℕ → ℤ → ℤ → Bool
 are_in_core size first behind = int_le (pos 0) first && int_le behind (pos size)
 
--- the last of so many places
+-- the last place of a length
 abbrev pub last_place : ℤ → ℕ → ℤ
 last_place first length = first +ℤ pos length +ℤ negsuc 0
 
--- one of so many places isn't in core
+-- one of the places of a length isn't in core
 abbrev pub places_outside : ℕ → ℤ → ℕ → Bool
 places_outside size first length = nat_lt 0 length && not (are_in_core size first (first +ℤ pos length))
 

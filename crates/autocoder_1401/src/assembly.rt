@@ -10,6 +10,7 @@ ghost use Rattle.autocoder_1401.specs.Values.{first_outside};
 ghost use Rattle.autocoder_1401.specs.Assembly.{lines_in, entry_in, image_of, placed_cells, unless_fault, assembly_in};
 ghost use Rattle.autocoder_1401.specs.Assembly.{IsFaultOf};
 ghost use Rattle.autocoder_1401.specs.Laws.{IsFirstOutside, IsCutOf};
+ghost use Rattle.autocoder_1401.specs.PlacementLaws.{IsPlacedInTurn};
 ghost use Rattle.autocoder_1401.specs.View.{places_of};
 
 use crate::cells::place_of;
@@ -125,6 +126,7 @@ pub struct Assembly {
 /// kinds 2 to 8, 10 and 11, its lowest; and where no line has one, `OutOfCore` of the first line of which something
 /// isn't
 /// in core.
+#[tactic(auto, using(crate::proofs::PlacementLawLemmas::placed_in_turn))]
 pub fn assemble(alloc: Global, source: &[u8], size: u16) -> Result<Assembly, AsmFault>
     // The image and the listing of the lines, or their first fault, memory aside.
     ensures exact { Gives (λ assembly. assembly) result (assembly_in size source.now) }
@@ -140,6 +142,10 @@ pub fn assemble(alloc: Global, source: &[u8], size: u16) -> Result<Assembly, Asm
     // gap.
     ensures segments { is_core_size size ≡ true → IfOk result (λ assembly.
         IsCutOf (placed_cells (lines_in source.now)) assembly.image.segments) }
+
+    // Places go on by the lengths of the lines, behind an origin from its value; literals stand in the order of their
+    // first use, each once.
+    ensures placement { OnOk result (IsPlacedInTurn (lines_in source.now)) }
 
     // A fault is the lowest of the first line that has one, or something of a faultless source isn't in core.
     ensures first { IfErr result (λ fault. IsMemory fault ⊎ IsFaultOf size (lines_in source.now) fault) }

@@ -256,7 +256,7 @@ fn put_areas(
     Ok(())
 }
 
-/// Puts an area so many times.
+/// Puts an area, as many times as there are areas.
 #[tactic(auto, using(crate::proofs::CellsLemmas::one_area))]
 fn put_repeated(count: u8, area: &[Cell], out: &mut Vec<Cell>) -> Result<(), AsmFault>
     ensures ok { OnOk result (out.new.items ≡ out.old.items ++ repeated count area.now) }

@@ -26,7 +26,7 @@ fn are_in_core(size: u16, first: i64, behind: i64) -> bool
     first >= 0 && behind <= i64::from(size)
 }
 
-/// The last of so many places from the first on.
+/// The last of the places of a length from the first on.
 pub(crate) fn last_place(first: i64, length: u32) -> Result<i64, AsmFault>
     ensures value { IfOk result (λ last. last ≡ last_place first length) }
     ensures err { IfErr result IsMemory }
@@ -36,7 +36,7 @@ pub(crate) fn last_place(first: i64, length: u32) -> Result<i64, AsmFault>
     Ok(last)
 }
 
-/// Whether one of so many places isn't in core.
+/// Whether one of the places of a length isn't in core.
 fn are_places_outside(size: u16, first: i64, length: u32) -> Result<bool, AsmFault>
     ensures value { IfOk result (λ outside. outside ≡ places_outside size first length) }
     ensures err { IfErr result IsMemory }

@@ -17,14 +17,16 @@ use Rattle.image_1401.proofs.LineLemmas.{parts_of-some}
 contents_in-more : (version : Version) (size : ℕ) (line first : List ℕ) (more parts : List (List ℕ)) → parts ≡ first
     ∷ more
     → contents_in version size (line ∷ parts)
-    ≡ contents_by size (segment_in version line) (contents_in version size parts) (entry_by size (end_in version line) parts)
+    ≡ contents_by size (segment_in version line) (contents_in version size parts)
+    (entry_by size (end_in version line) parts)
 unfolding contents_in
 contents_in-more version size line first more parts e = rw e refl
 
 -- by the first line, where a line feed ends it
 pub contents_in-line : (version : Version) (size : ℕ) (line behind : List ℕ)
     → contents_in version size (line ∷ parts_of behind)
-    ≡ contents_by size (segment_in version line) (contents_in version size (parts_of behind)) (entry_by size (end_in version line) (parts_of behind))
+    ≡ contents_by size (segment_in version line) (contents_in version size (parts_of behind))
+    (entry_by size (end_in version line) (parts_of behind))
 contents_in-line version size line behind =
     let some = parts_of-some behind in contents_in-more version size line some.0 some.1 (parts_of behind) some.2
 
@@ -35,7 +37,8 @@ with_segments-again front segment (Ok contents) =
 with_segments-again front segment (Err fault) = refl
 
 -- a segment more is read
-pub at_segment : (version : Version) (size : ℕ) (front : List Segment) (segment : Segment) (line behind : List ℕ) (parts : List (List ℕ)) (all : Result Contents ImageFault)
+pub at_segment : (version : Version) (size : ℕ) (front : List Segment) (segment : Segment) (line behind : List ℕ)
+    (parts : List (List ℕ)) (all : Result Contents ImageFault)
     → parts ≡ line ∷ parts_of behind → segment_in version line ≡ Some segment → is_inside size segment ≡ true
     → with_segments front (contents_in version size parts) ≡ all
     → with_segments (front ++ segment ∷ []) (contents_in version size (parts_of behind)) ≡ all
@@ -47,7 +50,8 @@ at_segment version size front segment line behind parts all e found inside so_fa
     ∙ (sym (ap (with_segments front) this) ∙ so_far)
 
 -- a segment doesn't lie in core storage
-pub at_outside : (version : Version) (size : ℕ) (front : List Segment) (segment : Segment) (line behind : List ℕ) (parts : List (List ℕ)) (all : Result Contents ImageFault)
+pub at_outside : (version : Version) (size : ℕ) (front : List Segment) (segment : Segment) (line behind : List ℕ)
+    (parts : List (List ℕ)) (all : Result Contents ImageFault)
     → parts ≡ line ∷ parts_of behind → segment_in version line ≡ Some segment → is_inside size segment ≡ false
     → with_segments front (contents_in version size parts) ≡ all → image_of size all ≡ Err Range
 at_outside version size front segment line behind parts all e found inside so_far =
@@ -55,7 +59,8 @@ at_outside version size front segment line behind parts all e found inside so_fa
     ap (image_of size) (sym so_far ∙ ap (with_segments front) this)
 
 -- a line is no segment
-at_other : (version : Version) (size : ℕ) (front : List Segment) (line behind : List ℕ) (parts : List (List ℕ)) (all : Result Contents ImageFault)
+at_other : (version : Version) (size : ℕ) (front : List Segment) (line behind : List ℕ) (parts : List (List ℕ))
+    (all : Result Contents ImageFault)
     → parts ≡ line ∷ parts_of behind → segment_in version line ≡ None
     → with_segments front (contents_in version size parts) ≡ all → all
     ≡ with_segments front (entry_alone (entry_by size (end_in version line) (parts_of behind)))
@@ -65,7 +70,8 @@ at_other version size front line behind parts all e none so_far =
     sym so_far ∙ ap (with_segments front) this
 
 -- the last line, and all is read
-pub at_entry : (version : Version) (size : ℕ) (front : List Segment) (start : ℕ) (line behind : List ℕ) (parts : List (List ℕ)) (all : Result Contents ImageFault)
+pub at_entry : (version : Version) (size : ℕ) (front : List Segment) (start : ℕ) (line behind : List ℕ)
+    (parts : List (List ℕ)) (all : Result Contents ImageFault)
     → parts ≡ line ∷ parts_of behind → segment_in version line ≡ None → Ok start
     ≡ entry_by size (end_in version line) (parts_of behind)
     → with_segments front (contents_in version size parts) ≡ all → image_of size all
@@ -76,10 +82,12 @@ at_entry version size front start line behind parts all e none found so_far =
     at_other version size front line behind parts all e none so_far
     ∙ ap (λ (entry : Result ℕ ImageFault). with_segments front (entry_alone entry)) (sym found) in
     ap (image_of size) all_is
-    ∙ ap (λ (segments : List Segment). let image : Image = record { size = size; segments = segments; start = start } in Ok image) (append-nil front)
+    ∙ ap (λ (segments : List Segment). let image : Image =
+    record { size = size; segments = segments; start = start } in Ok image) (append-nil front)
 
 -- the last line is wrong
-pub at_fault : (version : Version) (size : ℕ) (front : List Segment) (fault : ImageFault) (line behind : List ℕ) (parts : List (List ℕ)) (all : Result Contents ImageFault)
+pub at_fault : (version : Version) (size : ℕ) (front : List Segment) (fault : ImageFault) (line behind : List ℕ)
+    (parts : List (List ℕ)) (all : Result Contents ImageFault)
     → parts ≡ line ∷ parts_of behind → segment_in version line ≡ None → Err fault
     ≡ entry_by size (end_in version line) (parts_of behind)
     → with_segments front (contents_in version size parts) ≡ all → image_of size all ≡ Err fault
@@ -91,7 +99,8 @@ at_fault version size front fault line behind parts all e none found so_far =
     ap (image_of size) all_is
 
 -- no line feed follows
-pub at_rest : (version : Version) (size : ℕ) (front : List Segment) (rest : List ℕ) (parts : List (List ℕ)) (all : Result Contents ImageFault)
+pub at_rest : (version : Version) (size : ℕ) (front : List Segment) (rest : List ℕ) (parts : List (List ℕ))
+    (all : Result Contents ImageFault)
     → parts ≡ rest ∷ [] → with_segments front (contents_in version size parts) ≡ all → image_of size all ≡ Err Truncated
 unfolding contents_in
 at_rest version size front rest parts all e so_far =
@@ -125,7 +134,8 @@ outside_from true segment fault e = absurd cc
 outside_from false segment fault e = (refl, cc)
 
 -- a segment is kept where its memory wasn't refused
-pub kept_more : {E : Type 0} (pushed : Result (Unit {0}) E) (before after so_far : List Segment) (segment found : Segment) → before ≡ so_far → segment ≡ found → is_err pushed ≡ false
+pub kept_more : {E : Type 0} (pushed : Result (Unit {0}) E) (before after so_far : List Segment)
+    (segment found : Segment) → before ≡ so_far → segment ≡ found → is_err pushed ≡ false
     → after ≡ (if is_ok pushed then before ++ segment ∷ [] else before) → after ≡ so_far ++ found ∷ []
 kept_more (Ok done) before after so_far segment found same this good grows =
     grows ∙ (ap (λ (front : List Segment). front ++ segment ∷ []) same

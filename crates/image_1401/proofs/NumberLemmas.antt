@@ -30,7 +30,11 @@ pub length-number_text : (digits number : ℕ) → length (number_text digits nu
 unfolding number_text
 length-number_text zero number = refl
 length-number_text (suc digits) number =
-    omega (arith, length_push (number_text digits (number / 10)) (48 + number % 10), length-number_text digits (number / 10))
+    omega (
+      arith,
+      length_push (number_text digits (number / 10)) (48 + number % 10),
+      length-number_text digits (number / 10),
+    )
 
 pub both : (a b : Bool) → a ≡ true → b ≡ true → (a && b) ≡ true
 both a b p q = rw (p, q)
@@ -146,4 +150,10 @@ number_again digits number rest small =
     let text = number_text digits number in
     let many = length-number_text digits number in
     let long : leb digits (length (text ++ rest)) ≡ true = le-leb _ _ (omega (arith, length-append text rest, many)) in
-    rw (long, take_at text rest digits many, drop_at text rest digits many, digits-number_text digits number, value_of-number_text digits number small)
+    rw (
+      long,
+      take_at text rest digits many,
+      drop_at text rest digits many,
+      digits-number_text digits number,
+      value_of-number_text digits number small,
+    )

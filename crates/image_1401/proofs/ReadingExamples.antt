@@ -44,7 +44,8 @@ five_and_five =
 
 text_of_five_and_five : image_text One five_and_five
     ≡ codes "IMAGE1 4000\n0400 24 ~?423420~A423420~.414~   ~HI~E\nEND 0400\n"
-unfolding five_and_five zero_and_add halt_and_constants plain marked graphics number_text cells_text header_text segment_text segments_text end_text image_text
+unfolding five_and_five zero_and_add halt_and_constants plain marked graphics number_text cells_text header_text
+    segment_text segments_text end_text image_text
 text_of_five_and_five = refl
 
 -- what a text is read as
@@ -53,14 +54,16 @@ read text = image_in (parts_of text)
 
 five_and_five_is_read : read (codes "IMAGE1 4000\n0400 24 ~?423420~A423420~.414~   ~HI~E\nEND 0400\n")
     ≡ Ok five_and_five
-unfolding read five_and_five zero_and_add halt_and_constants plain marked graphics number_in number_at cells_in few_cells_in header_with header_in segment_in end_in contents_in image_in
+unfolding read five_and_five zero_and_add halt_and_constants plain marked graphics number_in number_at cells_in
+    few_cells_in header_with header_in segment_in end_in contents_in image_in
 five_and_five_is_read = refl
 
 no_segments : Image
 no_segments = record { size = 1400; segments = []; start = 1399 }
 
 an_entry_alone_is_read : read (codes "IMAGE1 1400\nEND 1399\n") ≡ Ok no_segments
-unfolding read no_segments number_in number_at cells_in few_cells_in header_with header_in segment_in end_in contents_in image_in
+unfolding read no_segments number_in number_at cells_in few_cells_in header_with header_in segment_in end_in contents_in
+    image_in
 an_entry_alone_is_read = refl
 
 -- two segments in their order, the later one over the earlier one
@@ -75,7 +78,8 @@ twice =
     }
 
 segments_keep_their_order : read (codes "IMAGE1 2000\n1998 02 ~AB\n1999 01 -\nEND 0000\n") ≡ Ok twice
-unfolding read twice plain marked graphics number_in number_at cells_in few_cells_in header_with header_in segment_in end_in contents_in image_in
+unfolding read twice plain marked graphics number_in number_at cells_in few_cells_in header_with header_in segment_in
+    end_in contents_in image_in
 segments_keep_their_order = refl
 
 nothing_is_truncated : read [] ≡ Err Truncated
@@ -103,36 +107,44 @@ unfolding read number_in number_at cells_in few_cells_in header_with header_in c
 a_carriage_return_is_a_byte = refl
 
 an_address_has_four_digits : read (codes "IMAGE1 4000\n400 01 A\nEND 0400\n") ≡ Err BadRecord
-unfolding read graphics number_in number_at cells_in few_cells_in header_with header_in segment_in end_in contents_in image_in
+unfolding read graphics number_in number_at cells_in few_cells_in header_with header_in segment_in end_in contents_in
+    image_in
 an_address_has_four_digits = refl
 
 a_count_is_that_of_the_cells : read (codes "IMAGE1 4000\n0400 02 ABC\nEND 0400\n") ≡ Err BadRecord
-unfolding read graphics number_in number_at cells_in few_cells_in header_with header_in segment_in end_in contents_in image_in
+unfolding read graphics number_in number_at cells_in few_cells_in header_with header_in segment_in end_in contents_in
+    image_in
 a_count_is_that_of_the_cells = refl
 
 no_cells_are_no_segment : read (codes "IMAGE1 4000\n0400 00 \nEND 0400\n") ≡ Err BadRecord
-unfolding read graphics number_in number_at cells_in few_cells_in header_with header_in segment_in end_in contents_in image_in
+unfolding read graphics number_in number_at cells_in few_cells_in header_with header_in segment_in end_in contents_in
+    image_in
 no_cells_are_no_segment = refl
 
 -- no segment at all comes before one out of core
 a_bad_segment_out_of_core_is_bad : read (codes "IMAGE1 1400\n1400 01 a\nEND 0000\n") ≡ Err BadRecord
-unfolding read graphics number_in number_at cells_in few_cells_in header_with header_in segment_in end_in contents_in image_in
+unfolding read graphics number_in number_at cells_in few_cells_in header_with header_in segment_in end_in contents_in
+    image_in
 a_bad_segment_out_of_core_is_bad = refl
 
 a_segment_past_the_size_is_out_of_range : read (codes "IMAGE1 1400\n1399 02 AB\nEND 0000\n") ≡ Err Range
-unfolding read graphics number_in number_at cells_in few_cells_in header_with header_in segment_in end_in contents_in image_in
+unfolding read graphics number_in number_at cells_in few_cells_in header_with header_in segment_in end_in contents_in
+    image_in
 a_segment_past_the_size_is_out_of_range = refl
 
 -- an entry out of core comes before what stands behind it
 an_entry_past_the_size_is_out_of_range : read (codes "IMAGE1 1400\nEND 1400\nX") ≡ Err Range
-unfolding read graphics number_in number_at cells_in few_cells_in header_with header_in segment_in end_in contents_in image_in
+unfolding read graphics number_in number_at cells_in few_cells_in header_with header_in segment_in end_in contents_in
+    image_in
 an_entry_past_the_size_is_out_of_range = refl
 
 nothing_stands_behind_the_end : read (codes "IMAGE1 1400\nEND 0000\n\n") ≡ Err BadRecord
-unfolding read graphics number_in number_at cells_in few_cells_in header_with header_in segment_in end_in contents_in image_in
+unfolding read graphics number_in number_at cells_in few_cells_in header_with header_in segment_in end_in contents_in
+    image_in
 nothing_stands_behind_the_end = refl
 
 -- the first wrong line decides
 a_later_line_is_not_looked_at : read (codes "IMAGE1 1400\n1400 01 A\nX\n") ≡ Err Range
-unfolding read graphics number_in number_at cells_in few_cells_in header_with header_in segment_in end_in contents_in image_in
+unfolding read graphics number_in number_at cells_in few_cells_in header_with header_in segment_in end_in contents_in
+    image_in
 a_later_line_is_not_looked_at = refl

@@ -48,7 +48,8 @@ header_with_takes version line size h =
     let digits = number_takes (address_digits version) name.value number.value number.is in
     let done : number.value.1
     ≡ [] =
-    nil_from_length number.value.1 (let few : length number.value.1 ≤ 0 = leb-true _ _ (first_half _ _ good.0) in omega arith) in
+    nil_from_length number.value.1
+    (let few : length number.value.1 ≤ 0 = leb-true _ _ (first_half _ _ good.0) in omega arith) in
     let whole : name.value ≡ number_text (address_digits version) size = digits.parts
     ∙ (ap (λ (rest : List ℕ). number_text (address_digits version) number.value.0 ++ rest) done
     ∙ (append-nil _ ∙ ap (number_text (address_digits version)) good.1)) in (
@@ -172,7 +173,8 @@ segment_takes version line segment h =
     ∙ ap (λ (rest : List ℕ). number_text digits segment.address ++ rest) second) in
     record {
       line_is =
-          whole ∙ regroup (number_text digits segment.address) (number_text 2 (length segment.cells)) (cells_text segment.cells);
+          whole ∙ regroup (number_text digits segment.address) (number_text 2 (length segment.cells))
+          (cells_text segment.cells);
       cells =
           subst (λ (cells : List Cell). nat_le 1 (length cells) && nat_le (length cells) 40
           && list_all is_character cells ≡ true) cells_are (both _ _ few.0 spelled.own);

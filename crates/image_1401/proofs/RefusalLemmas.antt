@@ -41,15 +41,18 @@ is_no_record version line no_segment no_end = record {
 }
 
 -- by the bytes behind the last line
-by_rest : (version : Version) (size : ℕ) (line next : List ℕ) (parts : List (List ℕ)) (start : ℕ) (done : Bool) (fault : ImageFault) → end_in version line ≡ Some start → start < size
+by_rest : (version : Version) (size : ℕ) (line next : List ℕ) (parts : List (List ℕ)) (start : ℕ) (done : Bool)
+    (fault : ImageFault) → end_in version line ≡ Some start → start < size
     → is_done (next ∷ parts) ≡ done → cond {A = Result ℕ ImageFault} done (Ok start) (Err BadRecord) ≡ Err fault
     → HasFault version size (line ∷ next ∷ parts) fault
 by_rest version size line next parts start true fault e inside d h = absurd cc
 by_rest version size line next parts start false fault e inside d h =
     subst (HasFault version size (line ∷ next
-    ∷ parts)) (same_fault BadRecord fault h) (behind_the_end version size line next parts start (end_takes version line start e) inside d)
+    ∷ parts)) (same_fault BadRecord fault h)
+    (behind_the_end version size line next parts start (end_takes version line start e) inside d)
 
-by_bound : (version : Version) (size : ℕ) (line next : List ℕ) (parts : List (List ℕ)) (start : ℕ) (inside : Bool) (fault : ImageFault) → end_in version line ≡ Some start
+by_bound : (version : Version) (size : ℕ) (line next : List ℕ) (parts : List (List ℕ)) (start : ℕ) (inside : Bool)
+    (fault : ImageFault) → end_in version line ≡ Some start
     → nat_lt start size ≡ inside
     → cond {A = Result ℕ ImageFault} inside (if is_done (next ∷ parts) then Ok start else Err BadRecord) (Err Range)
     ≡ Err fault → HasFault version size (line ∷ next ∷ parts) fault
@@ -57,9 +60,11 @@ by_bound version size line next parts start true fault e lies h =
     by_rest version size line next parts start (is_done (next ∷ parts)) fault e (ltb-true _ _ lies) refl h
 by_bound version size line next parts start false fault e lies h =
     subst (HasFault version size (line ∷ next
-    ∷ parts)) (same_fault Range fault h) (entry_outside version size line next parts start (end_takes version line start e) (ltb-false _ _ lies))
+    ∷ parts)) (same_fault Range fault h)
+    (entry_outside version size line next parts start (end_takes version line start e) (ltb-false _ _ lies))
 
-by_entry : (version : Version) (size : ℕ) (line next : List ℕ) (parts : List (List ℕ)) (entry : Option ℕ) (fault : ImageFault) → segment_in version line ≡ None → end_in version line ≡ entry
+by_entry : (version : Version) (size : ℕ) (line next : List ℕ) (parts : List (List ℕ)) (entry : Option ℕ)
+    (fault : ImageFault) → segment_in version line ≡ None → end_in version line ≡ entry
     → entry_by size entry (next ∷ parts) ≡ Err fault → HasFault version size (line ∷ next ∷ parts) fault
 by_entry version size line next parts None fault none e h =
     subst (HasFault version size (line ∷ next
@@ -76,18 +81,22 @@ more_fault : (segment : Segment) (more : Result Contents ImageFault) (fault : Im
 more_fault segment (Ok contents) fault h = absurd cc
 more_fault segment (Err why) fault h = ap Err (same_fault why fault h)
 
-by_inside : (version : Version) (size : ℕ) (line next : List ℕ) (parts : List (List ℕ)) (segment : Segment) (inside : Bool) (more : Result Contents ImageFault) (fault : ImageFault) → segment_in version line ≡ Some segment
+by_inside : (version : Version) (size : ℕ) (line next : List ℕ) (parts : List (List ℕ)) (segment : Segment)
+    (inside : Bool) (more : Result Contents ImageFault) (fault : ImageFault) → segment_in version line ≡ Some segment
     → is_inside size segment ≡ inside
     → cond {A = Result Contents ImageFault} inside (with_segments (segment ∷ []) more) (Err Range) ≡ Err fault
     → ((why : ImageFault) → more ≡ Err why → HasFault version size (next ∷ parts) why)
     → HasFault version size (line ∷ next ∷ parts) fault
 by_inside version size line next parts segment true more fault e lies h others =
-    further_on version size line next parts segment fault (segment_takes version line segment e).line_is lies (others fault (more_fault segment more fault h))
+    further_on version size line next parts segment fault (segment_takes version line segment e).line_is lies
+    (others fault (more_fault segment more fault h))
 by_inside version size line next parts segment false more fault e lies h others =
     subst (HasFault version size (line ∷ next
-    ∷ parts)) (same_fault Range fault h) (segment_outside version size line next parts segment (segment_takes version line segment e).line_is lies)
+    ∷ parts)) (same_fault Range fault h)
+    (segment_outside version size line next parts segment (segment_takes version line segment e).line_is lies)
 
-by_segment : (version : Version) (size : ℕ) (line next : List ℕ) (parts : List (List ℕ)) (segment : Option Segment) (more : Result Contents ImageFault) (fault : ImageFault) → segment_in version line ≡ segment
+by_segment : (version : Version) (size : ℕ) (line next : List ℕ) (parts : List (List ℕ)) (segment : Option Segment)
+    (more : Result Contents ImageFault) (fault : ImageFault) → segment_in version line ≡ segment
     → contents_by size segment more (entry_by size (end_in version line) (next ∷ parts)) ≡ Err fault
     → ((why : ImageFault) → more ≡ Err why → HasFault version size (next ∷ parts) why)
     → HasFault version size (line ∷ next ∷ parts) fault
@@ -118,7 +127,8 @@ by_header line next parts None fault e h =
     ∙ header_again version size good)))
 by_header line next parts (Some header) fault e h =
     let first = header_takes line header.0 header.1 e in
-    behind_the_header line next parts header.0 header.1 fault first.0 first.1 (contents_fault header.0 header.1 parts next fault (size_fault header.1 _ fault h))
+    behind_the_header line next parts header.0 header.1 fault first.0 first.1
+    (contents_fault header.0 header.1 parts next fault (size_fault header.1 _ fault h))
 
 parts_fault : (parts : List (List ℕ)) (line : List ℕ) (fault : ImageFault) → image_in (line ∷ parts) ≡ Err fault
     → HasTextFault (line ∷ parts) fault
@@ -131,7 +141,8 @@ text_fault : (text : List ℕ) (fault : ImageFault) → image_in (parts_of text)
     → HasTextFault (parts_of text) fault
 text_fault text fault h =
     let some = parts_of-some text in
-    subst (λ (parts : List (List ℕ)). HasTextFault parts fault) (sym some.2) (parts_fault some.1 some.0 fault (ap image_in (sym some.2) ∙ h))
+    subst (λ (parts : List (List ℕ)). HasTextFault parts fault) (sym some.2)
+    (parts_fault some.1 some.0 fault (ap image_in (sym some.2) ∙ h))
 
 -- where an image is read, the text is an image's
 is_text : (text : List ℕ) (read : Result Image ImageFault) → image_in (parts_of text) ≡ read → IsOk read

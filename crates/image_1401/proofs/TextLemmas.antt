@@ -77,7 +77,8 @@ cells_go_on : (cells : List Cell) → list_all is_character cells ≡ true → I
 unfolding cells_text
 cells_go_on [] own = refl
 cells_go_on (cell ∷ cells) own =
-    lines_go_on (cell_text cell) (flat_map cell_text cells) (cell_goes_on cell.mark cell refl (first_half _ _ own)) (cells_go_on cells (second_half (is_character cell) _ own))
+    lines_go_on (cell_text cell) (flat_map cell_text cells) (cell_goes_on cell.mark cell refl (first_half _ _ own))
+    (cells_go_on cells (second_half (is_character cell) _ own))
 
 name_goes_on : (version : Version) → IsLine (name_of version)
 name_goes_on One = refl
@@ -90,7 +91,8 @@ header_goes_on version size =
 end_goes_on : (version : Version) (start : ℕ) → IsLine (end_text version start)
 unfolding end_text
 end_goes_on version start =
-    lines_go_on (codes "END ") (number_text (address_digits version) start) refl (number_goes_on (address_digits version) start)
+    lines_go_on (codes "END ") (number_text (address_digits version) start) refl
+    (number_goes_on (address_digits version) start)
 
 segment_goes_on : (version : Version) (segment : Segment) → list_all is_character segment.cells ≡ true
     → IsLine (segment_text version segment)
@@ -177,11 +179,13 @@ contents_again version size (segment ∷ segments) start h good inside entry =
     let behind : List ℕ = contents_text version (segments, start) in
     let whole : contents_text version (segment ∷ segments, start) ≡ line_of line
     ++ behind =
-    append_assoc (line_of line) (flat_map (λ each. line_of (segment_text version each)) segments) (line_of (end_text version start)) in
+    append_assoc (line_of line) (flat_map (λ each. line_of (segment_text version each)) segments)
+    (line_of (end_text version start)) in
     let parts : parts_of (contents_text version (segment ∷ segments, start)) ≡ line
     ∷ parts_of behind = ap parts_of whole ∙ parts_of-line line behind (segment_goes_on version segment own) in
     let more =
-    contents_again version size segments start h (second_half (is_segment segment) _ good) (second_half (is_inside size segment) _ inside) entry in
+    contents_again version size segments start h (second_half (is_segment segment) _ good)
+    (second_half (is_inside size segment) _ inside) entry in
     let first = contents_in-line version size line behind in
     let found = segment_again version segment one (address_bound version size segment h one lies) in
     ap (contents_in version size) parts ∙ first ∙ rw (found, lies, more)
@@ -252,7 +256,8 @@ behind_first segment (Ok rest) contents h = (rest, refl, sym (same_Ok_contents (
 behind_first segment (Err fault) contents h = absurd cc
 
 -- by the segment that a line is
-by_segment : (version : Version) (size : ℕ) (line next : List ℕ) (parts : List (List ℕ)) (segment : Option Segment) (more : Result Contents ImageFault) (contents : Contents)
+by_segment : (version : Version) (size : ℕ) (line next : List ℕ) (parts : List (List ℕ)) (segment : Option Segment)
+    (more : Result Contents ImageFault) (contents : Contents)
     → segment_in version line ≡ segment
     → contents_by size segment more (entry_by size (end_in version line) (next ∷ parts)) ≡ Ok contents
     → ((rest : Contents) → more ≡ Ok rest → AreContents version size (next ∷ parts) rest)
@@ -276,10 +281,16 @@ by_segment version size line next parts (Some segment) more contents e h others 
     ≡ contents_text version (segment ∷ front.0.0, front.0.1) =
     ap (λ (first : List ℕ). first ++ (10 ∷ contents_text version front.0)) one.line_is
     ∙ (sym (append_assoc (segment_text version segment) (codes "\n") (contents_text version front.0))
-    ∙ sym (append_assoc (line_of (segment_text version segment)) (flat_map (λ each. line_of (segment_text version each)) front.0.0) (line_of (end_text version front.0.1)))) in
+    ∙ sym (append_assoc (line_of (segment_text version segment))
+    (flat_map (λ each. line_of (segment_text version each)) front.0.0) (line_of (end_text version front.0.1)))) in
     subst (AreContents version size (line ∷ next ∷ parts)) (sym front.2) (record {
       good =
-          record { cells = both _ _ one.cells rest.good.cells; segments = both _ _ lies.0 rest.good.segments; start = rest.good.start };
+          record {
+            cells = both _ _ one.cells rest.good.cells;
+            segments = both _ _ lies.0 rest.good.segments;
+            start =
+                rest.good.start;
+          };
       text_is = ap (λ (behind : List ℕ). line ++ (10 ∷ behind)) rest.text_is ∙ regrouped;
     })
 
@@ -296,8 +307,10 @@ read_size : (size : ℕ) (contents : Result Contents ImageFault) (image : Image)
     → (contents ≡ Ok (image.segments, image.start)) × (size ≡ image.size)
 read_size size (Ok contents) image h =
     let made : Image = record { size = size; segments = contents.0; start = contents.1 } in
-    let same : made ≡ image = same_Ok_image made image h in
-    (ap (λ (each : Image). let c : Contents = (each.segments, each.start) in Ok c) same, ap (λ (each : Image). each.size) same)
+    let same : made ≡ image = same_Ok_image made image h in (
+      ap (λ (each : Image). let c : Contents = (each.segments, each.start) in Ok c) same,
+      ap (λ (each : Image). each.size) same,
+    )
 read_size size (Err fault) image h = absurd cc
 
 by_header : (line next : List ℕ) (parts : List (List ℕ)) (header : Option (Version × ℕ)) (image : Image)
@@ -321,8 +334,10 @@ by_header line next parts (Some header) image e h =
       text_is = ap (λ (rest : List ℕ). line ++ (10 ∷ rest)) behind.text_is
           ∙ (ap (λ (front : List ℕ). front ++ (10 ∷ contents_text header.0 (image.segments, image.start))) (first.0
           ∙ ap (header_text header.0) found.1)
-          ∙ (sym (append_assoc (header_text header.0 image.size) (codes "\n") (contents_text header.0 (image.segments, image.start)))
-          ∙ sym (append_assoc (line_of (header_text header.0 image.size)) (segments_text header.0 image.segments) (line_of (end_text header.0 image.start)))));
+          ∙ (sym (append_assoc (header_text header.0 image.size) (codes "\n")
+          (contents_text header.0 (image.segments, image.start)))
+          ∙ sym (append_assoc (line_of (header_text header.0 image.size)) (segments_text header.0 image.segments)
+          (line_of (end_text header.0 image.start)))));
     }
 
 image_parts : (parts : List (List ℕ)) (image : Image) → image_in parts ≡ Ok image
@@ -335,4 +350,5 @@ image_parts (line ∷ next ∷ parts) image h = by_header line next parts (heade
 -- what is read as an image is the image's text
 pub image_takes : (text : List ℕ) (image : Image) → image_in (parts_of text) ≡ Ok image → IsTextOf text image
 image_takes text image h =
-    subst (λ (each : List ℕ). IsTextOf each image) (join_with_byte-slice_split 10 text) (image_parts (parts_of text) image h)
+    subst (λ (each : List ℕ). IsTextOf each image) (join_with_byte-slice_split 10 text)
+    (image_parts (parts_of text) image h)

@@ -13,7 +13,7 @@ use Rattle.image_1401.specs.declared.version.Version.{Version}
 use Rattle.image_1401.specs.Image.{is_inside}
 use Rattle.image_1401.specs.Version.{name_of, address_digits, has_size}
 
--- a number in so many decimal digits
+-- a number in this many decimal digits
 unfoldable pub number_text : ℕ → ℕ → List ℕ
 number_text zero number = []
 number_text (suc places) number = number_text places (number / 10) ++ (48 + number % 10) ∷ []

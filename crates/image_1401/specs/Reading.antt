@@ -37,7 +37,7 @@ value_of digits = fold (λ number digit. 10 * number + (digit - 48)) 0 digits
 unfoldable pub number_in : List ℕ → Option ℕ
 number_in digits = if list_all is_digit digits then Some (value_of digits) else None
 
--- a number of so many digits at the front
+-- a number of this many digits at the front
 unfoldable pub number_at : ℕ → List ℕ → Option (ℕ × List ℕ)
 number_at places text =
     if nat_le places (length text)

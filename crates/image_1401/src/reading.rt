@@ -185,7 +185,7 @@ fn entry(version: Version, line: &[u8]) -> Option<u32>
     if rest.is_empty() { Some(start) } else { None }
 }
 
-/// The number of so many digits that a text begins with, and what stands behind it.
+/// The number that the first digits of a text say, as many as are asked for, and what stands behind it.
 #[tactic(auto, unfolding(crate::specs::Reading::number_at))]
 fn split_number(text: &[u8], digits: usize) -> Option<(u32, &[u8])>
     requires { digits ≤ 5 }

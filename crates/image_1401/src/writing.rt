@@ -88,7 +88,7 @@ fn put_end(text: &mut Vec<u8>, version: Version, start: u16) -> Result<(), Alloc
     Ok(())
 }
 
-/// Adds a number in so many digits.
+/// Adds the last digits of a number, as many as are asked for.
 #[tactic(auto, unfolding(crate::specs::ImageText::number_text))]
 fn put_number(text: &mut Vec<u8>, digits: usize, number: u16) -> Result<(), AllocError>
     ensures { OnOk result (text.new.items ≡ text.old.items ++ number_text digits number) }

@@ -48,7 +48,8 @@ asks columns = operation_of columns
 
 abbrev instruction : ℕ → ℕ → ℕ → DCharacter → Option Operation
 instruction operation least most d =
-    Some (operations.Instruction (record { operation = operation; form = record { least = least; most = most; d = d } }))
+    Some (operations.Instruction
+    (record { operation = operation; form = record { least = least; most = most; d = d } }))
 
 mnemonics_ask_for_instructions : map asks (codes "ZA   " ∷ codes "MLC  " ∷ codes "B    " ∷ codes "BWZ  " ∷ codes "BW   "
     ∷ codes "BH   " ∷ codes "WRP  " ∷ codes "CC   " ∷ codes "H    " ∷ [])
@@ -137,7 +138,9 @@ a_d_character_is_one_column = refl
 
 two_addresses_and_a_d_character : map (read 2 2 d.Required) (codes "1,2,A" ∷ codes "1,2" ∷ codes "1,A" ∷ [])
     ≡ whole (number 1) (number 2) (Some 65) ∷ partial (number 1) (number 2) None
-    ∷ partial (number 1) (fields.Operand (operands.Address (record { base = bases.Symbol (named (codes "A")); adjustment = pos 0; index = 0 }))) None ∷ []
+    ∷ partial (number 1) (fields.Operand
+    (operands.Address (record { base = bases.Symbol (named (codes "A")); adjustment = pos 0; index = 0 }))) None
+    ∷ []
 two_addresses_and_a_d_character = refl
 
 without_addresses_the_d_character_stands_first : map (read 0 0 d.Required) (codes "1" ∷ codes "  X" ∷ codes "12" ∷ [])

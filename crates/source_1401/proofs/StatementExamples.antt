@@ -51,14 +51,17 @@ unfolding says
 an_origin = refl
 
 an_instruction_with_a_literal : says (codes "     START     ZA   +5,TOTAL")
-    ≡ good (labels.Label (named (codes "START"))) (bodies.Instruction (record { operation = byte "?"; form = record { least = 0; most = 2; d = d.Never } })
+    ≡ good (labels.Label (named (codes "START")))
+    (bodies.Instruction (record { operation = byte "?"; form = record { least = 0; most = 2; d = d.Never } })
     (with (fields.Operand (operands.Literal (constants.Plus (text_of (codes "5"))))) (symbol (codes "TOTAL"))))
 unfolding says
 an_instruction_with_a_literal = refl
 
 an_address_by_the_instruction_itself : says (codes "               H    *-3")
-    ≡ good labels.Absent (bodies.Instruction (record { operation = byte "."; form = record { least = 0; most = 1; d = d.Never } })
-    (with (fields.Operand (operands.Address (record { base = bases.Here; adjustment = negsuc 2; index = 0 }))) fields.Absent))
+    ≡ good labels.Absent (bodies.Instruction
+    (record { operation = byte "."; form = record { least = 0; most = 1; d = d.Never } })
+    (with (fields.Operand
+    (operands.Address (record { base = bases.Here; adjustment = negsuc 2; index = 0 }))) fields.Absent))
 unfolding says
 an_address_by_the_instruction_itself = refl
 
@@ -89,8 +92,10 @@ too_long_before_all_else = refl
 -- whether a line has a bad label, and bad operands
 faults : List ℕ → Bool × Bool
 unfolding says
-faults text =
-    (option_map_or has_bad_label (says text).statement false, option_map_or (λ (statement : Statement). has_bad_operands statement.body) (says text).statement false)
+faults text = (
+  option_map_or has_bad_label (says text).statement false,
+  option_map_or (λ (statement : Statement). has_bad_operands statement.body) (says text).statement false,
+)
 
 labels_that_are_no_labels : map faults (codes "     X1        DCW  #1" ∷ codes "     ABCDEFG   NOP"
     ∷ codes "               EQU  5" ∷ codes "     A         ORG  5" ∷ codes "     A         EX   5"

@@ -21,6 +21,10 @@ abbrev pub number_between : ℕ → ℕ → List ℕ → Option ℕ
 number_between least most word =
     if is_number word && nat_le (value_of word) most && nat_le least (value_of word) then Some (value_of word) else None
 
+-- the greatest number of five digits
+abbrev pub greatest_number : ℕ
+greatest_number = 99999
+
 -- the numbers of addresses have one to five digits
 abbrev pub short_number : List ℕ → Option ℕ
-short_number word = if nat_lt 5 (length word) then None else number_between 0 99999 word
+short_number word = if nat_lt 5 (length word) then None else number_between 0 greatest_number word

@@ -67,7 +67,7 @@ OperandAndRest = OperandField × List ℕ
 abbrev pub read_operand : List ℕ → OperandAndRest
 read_operand text = (field_of (operand_in text), behind_operand text)
 
--- the first of at most so many addresses, unless the first column is blank
+-- the first address, if the operation can have one, unless the first column is blank
 abbrev pub first_operand : ℕ → List ℕ → OperandAndRest
 first_operand most text = if (most == 0) || is_ended text then (fields.Absent, text) else read_operand text
 
@@ -86,7 +86,7 @@ abbrev pub d_behind_comma : List ℕ → Option ℕ
 d_behind_comma [] = None
 d_behind_comma (byte ∷ more) = if byte == 44 then lone_d more else None
 
--- the d-character behind at most so many addresses
+-- the d-character behind the addresses
 abbrev pub d_at : ℕ → List ℕ → Option ℕ
 d_at most rest = if most == 0 then lone_d rest else d_behind_comma rest
 

@@ -28,7 +28,7 @@ lines_between (line ∷ next ∷ more) = without_return line ∷ lines_between (
 abbrev pub lines_of : List ℕ → List (List ℕ)
 lines_of source = lines_between (slice_split is_line_feed source)
 
--- a text with blanks behind it, so many bytes in all
+-- a text with blanks behind it, n bytes in all
 abbrev pub padded : ℕ → List ℕ → List ℕ
 padded n text = text ++ replicate (n - length text) 32
 

@@ -58,13 +58,17 @@ span_of columns =
     (number_between first 999 (operand_behind_comma (behind_operand columns))))
     (number_between 1 999 (operand_in columns))
 
+-- how many places DS keeps at the most
+abbrev pub most_places : ℕ
+most_places = 15999
+
 -- what an operation with these columns for its operands asks for
 abbrev pub body_with : Operation → List ℕ → Body
 body_with (operations.Instruction instruction) columns =
     bodies.Instruction instruction (operands_of instruction.form columns)
 body_with operations.MarkedConstant columns = bodies.MarkedConstant (constant_of (lone_operand columns))
 body_with operations.Constant columns = bodies.Constant (constant_of (lone_operand columns))
-body_with operations.Space columns = bodies.Space (number_between 1 15999 (lone_operand columns))
+body_with operations.Space columns = bodies.Space (number_between 1 most_places (lone_operand columns))
 body_with operations.Areas columns = bodies.Areas (areas_of (lone_operand columns))
 body_with operations.Field columns = bodies.Field (span_of columns)
 body_with operations.Equate columns = bodies.Equate (operands_of one_address columns)

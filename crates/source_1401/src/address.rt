@@ -1,6 +1,7 @@
 //! Addresses as the source writes them.
 ghost use Rattle.std.specs.Prelude.{◌≡◌, ◌<◌, ◌≤◌, ◌+ℤ◌, length, pos, slice_index};
 ghost use Rattle.std.specs.List.{prefix_len};
+ghost use Rattle.source_1401.specs.Numbers.{greatest_number};
 ghost use Rattle.source_1401.specs.Label.{is_digit, is_letter_or_digit};
 ghost use Rattle.source_1401.specs.Address.{begins_with_asterisk, is_adjusted, adjustment_of, index_of, base_len};
 ghost use Rattle.source_1401.specs.Address.{base_of, indexed, adjusted_by, adjusted, address_of};
@@ -127,7 +128,7 @@ fn is_adjusted(text: &[u8]) -> bool
 
 /// A number with a sign in front of it.
 fn adjustment_of(sign: u8, number: u32) -> i32
-    requires { number < 100000 }
+    requires { number ≤ greatest_number }
     ensures { result ≡ adjustment_of sign number }
 {
     if sign == b'-' {

@@ -56,7 +56,7 @@ pub enum Constant {
     Plus(Text),
     /// These digits with a minus sign: zone B over the units.
     Minus(Text),
-    /// So many blanks, one to fifty, as the number behind a number sign says.
+    /// Blanks, one to fifty, as many as the number behind a number sign says.
     Blanks(u8),
 }
 
@@ -112,7 +112,7 @@ impl Constant {
     }
 }
 
-/// So many blanks.
+/// Blanks, as many as a number says.
 fn blanks(count: Option<u32>) -> Option<Constant>
     requires { ForSome count (λ n. n ≤ 50) }
     ensures { result ≡ option_map Blanks count }

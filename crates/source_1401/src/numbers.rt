@@ -1,12 +1,12 @@
 //! The numbers of operands.
 ghost use Rattle.std.specs.Prelude.{◌≡◌, ◌-◌, ◌<◌, ◌≤◌, IfSome, if◌then◌else◌};
 ghost use Rattle.source_1401.specs.Label.{is_digit};
-ghost use Rattle.source_1401.specs.Numbers.{number_between, short_number};
+ghost use Rattle.source_1401.specs.Numbers.{number_between, greatest_number, short_number};
 
 /// How many digits a number of an address has at the most.
 const ADDRESS_DIGITS: usize = 5;
 
-/// The greatest number of so many digits.
+/// The greatest number of five digits.
 const GREATEST_NUMBER: u32 = 99_999;
 
 /// What a digit stands for, if the byte is one.
@@ -23,7 +23,7 @@ fn digit(byte: u8) -> Option<u8>
 /// The number that a word is, of any number of digits, where it is no less than the one bound and no greater than the
 /// other.
 pub(crate) fn number_between(least: u32, most: u32, word: &[u8]) -> Option<u32>
-    requires { most < 100000 }
+    requires { most ≤ greatest_number }
     ensures value { result ≡ number_between least most word.now }
     ensures bound { IfSome result (λ number. number ≤ most) }
 {
@@ -44,7 +44,7 @@ pub(crate) fn number_between(least: u32, most: u32, word: &[u8]) -> Option<u32>
 /// The number of an address that a word is: one to five digits.
 pub(crate) fn short_number(word: &[u8]) -> Option<u32>
     ensures value { result ≡ short_number word.now }
-    ensures bound { IfSome result (λ number. number < 100000) }
+    ensures bound { IfSome result (λ number. number ≤ greatest_number) }
 {
     if word.len() > ADDRESS_DIGITS {
         return None;

@@ -118,7 +118,7 @@ fn read_operand(text: &[u8]) -> (OperandField, &[u8])
     }
 }
 
-/// The first of at most so many addresses, and what stands behind it.
+/// The first address, if the operation can have one, and what stands behind it.
 fn first_operand(most: u8, text: &[u8]) -> (OperandField, &[u8])
     ensures field { result.0 ≡ (first_operand most text.now).0 }
     ensures behind { result.1.now ≡ (first_operand most text.now).1 }
@@ -130,7 +130,7 @@ fn first_operand(most: u8, text: &[u8]) -> (OperandField, &[u8])
     }
 }
 
-/// The second of at most so many addresses, which stands behind a comma, and what stands behind it.
+/// The second address, behind a comma, if the operation can have two, and what stands behind it.
 fn second_operand(most: u8, rest: &[u8]) -> (OperandField, &[u8])
     ensures field { result.0 ≡ (second_operand most rest.now).0 }
     ensures behind { result.1.now ≡ (second_operand most rest.now).1 }
@@ -151,7 +151,7 @@ fn lone_d(text: &[u8]) -> Option<u8>
     }
 }
 
-/// The d-character behind at most so many addresses: behind a comma, or where there are none in the first column.
+/// The d-character: behind a comma, or in the first column where the operation has no address.
 fn d_at(most: u8, rest: &[u8]) -> Option<u8>
     ensures { result ≡ d_at most rest.now }
 {

@@ -2,6 +2,7 @@
 ghost use Rattle.std.specs.Prelude.{◌≡◌, ◌≤◌, length};
 ghost use Rattle.std.specs.List.{position_or_len};
 ghost use Rattle.source_1401.specs.Numbers.{number_between};
+ghost use Rattle.source_1401.specs.Statement.{most_places};
 ghost use Rattle.source_1401.specs.Statement.{is_x, areas_of, span_of, body_with, body_of, statement_of, bytes_with};
 ghost use Rattle.source_1401.specs.Statement.{line_of, is_plain, is_value, has_bad_operands, has_bad_label};
 ghost use Rattle.source_1401.specs.Statement.{label_of_line, is_end};
@@ -43,7 +44,7 @@ pub enum Body {
     MarkedConstant(Option<Constant>),
     /// DC: a constant without a word mark.
     Constant(Option<Constant>),
-    /// DS: so many places, 1 to 15,999.
+    /// DS: this many places, 1 to 15,999.
     Space(Option<u16>),
     /// DA: areas of blanks.
     Areas(Option<Areas>),
@@ -134,7 +135,7 @@ fn span_of(columns: &[u8]) -> Option<Span>
 
 /// How many places a word asks for.
 fn space_of(word: &[u8]) -> Option<u16>
-    ensures { result ≡ number_between 1 15999 word.now }
+    ensures { result ≡ number_between 1 most_places word.now }
 {
     match number_between(1, 15_999, word) {
         Some(places) => Some(places as u16),

@@ -19,6 +19,8 @@ pub returns-clause-segments : goal.returns-clause-segments
 returns-clause-segments c size_is =
     subst (λ lines. IsCutOf (placed_cells lines) c.in_ok-image.image.segments)
     (c.deref-2.ensures.value ∙ c.in_ok-lines.ensures.lines)
-    (subst (λ (image : Image). IsCutOf (placed_cells c.deref-2.result.now) image.segments) (sym c.in_ok-image.ensures.ok)
+    (subst (λ (image : Image). IsCutOf (placed_cells c.deref-2.result.now) image.segments)
+    (sym c.in_ok-image.ensures.ok)
     (image_cut c.args.size c.deref-2.result.now size_is
-    (ap (first_outside c.args.size) (c.deref-2.ensures.value ∙ sym c.deref.ensures.value) ∙ c.in_ok-all.ensures.inside)))
+    (ap (first_outside c.args.size) (c.deref-2.ensures.value ∙ sym c.deref.ensures.value)
+    ∙ c.in_ok-all.ensures.inside)))

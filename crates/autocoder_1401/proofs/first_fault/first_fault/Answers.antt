@@ -9,11 +9,14 @@ use Rattle.autocoder_1401.proofs.first_fault.first_fault.Goals as goal
 pub loop-line-preserved : goal.loop-line-preserved
 loop-line-preserved c = record {
   value = grind (arith, common_steps);
-  place = next_place_is c.args.lines.now c.loop-line.line-index _ c.loop-line.at c.behind-at.result c.loop-line-test.true c.loop-line.invariant.place c.behind-at.ensures;
-  clean = next_clean (get same_label c.args.labels.now) c.args.lines.now c.loop-line.line-index _ c.loop-line.at c.loop-line.invariant.clean c.loop-line-test.true c.loop-line.invariant.place c.in_default.ensures.clean;
+  place = next_place_is c.args.lines.now c.loop-line.line-index _ c.loop-line.at c.behind-at.result
+      c.loop-line-test.true c.loop-line.invariant.place c.behind-at.ensures;
+  clean = next_clean (get same_label c.args.labels.now) c.args.lines.now c.loop-line.line-index _ c.loop-line.at
+      c.loop-line.invariant.clean c.loop-line-test.true c.loop-line.invariant.place c.in_default.ensures.clean;
 }
 
 pub returns-else-at-clause-first : goal.returns-else-at-clause-first
 returns-else-at-clause-first c =
-    no_end (get same_label c.args.labels.now) c.args.lines.now c.loop-line.line-index c.loop-line.at c.loop-line.invariant.clean c.loop-line-test.false
+    no_end (get same_label c.args.labels.now) c.args.lines.now c.loop-line.line-index c.loop-line.at
+    c.loop-line.invariant.clean c.loop-line-test.false
     c.loop-line.auto.line-index-end c.loop-line.invariant.place c.if-at.false

@@ -7,7 +7,8 @@ use Rattle.autocoder_1401.proofs.listing.list.Goals as goal
 
 pub unreachable-requires : goal.unreachable-requires
 unreachable-requires c =
-    none_left c.args.lines.now c.loop-i.i c.loop-i.sources.now c.loop-i-test.true c.loop-i.invariant.left c.in_default.ensures
+    none_left c.args.lines.now c.loop-i.i c.loop-i.sources.now c.loop-i-test.true c.loop-i.invariant.left
+    c.in_default.ensures
 
 pub loop-i-preserved : goal.loop-i-preserved
 loop-i-preserved c = record {

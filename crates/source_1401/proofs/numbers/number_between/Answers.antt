@@ -11,5 +11,6 @@ returns-then-number-most-clause-value c =
     let i = c.loop-byte.byte-index in
     let digit : c.in_ok-digit.digit ≡ get_or word i 0 - 48 = grind (arith, nat_tests) in
     let all = with_one c.loop-byte.number i word c.loop-byte-test.true in
-    let past : c.args.most < value_of word = omega (arith, all, digit, c.loop-byte.invariant.value, c.if-number-most.true) in
+    let past : c.args.most < value_of word =
+    omega (arith, all, digit, c.loop-byte.invariant.value, c.if-number-most.true) in
     sym (too_great c.args.least c.args.most word past)

@@ -7,5 +7,6 @@ use Rattle.autocoder_1401.proofs.placing.Placing.put_operands.Goals as goal
 
 pub returns-clause-ok : goal.returns-clause-ok
 returns-clause-ok c =
-    operands_in_turn (places_of c.args.self.now) c.args.here _ c.args.operands c.args.out.now.items c.put_operand.new.out.items c.put_operand-2.new.out.items
+    operands_in_turn (places_of c.args.self.now) c.args.here _ c.args.operands c.args.out.now.items
+    c.put_operand.new.out.items c.put_operand-2.new.out.items
     (to_z-of_z w64 c.args.here c.ranges.here) c.in_ok-put_operand.ensures.ok c.in_ok-put_operand-2.ensures.ok

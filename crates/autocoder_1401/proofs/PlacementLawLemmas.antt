@@ -1,0 +1,261 @@
+-- The next place and the literals, line by line.
+use Rattle.std.proofs.Common.{◌≡◌, ℕ, ◌+◌, Bool, true, false, cond, List, [], ◌∷◌, ◌++◌, length, map, ℤ, pos, ◌+ℤ◌}
+use Rattle.std.proofs.Common.{Option, None, Some, refl, sym, ap, ◌∙◌}
+use Rattle.std.specs.Prelude.{fold, if◌then◌else◌}
+use Rattle.std.specs.List.{list_any, flat_map}
+use Rattle.std.proofs.Math.IntN.{+ℤ_assoc, +ℤ_idr}
+use Rattle.std.proofs.lemmas.List.{map-append}
+use Rattle.source_1401.specs.Statement.{well_formed}
+use Rattle.source_1401.specs.declared.constant.Constant.{Constant}
+use Rattle.source_1401.specs.declared.label.Label.{Label}
+use Rattle.source_1401.specs.declared.operands.Operand.TheVariants as operands
+use Rattle.source_1401.specs.declared.operands.OperandField.{OperandField}
+use Rattle.source_1401.specs.declared.operands.OperandField.TheVariants as fields
+use Rattle.source_1401.specs.declared.operands.Operands.{Operands}
+use Rattle.source_1401.specs.declared.statement.Body.{Body}
+use Rattle.source_1401.specs.declared.statement.Body.TheVariants as bodies
+use Rattle.source_1401.specs.declared.statement.Statement.{Statement}
+use Rattle.source_1401.specs.declared.statement.Line.{Line}
+use Rattle.autocoder_1401.specs.Characters.{characters_of, same_characters}
+use Rattle.autocoder_1401.specs.Placement.{Places, nothing_placed, pending, with_literal, with_operand, with_next}
+use Rattle.autocoder_1401.specs.Placement.{behind_body, with_label, label_value, after_line, placed, value_so_far}
+use Rattle.autocoder_1401.specs.Placement.{instruction_length}
+use Rattle.autocoder_1401.specs.PlacementLaws.{total, body_length, length_with, lengths_from, origin_in, origin_with}
+use Rattle.autocoder_1401.specs.PlacementLaws.{AreNoOrigins, literal_in, uses_in, uses_with, uses, with_use}
+use Rattle.autocoder_1401.specs.PlacementLaws.{IsPlacedInTurn}
+use Rattle.autocoder_1401.specs.declared.characters.Characters.{Characters}
+use Rattle.autocoder_1401.proofs.CoreLemmas.{behind_total}
+
+-- a literal and an operand leave the next place
+literal_next : (this : Places) (constant : Constant) → (with_literal this constant).next ≡ this.next
+literal_next this constant = by (list_any (same_characters (characters_of constant)) this.literals)
+  where
+    by : (b : Bool)
+        → (if b then this else record this {
+          literals = this.literals ++ characters_of constant ∷ [];
+          spellings = this.spellings ++ constant ∷ [];
+        }).next
+        ≡ this.next
+    by true = refl
+    by false = refl
+
+operand_next : (this : Places) (field : OperandField) → (with_operand this field).next ≡ this.next
+operand_next this fields.Absent = refl
+operand_next this fields.Malformed = refl
+operand_next this (fields.Operand (operands.Address address)) = refl
+operand_next this (fields.Operand (operands.Literal constant)) = literal_next this constant
+
+-- a body moves the next place by its length, but for an origin
+body_next : (this : Places) (body : Body) → origin_in body ≡ None
+    → (behind_body this body).next ≡ this.next +ℤ pos (body_length this body)
+body_next this bodies.Unknown none = sym (+ℤ_idr this.next)
+body_next this (bodies.Instruction instruction of) none =
+    let moved = with_next this (this.next +ℤ pos (instruction_length of)) in
+    operand_next (with_operand moved of.a) of.b ∙ operand_next moved of.a
+body_next this (bodies.MarkedConstant constant) none = refl
+body_next this (bodies.Constant constant) none = refl
+body_next this (bodies.Space places) none = refl
+body_next this (bodies.Areas areas) none = refl
+body_next this (bodies.Field span) none = sym (+ℤ_idr this.next)
+body_next this (bodies.Equate of) none = sym (+ℤ_idr this.next)
+body_next this (bodies.Origin of) none = cc
+body_next this (bodies.Execute of) none = behind_total this.next (pending this)
+body_next this (bodies.End of) none = behind_total this.next (pending this)
+
+-- a label leaves the next place and the literals
+label_next : (this : Places) (label : Option Label) (value : ℤ) → (with_label this label value).next ≡ this.next
+label_next this None value = refl
+label_next this (Some label) value = refl
+
+label_literals : (this : Places) (label : Option Label) (value : ℤ)
+    → (with_label this label value).literals ≡ this.literals
+label_literals this None value = refl
+label_literals this (Some label) value = refl
+
+label_spellings : (this : Places) (label : Option Label) (value : ℤ)
+    → (with_label this label value).spellings ≡ this.spellings
+label_spellings this None value = refl
+label_spellings this (Some label) value = refl
+
+line_next : (this : Places) (line : Line) → origin_with line.statement ≡ None
+    → (after_line this line).next ≡ this.next +ℤ pos (length_with this line.statement)
+line_next this line none = by line.statement none
+  where
+    by : (statement : Option Statement) → origin_with statement ≡ None
+        → (after_line this (record { bytes = line.bytes; statement = statement })).next
+        ≡ this.next +ℤ pos (length_with this statement)
+    by None h = sym (+ℤ_idr this.next)
+    by (Some statement) h =
+        label_next (behind_body this statement.body) (well_formed statement.label) (label_value this statement.body)
+        ∙ body_next this statement.body h
+
+lines_next : (this : Places) (lines : List Line) → AreNoOrigins lines
+    → (fold after_line this lines).next ≡ this.next +ℤ pos (lengths_from this lines)
+lines_next this [] none = sym (+ℤ_idr this.next)
+lines_next this (line ∷ lines) none =
+    lines_next (after_line this line) lines none.1
+    ∙ ap (λ (n : ℤ). n +ℤ pos (lengths_from (after_line this line) lines)) (line_next this line none.0)
+    ∙ +ℤ_assoc this.next (pos (length_with this line.statement)) (pos (lengths_from (after_line this line) lines))
+
+fold_append : (this : Places) (before behind : List Line)
+    → fold after_line this (before ++ behind) ≡ fold after_line (fold after_line this before) behind
+fold_append this [] behind = refl
+fold_append this (line ∷ before) behind = fold_append (after_line this line) before behind
+
+origin_next : (this : Places) (line : Line) (of : Operands) → origin_with line.statement ≡ Some of
+    → (after_line this line).next ≡ value_so_far this.values of.a
+origin_next this line of is = by line.statement is
+  where
+    body : (given : Body) → origin_in given ≡ Some of → (behind_body this given).next ≡ value_so_far this.values of.a
+    body bodies.Unknown h = cc
+    body (bodies.Instruction instruction operands) h = cc
+    body (bodies.MarkedConstant constant) h = cc
+    body (bodies.Constant constant) h = cc
+    body (bodies.Space places) h = cc
+    body (bodies.Areas areas) h = cc
+    body (bodies.Field span) h = cc
+    body (bodies.Equate operands) h = cc
+    body (bodies.Origin operands) h =
+        let same : operands ≡ of = cc in ap (λ (given : Operands). value_so_far this.values given.a) same
+    body (bodies.Execute operands) h = cc
+    body (bodies.End operands) h = cc
+
+    by : (statement : Option Statement) → origin_with statement ≡ Some of
+        → (after_line this (record { bytes = line.bytes; statement = statement })).next ≡ value_so_far this.values of.a
+    by None h = cc
+    by (Some statement) h =
+        label_next (behind_body this statement.body) (well_formed statement.label) (label_value this statement.body)
+        ∙ body statement.body h
+
+-- a literal that is used goes last, unless it is there
+literal_use : (this : Places) (constant : Constant)
+    → (with_literal this constant).literals ≡ with_use this.literals (characters_of constant)
+literal_use this constant = by (list_any (same_characters (characters_of constant)) this.literals)
+  where
+    by : (b : Bool)
+        → (if b then this else record this {
+          literals = this.literals ++ characters_of constant ∷ [];
+          spellings = this.spellings ++ constant ∷ [];
+        }).literals
+        ≡ (if b then this.literals else this.literals ++ characters_of constant ∷ [])
+    by true = refl
+    by false = refl
+
+operand_use : (this : Places) (field : OperandField)
+    → (with_operand this field).literals ≡ fold with_use this.literals (literal_in field)
+operand_use this fields.Absent = refl
+operand_use this fields.Malformed = refl
+operand_use this (fields.Operand (operands.Address address)) = refl
+operand_use this (fields.Operand (operands.Literal constant)) = literal_use this constant
+
+uses_append : (used first second : List Characters)
+    → fold with_use used (first ++ second) ≡ fold with_use (fold with_use used first) second
+uses_append used [] second = refl
+uses_append used (literal ∷ first) second = uses_append (with_use used literal) first second
+
+body_use : (this : Places) (body : Body) → (behind_body this body).literals ≡ fold with_use this.literals (uses_in body)
+body_use this bodies.Unknown = refl
+body_use this (bodies.Instruction instruction of) =
+    let moved = with_next this (this.next +ℤ pos (instruction_length of)) in
+    operand_use (with_operand moved of.a) of.b
+    ∙ ap (λ (used : List Characters). fold with_use used (literal_in of.b)) (operand_use moved of.a)
+    ∙ sym (uses_append this.literals (literal_in of.a) (literal_in of.b))
+body_use this (bodies.MarkedConstant constant) = refl
+body_use this (bodies.Constant constant) = refl
+body_use this (bodies.Space places) = refl
+body_use this (bodies.Areas areas) = refl
+body_use this (bodies.Field span) = refl
+body_use this (bodies.Equate of) = refl
+body_use this (bodies.Origin of) = refl
+body_use this (bodies.Execute of) = refl
+body_use this (bodies.End of) = refl
+
+line_use : (this : Places) (line : Line)
+    → (after_line this line).literals ≡ fold with_use this.literals (uses_with line.statement)
+line_use this line = by line.statement
+  where
+    by : (statement : Option Statement)
+        → (after_line this (record { bytes = line.bytes; statement = statement })).literals
+        ≡ fold with_use this.literals (uses_with statement)
+    by None = refl
+    by (Some statement) =
+        label_literals (behind_body this statement.body) (well_formed statement.label) (label_value this statement.body)
+        ∙ body_use this statement.body
+
+lines_use : (this : Places) (lines : List Line)
+    → (fold after_line this lines).literals ≡ fold with_use this.literals (uses lines)
+lines_use this [] = refl
+lines_use this (line ∷ lines) =
+    lines_use (after_line this line) lines
+    ∙ ap (λ (used : List Characters). fold with_use used (uses lines)) (line_use this line)
+    ∙ sym (uses_append this.literals (uses_with line.statement) (uses lines))
+
+-- the spellings are those of the literals
+abbrev IsSpelled : Places → Type 0
+IsSpelled this = map characters_of this.spellings ≡ this.literals
+
+literal_spelled : (this : Places) (constant : Constant) → IsSpelled this → IsSpelled (with_literal this constant)
+literal_spelled this constant so_far = by (list_any (same_characters (characters_of constant)) this.literals)
+  where
+    by : (b : Bool)
+        → IsSpelled (if b then this
+        else record this {
+          literals = this.literals ++ characters_of constant ∷ [];
+          spellings =
+              this.spellings ++ constant ∷ [];
+        })
+    by true = so_far
+    by false =
+        map-append characters_of this.spellings (constant ∷ [])
+        ∙ ap (λ (used : List Characters). used ++ characters_of constant ∷ []) so_far
+
+operand_spelled : (this : Places) (field : OperandField) → IsSpelled this → IsSpelled (with_operand this field)
+operand_spelled this fields.Absent so_far = so_far
+operand_spelled this fields.Malformed so_far = so_far
+operand_spelled this (fields.Operand (operands.Address address)) so_far = so_far
+operand_spelled this (fields.Operand (operands.Literal constant)) so_far = literal_spelled this constant so_far
+
+body_spelled : (this : Places) (body : Body) → IsSpelled this → IsSpelled (behind_body this body)
+body_spelled this bodies.Unknown so_far = so_far
+body_spelled this (bodies.Instruction instruction of) so_far =
+    let moved = with_next this (this.next +ℤ pos (instruction_length of)) in
+    operand_spelled (with_operand moved of.a) of.b (operand_spelled moved of.a so_far)
+body_spelled this (bodies.MarkedConstant constant) so_far = so_far
+body_spelled this (bodies.Constant constant) so_far = so_far
+body_spelled this (bodies.Space places) so_far = so_far
+body_spelled this (bodies.Areas areas) so_far = so_far
+body_spelled this (bodies.Field span) so_far = so_far
+body_spelled this (bodies.Equate of) so_far = so_far
+body_spelled this (bodies.Origin of) so_far = so_far
+body_spelled this (bodies.Execute of) so_far = so_far
+body_spelled this (bodies.End of) so_far = so_far
+
+line_spelled : (this : Places) (line : Line) → IsSpelled this → IsSpelled (after_line this line)
+line_spelled this line so_far = by line.statement
+  where
+    by : (statement : Option Statement)
+        → IsSpelled (after_line this (record { bytes = line.bytes; statement = statement }))
+    by None = so_far
+    by (Some statement) =
+        let behind = behind_body this statement.body in
+        let label = well_formed statement.label in
+        let value = label_value this statement.body in
+        ap (map characters_of) (label_spellings behind label value) ∙ body_spelled this statement.body so_far
+        ∙ sym (label_literals behind label value)
+
+lines_spelled : (this : Places) (lines : List Line) → IsSpelled this → IsSpelled (fold after_line this lines)
+lines_spelled this [] so_far = so_far
+lines_spelled this (line ∷ lines) so_far =
+    lines_spelled (after_line this line) lines (line_spelled this line so_far)
+
+pub placed_in_turn : (lines : List Line) → IsPlacedInTurn lines
+placed_in_turn lines = record {
+  since = λ before since rest is none.
+      ap (λ (places : Places). places.next) (fold_append nothing_placed before since)
+      ∙ lines_next (placed before) since none;
+  origin = λ before line rest of is origin.
+      ap (λ (places : Places). places.next) (fold_append nothing_placed before (line ∷ []))
+      ∙ origin_next (placed before) line of origin;
+  literals = lines_use nothing_placed lines;
+  spelled = lines_spelled nothing_placed lines refl;
+}

@@ -1,0 +1,114 @@
+-- What is said of the whole above what each line places: next places and literals (Autocoder, "Assembler Control",
+-- "Literals").
+use Rattle.std.specs.Prelude.{◌≡◌, ℕ, ◌+◌, Bool, true, false, if◌then◌else◌, List, [], ◌∷◌, ◌++◌, length, map, fold}
+use Rattle.std.specs.Prelude.{pos, ◌+ℤ◌, Option, Some, None}
+use Rattle.std.specs.List.{list_any, flat_map}
+use Rattle.source_1401.specs.declared.operands.Operand.TheVariants as operands
+use Rattle.source_1401.specs.declared.operands.OperandField.{OperandField}
+use Rattle.source_1401.specs.declared.operands.OperandField.TheVariants as fields
+use Rattle.source_1401.specs.declared.operands.Operands.{Operands}
+use Rattle.source_1401.specs.declared.statement.Body.{Body}
+use Rattle.source_1401.specs.declared.statement.Body.TheVariants as bodies
+use Rattle.source_1401.specs.declared.statement.Statement.{Statement}
+use Rattle.source_1401.specs.declared.statement.Line.{Line}
+use Rattle.autocoder_1401.specs.Characters.{characters_of, same_characters}
+use Rattle.autocoder_1401.specs.Placement.{Places, pending, length_of, value_so_far, after_line, placed}
+use Rattle.autocoder_1401.specs.declared.characters.Characters.{Characters}
+
+-- how many places literals take
+abbrev pub total : List Characters → ℕ
+total [] = 0
+total (literal ∷ literals) = literal.len + total literals
+
+-- how many places a body takes: EX and END those of the literals that they place
+abbrev pub body_length : Places → Body → ℕ
+body_length this bodies.Unknown = 0
+body_length this (bodies.Instruction instruction of) = length_of (bodies.Instruction instruction of)
+body_length this (bodies.MarkedConstant constant) = length_of (bodies.MarkedConstant constant)
+body_length this (bodies.Constant constant) = length_of (bodies.Constant constant)
+body_length this (bodies.Space places) = length_of (bodies.Space places)
+body_length this (bodies.Areas areas) = length_of (bodies.Areas areas)
+body_length this (bodies.Field span) = 0
+body_length this (bodies.Equate of) = 0
+body_length this (bodies.Origin of) = 0
+body_length this (bodies.Execute of) = total (pending this)
+body_length this (bodies.End of) = total (pending this)
+
+abbrev pub length_with : Places → Option Statement → ℕ
+length_with this None = 0
+length_with this (Some statement) = body_length this statement.body
+
+-- how many places lines take, one behind the other
+abbrev pub lengths_from : Places → List Line → ℕ
+lengths_from this [] = 0
+lengths_from this (line ∷ lines) = length_with this line.statement + lengths_from (after_line this line) lines
+
+-- the operand of an origin
+abbrev pub origin_in : Body → Option Operands
+origin_in bodies.Unknown = None
+origin_in (bodies.Instruction instruction of) = None
+origin_in (bodies.MarkedConstant constant) = None
+origin_in (bodies.Constant constant) = None
+origin_in (bodies.Space places) = None
+origin_in (bodies.Areas areas) = None
+origin_in (bodies.Field span) = None
+origin_in (bodies.Equate of) = None
+origin_in (bodies.Origin of) = Some of
+origin_in (bodies.Execute of) = None
+origin_in (bodies.End of) = None
+
+abbrev pub origin_with : Option Statement → Option Operands
+origin_with None = None
+origin_with (Some statement) = origin_in statement.body
+
+-- none of these lines is an origin
+abbrev pub AreNoOrigins : List Line → Type 0
+AreNoOrigins [] = Unit {0}
+AreNoOrigins (line ∷ lines) = (origin_with line.statement ≡ None) × AreNoOrigins lines
+
+-- the literal that an operand is
+abbrev pub literal_in : OperandField → List Characters
+literal_in fields.Absent = []
+literal_in fields.Malformed = []
+literal_in (fields.Operand (operands.Address address)) = []
+literal_in (fields.Operand (operands.Literal constant)) = characters_of constant ∷ []
+
+-- the literals that a body uses
+abbrev pub uses_in : Body → List Characters
+uses_in bodies.Unknown = []
+uses_in (bodies.Instruction instruction of) = literal_in of.a ++ literal_in of.b
+uses_in (bodies.MarkedConstant constant) = []
+uses_in (bodies.Constant constant) = []
+uses_in (bodies.Space places) = []
+uses_in (bodies.Areas areas) = []
+uses_in (bodies.Field span) = []
+uses_in (bodies.Equate of) = []
+uses_in (bodies.Origin of) = []
+uses_in (bodies.Execute of) = []
+uses_in (bodies.End of) = []
+
+abbrev pub uses_with : Option Statement → List Characters
+uses_with None = []
+uses_with (Some statement) = uses_in statement.body
+
+-- the literals that lines use, in their order, each as often as it is used
+abbrev pub uses : List Line → List Characters
+uses lines = flat_map (λ (line : Line). uses_with line.statement) lines
+
+-- a literal behind those that were used before it, unless it is one of them
+abbrev pub with_use : List Characters → Characters → List Characters
+with_use used literal = if list_any (same_characters literal) used then used else used ++ literal ∷ []
+
+-- how lines are placed, whatever stands before and behind them
+pub record IsPlacedInTurn (lines : List Line) : Type 0 where
+  -- Behind lines without an origin the next place is the one before them and their lengths.
+  pub since : (before since rest : List Line) → lines ≡ before ++ since ++ rest → AreNoOrigins since
+      → (placed (before ++ since)).next ≡ (placed before).next +ℤ pos (lengths_from (placed before) since)
+  -- Behind an origin it is the value of its operand.
+  pub origin : (before : List Line) (line : Line) (rest : List Line) (of : Operands) → lines ≡ before ++ line ∷ rest
+      → origin_with line.statement ≡ Some of
+      → (placed (before ++ line ∷ [])).next ≡ value_so_far (placed before).values of.a
+  -- The literals are those that are used, each once, in the order of their first use,
+  pub literals : (placed lines).literals ≡ fold with_use [] (uses lines)
+  -- and each is kept as it was written there.
+  pub spelled : map characters_of (placed lines).spellings ≡ (placed lines).literals
