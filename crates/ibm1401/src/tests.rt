@@ -3,6 +3,7 @@
 mod arithmetic;
 mod assembling;
 mod branches;
+mod cards;
 mod command_line;
 mod editing;
 mod faults;

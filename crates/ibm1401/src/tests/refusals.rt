@@ -9,11 +9,11 @@ fn each_fault_has_its_reply(rt: HostRuntime) {
         &rt,
         rt.alloc(),
         "HELLO\nEXAMINE\nEXAMINE 16000\nDEPOSIT 0500 a\nDEPOSIT 0500 ~\nDEPOSIT 0500\nREGS X\nEXAMINE 3999 2\n\
-         EXAMINE 4000 41\n",
+         EXAMINE 4000 41\nLOAD\nLINE\n",
         "ERROR 1 WORD\nERROR 2 NUMBER\nERROR 2 NUMBER\nERROR 3 GRAPHIC\nERROR 3 GRAPHIC\nERROR 4 LENGTH\n\
          ERROR 5 EXTRA\n\
-         REFUSED 1 ADDRESS\nREFUSED 6 COUNT\n",
-        2,
+         REFUSED 1 ADDRESS\nREFUSED 6 COUNT\nREFUSED 3 READER\nREFUSED 4 EMPTY\n",
+        4,
     );
 }
 
