@@ -1,11 +1,10 @@
 -- Pairs of characters that differ.
-use Rattle.std.proofs.Common.{◌≡◌, ℕ, ◌+◌, ◌-◌, ◌==◌, ◌<◌, ◌||◌, Bool, List, [], ◌∷◌, length, ◌∙◌, ap, arith, not, take}
-use Rattle.std.proofs.Common.{refl, sym}
+use Rattle.std.proofs.Common.{◌≡◌, ℕ, ◌+◌, ◌-◌, ◌<◌, ◌||◌, Bool, List, [], ◌∷◌, length, ◌∙◌, ap, arith, take}
+use Rattle.std.proofs.Common.{refl}
 use Rattle.std.specs.List.{list_any, range_with_len}
 use Rattle.std.proofs.lemmas.List.{take_all}
 use Rattle.std.proofs.lemmas.List.Folds.{list_any_more}
 use Rattle.std.proofs.lemmas.List.FromFn.{length-range_with_len, get_or-range_with_len}
-use Rattle.bcd_1401.specs.declared.cell.Cell.{Cell}
 use Rattle.core_1401.specs.MarkWords.{held, held_cell}
 use Rattle.core_1401.specs.Places.{are_unequal, is_unequal_pair}
 use Rattle.core_1401.specs.Storage.{cell_at}

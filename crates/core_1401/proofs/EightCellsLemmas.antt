@@ -1,10 +1,10 @@
 -- Eight cells in a row as two numbers.
-use Rattle.std.proofs.Common.{◌≡◌, ℕ, ◌+◌, ◌≤◌, ◌<◌, List, length, arith, refl, ap, sym, ◌∙◌, subst, ◌==◌, ◌∷◌, []}
+use Rattle.std.proofs.Common.{◌≡◌, ℕ, ◌+◌, ◌≤◌, ◌<◌, List, length, arith, refl, ap, sym, ◌∙◌, subst, ◌==◌}
 use Rattle.std.specs.Int.{bit_at, from_le_bytes, w64}
 use Rattle.bcd_1401.specs.declared.cell.Cell.{Cell}
 use Rattle.core_1401.specs.EightCells.{AreEightCells, AreCodes, codes_from, codes_at}
 use Rattle.core_1401.specs.MarkWords.{held, held_cell, mark_bit}
-use Rattle.core_1401.specs.Storage.{Storage, cell_at}
+use Rattle.core_1401.specs.Storage.{cell_at}
 use Rattle.core_1401.proofs.HeldLemmas.{cell_at-held}
 
 -- the codes in the list are those at the places

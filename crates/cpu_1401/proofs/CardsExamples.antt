@@ -1,5 +1,5 @@
 -- Cards and lines on small machines, computed. The codes: 49 to 51 are A to C, 33 is J.
-use Rattle.std.proofs.Common.{◌≡◌, ℕ, true, false, List, [], ◌∷◌, None, Some, replicate, refl}
+use Rattle.std.proofs.Common.{◌≡◌, true, false, [], ◌∷◌, None, Some, replicate, refl}
 use Rattle.devices_1401.specs.Devices.{Devices, no_cards}
 use Rattle.devices_1401.specs.declared.card.Card.{Card}
 use Rattle.devices_1401.specs.declared.print_line.PrintLine.{PrintLine}

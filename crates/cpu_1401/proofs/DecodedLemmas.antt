@@ -1,23 +1,21 @@
 -- What cells say, wherever they stand.
-use Rattle.std.proofs.Common.{◌≡◌, ℕ, ◌+◌, ◌-◌, ◌<◌, ◌≤◌, ◌==◌, suc, zero, min, Bool, true, false, List, [], ◌∷◌}
+use Rattle.std.proofs.Common.{◌≡◌, ℕ, ◌+◌, ◌-◌, ◌<◌, ◌≤◌, suc, zero, min, Bool, true, false, List, [], ◌∷◌}
 use Rattle.std.proofs.Common.{length, arith, refl, sym, ◌∙◌, ap, subst, drop, cond, get_or, inl, inr, not}
 use Rattle.std.proofs.lemmas.Bool.{cases_lt, lt-ltb, le-leb, lt-leb}
 use Rattle.std.proofs.lemmas.List.{get_or-drop, length-drop, get_or_past}
-use Rattle.std.proofs.lemmas.List.FromFn.{get_or-map-range_with_len, length-map-range_with_len}
+use Rattle.std.proofs.lemmas.List.FromFn.{get_or-map-range_with_len}
 use Rattle.std.proofs.lemmas.Nat.{le_bytes_8}
-use Rattle.std.specs.Int.{bit_at, from_le_bytes, to_le_bytes, w64}
 use Rattle.std.specs.List.{position_or_len}
 use Rattle.bcd_1401.specs.Character.{zone_of}
 use Rattle.bcd_1401.specs.declared.cell.Cell.{Cell}
-use Rattle.core_1401.specs.Address.{effective_at, indexed_by, value_at, value_of}
+use Rattle.core_1401.specs.Address.{effective_at, indexed_by, value_of}
 use Rattle.core_1401.specs.EightCells.{AreEightCells, codes_at}
-use Rattle.core_1401.specs.Field.{next_mark_from}
 use Rattle.core_1401.specs.Storage.{Storage, blank, cell_at}
 use Rattle.cpu_1401.specs.declared.decoded.Address.{Address}
 use Rattle.cpu_1401.specs.declared.decoded.Decoded.{Decoded}
 use Rattle.cpu_1401.specs.declared.operation.Operation.{Operation}
 use Rattle.cpu_1401.specs.Decoded.{AlwaysSay, IsAddress, Says}
-use Rattle.cpu_1401.specs.Instruction.{begins_at, instruction_of, length_at, longest_at}
+use Rattle.cpu_1401.specs.Instruction.{instruction_of, length_at, longest_at}
 use Rattle.cpu_1401.specs.Operation.{form_of, operation_of}
 use Rattle.cpu_1401.specs.State.{State}
 use Rattle.cpu_1401.specs.Step.{perform, step}

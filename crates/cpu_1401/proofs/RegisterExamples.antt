@@ -1,5 +1,5 @@
 -- Registers stored on small machines, computed. Q is 40, H 56, N 37.
-use Rattle.std.proofs.Common.{◌≡◌, true, [], ◌∷◌, None, Some, refl}
+use Rattle.std.proofs.Common.{◌≡◌, [], ◌∷◌, None, Some, refl}
 use Rattle.bcd_1401.specs.Graphic.{graphics}
 use Rattle.core_1401.specs.Storage.{Storage}
 use Rattle.cpu_1401.specs.declared.stop.Stop.TheVariants as stop

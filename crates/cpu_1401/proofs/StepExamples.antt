@@ -1,6 +1,6 @@
 -- Steps and runs of small machines, computed. The codes are 27 for the comma, 59 for the full stop, 36 for M, 19 for T,
 -- 10 for zero.
-use Rattle.std.proofs.Common.{◌≡◌, ℕ, true, false, [], ◌∷◌, None, Some, refl}
+use Rattle.std.proofs.Common.{◌≡◌, [], ◌∷◌, None, Some, refl}
 use Rattle.bcd_1401.specs.Graphic.{graphics}
 use Rattle.core_1401.specs.Storage.{Storage}
 use Rattle.fields_1401.specs.Marks.{cleared}

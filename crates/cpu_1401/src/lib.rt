@@ -11,6 +11,7 @@ pub mod asked;
 mod branch_steps;
 pub mod condition;
 mod decoded;
+mod decoding;
 mod device_steps;
 mod field_steps;
 pub mod instruction;

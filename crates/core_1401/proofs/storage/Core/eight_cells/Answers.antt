@@ -1,5 +1,5 @@
 -- The codes and the marks at these places are those of the cells.
-use Rattle.std.proofs.Common.{◌≡◌, ℕ, List, length, ap, arith, subst, ◌∙◌}
+use Rattle.std.proofs.Common.{ℕ, List, length, ap, arith, subst, ◌∙◌}
 use Rattle.std.specs.Int.{from_le_bytes, w64}
 use Rattle.core_1401.specs.EightCells.{AreEightCells, AreCodes, codes_from}
 use Rattle.core_1401.specs.MarkWords.{held}

@@ -1,5 +1,5 @@
 -- What these cells say they always say.
-use Rattle.std.proofs.Common.{◌≡◌, arith}
+use Rattle.std.proofs.Common.{arith}
 use Rattle.cpu_1401.proofs.DecodedLemmas.{always_say}
 use Rattle.cpu_1401.proofs.kept.Instructions.keep.Goals as goal
 

@@ -1,5 +1,5 @@
 -- Its own address, or its only one.
-use Rattle.std.proofs.Common.{ap, ◌∙◌, ◌≡◌, arith, sym}
+use Rattle.std.proofs.Common.{ap, ◌∙◌, arith, sym}
 use Rattle.core_1401.specs.Address.{indexed_by}
 use Rattle.cpu_1401.specs.State.{State}
 use Rattle.cpu_1401.proofs.DecodedLemmas.{b_of_one, b_of_two}

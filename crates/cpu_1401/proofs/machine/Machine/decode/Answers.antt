@@ -1,5 +1,5 @@
 -- What the checks found, and the addresses.
-use Rattle.std.proofs.Common.{rules, arith, sym, ◌∙◌}
+use Rattle.std.proofs.Common.{rules}
 use Rattle.cpu_1401.proofs.machine.Machine.decode.Goals as goal
 
 pub returns-clause-ok : goal.returns-clause-ok
