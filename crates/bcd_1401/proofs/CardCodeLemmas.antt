@@ -31,7 +31,7 @@ of_each : (test : ℕ → Bool) → list_all test (range_with_len 0 64) ≡ true
 of_each test all char h =
     let at =
     All-get_or (λ (k : ℕ). test k ≡ true) (range_with_len 0 64) char 0
-        (omega (arith, length-range_with_len 0 64)) (AllPass-from_list_all test (range_with_len 0 64) all) in
+    (omega (arith, length-range_with_len 0 64)) (AllPass-from_list_all test (range_with_len 0 64) all) in
     let same : get_or (range_with_len 0 64) char 0 ≡ char = get_or-range_with_len 0 64 char 0 h ∙ omega arith in
     subst (λ (k : ℕ). test k ≡ true) same at
 

@@ -39,4 +39,4 @@ pub own_place : (code : ℕ) → code < 64 → position (λ each. each == slice_
 own_place code h =
     let inside : ltb code (length graphics) ≡ true = lt-ltb code (length graphics) (omega (arith, many)) in
     found (position_or_len (λ each. each == slice_index graphics code) graphics) (length graphics) code
-        (first_place code h) inside
+    (first_place code h) inside

@@ -7,18 +7,18 @@ use Rattle.bcd_1401.proofs.character.Char.punch.Goals as goal
 pub returns-clause-column : goal.returns-clause-column
 returns-clause-column c =
     column_read c.column_table.result.now c.from.result c.args.self c.column_table.ensures.table (omega arith)
-        (omega arith)
+    (omega arith)
 
 pub returns-clause-range : goal.returns-clause-range
 returns-clause-range c =
     let read =
     column_read c.column_table.result.now c.from.result c.args.self c.column_table.ensures.table (omega arith)
-        (omega arith) in
+    (omega arith) in
     omega (arith, column_of-small c.args.self (omega arith))
 
 pub returns-clause-own : goal.returns-clause-own
 returns-clause-own c = λ char h e.
     let read =
     column_read c.column_table.result.now c.from.result c.args.self c.column_table.ensures.table (omega arith)
-        (omega arith) in
+    (omega arith) in
     one_character c.args.self char (column_of c.args.self) (omega arith) h refl (e ∙ read)
