@@ -16,7 +16,9 @@ use Rattle.console_1401.specs.CardText.{chars_of, card_of}
 
 -- what a line says, with all that its grammar consists of open
 says : List ℕ → Said
-unfolding said_by said_in_words said_with ended spelled cells_of chars_of card_of deposit_of examine_of start_of switch_said feed_of run_of word_in behind_word keyword_of number_of address_of count_of switch_named setting_of graphics
+unfolding said_by said_in_words said_with ended spelled cells_of chars_of card_of deposit_of examine_of start_of
+    switch_said feed_of run_of word_in behind_word keyword_of number_of address_of count_of switch_named setting_of
+    graphics
 says line = said_by line
 
 -- each of these lines says what stands beside it

@@ -15,7 +15,8 @@ use Rattle.console_1401.specs.Text.{cut_of, without_return, lines_of}
 
 -- the lines of a text, with all that they consist of open
 unfoldable pub lines_in : Bool → List ℕ → List Said
-unfolding cut_of without_return said_by said_in_words said_with ended examine_of word_in behind_word keyword_of number_of address_of count_of
+unfolding cut_of without_return said_by said_in_words said_with ended examine_of word_in behind_word keyword_of
+    number_of address_of count_of
 lines_in ends text = lines_of ends text
 
 -- the replies to some lines at a machine of this size, with all that they consist of open

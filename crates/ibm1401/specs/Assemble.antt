@@ -51,7 +51,8 @@ Wrote text old new outcome =
     ((outcome ≡ Ok tt) × Appends old new text) ⊎ ((outcome ≡ Err fault.Output) × AppendsPart old new text)
 
 -- Nothing was written.
-pub record NotAssembled (size : ℕ) (source : List ℕ) (old new : Option (List ℕ)) (outcome : Result ⊤ Fault) : Type 0 where
+pub record NotAssembled (size : ℕ) (source : List ℕ) (old new : Option (List ℕ))
+    (outcome : Result ⊤ Fault) : Type 0 where
   pub why : Fault
   pub told : outcome ≡ Err why
   pub reason : IsWhyNotAssembled size source why

@@ -1,7 +1,7 @@
 //! How many segments of a core image are read and written a second.
 //!
-//! With the word `measure` it prints a row for images of 1,000, 10,000 and 99,000 segments of 24 cells, each the best of
-//! five. Without it, it says only so, since a measure is never the same twice.
+//! With the word `measure` it prints a row for images of 1,000, 10,000 and 99,000 segments of 24 cells, each the best
+//! of five. Without it, it says only so, since a measure is never the same twice.
 #![tactic(auto)]
 
 ghost use Rattle.image_1401.specs.Image.{IsInCore};

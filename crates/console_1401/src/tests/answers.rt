@@ -41,11 +41,13 @@ fn an_answer_has_its_text(rt: HostRuntime) {
         (Answer::Cells(cells), "~0K"),
         (
             Answer::Regs(POWER_ON),
-            "I=00000 A=00000 B=00000 UNEQUAL=0 OVERFLOW=0 SWITCHES=------- HOPPER=000 STACKER=000 PAPER=000 FORM=0001 LINE=01",
+            "I=00000 A=00000 B=00000 UNEQUAL=0 OVERFLOW=0 SWITCHES=------- \
+             HOPPER=000 STACKER=000 PAPER=000 FORM=0001 LINE=01",
         ),
         (
             Answer::Regs(after_a_run),
-            "I=00041 A=00056 B=15999 UNEQUAL=1 OVERFLOW=0 SWITCHES=A-----G HOPPER=000 STACKER=000 PAPER=500 FORM=0008 LINE=40",
+            "I=00041 A=00056 B=15999 UNEQUAL=1 OVERFLOW=0 SWITCHES=A-----G \
+             HOPPER=000 STACKER=000 PAPER=500 FORM=0008 LINE=40",
         ),
         (
             Answer::Ran {
