@@ -44,8 +44,7 @@ struct Consoles<J: Naming> {
 
 /// Listens until each seat has a console, the first connection at the first seat, and attends each console in a thread
 /// of its own. When all of them have ended, the room is closed; or it is abandoned, where a seat was lost with a thread
-/// that was refused. After a fault no more connections are accepted, and the consoles that there are go on to their
-/// end.
+/// that was refused. After a fault no more connections are accepted, and the consoles that there are go on to the end.
 pub fn serve<
     J: Naming + Send + Sync,
     H: Wait + Drop + Send + Sync,
