@@ -4,7 +4,6 @@ use Rattle.fields_1401.specs.Across.{chars_across, units_unzoned}
 use Rattle.fields_1401.proofs.AcrossLemmas.{length-unzoned_across}
 use Rattle.fields_1401.proofs.EditLemmas.{takes_one, takes_none}
 use Rattle.fields_1401.proofs.control_word.ControlWord.takes.Goals as goal
-use Rattle.fields_1401.proofs.control_word.ControlWord.takes.Goals.{}
 use Rattle.fields_1401.proofs.control_word.ControlWord.takes.Goals.{else-is_replaceable-via-then-is_replaceable+else-behind-self}
 use Rattle.fields_1401.proofs.control_word.ControlWord.takes.Goals.{else-is_replaceable-via-else-is_replaceable}
 
