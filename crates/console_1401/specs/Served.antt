@@ -7,7 +7,7 @@ use Rattle.console_1401.specs.declared.serving.ServeFault.{ServeFault}
 abbrev pub numbers_of : List Knows → List ℕ
 numbers_of seats = map (λ (seat : Knows). seat.number) seats
 
--- all seats of a room that has so many, in the order of their numbers
+-- all seats of a room that has this number of them, in the order of their numbers
 abbrev pub AreAllSeats : ℕ → List Knows → Type 0
 AreAllSeats n seats = numbers_of seats ≡ numbers_of (newcomers n)
 

@@ -10,7 +10,7 @@ use Rattle.cpu_1401.specs.Step.{step}
 abbrev pub after_steps : ℕ → Finished → Finished
 after_steps steps run = record { state = run.state; steps = steps + run.steps; stop = run.stop }
 
--- So many instructions were carried out, and what is left of the run makes the whole.
+-- The instructions so far were carried out, and what is left of the run makes the whole.
 pub record SoFar (limit : ℕ) (first now : State) (steps : ℕ) : Type 0 where
   pub whole : run_for limit first ≡ after_steps steps (run_for (limit - steps) now)
 

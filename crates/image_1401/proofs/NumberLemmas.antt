@@ -1,4 +1,4 @@
--- Numbers in so many digits, written and read.
+-- Numbers in a given number of digits, written and read.
 use Rattle.std.proofs.Common.{◌≡◌, ℕ, ◌+◌, ◌-◌, ◌*◌, ◌/◌, ◌%◌, ◌^◌, ◌<◌, ◌≤◌, ◌&&◌, Bool, true, false, List, [], ◌∷◌}
 use Rattle.std.proofs.Common.{◌++◌, length, take, drop, get_or, zero, suc, Option, Some, None, cond, leb, refl, sym, ap}
 use Rattle.std.proofs.Common.{subst, ◌∙◌, arith, length-append, length-take}
@@ -108,7 +108,7 @@ are_digits (suc digits) text len all =
     ∷ [])) split) in
     subst (AreDigits (suc digits)) (sym parts) (digits_push digits front last so_far bounds.0 bounds.1)
 
--- a number that is read stands at the front, in so many digits
+-- a number that is read stands at the front, in its digits
 pub record Takes (digits : ℕ) (text : List ℕ) (found : ℕ × List ℕ) : Type 0 where
   pub parts : text ≡ number_text digits found.0 ++ found.1
   pub small : found.0 < 10 ^ digits

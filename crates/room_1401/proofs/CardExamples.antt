@@ -43,7 +43,7 @@ a_card_goes_behind_those_in_the_hopper :
 unfolding carry_out
 a_card_goes_behind_those_in_the_hopper = refl
 
--- the hopper with so many cards
+-- the hopper with this number of cards
 abbrev hopper_of : ℕ → State
 hopper_of n = machine_with (record no_cards { hopper = replicate n (card []) })
 
