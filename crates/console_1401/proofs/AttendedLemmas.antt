@@ -1,5 +1,5 @@
 -- What the lines answered one by one at a seat come to.
-use Rattle.std.proofs.Common.{◌≡◌, ℕ, ◌+◌, List, [], ◌∷◌, ◌++◌, length, Option, None, Some}
+use Rattle.std.proofs.Common.{◌≡◌, ◌≤◌, ℕ, ◌+◌, List, [], ◌∷◌, ◌++◌, length, Option, None, Some}
 use Rattle.std.proofs.Common.{refl, ◌∙◌, sym, ap, subst, arith, append_assoc}
 use Rattle.std.proofs.lemmas.List.{length-append}
 use Rattle.std.proofs.lemmas.List.Concat.{flat_map-cons}
@@ -10,6 +10,7 @@ use Rattle.room_1401.specs.declared.answer.Answer.{Answer}
 use Rattle.room_1401.specs.declared.command.Command.{Command}
 use Rattle.room_1401.specs.declared.entry.Pair.{Pair}
 use Rattle.room_1401.specs.declared.fault.RoomFault.TheVariants.{Memory, JournalFull, NoReading}
+use Rattle.room_1401.specs.Journal.{most_entries}
 use Rattle.room_1401.specs.Replay.{pair}
 use Rattle.room_1401.specs.Seen.{Knows}
 use Rattle.console_1401.specs.declared.line.Line.TheVariants as line
@@ -66,8 +67,7 @@ reply_from size first before after (Ok line.Empty) given p r = r
 reply_from size first before after (Ok (line.Command command)) None p r = r
 reply_from size first before after (Ok (line.Command command)) (Some (reply.Answer answer)) p r = r
 reply_from size first before after (Ok (line.Command command)) (Some (reply.RoomFault Memory)) p r = r
-reply_from size first before after (Ok (line.Command command)) (Some (reply.RoomFault JournalFull)) p r =
-    between_from first before after _ p r
+reply_from size first before after (Ok (line.Command command)) (Some (reply.RoomFault JournalFull)) p r = r
 reply_from size first before after (Ok (line.Command command)) (Some (reply.RoomFault NoReading)) p r = r
 reply_from size first before after (Ok (line.Command command)) (Some (reply.Glance glance)) p r = r
 reply_from size first before after (Ok (line.Command command)) (Some (reply.GlanceFault fault)) p r = r
@@ -94,7 +94,8 @@ all_from size first before after (given ∷ more) p r =
 pub record Leads (size : ℕ) (before : Knows) (said : Said) (given : Option Reply) (middle after : Knows) : Type 0 where
   pub grows : IsPrefix before.list middle.list
   pub made_is : middle.made ≡ before.made + length (zip (command_in said) (answer_in given))
-  pub reply : IsPrefix middle.list after.list → LineReplied size before.list after.list said given
+  pub reply : IsPrefix middle.list after.list → length after.list ≤ most_entries
+      → LineReplied size before.list after.list said given
   pub stand : (carried : List (Command × Answer)) → Stand size before.number middle.list carried after.list
       → Stand size before.number before.list (zip (command_in said) (answer_in given) ++ carried) after.list
 
@@ -103,7 +104,8 @@ pub record Stays (size : ℕ) (before : Knows) (said : Said) (given : Option Rep
   pub grows : IsPrefix before.list middle.list
   pub made_is : middle.made ≡ before.made
   pub none : zip (command_in said) (answer_in given) ≡ []
-  pub reply : IsPrefix middle.list after.list → LineReplied size before.list after.list said given
+  pub reply : IsPrefix middle.list after.list → length after.list ≤ most_entries
+      → LineReplied size before.list after.list said given
 
 still : (size : ℕ) (before : Knows) (said : Said) (given : Option Reply) (middle after : Knows)
     → Stays size before said given middle after → Leads size before said given middle after
@@ -125,8 +127,13 @@ same size before said given middle after is none replied =
       grows = prefix_of_same before.list middle.list (ap (λ (seat : Knows). seat.list) is);
       made_is = ap (λ (seat : Knows). seat.made) is;
       none = none;
-      reply = λ grows. replied;
+      reply = λ grows few. replied;
     })
+
+-- a list that goes on from a full one, and isn't longer than a full one, is full
+all_seen : (full list : List Pair) → length full ≡ most_entries → IsPrefix full list → length list ≤ most_entries
+    → length list ≡ most_entries
+all_seen full list is grows few = omega (arith, is, few, ap length (grows.1), length-append full grows.0)
 
 -- one line in front, by what it says and how it was answered
 in_front : (size : ℕ) (before : Knows) (said : Said) (given : Option Reply) (middle after : Knows)
@@ -142,7 +149,7 @@ in_front size before (Ok (line.Command command)) (Some (reply.Answer answer)) mi
     record {
       grows = prefix_trans before.list carries.front middle.list carries.begins there;
       made_is = r.1;
-      reply = λ grows. tt;
+      reply = λ grows few. tt;
       stand = λ carried more. (
         carries.front,
         carries.begins,
@@ -152,13 +159,18 @@ in_front size before (Ok (line.Command command)) (Some (reply.Answer answer)) mi
     }
 in_front size before (Ok (line.Command command)) (Some (reply.RoomFault Memory)) middle after r =
     still size before (Ok (line.Command command)) (Some (reply.RoomFault Memory)) middle after
-    (record { grows = r.0; made_is = r.1; none = refl; reply = λ grows. tt })
+    (record { grows = r.0; made_is = r.1; none = refl; reply = λ grows few. tt })
 in_front size before (Ok (line.Command command)) (Some (reply.RoomFault JournalFull)) middle after r =
     still size before (Ok (line.Command command)) (Some (reply.RoomFault JournalFull)) middle after
-    (record { grows = r.0; made_is = r.1; none = refl; reply = λ grows. (middle.list, r.0, grows, r.2 refl) })
+    (record {
+      grows = r.0;
+      made_is = r.1;
+      none = refl;
+      reply = λ grows few. all_seen middle.list after.list (r.2 refl) grows few;
+    })
 in_front size before (Ok (line.Command command)) (Some (reply.RoomFault NoReading)) middle after r =
     still size before (Ok (line.Command command)) (Some (reply.RoomFault NoReading)) middle after
-    (record { grows = r.0; made_is = r.1; none = refl; reply = λ grows. tt })
+    (record { grows = r.0; made_is = r.1; none = refl; reply = λ grows few. tt })
 in_front size before (Ok (line.Command command)) (Some (reply.Glance glance)) middle after r = absurd r
 in_front size before (Ok (line.Command command)) (Some (reply.GlanceFault fault)) middle after r = absurd r
 in_front size before (Ok (line.Command command)) (Some (reply.LineFault fault)) middle after r = absurd r
@@ -171,7 +183,7 @@ in_front size before (Ok (line.Glance address)) (Some (reply.Glance glance)) mid
       grows = r.1;
       made_is = r.4;
       none = refl;
-      reply = λ grows. (r.0, (middle.list, r.1, grows, (r.2, r.3)));
+      reply = λ grows few. (r.0, (middle.list, r.1, grows, (r.2, r.3)));
     })
 in_front size before (Ok (line.Glance address)) (Some (reply.GlanceFault fault)) middle after r =
     same size before (Ok (line.Glance address)) (Some (reply.GlanceFault fault)) middle after r.1 refl r.0
@@ -181,6 +193,14 @@ in_front size before (Ok line.Quit) given middle after r =
     same size before (Ok line.Quit) given middle after r.1 refl r.0
 in_front size before (Err fault) given middle after r =
     same size before (Err fault) given middle after r.1 refl r.0
+
+-- after each line the seat has seen no more than a full journal, so at the end too
+seen_few : (size : ℕ) (before : Knows) (lines : List Said) (written : List ℕ) (after : Knows)
+    → length before.list ≤ most_entries → AnsweredAll (SeatResponds size) before lines written after
+    → length after.list ≤ most_entries
+seen_few size before [] written after few a =
+    subst (λ (seat : Knows). length seat.list ≤ most_entries) (sym a.1) few
+seen_few size before (said ∷ lines) written after few a = seen_few size a.0 lines a.2 after a.3.bound a.5
 
 -- how many commands these lines gave, one line apart
 carried_more : (said : Said) (given : Option Reply) (more : List Replied)
@@ -213,6 +233,7 @@ attended_at_seat size before (said ∷ lines) written after a =
     let beyond : Stand size before.number middle.list rest after.list =
     subst (λ seat. Stand size seat middle.list rest after.list) a.3.number_is more.stand in
     let grows : IsPrefix middle.list after.list = goes_on size before.number middle.list rest after.list beyond in
+    let few = seen_few size middle lines a.2 after a.3.bound a.5 in
     let carried = carried_more said given more.replied in
     record {
       replied = here ∷ more.replied;
@@ -231,7 +252,7 @@ attended_at_seat size before (said ∷ lines) written after a =
       stand =
           subst (λ (now : List (Command × Answer)). Stand size before.number before.list now after.list)
           (sym carried) (front.stand rest beyond);
-      each = (front.reply grows, all_from size before.list middle.list after.list more.replied front.grows more.each);
+      each = (front.reply grows few, all_from size before.list middle.list after.list more.replied front.grows more.each);
     }
 
 number_by_end : (size : ℕ) (last : SessionEnd) (left : Option (List ℕ)) (before : Knows) (read written : List ℕ)

@@ -55,7 +55,9 @@ LineResponds size before (Ok (line.Glance address)) (Some given) after =
 LineResponds size before (Ok line.Quit) given after = (given ≡ Some reply.Bye) × (after ≡ before)
 LineResponds size before (Err fault) given after = (given ≡ Some (reply.LineFault fault)) × (after ≡ before)
 
--- One line was answered at a seat of a room of this size, whose number stays.
+-- One line was answered at a seat of a room of this size, whose number stays, and which has seen no more than a full
+-- journal.
 pub record SeatResponds (size : ℕ) (before : Knows) (said : Said) (given : Option Reply) (after : Knows) : Type 0 where
   pub number_is : after.number ≡ before.number
+  pub bound : length after.list ≤ most_entries
   pub line : LineResponds size before said given after

@@ -57,7 +57,7 @@ impl<J: Naming, R: Wait + Drop, W: Wait, D: Door> Responder for Attendant<'_, J,
     }
 
     fn respond(&mut self, said: Result<Line, LineFault>) -> Option<Reply> {
-        match said {
+        let reply = match said {
             Ok(Line::Empty) => None,
             Ok(Line::Command(command)) => {
                 match self.room.command(self.wait, &mut self.seat, command) {
@@ -71,7 +71,9 @@ impl<J: Naming, R: Wait + Drop, W: Wait, D: Door> Responder for Attendant<'_, J,
             },
             Ok(Line::Quit) => Some(Reply::Bye),
             Err(fault) => Some(Reply::LineFault(fault)),
-        }
+        };
+        let _made = self.seat.made();
+        reply
     }
 
     fn after(&mut self, line: u64) {

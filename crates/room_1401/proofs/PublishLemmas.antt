@@ -1,5 +1,5 @@
 -- What one command changes under the lock.
-use Rattle.std.proofs.Common.{◌≡◌, ℕ, List, [], ◌∷◌, ◌++◌, length, fold}
+use Rattle.std.proofs.Common.{◌≡◌, ◌≤◌, ℕ, List, [], ◌∷◌, ◌++◌, length, fold}
 use Rattle.std.proofs.Common.{refl, ap, sym, ◌∙◌, subst, arith, length-append}
 use Rattle.std.specs.Prelude.{Some, Option, ltb, if◌then◌else◌}
 use mathlib.Core.List.{IsPrefix}
@@ -10,6 +10,7 @@ use Rattle.room_1401.specs.declared.entry.Pair.{Pair}
 use Rattle.room_1401.specs.declared.published.Shown.{Shown}
 use Rattle.room_1401.specs.declared.published.Change.{Change}
 use Rattle.room_1401.specs.CarryOut.{carry_out, moved}
+use Rattle.room_1401.specs.Journal.{most_entries}
 use Rattle.room_1401.specs.Replay.{pair, replay}
 use Rattle.room_1401.specs.Rule.{IsReplay, Publishes, changed}
 use Rattle.room_1401.proofs.PrefixLemmas.{prefix_self, prefix_trans}
@@ -26,6 +27,7 @@ pub record IsNext (book : Book) (size : ℕ) (change : Change) (pairs : List Pai
     : Type 0 where
   pub of_command : change.command ≡ Some command
   pub count : change.count ≡ length change.front.log
+  pub bound : change.count ≤ most_entries
   pub list : change.front.log ≡ pairs ++ pair seat command ∷ []
   pub of_book : change.front.book ≡ book
   pub storage : length (replay size (pairs ++ pair seat command ∷ [])).storage ≡ size
@@ -50,6 +52,7 @@ next_publishes book size shown change pending pairs seat command was next =
       machine = machine ∙ ap (λ (list : List Pair). replay size list) (sym next.list);
       storage = ap (λ (s : State). length s.storage) machine ∙ next.storage;
       count = next.count;
+      bound = omega (arith, next.count, next.bound);
     } in
     let one_more : IsPrefix before.front.log after.front.log = (
       pair seat command ∷ [],

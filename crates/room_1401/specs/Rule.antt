@@ -1,5 +1,5 @@
 -- What is published to the readers of a shared room, and the rule that each step keeps (own).
-use Rattle.std.specs.Prelude.{◌≡◌, ℕ, List, length, fold}
+use Rattle.std.specs.Prelude.{◌≡◌, ◌≤◌, ℕ, List, length, fold}
 use mathlib.Core.List.{IsPrefix}
 use mathlib.Core.Option.{some}
 use lib.ListN.{get_elem?}
@@ -8,6 +8,7 @@ use Rattle.room_1401.specs.declared.entry.Pair.{Pair}
 use Rattle.room_1401.specs.declared.published.Shown.{Shown}
 use Rattle.room_1401.specs.declared.published.Change.{Change}
 use Rattle.room_1401.specs.CarryOut.{moved}
+use Rattle.room_1401.specs.Journal.{most_entries}
 use Rattle.room_1401.specs.Replay.{replay}
 
 -- what is shown after a change
@@ -18,12 +19,14 @@ changed shown change = record {
   front = change.front;
 }
 
--- The machine and the count shown are those of the replay of the list shown, which the history has reached.
+-- The machine and the count shown are those of the replay of the list shown, which the history has reached, and which
+-- is no longer than a journal can be.
 pub record IsReplay (book : Book) (size : ℕ) (shown : Shown) : Type 0 where
   pub of_book : shown.front.book ≡ book
   pub machine : shown.machine ≡ replay size shown.front.log
   pub storage : length shown.machine.storage ≡ size
   pub count : shown.count ≡ length shown.front.log
+  pub bound : length shown.front.log ≤ most_entries
 
 -- The rule: what is shown is a replay, and what each reader has seen is a prefix of its list.
 abbrev pub Keeps : Book → ℕ → Shown → List (List Pair) → Type 0

@@ -4,6 +4,7 @@ ghost use Rattle.std.specs.Prelude.{◌≡◌, ◌+◌, ◌==◌, ◌<◌, ◌�
 ghost use Rattle.std.specs.Prelude.{length, ltb, MatchBool, if◌then◌else◌};
 ghost use mathlib.Core.List.{IsPrefix};
 ghost use Rattle.room_1401.specs.History.{head_of};
+ghost use Rattle.room_1401.specs.Journal.{most_entries};
 
 use crate::entry::Pair;
 use crate::naming::Naming;
@@ -130,7 +131,7 @@ pub struct Head<J: Naming> {
     ghost head_is: { head ≡ head_of J.book },
 }
 
-/// A beginning of the history that was seen. Contracts see its commands, oldest first.
+/// A beginning of the history that was seen, no longer than a journal can be. Contracts see its commands, oldest first.
 #[derive(Drop)]
 pub struct Front<J: Naming> {
     count: u64,
@@ -139,20 +140,25 @@ pub struct Front<J: Naming> {
 }
 
 impl<J: Naming> Model for Front<J> {
-    ghost use Rattle.std.specs.Prelude.{◌≡◌, List, length};
+    ghost use Rattle.std.specs.Prelude.{◌≡◌, ◌≤◌, List, length};
+    ghost use Rattle.room_1401.specs.Journal.{most_entries};
     ghost use Rattle.room_1401.specs.declared.entry.Pair.{Pair};
 
     ghost Value = { List Pair };
 
     ghost view = { λ front. front.seen.log };
 
-    ghost invariant = { λ front. (front.count ≡ length front.seen.log) × (front.seen.book ≡ J.book) };
+    ghost invariant = { λ front.
+        (front.count ≡ length front.seen.log)
+        × (front.seen.book ≡ J.book)
+        × (length front.seen.log ≤ most_entries) };
 }
 
 impl<J: Naming> Front<J> {
     /// How many commands it has.
     pub(crate) fn len(&self) -> u64
-        ensures { result ≡ length self.now }
+        ensures value { result ≡ length self.now }
+        ensures bound { length self.now ≤ most_entries }
     {
         self.count
     }
@@ -178,7 +184,8 @@ impl<J: Naming> Front<J> {
 
     /// The front of a token.
     pub(crate) fn of_token(count: u64, seen: &Reached) -> Front<J>
-        requires { (count ≡ length seen.now.log) × (seen.now.book ≡ J.book) }
+        requires token { (count ≡ length seen.now.log) × (seen.now.book ≡ J.book) }
+        requires bound { count ≤ most_entries }
         ensures { result ≡ seen.now.log }
     {
         Front {
@@ -205,24 +212,21 @@ impl<J: Naming> Front<J> {
 
     /// Adds a command to all that was seen, and says whether it did. It did not where the history is longer.
     pub(crate) fn extend(&mut self, head: &Head<J>, pair: Pair) -> bool
-        requires { length self.old < 2 ^ 62 }
-        ensures { MatchBool result (self.new ≡ self.old ++ pair ∷ []) (IsPrefix self.old self.new) }
+        requires { length self.old < most_entries }
+        ensures { MatchBool result (self.new ≡ self.old ++ pair ∷ []) (self.new ≡ self.old) }
     {
-        let mut offer: Offer<Pair, u64, Law, Nothing> = self
-            .seen
-            .plain::<Nothing, Pair, Extend>(&pair);
-        let mut pen = self.seen.no_pen();
+        let mut seen = self.seen.again();
+        let mut offer: Offer<Pair, u64, Law, Nothing> = seen.plain::<Nothing, Pair, Extend>(&pair);
+        let mut pen = seen.no_pen();
         let count = self.count;
         let found = head
             .head
-            .compare_exchange::<Extend, Nothing>(
-                count,
-                count + 1,
-                &mut self.seen,
-                &mut offer,
-                &mut pen,
-            );
-        self.count = if found == count { count + 1 } else { found };
-        found == count
+            .compare_exchange::<Extend, Nothing>(count, count + 1, &mut seen, &mut offer, &mut pen);
+        if found != count {
+            return false;
+        }
+        self.count = count + 1;
+        self.seen = seen;
+        true
     }
 }

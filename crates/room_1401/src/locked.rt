@@ -215,6 +215,7 @@ impl<J: Naming, R: Wait + Drop> LockedRoom<J, R> {
 fn change_to<J: Naming>(command: &Command, front: &Front<J>) -> Change
     ensures command { result.command ≡ Some command.now }
     ensures count { result.count ≡ length front.now }
+    ensures bound { result.count ≤ most_entries }
     ensures list { result.front.log ≡ front.now }
     ensures book { result.front.book ≡ J.book }
 {

@@ -1,5 +1,6 @@
 //! The rule that each step of the writer and the readers of a shared room keeps.
-ghost use Rattle.std.specs.Prelude.{◌≡◌, ◌<◌, length, IfSome};
+ghost use Rattle.std.specs.Prelude.{◌≡◌, ◌<◌, ◌≤◌, length, IfSome};
+ghost use Rattle.room_1401.specs.Journal.{most_entries};
 ghost use Rattle.room_1401.specs.Replay.{cell_after};
 
 use crate::carrying::carry_out;
@@ -81,6 +82,7 @@ pub(crate) fn look<J: Naming>(reader: RoomReader<J>, address: u16) -> (RoomReade
     requires { address < J.size }
     ensures book { IfSome result.1 (λ found. found.front.book ≡ J.book) }
     ensures count { IfSome result.1 (λ found. found.count ≡ length found.front.log) }
+    ensures bound { IfSome result.1 (λ found. found.count ≤ most_entries) }
     ensures cell { IfSome result.1 (λ found. found.cell ≡ cell_after J.size found.front.log address) }
 {
     match reader.enter_as::<Sees<J>>() {

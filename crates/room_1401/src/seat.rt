@@ -1,6 +1,7 @@
 //! A seat: what one operator holds of a shared room.
 ghost use Rattle.std.specs.Prelude.{◌≡◌, ◌+◌, ◌<◌, ◌≤◌, ◌↔◌, true, ltb, length, IfOk, OnOk, OnErr, if◌then◌else◌};
 ghost use mathlib.Core.List.{IsPrefix};
+ghost use Rattle.room_1401.specs.Journal.{most_entries};
 ghost use Rattle.room_1401.specs.Replay.{cell_after};
 ghost use Rattle.room_1401.specs.Seen.{own};
 
@@ -106,8 +107,12 @@ impl<J: Naming> Seat<J> {
     pub fn made(&self) -> u64
         ensures made { result ≡ self.now.made }
         ensures own { self.now.made ≤ own self.now.number self.now.list }
+
+        // It has seen no more commands than a journal takes.
+        ensures bound { length self.now.list ≤ most_entries }
     {
         let _share = &self.share;
+        let _len = self.front.len();
         self.made
     }
 

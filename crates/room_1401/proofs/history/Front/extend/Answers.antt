@@ -1,5 +1,5 @@
--- The exchange is over the word of this history, and adds to what was seen.
-use Rattle.std.proofs.Common.{sym, ◌∙◌, ap}
+-- The exchange is over the word of this history, and adds to a copy of what was seen.
+use Rattle.std.proofs.Common.{sym, ◌∙◌, ap, length}
 use Rattle.room_1401.proofs.HistoryLemmas.{adds_moves}
 use Rattle.room_1401.proofs.history.Front.extend.Goals as goal
 
@@ -8,11 +8,13 @@ compare_exchange-found-requires g c =
     let head = c.args.head.now.head_is in
     let offer = c.plain-offer.ensures in
     let pen = c.no_pen-pen.ensures in
-    let seen = c.self.inside.seen.log in
-    let moves = adds_moves seen c.args.pair c.self.inside.count (sym c.self.invariant.0) in (
+    let copy = c.again-seen.ensures in
+    let book = ap (λ token. token.book) copy ∙ c.self.invariant.1 in
+    let len = ap (λ token. length token.log) copy ∙ sym c.self.invariant.0 in
+    let moves = adds_moves c.again-seen.result.log c.args.pair c.self.inside.count len in (
       ap (λ word. word.tracked) head,
-      c.self.invariant.1 ∙ sym (ap (λ word. word.book) head),
-      pen.0 ∙ (c.self.invariant.1 ∙ sym (ap (λ word. word.book) head)),
+      book ∙ sym (ap (λ word. word.book) head),
+      pen.0 ∙ (book ∙ sym (ap (λ word. word.book) head)),
       offer.0,
       rw (ap (λ word. word.key) head, pen.1, offer.1, offer.3) moves,
     )

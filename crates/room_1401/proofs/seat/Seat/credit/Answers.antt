@@ -9,4 +9,4 @@ overflow_add-self g c =
     let most = own_length seat.number seat.list in
     let made = ap (λ knows. knows.made) c.self.view_is in
     let len = ap (λ knows. length knows.list) c.self.view_is in
-    omega (arith, c.requires, most, made, len, c.len-len.ensures)
+    omega (arith, c.requires, most, made, len, c.len-len.ensures.value)
