@@ -1,9 +1,8 @@
 -- The journal of an image that is loaded in part.
-use Rattle.std.proofs.Common.{◌≡◌, ℕ, ◌<◌, ◌≤◌, List, [], ◌∷◌, ◌++◌, length, map, take, sym, ap, ◌∙◌, arith}
+use Rattle.std.proofs.Common.{◌≡◌, ℕ, ◌<◌, List, [], ◌∷◌, ◌++◌, length, map, take, sym, ap, ◌∙◌, arith}
 use Rattle.std.proofs.Common.{length-append}
 use Rattle.std.proofs.lemmas.List.{length-map, take-map, take-append-le}
 use Rattle.image_1401.specs.declared.image.Image.{Image}
-use Rattle.image_1401.specs.declared.image.Segment.{Segment}
 use Rattle.room_1401.specs.declared.entry.Entry.{Entry}
 use Rattle.console_1401.specs.ImageLoading.{segment_entry, start_entry, load_entries, WentOnByFewer}
 

@@ -1,8 +1,7 @@
 -- The text without CARD is that of the card.
-use Rattle.std.proofs.Common.{rules, ◌≡◌, ◌++◌, ◌∷◌, ◌∙◌, refl, sym}
+use Rattle.std.proofs.Common.{rules, ◌≡◌, ◌++◌, ◌∙◌, refl, sym}
 use Rattle.std.specs.Prelude.{codes}
 use Rattle.console_1401.specs.CardText.{graphics_of, trimmed}
-use Rattle.console_1401.specs.ConsoleLine.{feed_of}
 use Rattle.console_1401.proofs.CardTextLemmas.{fed_again}
 use Rattle.console_1401.proofs.answer_text.card_reply.Goals as goal
 

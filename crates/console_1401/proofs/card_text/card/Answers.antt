@@ -1,7 +1,7 @@
 -- The columns so far are the characters of the text so far, and the others are blank.
 use Rattle.std.proofs.Common.{rules, ◌≡◌, ℕ, ◌+◌, ◌<◌, List, length, take, drop, get_or, map, replicate, Some, None}
 use Rattle.std.proofs.Common.{refl, sym, ◌∙◌, ap, subst, arith, take_all}
-use Rattle.std.proofs.lemmas.List.{drop-set-lt, length-set, length-take-le, take_more_set}
+use Rattle.std.proofs.lemmas.List.{drop-set-lt, length-set, length-take-le}
 use Rattle.std.proofs.lemmas.Grind.{drop_more_same}
 use Rattle.console_1401.specs.CardText.{char_of, chars_of}
 use Rattle.console_1401.proofs.CardTextLemmas.{card_of-columns, card_of-missed, card_of-long, chars_of-more}

@@ -1,5 +1,4 @@
 -- The segment whose deposit is refused isn't the last entry.
-use Rattle.std.proofs.Common.{◌≡◌, length, subst}
 use Rattle.std.proofs.lemmas.Result.{err_from_is_err_and}
 use Rattle.console_1401.proofs.ImageLoadingLemmas.{stopped_at}
 use Rattle.console_1401.proofs.image_loading.put_image.Goals as goal
