@@ -2,7 +2,6 @@ pub mod AnsweringLemmas
 pub mod AttendedLemmas
 pub mod CardTextLemmas
 mod ConsoleLineExamples
-pub mod DigitLemmas
 mod GlanceExamples
 pub mod ImageLoadingLemmas
 mod LineTextExamples

@@ -1,10 +1,10 @@
 -- What the console replies (own).
-use Rattle.std.specs.Prelude.{◌≡◌, ℕ, ◌-◌, Bool, if◌then◌else◌, List, [], ◌∷◌, ◌++◌, length, drop, map, replicate}
+use Rattle.std.specs.Prelude.{◌≡◌, ℕ, Bool, if◌then◌else◌, List, [], ◌∷◌, ◌++◌, length, drop, map}
 use Rattle.std.specs.Prelude.{slice_index, Option, None, Some, Ok, codes}
 use Rattle.std.specs.List.{flat_map, zip}
-use Rattle.std.specs.Fmt.{decimal}
 use Rattle.bcd_1401.specs.declared.cell.Cell.{Cell}
 use Rattle.bcd_1401.specs.Graphic.{graphics}
+use Rattle.decimal_1401.specs.Digits.{digits_in}
 use Rattle.cpu_1401.specs.declared.regs.Regs.{Regs}
 use Rattle.cpu_1401.specs.declared.stop.Stop.{Stop}
 use Rattle.cpu_1401.specs.Stop.{stop_number, stop_name}
@@ -27,10 +27,6 @@ use Rattle.console_1401.specs.declared.line.Line.TheVariants as line
 use Rattle.console_1401.specs.CardText.{graphics_of, trimmed}
 use Rattle.console_1401.specs.ConsoleLine.{spelled, cells_of, feed_of}
 use Rattle.console_1401.specs.Bytes.{line_feed, tilde}
-
--- a number in decimal digits, with zeros in front where it has fewer than the width; one that has more has them all
-abbrev pub digits_in : ℕ → ℕ → List ℕ
-digits_in width number = replicate (width - length (decimal number)) 48 ++ decimal number
 
 -- a cell by its graphic, with a tilde in front where it has a word mark
 abbrev pub cell_text : Cell → List ℕ

@@ -1,9 +1,10 @@
 //! The texts of replies, without the line feed behind them.
 ghost use Rattle.std.specs.Prelude.{◌≡◌, [], ◌∷◌, ◌++◌, map, IfOk, OnOk};
+ghost use Rattle.decimal_1401.specs.Digits.{digits_in};
 ghost use Rattle.console_1401.specs.ConsoleLine.{spelled};
 ghost use Rattle.console_1401.specs.ReplyText.{answer_text, IsReadAgain, IsFedAgain, cell_text, cells_text};
 ghost use Rattle.console_1401.specs.ReplyText.{regs_text, ran_text};
-ghost use Rattle.console_1401.specs.ReplyText.{digits_in, indicator_text, switch_text, switches_text, refusal_text};
+ghost use Rattle.console_1401.specs.ReplyText.{indicator_text, switch_text, switches_text, refusal_text};
 ghost use Rattle.console_1401.specs.ReplyText.{line_text, card_text, fault_text, room_fault_text, glance_text};
 ghost use Rattle.console_1401.specs.ReplyText.{glance_fault_text};
 
@@ -11,6 +12,7 @@ use crate::card_text::{put_chars, trimmed};
 use crate::line::LineFault;
 use bcd_1401::Cell;
 use cpu_1401::{Regs, Stop};
+use decimal_1401::put_digits;
 use devices_1401::{Card, PrintLine};
 use room_1401::{Answer, GlanceFault, Refusal, RoomFault};
 use std::alloc::{AllocError, Global};
@@ -127,17 +129,6 @@ fn put_number(text: &mut Vec<u8>, name: &[u8], width: u8, number: u32) -> Result
 {
     text.extend_from_slice(name)?;
     put_digits(text, width, u64::from(number))
-}
-
-/// Adds a number, with zeros in front where it has fewer digits than the width.
-fn put_digits(text: &mut Vec<u8>, width: u8, number: u64) -> Result<(), AllocError>
-    ensures { OnOk result (text.new.items ≡ text.old.items ++ digits_in width number) }
-{
-    if width > 1 || number > 9 {
-        put_digits(text, width.saturating_sub(1), number / 10)?;
-    }
-    text.push(b'0' + (number % 10) as u8)?;
-    Ok(())
 }
 
 /// Adds a name, and behind it whether an indicator is on.

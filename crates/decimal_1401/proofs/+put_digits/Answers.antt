@@ -1,12 +1,12 @@
 -- The last digit, and in front of it those of the tenth part.
 use Rattle.std.proofs.Common.{arith}
 use Rattle.std.proofs.lemmas.Grind.{common_steps}
-use Rattle.console_1401.proofs.DigitLemmas.{one_digit, digits_more}
-use Rattle.console_1401.proofs.answer_text.+put_digits.Goals as goal
-use Rattle.console_1401.proofs.answer_text.+put_digits.Goals.{then-width-gt1+in_ok-put_digits}
-use Rattle.console_1401.proofs.answer_text.+put_digits.Goals.{then-width-gt1-via-then-width-gt1}
-use Rattle.console_1401.proofs.answer_text.+put_digits.Goals.{then-width-gt1-via-else-width-gt1+then-number-gt9}
-use Rattle.console_1401.proofs.answer_text.+put_digits.Goals.{else-width-gt1+else-number-gt9}
+use Rattle.decimal_1401.proofs.DigitLemmas.{one_digit, digits_more}
+use Rattle.decimal_1401.proofs.+put_digits.Goals as goal
+use Rattle.decimal_1401.proofs.+put_digits.Goals.{then-width-gt1+in_ok-put_digits}
+use Rattle.decimal_1401.proofs.+put_digits.Goals.{then-width-gt1-via-then-width-gt1}
+use Rattle.decimal_1401.proofs.+put_digits.Goals.{then-width-gt1-via-else-width-gt1+then-number-gt9}
+use Rattle.decimal_1401.proofs.+put_digits.Goals.{else-width-gt1+else-number-gt9}
 
 pub returns : goal.returns
 returns t c = elim c.if-width-gt1.branch [

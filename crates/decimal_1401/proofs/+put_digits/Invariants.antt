@@ -1,6 +1,6 @@
 -- Each call has fewer places or a lesser number.
 use Rattle.std.proofs.Common.{◌+◌}
-use Rattle.console_1401.proofs.answer_text.+put_digits.Given as goal
+use Rattle.decimal_1401.proofs.+put_digits.Given as goal
 
 abbrev pub decreases-put_digits : goal.decreases-put_digits
 decreases-put_digits l = l.width + l.number

@@ -5,7 +5,7 @@ use Rattle.std.specs.Fmt.{decimal}
 use Rattle.std.proofs.lemmas.Bool.{cases_lt}
 use Rattle.std.proofs.lemmas.Fmt.{decimal_step, decimal_digit}
 use Rattle.std.proofs.lemmas.List.{append_assoc, replicate_more, length_push}
-use Rattle.console_1401.specs.ReplyText.{digits_in}
+use Rattle.decimal_1401.specs.Digits.{digits_in}
 
 -- in front of its last digit a text of digits has as many zeros as before
 zeros_before : (front : List ℕ) (width digit : ℕ)
