@@ -7,7 +7,7 @@ use Rattle.std.specs.Option.{is_some}
 use Rattle.bcd_1401.specs.declared.cell.Cell.{Cell}
 use Rattle.core_1401.specs.Places.{with_cells}
 use Rattle.core_1401.specs.Storage.{Storage, blank, cell_at, with_char, with_mark}
-use Rattle.devices_1401.specs.Carriage.{Carriage, controlled}
+use Rattle.devices_1401.specs.Carriage.{Carriage}
 use Rattle.devices_1401.specs.Devices.{Devices, after_read, is_full, printed, punched}
 use Rattle.devices_1401.specs.declared.card.Card.{Card}
 use Rattle.devices_1401.specs.declared.fault.ControlFault.{ControlFault}

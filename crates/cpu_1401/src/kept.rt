@@ -1,5 +1,5 @@
 //! Instructions kept as they were decoded: one that is carried out again isn't decoded again.
-ghost use Rattle.std.specs.Prelude.{◌≡◌, ◌<◌, IfSome, length};
+ghost use Rattle.std.specs.Prelude.{◌≡◌, ◌+◌, ◌<◌, ◌≤◌, IfOk, IfSome, length};
 ghost use Rattle.core_1401.specs.Address.{addresses};
 ghost use Rattle.cpu_1401.specs.Decoded.{AlwaysSay, Says};
 
@@ -8,9 +8,7 @@ use crate::operation::Operation;
 use bcd_1401::Char;
 use core_1401::{Core, EightCells};
 use std::alloc::{AllocError, Global};
-
-/// How many places the longest instruction has.
-const LONGEST: usize = 8;
+use std::marker::Model;
 
 /// Eight cells, and the instruction that they are.
 #[derive(Clone, Copy)]
@@ -20,30 +18,43 @@ struct Kept {
     ghost says: { AlwaysSay cells.codes cells.marks decoded },
 }
 
-/// For each place the instruction that was decoded there last, with the cells that it was decoded from.
+/// For each place that begins eight the instruction that was decoded there last, with the cells that it was decoded
+/// from. Contracts see how many places that are.
 #[derive(Drop)]
 pub(crate) struct Instructions {
     kept: Vec<Kept>,
 }
 
+impl Model for Instructions {
+    ghost use Rattle.std.specs.Prelude.{ℕ, length};
+
+    ghost Value = { ℕ };
+
+    ghost view = { λ instructions. length instructions.kept.items };
+}
+
 impl Instructions {
-    /// No instruction, with room for one at each place.
+    /// No instruction, with room for one at each place of a core of this size but for the last seven.
     ///
     /// # Errors
     ///
     /// Where there is no memory for it.
-    pub(crate) fn none(alloc: Global, size: u16) -> Result<Instructions, AllocError> {
-        let kept = vec![in alloc; nothing_kept(); usize::from(size)]?;
+    pub(crate) fn none(alloc: Global, size: u16) -> Result<Instructions, AllocError>
+        requires { 7 ≤ size }
+        ensures { IfOk result (λ instructions. instructions + 7 ≡ size) }
+    {
+        let kept = vec![in alloc; nothing_kept(); usize::from(size - 7)]?;
         Ok(Instructions { kept })
     }
 
     /// The instruction at a place, if it was decoded there from cells like those that stand there now.
     #[inline(always)]
     pub(crate) fn find(&self, core: &Core, at: u16) -> Option<&Decoded>
+        requires { self.now + 7 ≤ length core.now }
         ensures { IfSome result (λ decoded. Says core.now at decoded.now) }
     {
         let place = usize::from(at);
-        if place + LONGEST > usize::from(core.size()) || place >= self.kept.len() {
+        if place >= self.kept.len() {
             return None;
         }
         let kept = &self.kept[place];
@@ -56,10 +67,12 @@ impl Instructions {
     /// Keeps the instruction at a place, but not where fewer than eight places are left up to the end of core.
     #[tactic(auto, using(crate::proofs::DecodedLemmas::always_say))]
     pub(crate) fn keep(&mut self, core: &Core, at: u16, decoded: &Decoded)
-        requires { Says core.now at decoded.now }
+        requires size { self.old + 7 ≤ length core.now }
+        requires says { Says core.now at decoded.now }
+        ensures { self.new ≡ self.old }
     {
         let place = usize::from(at);
-        if place + LONGEST > usize::from(core.size()) || place >= self.kept.len() {
+        if place >= self.kept.len() {
             return;
         }
         let cells = core.eight_cells(at);

@@ -26,7 +26,7 @@ pub struct Machine {
 }
 
 impl Model for Machine {
-    ghost use Rattle.std.specs.Prelude.{◌<◌};
+    ghost use Rattle.std.specs.Prelude.{◌+◌, ◌<◌, ◌≤◌, length};
     ghost use Rattle.core_1401.specs.Address.{addresses};
     ghost use Rattle.cpu_1401.specs.State.{State};
 
@@ -43,7 +43,8 @@ impl Model for Machine {
       devices = m.devices;
     } };
 
-    ghost invariant = { λ m. (m.i < addresses) × (m.a < addresses) × (m.b < addresses) };
+    ghost invariant = { λ m.
+        (m.i < addresses) × (m.a < addresses) × (m.b < addresses) × (m.kept + 7 ≤ length m.core) };
 }
 
 impl Machine {
