@@ -8,4 +8,5 @@ pub mod LawLemmas
 pub mod ListingLemmas
 pub mod LowestLemmas
 pub mod PlacementLawLemmas
+pub mod PlacingLemmas
 pub mod SegmentsLemmas

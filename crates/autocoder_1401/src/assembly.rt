@@ -1,5 +1,5 @@
 //! The passes of the assembler, one behind the other.
-ghost use Rattle.std.specs.Prelude.{◌≡◌, ◌<◌, ◌^◌, ◌⊎◌, length, None, true, IfOk, IfErr, OnOk, IfNone, IfSome};
+ghost use Rattle.std.specs.Prelude.{◌≡◌, ◌<◌, ◌^◌, ◌⊎◌, length, None, Some, true, IfOk, IfErr, OnOk, IfNone, IfSome};
 ghost use Rattle.autocoder_1401.specs.Fault.{IsMemory, Gives};
 ghost use Rattle.autocoder_1401.specs.Symbols.{declared_at};
 ghost use Rattle.autocoder_1401.specs.FirstFault.{first_fault, IsFaultless, IsFirstFault};
@@ -7,8 +7,8 @@ ghost use Rattle.core_1401.specs.Storage.{is_core_size};
 ghost use Rattle.image_1401.specs.Image.{IsInCore};
 ghost use Rattle.autocoder_1401.specs.Placement.{placed};
 ghost use Rattle.autocoder_1401.specs.Values.{first_outside};
-ghost use Rattle.autocoder_1401.specs.Assembly.{lines_in, entry_in, image_of, placed_cells, unless_fault, assembly_in};
-ghost use Rattle.autocoder_1401.specs.Assembly.{IsFaultOf};
+ghost use Rattle.autocoder_1401.specs.Assembly.{lines_in, entry_in, image_of, assembly_of, placed_cells, unless_fault};
+ghost use Rattle.autocoder_1401.specs.Assembly.{assembly_in, IsFaultOf};
 ghost use Rattle.autocoder_1401.specs.Laws.{IsFirstOutside, IsCutOf};
 ghost use Rattle.autocoder_1401.specs.PlacementLaws.{IsPlacedInTurn};
 ghost use Rattle.autocoder_1401.specs.View.{places_of};
@@ -76,6 +76,20 @@ fn entry(all: &Placing, lines: &[Line]) -> Result<i64, AsmFault>
     Ok(0)
 }
 
+/// Refuses the first line of which something isn't in core, once all is placed.
+fn refuse_outside(alloc: Global, size: u16, all: &Placing, lines: &[Line]) -> Result<(), AsmFault>
+    requires few { length lines.now < 2 ^ 32 }
+    requires placed { places_of all.now ≡ placed lines.now }
+    ensures inside { OnOk result (first_outside size lines.now ≡ None) }
+    ensures outside { IfErr result (λ fault. IsMemory fault
+        ⊎ ((first_outside size lines.now ≡ Some fault) × IsFirstOutside size lines.now fault)) }
+{
+    match look_outside(alloc, size, all, lines)? {
+        Some(fault) => Err(fault),
+        None => Ok(()),
+    }
+}
+
 /// What is placed by lines, or their first fault.
 fn place_lines(alloc: Global, lines: &[Line], size: u16) -> Result<Placing, AsmFault>
     requires { length lines.now < 2 ^ 32 }
@@ -88,9 +102,7 @@ fn place_lines(alloc: Global, lines: &[Line], size: u16) -> Result<Placing, AsmF
         return Err(fault);
     }
     let all = place_all(alloc, lines)?;
-    if let Some(fault) = look_outside(alloc, size, &all, lines)? {
-        return Err(fault);
-    }
+    refuse_outside(alloc, size, &all, lines)?;
     Ok(all)
 }
 
@@ -116,6 +128,25 @@ pub struct Assembly {
     pub image: Image,
     /// The source with the addresses and the cells that its lines stand for.
     pub listing: Listing,
+}
+
+/// The image and the listing of a source, which says these lines, once all is placed.
+fn outputs(
+    alloc: Global,
+    all: &Placing,
+    source: &[u8],
+    lines: &[Line],
+    size: u16,
+) -> Result<Assembly, AsmFault>
+    requires lines { lines.now ≡ lines_in source.now }
+    requires few { length lines.now < 2 ^ 32 }
+    requires placed { places_of all.now ≡ placed lines.now }
+    ensures ok { IfOk result (λ assembly. assembly ≡ assembly_of size source.now) }
+    ensures err { IfErr result IsMemory }
+{
+    let image = image(alloc, all, lines, size)?;
+    let listing = list(alloc, all, source, lines)?;
+    Ok(Assembly { image, listing })
 }
 
 /// The core image and the listing that a source stands for, in core storage of this size.
@@ -152,7 +183,5 @@ pub fn assemble(alloc: Global, source: &[u8], size: u16) -> Result<Assembly, Asm
 {
     let lines = read_lines(alloc, source)?;
     let all = place_lines(alloc, &lines, size)?;
-    let image = image(alloc, &all, &lines, size)?;
-    let listing = list(alloc, &all, source, &lines)?;
-    Ok(Assembly { image, listing })
+    outputs(alloc, &all, source, &lines, size)
 }
