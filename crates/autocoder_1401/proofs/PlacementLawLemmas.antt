@@ -1,8 +1,8 @@
 -- The next place and the literals, line by line.
-use Rattle.std.proofs.Common.{◌≡◌, ℕ, ◌+◌, Bool, true, false, cond, List, [], ◌∷◌, ◌++◌, length, map, ℤ, pos, ◌+ℤ◌}
+use Rattle.std.proofs.Common.{◌≡◌, Bool, true, false, List, [], ◌∷◌, ◌++◌, map, ℤ, pos, ◌+ℤ◌}
 use Rattle.std.proofs.Common.{Option, None, Some, refl, sym, ap, ◌∙◌}
 use Rattle.std.specs.Prelude.{fold, if◌then◌else◌}
-use Rattle.std.specs.List.{list_any, flat_map}
+use Rattle.std.specs.List.{list_any}
 use Rattle.std.proofs.Math.IntN.{+ℤ_assoc, +ℤ_idr}
 use Rattle.std.proofs.lemmas.List.{map-append}
 use Rattle.source_1401.specs.Statement.{well_formed}
@@ -20,7 +20,7 @@ use Rattle.autocoder_1401.specs.Characters.{characters_of, same_characters}
 use Rattle.autocoder_1401.specs.Placement.{Places, nothing_placed, pending, with_literal, with_operand, with_next}
 use Rattle.autocoder_1401.specs.Placement.{behind_body, with_label, label_value, after_line, placed, value_so_far}
 use Rattle.autocoder_1401.specs.Placement.{instruction_length}
-use Rattle.autocoder_1401.specs.PlacementLaws.{total, body_length, length_with, lengths_from, origin_in, origin_with}
+use Rattle.autocoder_1401.specs.PlacementLaws.{body_length, length_with, lengths_from, origin_in, origin_with}
 use Rattle.autocoder_1401.specs.PlacementLaws.{AreNoOrigins, literal_in, uses_in, uses_with, uses, with_use}
 use Rattle.autocoder_1401.specs.PlacementLaws.{IsPlacedInTurn}
 use Rattle.autocoder_1401.specs.declared.characters.Characters.{Characters}

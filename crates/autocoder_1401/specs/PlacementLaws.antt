@@ -1,6 +1,6 @@
 -- What is said of the whole above what each line places: next places and literals (Autocoder, "Assembler Control",
 -- "Literals").
-use Rattle.std.specs.Prelude.{◌≡◌, ℕ, ◌+◌, Bool, true, false, if◌then◌else◌, List, [], ◌∷◌, ◌++◌, length, map, fold}
+use Rattle.std.specs.Prelude.{◌≡◌, ℕ, ◌+◌, if◌then◌else◌, List, [], ◌∷◌, ◌++◌, map, fold}
 use Rattle.std.specs.Prelude.{pos, ◌+ℤ◌, Option, Some, None}
 use Rattle.std.specs.List.{list_any, flat_map}
 use Rattle.source_1401.specs.declared.operands.Operand.TheVariants as operands

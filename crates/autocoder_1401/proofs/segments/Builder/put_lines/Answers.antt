@@ -1,5 +1,4 @@
 -- One line more is built.
-use Rattle.std.proofs.Common.{◌∙◌}
 use Rattle.autocoder_1401.specs.View.{places_of}
 use Rattle.autocoder_1401.proofs.SegmentsLemmas.{next_line}
 use Rattle.autocoder_1401.proofs.segments.Builder.put_lines.Goals as goal
