@@ -10,3 +10,4 @@ pub mod LowestLemmas
 pub mod PlacementLawLemmas
 pub mod PlacingLemmas
 pub mod SegmentsLemmas
+pub mod StandingLemmas

@@ -1,7 +1,7 @@
 -- What is said of the whole above what each line places: next places and literals (Autocoder, "Assembler Control",
 -- "Literals").
-use Rattle.std.specs.Prelude.{◌≡◌, ℕ, ◌+◌, if◌then◌else◌, List, [], ◌∷◌, ◌++◌, map, fold}
-use Rattle.std.specs.Prelude.{pos, ◌+ℤ◌, Option, Some, None}
+use Rattle.std.specs.Prelude.{◌≡◌, ℕ, ◌+◌, Bool, true, false, if◌then◌else◌, List, [], ◌∷◌, ◌++◌, length, map, fold}
+use Rattle.std.specs.Prelude.{take, slice_get, ℤ, pos, negsuc, ◌+ℤ◌, Option, Some, None}
 use Rattle.std.specs.List.{list_any, flat_map}
 use Rattle.source_1401.specs.declared.operands.Operand.TheVariants as operands
 use Rattle.source_1401.specs.declared.operands.OperandField.{OperandField}
@@ -66,6 +66,24 @@ abbrev pub AreNoOrigins : List Line → Type 0
 AreNoOrigins [] = Unit {0}
 AreNoOrigins (line ∷ lines) = (origin_with line.statement ≡ None) × AreNoOrigins lines
 
+-- EX and END place literals
+abbrev pub places_in : Body → Bool
+places_in bodies.Unknown = false
+places_in (bodies.Instruction instruction of) = false
+places_in (bodies.MarkedConstant constant) = false
+places_in (bodies.Constant constant) = false
+places_in (bodies.Space places) = false
+places_in (bodies.Areas areas) = false
+places_in (bodies.Field span) = false
+places_in (bodies.Equate of) = false
+places_in (bodies.Origin of) = false
+places_in (bodies.Execute of) = true
+places_in (bodies.End of) = true
+
+abbrev pub places_with : Option Statement → Bool
+places_with None = false
+places_with (Some statement) = places_in statement.body
+
 -- the literal that an operand is
 abbrev pub literal_in : OperandField → List Characters
 literal_in fields.Absent = []
@@ -99,6 +117,10 @@ uses lines = flat_map (λ (line : Line). uses_with line.statement) lines
 abbrev pub with_use : List Characters → Characters → List Characters
 with_use used literal = if list_any (same_characters literal) used then used else used ++ literal ∷ []
 
+-- the literal with this index is this one, and its units place is this
+abbrev pub StandsAt : Places → ℕ → Characters → ℤ → Type 0
+StandsAt all i literal units = (slice_get all.literals i ≡ Some literal) × (slice_get all.addresses i ≡ Some units)
+
 -- how lines are placed, whatever stands before and behind them
 pub record IsPlacedInTurn (lines : List Line) : Type 0 where
   -- Behind lines without an origin the next place is the one before them and their lengths.
@@ -112,3 +134,10 @@ pub record IsPlacedInTurn (lines : List Line) : Type 0 where
   pub literals : (placed lines).literals ≡ fold with_use [] (uses lines)
   -- and each is kept as it was written there.
   pub spelled : map characters_of (placed lines).spellings ≡ (placed lines).literals
+  -- A line that places literals places those that are used and not placed, in this order, one behind the other from the
+  -- next place on: each ends with as many places as it and those in front of it take.
+  pub standing : (before : List Line) (line : Line) (rest : List Line) (k : ℕ) (literal : Characters)
+      → lines ≡ before ++ line ∷ rest → places_with line.statement ≡ true
+      → slice_get (pending (placed before)) k ≡ Some literal
+      → StandsAt (placed lines) (length (placed before).addresses + k) literal
+      ((placed before).next +ℤ pos (total (take (k + 1) (pending (placed before)))) +ℤ negsuc 0)
