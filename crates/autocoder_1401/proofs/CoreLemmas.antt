@@ -214,7 +214,7 @@ literals_below size this small inside = by (pending this) refl
         omega (arith, whole, few))
 
 -- none of two is so where one of them isn't
-neither : (x y : Bool) → (x || y) ≡ false → (x ≡ false) × (y ≡ false)
+pub neither : (x y : Bool) → (x || y) ≡ false → (x ≡ false) × (y ≡ false)
 neither true y h = absurd (true≢false h)
 neither false y h = (refl, h)
 

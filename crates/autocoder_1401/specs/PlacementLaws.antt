@@ -1,7 +1,7 @@
 -- What is said of the whole above what each line places: next places and literals (Autocoder, "Assembler Control",
 -- "Literals").
-use Rattle.std.specs.Prelude.{◌≡◌, ℕ, ◌+◌, Bool, true, false, if◌then◌else◌, List, [], ◌∷◌, ◌++◌, length, map, fold}
-use Rattle.std.specs.Prelude.{take, slice_get, ℤ, pos, negsuc, ◌+ℤ◌, Option, Some, None}
+use Rattle.std.specs.Prelude.{◌≡◌, ℕ, ◌+◌, Bool, true, false, if◌then◌else◌, List, [], ◌∷◌, ◌++◌, map, fold}
+use Rattle.std.specs.Prelude.{take, slice_get, pos, negsuc, ◌+ℤ◌, Option, Some, None}
 use Rattle.std.specs.List.{list_any, flat_map}
 use Rattle.source_1401.specs.declared.operands.Operand.TheVariants as operands
 use Rattle.source_1401.specs.declared.operands.OperandField.{OperandField}
@@ -11,6 +11,7 @@ use Rattle.source_1401.specs.declared.statement.Body.{Body}
 use Rattle.source_1401.specs.declared.statement.Body.TheVariants as bodies
 use Rattle.source_1401.specs.declared.statement.Statement.{Statement}
 use Rattle.source_1401.specs.declared.statement.Line.{Line}
+use Rattle.autocoder_1401.specs.Cells.{literal_value}
 use Rattle.autocoder_1401.specs.Characters.{characters_of, same_characters}
 use Rattle.autocoder_1401.specs.Placement.{Places, pending, length_of, value_so_far, after_line, placed}
 use Rattle.autocoder_1401.specs.declared.characters.Characters.{Characters}
@@ -117,10 +118,6 @@ uses lines = flat_map (λ (line : Line). uses_with line.statement) lines
 abbrev pub with_use : List Characters → Characters → List Characters
 with_use used literal = if list_any (same_characters literal) used then used else used ++ literal ∷ []
 
--- the literal with this index is this one, and its units place is this
-abbrev pub StandsAt : Places → ℕ → Characters → ℤ → Type 0
-StandsAt all i literal units = (slice_get all.literals i ≡ Some literal) × (slice_get all.addresses i ≡ Some units)
-
 -- how lines are placed, whatever stands before and behind them
 pub record IsPlacedInTurn (lines : List Line) : Type 0 where
   -- Behind lines without an origin the next place is the one before them and their lengths.
@@ -134,10 +131,10 @@ pub record IsPlacedInTurn (lines : List Line) : Type 0 where
   pub literals : (placed lines).literals ≡ fold with_use [] (uses lines)
   -- and each is kept as it was written there.
   pub spelled : map characters_of (placed lines).spellings ≡ (placed lines).literals
-  -- A line that places literals places those that are used and not placed, in this order, one behind the other from the
-  -- next place on: each ends with as many places as it and those in front of it take.
+  -- EX and END place the literals that are used and not placed, in this order, one behind the other from the next place
+  -- on: the units place of each, which operands name, is as far on as it and those in front of it are long.
   pub standing : (before : List Line) (line : Line) (rest : List Line) (k : ℕ) (literal : Characters)
       → lines ≡ before ++ line ∷ rest → places_with line.statement ≡ true
       → slice_get (pending (placed before)) k ≡ Some literal
-      → StandsAt (placed lines) (length (placed before).addresses + k) literal
-      ((placed before).next +ℤ pos (total (take (k + 1) (pending (placed before)))) +ℤ negsuc 0)
+      → literal_value (placed lines) literal
+      ≡ (placed before).next +ℤ pos (total (take (k + 1) (pending (placed before)))) +ℤ negsuc 0

@@ -154,9 +154,8 @@ fn outputs(
 /// # Errors
 ///
 /// `Memory` where memory is refused, or the source has too many lines. Else the fault of the first line that has one of
-/// kinds 2 to 8, 10 and 11, its lowest; and where no line has one, `OutOfCore` of the first line of which something
-/// isn't
-/// in core.
+/// kinds 2 to 8, 10 and 11, its lowest; and where no line has one, `OutOfCore` of the first line of which something is
+/// not in core.
 #[tactic(auto, using(crate::proofs::PlacementLawLemmas::placed_in_turn))]
 pub fn assemble(alloc: Global, source: &[u8], size: u16) -> Result<Assembly, AsmFault>
     // The image and the listing of the lines, or their first fault, memory aside.
@@ -168,14 +167,13 @@ pub fn assemble(alloc: Global, source: &[u8], size: u16) -> Result<Assembly, Asm
     // All of the image is in core.
     ensures in_core { is_core_size size ≡ true → IfOk result (λ assembly. IsInCore assembly.image) }
 
-    // The segments have the cells that the lines place, in their order: 1 to 40 each, and no fewer than fit but before
-    // a
-    // gap.
+    // The segments have the cells that the lines place, in their order: 1 to 40 each, and no fewer than fit but in
+    // front of a gap.
     ensures segments { is_core_size size ≡ true → IfOk result (λ assembly.
         IsCutOf (placed_cells (lines_in source.now)) assembly.image.segments) }
 
     // Places go on by the lengths of the lines, behind an origin from its value; literals stand in the order of their
-    // first use, each once.
+    // first use, each once, one behind the other where EX or END places them.
     ensures placement { OnOk result (IsPlacedInTurn (lines_in source.now)) }
 
     // A fault is the lowest of the first line that has one, or something of a faultless source isn't in core.
