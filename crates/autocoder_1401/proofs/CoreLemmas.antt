@@ -1,12 +1,12 @@
 -- Where nothing of any line is outside core storage, the image lies in it.
 use Rattle.std.proofs.Common.{◌≡◌, ℕ, zero, suc, ◌+◌, ◌-◌, ◌*◌, ◌<◌, ◌≤◌, ◌⊎◌, Bool, true, false, ◌&&◌, ◌||◌, cond, not}
-use Rattle.std.proofs.Common.{List, [], ◌∷◌, ◌++◌, length, map, take, drop, replicate, ℤ, pos, negsuc, ◌+ℤ◌, Option}
+use Rattle.std.proofs.Common.{List, [], ◌∷◌, ◌++◌, length, map, take, replicate, ℤ, pos, negsuc, ◌+ℤ◌, Option}
 use Rattle.std.proofs.Common.{None}
-use Rattle.std.proofs.Common.{Some, refl, sym, ap, subst, ◌∙◌, inl, inr, arith}
+use Rattle.std.proofs.Common.{Some, refl, sym, ap, ◌∙◌, inl, inr, arith}
 use Rattle.std.specs.Prelude.{fold, nat_lt, nat_le, ◌==◌, if◌then◌else◌}
 use Rattle.std.specs.Option.{option_map_or}
 use Rattle.std.specs.List.{list_all, flat_map}
-use Rattle.std.proofs.lemmas.Bool.{true≢false, not-false, both_ways, and_parts, and_cases, cases_Bool, leb-true}
+use Rattle.std.proofs.lemmas.Bool.{true≢false, not-false, both_ways, and_parts, and_cases, leb-true}
 use Rattle.std.proofs.lemmas.Bool.{ltb-true}
 use Rattle.std.proofs.lemmas.Bool.{le-leb, lt-ltb, eqb-true, and_from}
 use Rattle.std.proofs.Math.IntN.{+ℤ_assoc, +ℤ_idr}
@@ -17,7 +17,6 @@ use Rattle.std.proofs.lemmas.List.Folds.{list_all-append}
 use Rattle.bcd_1401.specs.declared.cell.Cell.{Cell}
 use Rattle.core_1401.specs.Storage.{is_core_size, blank}
 use Rattle.image_1401.specs.Image.{is_inside, IsInCore}
-use Rattle.image_1401.specs.declared.image.Segment.{Segment}
 use Rattle.source_1401.specs.declared.constant.Constant.{Constant}
 use Rattle.source_1401.specs.declared.mnemonic.Instruction.{Instruction}
 use Rattle.source_1401.specs.declared.operands.Operand.TheVariants as operands
@@ -41,9 +40,9 @@ use Rattle.autocoder_1401.specs.Characters.{char_with, characters_of, codes_in}
 use Rattle.autocoder_1401.specs.declared.characters.Characters.{Characters}
 use Rattle.autocoder_1401.specs.declared.fault.AsmKind.TheVariants as kinds
 use Rattle.autocoder_1401.specs.Placement.{Places, nothing_placed, instruction_length, constant_length, areas_length}
-use Rattle.autocoder_1401.specs.Placement.{pending, behind_literal, behind_literals, after_line, placed}
+use Rattle.autocoder_1401.specs.Placement.{pending, behind_literals, after_line, placed}
 use Rattle.autocoder_1401.specs.PlacementLaws.{total}
-use Rattle.autocoder_1401.specs.Segments.{within, closed, goes_on, cut, segments_of}
+use Rattle.autocoder_1401.specs.Segments.{within, closed, goes_on, cut}
 use Rattle.autocoder_1401.specs.Values.{is_in_core, are_in_core, operand_value, operand_outside, places_outside}
 use Rattle.autocoder_1401.specs.Values.{literals_outside, body_outside, line_outside, first_outside_from, first_outside}
 use Rattle.autocoder_1401.specs.Values.{last_place}
@@ -215,7 +214,7 @@ literals_below size this small inside = by (pending this) refl
         omega (arith, whole, few))
 
 -- none of two is so where one of them isn't
-neither : (x y : Bool) → (x || y) ≡ false → (x ≡ false) × (y ≡ false)
+pub neither : (x y : Bool) → (x || y) ≡ false → (x ≡ false) × (y ≡ false)
 neither true y h = absurd (true≢false h)
 neither false y h = (refl, h)
 

@@ -1,23 +1,23 @@
 -- The first line with something outside; the segments that cells are cut into.
-use Rattle.std.proofs.Common.{◌≡◌, ℕ, zero, suc, ◌+◌, ◌<◌, ◌≤◌, ◌⊎◌, Bool, true, false, ◌&&◌, ◌||◌, cond, not, List, []}
+use Rattle.std.proofs.Common.{◌≡◌, ℕ, zero, suc, ◌+◌, ◌<◌, ◌≤◌, Bool, true, false, cond, List, []}
 use Rattle.std.proofs.Common.{◌∷◌, ◌++◌, length, take, get_or, Option, None, Some, IfSome, refl, sym, ap, subst, ◌∙◌}
-use Rattle.std.proofs.Common.{inl, inr, arith}
+use Rattle.std.proofs.Common.{arith, Result, Ok, Err, IfOk}
 use Rattle.std.specs.Prelude.{fold, nat_lt, nat_le, ◌==◌, if◌then◌else◌}
 use Rattle.std.specs.List.{list_all, flat_map}
-use Rattle.std.proofs.lemmas.Bool.{and_parts, and_from, and_cases, le-leb, lt-ltb, ltb-true, ltb-false, eqb-true}
-use Rattle.std.proofs.lemmas.Bool.{eq-eqb}
+use Rattle.std.proofs.lemmas.Bool.{and_parts, and_from, le-leb, ltb-true, eqb-true}
 use Rattle.std.proofs.lemmas.Bool.Decides.{nat_tests}
-use Rattle.std.proofs.lemmas.List.{append_assoc, append-nil, length-append}
+use Rattle.std.proofs.lemmas.List.{append_assoc, length-append}
 use Rattle.bcd_1401.specs.declared.cell.Cell.{Cell}
 use Rattle.core_1401.specs.Storage.{is_core_size}
 use Rattle.image_1401.specs.declared.image.Segment.{Segment}
 use Rattle.source_1401.specs.declared.statement.Line.{Line}
-use Rattle.autocoder_1401.specs.Assembly.{placed_cells, image_of}
+use Rattle.autocoder_1401.specs.Assembly.{placed_cells, image_of, assembly_of}
 use Rattle.autocoder_1401.specs.Cells.{numbered}
 use Rattle.autocoder_1401.specs.Laws.{IsFirstOutside, cells_in, has_few, is_parted, are_parted, IsCutOf}
 use Rattle.autocoder_1401.specs.Placement.{Places, nothing_placed, after_line, placed}
-use Rattle.autocoder_1401.specs.Segments.{within, closed, goes_on, cut, segments_of}
+use Rattle.autocoder_1401.specs.Segments.{within, closed, goes_on, cut}
 use Rattle.autocoder_1401.specs.Values.{line_outside, first_outside_from, first_outside}
+use Rattle.autocoder_1401.specs.declared.assembly.Assembly.{Assembly}
 use Rattle.autocoder_1401.specs.declared.fault.AsmFault.{AsmFault}
 use Rattle.autocoder_1401.specs.declared.fault.AsmKind.TheVariants as kinds
 use Rattle.autocoder_1401.proofs.CoreLemmas.{size_bound, are_below, cells_below}
@@ -233,3 +233,10 @@ image_cut size lines size_is none =
     let made = cut_from size 0 [] (placed_cells lines) bounds.1 (λ some. absurd (omega (arith, some)))
     (omega arith) below in
     record { whole = made.whole; few = made.few; parted = made.parted }
+
+-- what holds of a source's assembly holds of an answer that is it
+pub of_assembly : (size : ℕ) (source : List ℕ) (answer : Result Assembly AsmFault) (P : Assembly → Type 0)
+    → IfOk answer (λ (assembly : Assembly). assembly ≡ assembly_of size source) → P (assembly_of size source)
+    → IfOk answer P
+of_assembly size source (Ok assembly) P same holds = subst P (sym same) holds
+of_assembly size source (Err fault) P same holds = tt

@@ -8,4 +8,6 @@ pub mod LawLemmas
 pub mod ListingLemmas
 pub mod LowestLemmas
 pub mod PlacementLawLemmas
+pub mod PlacingLemmas
 pub mod SegmentsLemmas
+pub mod StandingLemmas

@@ -1,5 +1,5 @@
 -- What is listed with one line more.
-use Rattle.std.proofs.Common.{◌≡◌, ℕ, ◌+◌, ◌-◌, ◌<◌, ◌≤◌, List, [], ◌∷◌, ◌++◌, length, map, drop, get_or, refl, sym, ap}
+use Rattle.std.proofs.Common.{◌≡◌, ℕ, ◌+◌, ◌<◌, ◌≤◌, List, [], ◌∷◌, ◌++◌, length, map, drop, get_or, refl, sym, ap}
 use Rattle.std.proofs.Common.{◌∙◌}
 use Rattle.std.proofs.Common.{add-one, drop-cons, arith}
 use Rattle.std.proofs.lemmas.List.{append_assoc, append-nil, length-drop}
@@ -27,26 +27,33 @@ next_left lines i d sources text behind inside left first =
     sym split ∙ left ∙ ap (map line_of) first in
     (cc, cc)
 
+-- what is put in two turns
+pub put_in_turn : (before between after first : List (List ℕ)) (line : List ℕ) → between ≡ before ++ first
+    → after ≡ between ++ line ∷ [] → after ≡ before ++ (first ++ line ∷ [])
+put_in_turn before between after first line one two =
+    two ∙ ap (λ texts. texts ++ line ∷ []) one ∙ append_assoc before first (line ∷ [])
+
+-- with one line more, what is listed and what is left to list is the whole listing
 pub next_listed : (all here next : Places) (lines : List Line) (i : ℕ) (d : Line) (sources text behind : List ℕ)
-    (later : List Line) (listing put after : List (List ℕ)) (line : List ℕ) (whole : List (List ℕ))
+    (later : List Line) (listing after whole : List (List ℕ))
     → i < length lines → drop i lines ≡ map line_of (lines_of sources)
     → lines_of sources ≡ text ∷ lines_of behind
     → listing ++ listing_from all here (i + 1) (lines_of sources) ≡ whole → later ≡ drop (i + 1) lines
-    → put ≡ listing ++ literal_lines here.next (literals_in here (get_or lines i d).statement)
-    → line ≡ line_for all here (i + 1) text (get_or lines i d).statement later → after ≡ put ++ line ∷ []
+    → after ≡ listing ++ (literal_lines here.next (literals_in here (get_or lines i d).statement)
+    ++ line_for all here (i + 1) text (get_or lines i d).statement later ∷ [])
     → next ≡ after_line here (get_or lines i d)
     → after ++ listing_from all next (i + 1 + 1) (lines_of behind) ≡ whole
-next_listed all here next lines i d sources text behind later listing put after line whole inside left first
-    so_far same_later same_put same_line same_after same_next =
+next_listed all here next lines i d sources text behind later listing after whole inside left first so_far same_later
+    same_after same_next =
     let said = next_left lines i d sources text behind inside left first in
     let rest = listing_from all (after_line here (line_of text)) (i + 1 + 1) (lines_of behind) in
     let literals = literal_lines here.next (literals_in here (line_of text).statement) in
     let shown = line_for all here (i + 1) text (line_of text).statement (map line_of (lines_of behind)) in
-    let made : after ≡ (listing ++ literals) ++ shown ∷ [] =
-    rw (same_after, same_put, same_line, same_later, said.0, said.1) refl in
+    let made : after ≡ listing ++ (literals ++ shown ∷ []) = rw (same_after, same_later, said.0, said.1) refl in
     let going_on : listing_from all next (i + 1 + 1) (lines_of behind) ≡ rest = rw (same_next, said.0) refl in
-    let parted : ((listing ++ literals) ++ shown ∷ []) ++ rest ≡ listing ++ (literals ++ shown ∷ rest) =
-    append_assoc (listing ++ literals) (shown ∷ []) rest ∙ append_assoc listing literals (shown ∷ rest) in
+    let parted : (listing ++ (literals ++ shown ∷ [])) ++ rest ≡ listing ++ (literals ++ shown ∷ rest) =
+    append_assoc listing (literals ++ shown ∷ []) rest
+    ∙ ap (λ texts. listing ++ texts) (append_assoc literals (shown ∷ []) rest) in
     rw (made, going_on) (parted ∙ ap (λ texts. listing ++ listing_from all here (i + 1) texts) (sym first) ∙ so_far)
 
 -- where no line is left, no byte of the source is

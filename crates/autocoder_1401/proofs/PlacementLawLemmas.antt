@@ -1,8 +1,8 @@
 -- The next place and the literals, line by line.
-use Rattle.std.proofs.Common.{◌≡◌, ℕ, ◌+◌, Bool, true, false, cond, List, [], ◌∷◌, ◌++◌, length, map, ℤ, pos, ◌+ℤ◌}
-use Rattle.std.proofs.Common.{Option, None, Some, refl, sym, ap, ◌∙◌}
+use Rattle.std.proofs.Common.{◌≡◌, Bool, true, false, List, [], ◌∷◌, ◌++◌, map, ℤ, pos}
+use Rattle.std.proofs.Common.{◌+ℤ◌, Option, None, Some, refl, sym, ap, ◌∙◌}
 use Rattle.std.specs.Prelude.{fold, if◌then◌else◌}
-use Rattle.std.specs.List.{list_any, flat_map}
+use Rattle.std.specs.List.{list_any}
 use Rattle.std.proofs.Math.IntN.{+ℤ_assoc, +ℤ_idr}
 use Rattle.std.proofs.lemmas.List.{map-append}
 use Rattle.source_1401.specs.Statement.{well_formed}
@@ -20,11 +20,12 @@ use Rattle.autocoder_1401.specs.Characters.{characters_of, same_characters}
 use Rattle.autocoder_1401.specs.Placement.{Places, nothing_placed, pending, with_literal, with_operand, with_next}
 use Rattle.autocoder_1401.specs.Placement.{behind_body, with_label, label_value, after_line, placed, value_so_far}
 use Rattle.autocoder_1401.specs.Placement.{instruction_length}
-use Rattle.autocoder_1401.specs.PlacementLaws.{total, body_length, length_with, lengths_from, origin_in, origin_with}
+use Rattle.autocoder_1401.specs.PlacementLaws.{body_length, length_with, lengths_from, origin_in, origin_with}
 use Rattle.autocoder_1401.specs.PlacementLaws.{AreNoOrigins, literal_in, uses_in, uses_with, uses, with_use}
 use Rattle.autocoder_1401.specs.PlacementLaws.{IsPlacedInTurn}
 use Rattle.autocoder_1401.specs.declared.characters.Characters.{Characters}
 use Rattle.autocoder_1401.proofs.CoreLemmas.{behind_total}
+use Rattle.autocoder_1401.proofs.StandingLemmas.{stands_behind}
 
 -- a literal and an operand leave the next place
 literal_next : (this : Places) (constant : Constant) → (with_literal this constant).next ≡ this.next
@@ -258,4 +259,8 @@ placed_in_turn lines = record {
       ∙ origin_next (placed before) line of origin;
   literals = lines_use nothing_placed lines;
   spelled = lines_spelled nothing_placed lines refl;
+  standing = λ before line rest k literal is places there.
+      stands_behind (placed before) (placed lines) line rest (uses lines) k literal
+      (ap (fold after_line nothing_placed) is ∙ fold_append nothing_placed before (line ∷ rest))
+      (lines_use nothing_placed lines) places there;
 }

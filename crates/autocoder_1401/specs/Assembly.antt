@@ -1,5 +1,5 @@
 -- The answer of the assembler, memory aside (Autocoder, "Assembler Control").
-use Rattle.std.specs.Prelude.{◌≡◌, ◌⊎◌, ℕ, List, [], ◌∷◌, map, ℤ, pos, Option, None, Some, Result, Ok, Err}
+use Rattle.std.specs.Prelude.{◌⊎◌, ℕ, List, [], ◌∷◌, map, ℤ, pos, Option, None, Some, Result, Ok, Err}
 use Rattle.bcd_1401.specs.declared.cell.Cell.{Cell}
 use Rattle.image_1401.specs.declared.image.Image.{Image}
 use Rattle.source_1401.specs.SourceLine.{lines_of}

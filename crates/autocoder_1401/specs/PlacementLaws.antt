@@ -1,7 +1,7 @@
 -- What is said of the whole above what each line places: next places and literals (Autocoder, "Assembler Control",
 -- "Literals").
-use Rattle.std.specs.Prelude.{◌≡◌, ℕ, ◌+◌, Bool, true, false, if◌then◌else◌, List, [], ◌∷◌, ◌++◌, length, map, fold}
-use Rattle.std.specs.Prelude.{pos, ◌+ℤ◌, Option, Some, None}
+use Rattle.std.specs.Prelude.{◌≡◌, ℕ, ◌+◌, Bool, true, false, if◌then◌else◌, List, [], ◌∷◌, ◌++◌, map, fold}
+use Rattle.std.specs.Prelude.{take, slice_get, pos, negsuc, ◌+ℤ◌, Option, Some, None}
 use Rattle.std.specs.List.{list_any, flat_map}
 use Rattle.source_1401.specs.declared.operands.Operand.TheVariants as operands
 use Rattle.source_1401.specs.declared.operands.OperandField.{OperandField}
@@ -11,6 +11,7 @@ use Rattle.source_1401.specs.declared.statement.Body.{Body}
 use Rattle.source_1401.specs.declared.statement.Body.TheVariants as bodies
 use Rattle.source_1401.specs.declared.statement.Statement.{Statement}
 use Rattle.source_1401.specs.declared.statement.Line.{Line}
+use Rattle.autocoder_1401.specs.Cells.{literal_value}
 use Rattle.autocoder_1401.specs.Characters.{characters_of, same_characters}
 use Rattle.autocoder_1401.specs.Placement.{Places, pending, length_of, value_so_far, after_line, placed}
 use Rattle.autocoder_1401.specs.declared.characters.Characters.{Characters}
@@ -66,6 +67,24 @@ abbrev pub AreNoOrigins : List Line → Type 0
 AreNoOrigins [] = Unit {0}
 AreNoOrigins (line ∷ lines) = (origin_with line.statement ≡ None) × AreNoOrigins lines
 
+-- EX and END place literals
+abbrev pub places_in : Body → Bool
+places_in bodies.Unknown = false
+places_in (bodies.Instruction instruction of) = false
+places_in (bodies.MarkedConstant constant) = false
+places_in (bodies.Constant constant) = false
+places_in (bodies.Space places) = false
+places_in (bodies.Areas areas) = false
+places_in (bodies.Field span) = false
+places_in (bodies.Equate of) = false
+places_in (bodies.Origin of) = false
+places_in (bodies.Execute of) = true
+places_in (bodies.End of) = true
+
+abbrev pub places_with : Option Statement → Bool
+places_with None = false
+places_with (Some statement) = places_in statement.body
+
 -- the literal that an operand is
 abbrev pub literal_in : OperandField → List Characters
 literal_in fields.Absent = []
@@ -112,3 +131,10 @@ pub record IsPlacedInTurn (lines : List Line) : Type 0 where
   pub literals : (placed lines).literals ≡ fold with_use [] (uses lines)
   -- and each is kept as it was written there.
   pub spelled : map characters_of (placed lines).spellings ≡ (placed lines).literals
+  -- EX and END place the literals that are used and not placed, in this order, one behind the other from the next place
+  -- on: the units place of each, which operands name, is as far on as it and those in front of it are long.
+  pub standing : (before : List Line) (line : Line) (rest : List Line) (k : ℕ) (literal : Characters)
+      → lines ≡ before ++ line ∷ rest → places_with line.statement ≡ true
+      → slice_get (pending (placed before)) k ≡ Some literal
+      → literal_value (placed lines) literal
+      ≡ (placed before).next +ℤ pos (total (take (k + 1) (pending (placed before)))) +ℤ negsuc 0

@@ -1,5 +1,5 @@
 //! The passes of the assembler, one behind the other.
-ghost use Rattle.std.specs.Prelude.{◌≡◌, ◌<◌, ◌^◌, ◌⊎◌, length, None, true, IfOk, IfErr, OnOk, IfNone, IfSome};
+ghost use Rattle.std.specs.Prelude.{◌≡◌, ◌<◌, ◌^◌, ◌⊎◌, length, None, Some, true, IfOk, IfErr, OnOk, IfNone, IfSome};
 ghost use Rattle.autocoder_1401.specs.Fault.{IsMemory, Gives};
 ghost use Rattle.autocoder_1401.specs.Symbols.{declared_at};
 ghost use Rattle.autocoder_1401.specs.FirstFault.{first_fault, IsFaultless, IsFirstFault};
@@ -7,8 +7,8 @@ ghost use Rattle.core_1401.specs.Storage.{is_core_size};
 ghost use Rattle.image_1401.specs.Image.{IsInCore};
 ghost use Rattle.autocoder_1401.specs.Placement.{placed};
 ghost use Rattle.autocoder_1401.specs.Values.{first_outside};
-ghost use Rattle.autocoder_1401.specs.Assembly.{lines_in, entry_in, image_of, placed_cells, unless_fault, assembly_in};
-ghost use Rattle.autocoder_1401.specs.Assembly.{IsFaultOf};
+ghost use Rattle.autocoder_1401.specs.Assembly.{lines_in, entry_in, image_of, assembly_of, placed_cells, unless_fault};
+ghost use Rattle.autocoder_1401.specs.Assembly.{assembly_in, IsFaultOf};
 ghost use Rattle.autocoder_1401.specs.Laws.{IsFirstOutside, IsCutOf};
 ghost use Rattle.autocoder_1401.specs.PlacementLaws.{IsPlacedInTurn};
 ghost use Rattle.autocoder_1401.specs.View.{places_of};
@@ -76,6 +76,20 @@ fn entry(all: &Placing, lines: &[Line]) -> Result<i64, AsmFault>
     Ok(0)
 }
 
+/// Refuses the first line of which something isn't in core, once all is placed.
+fn refuse_outside(alloc: Global, size: u16, all: &Placing, lines: &[Line]) -> Result<(), AsmFault>
+    requires few { length lines.now < 2 ^ 32 }
+    requires placed { places_of all.now ≡ placed lines.now }
+    ensures inside { OnOk result (first_outside size lines.now ≡ None) }
+    ensures outside { IfErr result (λ fault. IsMemory fault
+        ⊎ ((first_outside size lines.now ≡ Some fault) × IsFirstOutside size lines.now fault)) }
+{
+    match look_outside(alloc, size, all, lines)? {
+        Some(fault) => Err(fault),
+        None => Ok(()),
+    }
+}
+
 /// What is placed by lines, or their first fault.
 fn place_lines(alloc: Global, lines: &[Line], size: u16) -> Result<Placing, AsmFault>
     requires { length lines.now < 2 ^ 32 }
@@ -88,9 +102,7 @@ fn place_lines(alloc: Global, lines: &[Line], size: u16) -> Result<Placing, AsmF
         return Err(fault);
     }
     let all = place_all(alloc, lines)?;
-    if let Some(fault) = look_outside(alloc, size, &all, lines)? {
-        return Err(fault);
-    }
+    refuse_outside(alloc, size, &all, lines)?;
     Ok(all)
 }
 
@@ -118,14 +130,32 @@ pub struct Assembly {
     pub listing: Listing,
 }
 
+/// The image and the listing of a source, which says these lines, once all is placed.
+fn outputs(
+    alloc: Global,
+    all: &Placing,
+    source: &[u8],
+    lines: &[Line],
+    size: u16,
+) -> Result<Assembly, AsmFault>
+    requires lines { lines.now ≡ lines_in source.now }
+    requires few { length lines.now < 2 ^ 32 }
+    requires placed { places_of all.now ≡ placed lines.now }
+    ensures ok { IfOk result (λ assembly. assembly ≡ assembly_of size source.now) }
+    ensures err { IfErr result IsMemory }
+{
+    let image = image(alloc, all, lines, size)?;
+    let listing = list(alloc, all, source, lines)?;
+    Ok(Assembly { image, listing })
+}
+
 /// The core image and the listing that a source stands for, in core storage of this size.
 ///
 /// # Errors
 ///
 /// `Memory` where memory is refused, or the source has too many lines. Else the fault of the first line that has one of
-/// kinds 2 to 8, 10 and 11, its lowest; and where no line has one, `OutOfCore` of the first line of which something
-/// isn't
-/// in core.
+/// kinds 2 to 8, 10 and 11, its lowest; and where no line has one, `OutOfCore` of the first line of which something is
+/// not in core.
 #[tactic(auto, using(crate::proofs::PlacementLawLemmas::placed_in_turn))]
 pub fn assemble(alloc: Global, source: &[u8], size: u16) -> Result<Assembly, AsmFault>
     // The image and the listing of the lines, or their first fault, memory aside.
@@ -137,14 +167,13 @@ pub fn assemble(alloc: Global, source: &[u8], size: u16) -> Result<Assembly, Asm
     // All of the image is in core.
     ensures in_core { is_core_size size ≡ true → IfOk result (λ assembly. IsInCore assembly.image) }
 
-    // The segments have the cells that the lines place, in their order: 1 to 40 each, and no fewer than fit but before
-    // a
-    // gap.
+    // The segments have the cells that the lines place, in their order: 1 to 40 each, and no fewer than fit but in
+    // front of a gap.
     ensures segments { is_core_size size ≡ true → IfOk result (λ assembly.
         IsCutOf (placed_cells (lines_in source.now)) assembly.image.segments) }
 
     // Places go on by the lengths of the lines, behind an origin from its value; literals stand in the order of their
-    // first use, each once.
+    // first use, each once, one behind the other where EX or END places them.
     ensures placement { OnOk result (IsPlacedInTurn (lines_in source.now)) }
 
     // A fault is the lowest of the first line that has one, or something of a faultless source isn't in core.
@@ -152,7 +181,5 @@ pub fn assemble(alloc: Global, source: &[u8], size: u16) -> Result<Assembly, Asm
 {
     let lines = read_lines(alloc, source)?;
     let all = place_lines(alloc, &lines, size)?;
-    let image = image(alloc, &all, &lines, size)?;
-    let listing = list(alloc, &all, source, &lines)?;
-    Ok(Assembly { image, listing })
+    outputs(alloc, &all, source, &lines, size)
 }

@@ -1,5 +1,6 @@
 //! The listing of a source: its lines with the addresses and the cells that they stand for.
-ghost use Rattle.std.specs.Prelude.{◌≡◌, ◌++◌, ◌<◌, ◌^◌, length, map, drop, Some, None, IfOk, IfErr, OnOk};
+ghost use Rattle.std.specs.Prelude.{◌≡◌, ◌∷◌, ◌++◌, ◌<◌, ◌^◌, [], length, map, drop, Some, None, IfOk, IfErr};
+ghost use Rattle.std.specs.Prelude.{OnOk};
 ghost use Rattle.source_1401.specs.SourceLine.{lines_of};
 ghost use Rattle.source_1401.specs.Statement.{line_of};
 ghost use Rattle.autocoder_1401.specs.Fault.{IsMemory};
@@ -8,7 +9,7 @@ ghost use Rattle.autocoder_1401.specs.Characters.{characters_of};
 ghost use Rattle.autocoder_1401.specs.Listing.{listing_line, spelling, literal_lines, literals_at, address_at};
 ghost use Rattle.autocoder_1401.specs.Listing.{cells_at};
 ghost use Rattle.autocoder_1401.specs.Listing.{literals_in, line_for, listing_from};
-ghost use Rattle.autocoder_1401.specs.Placement.{nothing_placed};
+ghost use Rattle.autocoder_1401.specs.Placement.{nothing_placed, after_line};
 ghost use Rattle.autocoder_1401.specs.View.{places_of};
 
 use crate::cells::{put_body, put_constant};
@@ -255,6 +256,76 @@ impl Placing {
             },
         }
     }
+
+    /// Adds the lines for a line of the source here, with these lines behind it, and places it.
+    #[tactic(auto, using(crate::proofs::ListingLemmas::put_in_turn))]
+    fn list_line(
+        &mut self,
+        alloc: Global,
+        all: &Placing,
+        number: u64,
+        source: &[u8],
+        line: &Line,
+        behind: &[Line],
+        lines: &mut Vec<ListingLine>,
+    ) -> Result<(), AsmFault>
+        ensures listed { OnOk result (lines.new.items ≡ lines.old.items
+            ++ (literal_lines (places_of self.old).next (literals_in (places_of self.old) line.now.statement)
+            ++ line_for (places_of all.now) (places_of self.old) number source.now line.now.statement behind.now
+            ∷ [])) }
+        ensures placed { OnOk result (places_of self.new ≡ after_line (places_of self.old) line.now) }
+        ensures err { IfErr result IsMemory }
+    {
+        self.put_literals_of(alloc, line, lines)?;
+        lines.push(self.line_for(alloc, all, number, source, line, behind)?)?;
+        self.place(line)?;
+        Ok(())
+    }
+
+    /// Adds the lines for a source which says these lines, the first of which stands here, and places them.
+    fn list_lines(
+        &mut self,
+        alloc: Global,
+        all: &Placing,
+        source: &[u8],
+        lines: &[Line],
+        listing: &mut Vec<ListingLine>,
+    ) -> Result<(), AsmFault>
+        requires lines { lines.now ≡ map line_of (lines_of source.now) }
+        requires few { length lines.now < 2 ^ 32 }
+        ensures ok { OnOk result (listing.new.items ≡ listing.old.items
+            ++ listing_from (places_of all.now) (places_of self.old) 1 (lines_of source.now)) }
+        ensures err { IfErr result IsMemory }
+    {
+        let mut sources = source;
+        for (i, line) in lines.iter().enumerate() {
+            let Some((text, behind)) = split_line(sources) else {
+                unreachable!()
+            };
+            let later = lines_behind(lines, i);
+            self.list_line(alloc, all, i as u64 + 1, text, line, later, listing)?;
+            sources = behind;
+        }
+        Ok(())
+    }
+}
+
+/// Adds the lines of the listing of a source, which says these lines, once all is placed.
+fn put_listing(
+    alloc: Global,
+    all: &Placing,
+    source: &[u8],
+    lines: &[Line],
+    listing: &mut Vec<ListingLine>,
+) -> Result<(), AsmFault>
+    requires lines { lines.now ≡ map line_of (lines_of source.now) }
+    requires few { length lines.now < 2 ^ 32 }
+    ensures ok { OnOk result (listing.new.items
+        ≡ listing.old.items ++ listing_from (places_of all.now) nothing_placed 1 (lines_of source.now)) }
+    ensures err { IfErr result IsMemory }
+{
+    let mut placing = Placing::new(alloc);
+    placing.list_lines(alloc, all, source, lines, listing)
 }
 
 /// The listing of a source, which says these lines, once all is placed.
@@ -274,18 +345,7 @@ pub(crate) fn list(
         (λ listing. listing ≡ listing_from (places_of all.now) nothing_placed 1 (lines_of source.now)) }
     ensures err { IfErr result IsMemory }
 {
-    let mut placing = Placing::new(alloc);
     let mut listing = Vec::new(alloc);
-    let mut sources = source;
-    for (i, line) in lines.iter().enumerate() {
-        let Some((text, behind)) = split_line(sources) else {
-            unreachable!()
-        };
-        placing.put_literals_of(alloc, line, &mut listing)?;
-        let later = lines_behind(lines, i);
-        listing.push(placing.line_for(alloc, all, i as u64 + 1, text, line, later)?)?;
-        placing.place(line)?;
-        sources = behind;
-    }
+    put_listing(alloc, all, source, lines, &mut listing)?;
     Ok(Listing { lines: listing })
 }

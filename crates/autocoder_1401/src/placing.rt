@@ -1,5 +1,5 @@
 //! Where statements and literals are placed.
-ghost use Rattle.std.specs.Prelude.{◌≡◌, ◌+◌, ◌*◌, ◌≤◌, ◌+ℤ◌, ◌++◌, drop, IfOk, IfErr, OnOk};
+ghost use Rattle.std.specs.Prelude.{◌≡◌, ◌+◌, ◌*◌, ◌≤◌, ◌+ℤ◌, ◌++◌, drop, fold, IfOk, IfErr, OnOk};
 ghost use Rattle.indexmap.specs.IndexMap.{get};
 ghost use Rattle.source_1401.specs.Statement.{well_formed};
 ghost use Rattle.autocoder_1401.specs.Characters.{same_characters};
@@ -300,6 +300,17 @@ impl Placing {
         self.give(label, value)?;
         Ok(())
     }
+
+    /// Places lines.
+    fn place_each(&mut self, lines: &[Line]) -> Result<(), AsmFault>
+        ensures ok { OnOk result (places_of self.new ≡ fold after_line (places_of self.old) lines.now) }
+        ensures err { IfErr result IsMemory }
+    {
+        for line in lines {
+            self.place(line)?;
+        }
+        Ok(())
+    }
 }
 
 /// What is placed by all lines.
@@ -312,8 +323,6 @@ pub(crate) fn place_all(alloc: Global, lines: &[Line]) -> Result<Placing, AsmFau
     ensures err { IfErr result IsMemory }
 {
     let mut placing = Placing::new(alloc);
-    for line in lines {
-        placing.place(line)?;
-    }
+    placing.place_each(lines)?;
     Ok(placing)
 }

@@ -2,8 +2,8 @@
 ghost use Rattle.std.specs.Prelude.{◌≡◌, ◌∷◌, ◌++◌, ◌+◌, ◌<◌, ℕ, List, [], length, drop, IfOk, IfErr, OnOk};
 ghost use Rattle.bcd_1401.specs.declared.cell.Cell.{Cell as ACell};
 ghost use Rattle.autocoder_1401.specs.Fault.{IsMemory};
-ghost use Rattle.autocoder_1401.specs.Cells.{numbered, cells_from};
-ghost use Rattle.autocoder_1401.specs.Placement.{nothing_placed};
+ghost use Rattle.autocoder_1401.specs.Cells.{place_of, numbered, statement_cells, cells_from};
+ghost use Rattle.autocoder_1401.specs.Placement.{nothing_placed, after_line};
 ghost use Rattle.autocoder_1401.specs.Segments.{within, closed, goes_on, segments_of};
 ghost use Rattle.autocoder_1401.specs.View.{places_of};
 ghost use Rattle.autocoder_1401.specs.Built.{built};
@@ -105,6 +105,45 @@ impl Builder {
         Ok(())
     }
 
+    /// Puts the cells of a line that stands here, with these lines behind it, and places it.
+    fn put_line(
+        &mut self,
+        alloc: Global,
+        all: &Placing,
+        here: &mut Placing,
+        line: &Line,
+        behind: &[Line],
+    ) -> Result<(), AsmFault>
+        ensures built { OnOk result ((rest : List (ℕ × ACell)) → built self.new rest ≡ built self.old
+            (numbered (place_of (places_of here.old).next)
+            (statement_cells (places_of all.now) (places_of here.old) line.now.statement behind.now) ++ rest)) }
+        ensures placed { OnOk result (places_of here.new ≡ after_line (places_of here.old) line.now) }
+        ensures err { IfErr result IsMemory }
+    {
+        let cells = cells_of(alloc, all, here, line, behind)?;
+        self.put_all(here.address(), &cells)?;
+        here.place(line)?;
+        Ok(())
+    }
+
+    /// Puts the cells of lines, the first of which stands here, and places them.
+    fn put_lines(
+        &mut self,
+        alloc: Global,
+        all: &Placing,
+        here: &mut Placing,
+        lines: &[Line],
+    ) -> Result<(), AsmFault>
+        ensures ok { OnOk result (built self.new []
+            ≡ built self.old (cells_from (places_of all.now) (places_of here.old) lines.now)) }
+        ensures err { IfErr result IsMemory }
+    {
+        for (i, line) in lines.iter().enumerate() {
+            self.put_line(alloc, all, here, line, lines_behind(lines, i))?;
+        }
+        Ok(())
+    }
+
     /// The segments.
     fn finish(mut self) -> Result<Vec<Segment>, AsmFault>
         ensures ok { IfOk result (λ segments. segments.items ≡ built self []) }
@@ -123,6 +162,21 @@ pub(crate) fn lines_behind(lines: &[Line], i: usize) -> &[Line]
     lines.split_at(i + 1).1
 }
 
+/// Puts the cells of lines.
+fn put_cells(
+    alloc: Global,
+    all: &Placing,
+    lines: &[Line],
+    builder: &mut Builder,
+) -> Result<(), AsmFault>
+    ensures ok { OnOk result (built builder.new []
+        ≡ built builder.old (cells_from (places_of all.now) nothing_placed lines.now)) }
+    ensures err { IfErr result IsMemory }
+{
+    let mut placing = Placing::new(alloc);
+    builder.put_lines(alloc, all, &mut placing, lines)
+}
+
 /// The segments of the cells that lines place, in their order.
 ///
 /// # Errors
@@ -133,13 +187,7 @@ pub(crate) fn emit(alloc: Global, all: &Placing, lines: &[Line]) -> Result<Vec<S
         (λ segments. segments.items ≡ segments_of (cells_from (places_of all.now) nothing_placed lines.now)) }
     ensures err { IfErr result IsMemory }
 {
-    let mut placing = Placing::new(alloc);
     let mut builder = Builder::new(alloc);
-    for (i, line) in lines.iter().enumerate() {
-        let cells = cells_of(alloc, all, &placing, line, lines_behind(lines, i))?;
-        builder.put_all(placing.address(), &cells)?;
-        placing.place(line)?;
-    }
-    let segments = builder.finish()?;
-    Ok(segments)
+    put_cells(alloc, all, lines, &mut builder)?;
+    builder.finish()
 }

@@ -1,5 +1,6 @@
 //! The values of addresses, and what of a line isn't in core.
 ghost use Rattle.std.specs.Prelude.{◌≡◌, ◌<◌, ◌^◌, length, IfOk, IfErr};
+ghost use Rattle.source_1401.specs.declared.statement.Body.TheVariants.{Instruction as AnInstruction};
 ghost use Rattle.autocoder_1401.specs.Fault.{IsMemory};
 ghost use Rattle.autocoder_1401.specs.Placement.{nothing_placed};
 ghost use Rattle.autocoder_1401.specs.Values.{base_value, address_value, operand_value, is_in_core, are_in_core};
@@ -9,7 +10,9 @@ ghost use Rattle.autocoder_1401.specs.View.{places_of};
 
 use crate::fault::{AsmFault, AsmKind};
 use crate::placing::{Placing, behind_literals, instruction_length, length_of, plus};
-use source_1401::{Address, Base, Body, Line, Operand, OperandField, Statement};
+use source_1401::{
+    Address, Base, Body, Instruction, Line, Operand, OperandField, Operands, Statement,
+};
 use std::alloc::Global;
 
 /// Whether a value is the address of a place of core storage of this size.
@@ -114,6 +117,26 @@ impl Placing {
         Ok(!literals.is_empty() && !are_in_core(size, self.next, behind))
     }
 
+    /// Whether a place of an instruction here isn't in core, or an address that it names, by the values of all labels.
+    fn is_instruction_outside(
+        &self,
+        size: u16,
+        all: &Placing,
+        instruction: Instruction,
+        operands: Operands,
+    ) -> Result<bool, AsmFault>
+        ensures value { IfOk result (λ outside. outside
+            ≡ body_outside size (places_of all.now) (places_of self.now) (AnInstruction instruction operands)) }
+        ensures err { IfErr result IsMemory }
+    {
+        let length = instruction_length(operands);
+        let here = last_place(self.next, length)?;
+        let places = are_places_outside(size, self.next, length)?;
+        let a = all.is_operand_outside(size, here, operands.a)?;
+        let b = all.is_operand_outside(size, here, operands.b)?;
+        Ok(places || a || b)
+    }
+
     /// Whether a place of a body here isn't in core, or an address that it names, by the values of all labels.
     fn is_body_outside(&self, size: u16, all: &Placing, body: Body) -> Result<bool, AsmFault>
         ensures value { IfOk result
@@ -121,17 +144,11 @@ impl Placing {
         ensures err { IfErr result IsMemory }
     {
         match body {
-            Body::Instruction(_, operands) => {
-                let length = instruction_length(operands);
-                let here = last_place(self.next, length)?;
-                let places = are_places_outside(size, self.next, length)?;
-                let a = all.is_operand_outside(size, here, operands.a)?;
-                let b = all.is_operand_outside(size, here, operands.b)?;
-                Ok(places || a || b)
+            Body::Instruction(instruction, operands) => {
+                self.is_instruction_outside(size, all, instruction, operands)
             },
             Body::MarkedConstant(_) | Body::Constant(_) | Body::Space(_) | Body::Areas(_) => {
-                let places = are_places_outside(size, self.next, length_of(body))?;
-                Ok(places)
+                are_places_outside(size, self.next, length_of(body))
             },
             Body::Equate(operands) => {
                 let value = self.value_so_far(operands.a)?;
@@ -164,6 +181,31 @@ impl Placing {
             None => Ok(false),
         }
     }
+
+    /// The first of lines of which something isn't in core, where the first of them stands here. Those before it are
+    /// placed.
+    fn first_outside(
+        &mut self,
+        size: u16,
+        all: &Placing,
+        lines: &[Line],
+    ) -> Result<Option<AsmFault>, AsmFault>
+        requires { length lines.now < 2 ^ 32 }
+        ensures ok { IfOk result
+            (λ fault. fault ≡ first_outside_from size (places_of all.now) 1 (places_of self.old) lines.now) }
+        ensures err { IfErr result IsMemory }
+    {
+        for (i, line) in lines.iter().enumerate() {
+            if self.is_line_outside(size, all, line)? {
+                return Ok(Some(AsmFault {
+                    line: i as u64 + 1,
+                    kind: AsmKind::OutOfCore,
+                }));
+            }
+            self.place(line)?;
+        }
+        Ok(None)
+    }
 }
 
 /// The first line of which something isn't in core.
@@ -182,14 +224,5 @@ pub(crate) fn first_outside(
     ensures err { IfErr result IsMemory }
 {
     let mut placing = Placing::new(alloc);
-    for (i, line) in lines.iter().enumerate() {
-        if placing.is_line_outside(size, all, line)? {
-            return Ok(Some(AsmFault {
-                line: i as u64 + 1,
-                kind: AsmKind::OutOfCore,
-            }));
-        }
-        placing.place(line)?;
-    }
-    Ok(None)
+    placing.first_outside(size, all, lines)
 }

@@ -2,12 +2,10 @@
 use Rattle.std.proofs.Common.{◌≡◌, drop}
 use Rattle.autocoder_1401.specs.Built.{built}
 use Rattle.autocoder_1401.specs.Cells.{cells_from}
-use Rattle.autocoder_1401.specs.Placement.{nothing_placed}
-use Rattle.autocoder_1401.specs.Segments.{segments_of}
 use Rattle.autocoder_1401.specs.View.{places_of}
-use Rattle.autocoder_1401.proofs.segments.emit.Given as goal
+use Rattle.autocoder_1401.proofs.segments.Builder.put_lines.Given as goal
 
 abbrev pub invariant-loop-i : goal.invariant-loop-i
 invariant-loop-i l =
-    built l.builder (cells_from (places_of l.all) (places_of l.placing) (drop l.i l.lines))
-    ≡ segments_of (cells_from (places_of l.all) nothing_placed l.lines)
+    built l.self (cells_from (places_of l.all) (places_of l.here) (drop l.i l.lines))
+    ≡ built l.initial.self (cells_from (places_of l.all) (places_of l.initial.here) l.lines)

@@ -4,13 +4,12 @@ use Rattle.std.proofs.Common.{◌≡◌, ◌+◌, ◌++◌, drop, map}
 use Rattle.source_1401.specs.SourceLine.{lines_of}
 use Rattle.source_1401.specs.Statement.{line_of}
 use Rattle.autocoder_1401.specs.Listing.{listing_from}
-use Rattle.autocoder_1401.specs.Placement.{nothing_placed}
 use Rattle.autocoder_1401.specs.View.{places_of}
-use Rattle.autocoder_1401.proofs.listing.list.Given as goal
+use Rattle.autocoder_1401.proofs.placing.Placing.list_lines.Given as goal
 
 abbrev pub invariant-loop-i : goal.invariant-loop-i
 invariant-loop-i l = record {
-  listed : l.listing.items ++ listing_from (places_of l.all) (places_of l.placing) (l.i + 1) (lines_of l.sources)
-      ≡ listing_from (places_of l.all) nothing_placed 1 (lines_of l.source);
+  listed : l.listing.items ++ listing_from (places_of l.all) (places_of l.self) (l.i + 1) (lines_of l.sources)
+      ≡ l.initial.listing.items ++ listing_from (places_of l.all) (places_of l.initial.self) 1 (lines_of l.source);
   left : drop l.i l.lines ≡ map line_of (lines_of l.sources);
 }

@@ -1,0 +1,266 @@
+-- Where the literals stand that EX or END places.
+use Rattle.std.proofs.Common.{◌≡◌, ℕ, zero, suc, ◌+◌, Bool, true, false, List, [], ◌∷◌, ◌++◌, length, take, drop}
+use Rattle.std.proofs.Common.{ℤ, pos, negsuc, ◌+ℤ◌, ◌<◌, ◌⊎◌, Option, None, Some, refl, sym, ap, subst, ◌∙◌, arith}
+use Rattle.std.proofs.Common.{slice_get, inl, inr}
+use Rattle.std.specs.Prelude.{fold, ◌==◌, if◌then◌else◌}
+use Rattle.std.specs.List.{list_any, position_or_len}
+use Rattle.std.specs.Cmp.Lexicographic.{pointwise}
+use Rattle.std.proofs.lemmas.Bool.{and_from, lt-ltb}
+use Rattle.std.proofs.lemmas.Bool.Decides.{nat_tests}
+use Rattle.std.proofs.lemmas.Cmp.{nat_eq_equiv, nat_list_eq_equiv}
+use Rattle.std.proofs.lemmas.List.Folds.{position_or_len_push}
+use Rattle.std.proofs.lemmas.Option.{slice_get_within}
+use Rattle.std.proofs.Math.IntN.{+ℤ_assoc}
+use Rattle.source_1401.specs.Statement.{well_formed}
+use Rattle.source_1401.specs.declared.constant.Constant.{Constant}
+use Rattle.source_1401.specs.declared.label.Label.{Label}
+use Rattle.source_1401.specs.declared.operands.Operand.TheVariants as operands
+use Rattle.source_1401.specs.declared.operands.OperandField.{OperandField}
+use Rattle.source_1401.specs.declared.operands.OperandField.TheVariants as fields
+use Rattle.source_1401.specs.declared.statement.Body.{Body}
+use Rattle.source_1401.specs.declared.statement.Body.TheVariants as bodies
+use Rattle.source_1401.specs.declared.statement.Statement.{Statement}
+use Rattle.source_1401.specs.declared.statement.Line.{Line}
+use Rattle.autocoder_1401.specs.Characters.{characters_of, same_characters}
+use Rattle.autocoder_1401.specs.Cells.{literal_value}
+use Rattle.autocoder_1401.specs.Placement.{Places, pending, units_from, instruction_length, with_literal, with_operand}
+use Rattle.autocoder_1401.specs.Placement.{with_next, behind_body, label_value, with_label, after_line}
+use Rattle.autocoder_1401.specs.PlacementLaws.{total, places_in, places_with, with_use}
+use Rattle.autocoder_1401.specs.declared.characters.Characters.{Characters}
+use Rattle.autocoder_1401.proofs.CoreLemmas.{neither}
+
+-- what a list has at a place, it has there with more behind it
+more_at : {A : Type 0} (xs ys : List A) (i : ℕ) (v : A) → slice_get xs i ≡ Some v → slice_get (xs ++ ys) i ≡ Some v
+more_at [] ys i v h = cc
+more_at (x ∷ xs) ys zero v h = h
+more_at (x ∷ xs) ys (suc i) v h = more_at xs ys i v h
+
+-- a place behind a list is one of those put there
+append_at : {A : Type 0} (xs ys : List A) (k : ℕ) → slice_get (xs ++ ys) (length xs + k) ≡ slice_get ys k
+append_at [] ys k = let none : 0 + k ≡ k = omega arith in ap (slice_get ys) none
+append_at (x ∷ xs) ys k =
+    let behind : suc (length xs) + k ≡ suc (length xs + k) = omega arith in
+    ap (slice_get (x ∷ (xs ++ ys))) behind ∙ append_at xs ys k
+
+-- a place of what is left of a list
+drop_at : {A : Type 0} (n : ℕ) (xs : List A) (k : ℕ) → slice_get (drop n xs) k ≡ slice_get xs (n + k)
+drop_at zero xs k = let none : k ≡ 0 + k = omega arith in ap (slice_get xs) none
+drop_at (suc n) [] k = refl
+drop_at (suc n) (x ∷ xs) k =
+    let behind : suc (n + k) ≡ suc n + k = omega arith in
+    drop_at n xs k ∙ ap (slice_get (x ∷ xs)) behind
+
+-- each literal stays where it stands, and with it its address
+record Grown (this after : Places) : Type 0 where
+  literals : (i : ℕ) (v : Characters) → slice_get this.literals i ≡ Some v → slice_get after.literals i ≡ Some v
+  addresses : (i : ℕ) (v : ℤ) → slice_get this.addresses i ≡ Some v → slice_get after.addresses i ≡ Some v
+
+grown_on : (this between after : Places) → Grown this between → Grown between after → Grown this after
+grown_on this between after first second = record {
+  literals = λ i v h. second.literals i v (first.literals i v h);
+  addresses = λ i v h. second.addresses i v (first.addresses i v h);
+}
+
+unchanged : (this : Places) → Grown this this
+unchanged this = record { literals = λ i v h. h; addresses = λ i v h. h }
+
+literal_grown : (this : Places) (constant : Constant) → Grown this (with_literal this constant)
+literal_grown this constant = by (list_any (same_characters (characters_of constant)) this.literals)
+  where
+    by : (b : Bool)
+        → Grown this (if b then this
+        else record this {
+          literals = this.literals ++ characters_of constant ∷ [];
+          spellings =
+              this.spellings ++ constant ∷ [];
+        })
+    by true = unchanged this
+    by false = record {
+      literals = more_at this.literals (characters_of constant ∷ []);
+      addresses = λ i v h. h;
+    }
+
+operand_grown : (this : Places) (field : OperandField) → Grown this (with_operand this field)
+operand_grown this fields.Absent = unchanged this
+operand_grown this fields.Malformed = unchanged this
+operand_grown this (fields.Operand (operands.Address address)) = unchanged this
+operand_grown this (fields.Operand (operands.Literal constant)) = literal_grown this constant
+
+body_grown : (this : Places) (body : Body) → Grown this (behind_body this body)
+body_grown this bodies.Unknown = unchanged this
+body_grown this (bodies.Instruction instruction of) =
+    let moved = with_next this (this.next +ℤ pos (instruction_length of)) in
+    let first = operand_grown moved of.a in
+    let second = operand_grown (with_operand moved of.a) of.b in
+    record {
+      literals = λ i v h. second.literals i v (first.literals i v h);
+      addresses = λ i v h. second.addresses i v (first.addresses i v h);
+    }
+body_grown this (bodies.MarkedConstant constant) = record { literals = λ i v h. h; addresses = λ i v h. h }
+body_grown this (bodies.Constant constant) = record { literals = λ i v h. h; addresses = λ i v h. h }
+body_grown this (bodies.Space places) = record { literals = λ i v h. h; addresses = λ i v h. h }
+body_grown this (bodies.Areas areas) = record { literals = λ i v h. h; addresses = λ i v h. h }
+body_grown this (bodies.Field span) = unchanged this
+body_grown this (bodies.Equate of) = unchanged this
+body_grown this (bodies.Origin of) = record { literals = λ i v h. h; addresses = λ i v h. h }
+body_grown this (bodies.Execute of) = record {
+  literals = λ i v h. h;
+  addresses = more_at this.addresses (units_from this.next (pending this));
+}
+body_grown this (bodies.End of) = record {
+  literals = λ i v h. h;
+  addresses = more_at this.addresses (units_from this.next (pending this));
+}
+
+label_grown : (this : Places) (label : Option Label) (value : ℤ) → Grown this (with_label this label value)
+label_grown this None value = unchanged this
+label_grown this (Some label) value = record { literals = λ i v h. h; addresses = λ i v h. h }
+
+line_grown : (this : Places) (line : Line) → Grown this (after_line this line)
+line_grown this line = by line.statement
+  where
+    by : (statement : Option Statement)
+        → Grown this (after_line this (record { bytes = line.bytes; statement = statement }))
+    by None = unchanged this
+    by (Some statement) =
+        let behind = behind_body this statement.body in
+        let label = well_formed statement.label in
+        let value = label_value this statement.body in
+        grown_on this behind (with_label behind label value) (body_grown this statement.body)
+        (label_grown behind label value)
+
+lines_grown : (this : Places) (lines : List Line) → Grown this (fold after_line this lines)
+lines_grown this [] = unchanged this
+lines_grown this (line ∷ lines) =
+    grown_on this (after_line this line) (fold after_line (after_line this line) lines) (line_grown this line)
+    (lines_grown (after_line this line) lines)
+
+-- literals stand one behind the other
+units_at : (from : ℤ) (literals : List Characters) (k : ℕ) (literal : Characters) → slice_get literals k ≡ Some literal
+    → slice_get (units_from from literals) k ≡ Some (from +ℤ pos (total (take (suc k) literals)) +ℤ negsuc 0)
+units_at from [] k literal h = cc
+units_at from (first ∷ literals) zero literal h =
+    let alone : first.len ≡ first.len + 0 = omega arith in
+    ap (λ (n : ℕ). Some (from +ℤ pos n +ℤ negsuc 0)) alone
+units_at from (first ∷ literals) (suc k) literal h =
+    units_at (from +ℤ pos first.len) literals k literal h
+    ∙ ap (λ (n : ℤ). Some (n +ℤ negsuc 0)) (+ℤ_assoc from (pos first.len) (pos (total (take (suc k) literals))))
+
+-- EX and END place the literals that are used and not placed
+line_units : (this : Places) (line : Line) → places_with line.statement ≡ true
+    → (after_line this line).addresses ≡ this.addresses ++ units_from this.next (pending this)
+line_units this line places = by line.statement places
+  where
+    body : (given : Body) → places_in given ≡ true
+        → (behind_body this given).addresses ≡ this.addresses ++ units_from this.next (pending this)
+    body bodies.Unknown h = cc
+    body (bodies.Instruction instruction of) h = cc
+    body (bodies.MarkedConstant constant) h = cc
+    body (bodies.Constant constant) h = cc
+    body (bodies.Space places) h = cc
+    body (bodies.Areas areas) h = cc
+    body (bodies.Field span) h = cc
+    body (bodies.Equate of) h = cc
+    body (bodies.Origin of) h = cc
+    body (bodies.Execute of) h = refl
+    body (bodies.End of) h = refl
+
+    label_units : (behind : Places) (label : Option Label) (value : ℤ)
+        → (with_label behind label value).addresses ≡ behind.addresses
+    label_units behind None value = refl
+    label_units behind (Some label) value = refl
+
+    by : (statement : Option Statement) → places_with statement ≡ true
+        → (after_line this (record { bytes = line.bytes; statement = statement })).addresses
+        ≡ this.addresses ++ units_from this.next (pending this)
+    by None h = cc
+    by (Some statement) h =
+        label_units (behind_body this statement.body) (well_formed statement.label) (label_value this statement.body)
+        ∙ body statement.body h
+
+-- what is nowhere in a list is first found behind it
+none_before : {A : Type 0} (p : A → Bool) (xs : List A) → list_any p xs ≡ false → position_or_len p xs ≡ length xs
+none_before p [] h = refl
+none_before p (x ∷ xs) h =
+    let parts = neither (p x) (list_any p xs) h in
+    let behind = none_before p xs parts.1 in
+    rw parts.0 (omega (arith, behind))
+
+-- with one element more, what is found first stays so
+still_first : {A : Type 0} (p : A → Bool) (xs : List A) (y : A) (i : ℕ) → i < length xs → position_or_len p xs ≡ i
+    → position_or_len p (xs ++ y ∷ []) ≡ i
+still_first p xs y i inside is = grind (arith, nat_tests, position_or_len_push p xs y, inside, is)
+
+-- and the new one is found where it stands, if none before it is like it
+new_first : {A : Type 0} (p : A → Bool) (xs : List A) (y : A) → list_any p xs ≡ false → p y ≡ true
+    → position_or_len p (xs ++ y ∷ []) ≡ length xs
+new_first p xs y none is = grind (arith, nat_tests, position_or_len_push p xs y, none_before p xs none, is)
+
+-- an element is one of a list, or the one behind it
+either_place : {A : Type 0} (xs : List A) (y : A) (i : ℕ) (v : A) → slice_get (xs ++ y ∷ []) i ≡ Some v
+    → (slice_get xs i ≡ Some v) ⊎ ((i ≡ length xs) × (v ≡ y))
+either_place [] y zero v h = inr (refl, cc)
+either_place [] y (suc i) v h = cc
+either_place (x ∷ xs) y zero v h = inl h
+either_place (x ∷ xs) y (suc i) v h =
+    elim (either_place xs y i v h) [ inl there ↦ inl there | inr last ↦ inr (ap suc last.0, last.1) ]
+
+-- each literal is found where it stands
+abbrev IsDistinct : List Characters → Type 0
+IsDistinct used = (i : ℕ) (v : Characters) → slice_get used i ≡ Some v → position_or_len (same_characters v) used ≡ i
+
+same_as_itself : (characters : Characters) → same_characters characters characters ≡ true
+same_as_itself characters =
+    and_from (pointwise ◌==◌ characters.codes characters.codes) (characters.len == characters.len)
+    (nat_list_eq_equiv.refl characters.codes) (nat_eq_equiv.refl characters.len)
+
+use_distinct : (used : List Characters) (literal : Characters) → IsDistinct used → IsDistinct (with_use used literal)
+use_distinct used literal distinct = by (list_any (same_characters literal) used) refl
+  where
+    by : (b : Bool) → list_any (same_characters literal) used ≡ b
+        → IsDistinct (if b then used else used ++ literal ∷ [])
+    by true is = distinct
+    by false is = λ i v h.
+        elim (either_place used literal i v h) [
+          | inl there ↦ still_first (same_characters v) used literal i (slice_get_within used i v there)
+              (distinct i v there)
+          | inr last ↦ subst (λ (c : Characters). position_or_len (same_characters c) (used ++ literal ∷ []) ≡ i)
+              (sym last.1)
+              (new_first (same_characters literal) used literal is (same_as_itself literal) ∙ sym last.0)
+        ]
+
+uses_distinct : (used more : List Characters) → IsDistinct used → IsDistinct (fold with_use used more)
+uses_distinct used [] distinct = distinct
+uses_distinct used (literal ∷ more) distinct =
+    uses_distinct (with_use used literal) more (use_distinct used literal distinct)
+
+-- the value of a literal is the address that stands where it does
+value_at : (all : Places) (i : ℕ) (literal : Characters) (units : ℤ) → IsDistinct all.literals
+    → slice_get all.literals i ≡ Some literal → slice_get all.addresses i ≡ Some units
+    → literal_value all literal ≡ units
+value_at all i literal units distinct there is =
+    let inside = slice_get_within all.literals i literal there in
+    rw (distinct i literal there, lt-ltb i (length all.literals) inside, is) refl
+
+-- a literal that a line places stands behind those that it places before it, whatever lines follow
+pub stands_behind : (this all : Places) (line : Line) (rest : List Line) (more : List Characters) (k : ℕ)
+    (literal : Characters) → all ≡ fold after_line (after_line this line) rest → all.literals ≡ fold with_use [] more
+    → places_with line.statement ≡ true → slice_get (pending this) k ≡ Some literal
+    → literal_value all literal ≡ this.next +ℤ pos (total (take (k + 1) (pending this))) +ℤ negsuc 0
+stands_behind this all line rest more k literal is used places there =
+    let after = after_line this line in
+    let i = length this.addresses + k in
+    let value = this.next +ℤ pos (total (take (k + 1) (pending this))) +ℤ negsuc 0 in
+    let later : Grown after all = subst (Grown after) (sym is) (lines_grown after rest) in
+    let one_more : suc k ≡ k + 1 = omega arith in
+    let units : slice_get after.addresses i ≡ Some value =
+    ap (λ (all : List ℤ). slice_get all i) (line_units this line places)
+    ∙ append_at this.addresses (units_from this.next (pending this)) k
+    ∙ units_at this.next (pending this) k literal there
+    ∙ ap (λ (n : ℕ). Some (this.next +ℤ pos (total (take n (pending this))) +ℤ negsuc 0)) one_more in
+    let distinct : IsDistinct all.literals =
+    subst IsDistinct (sym used) (uses_distinct [] more (λ i v h. cc)) in
+    value_at all i literal value distinct
+    (later.literals i literal
+    ((line_grown this line).literals i literal (sym (drop_at (length this.addresses) this.literals k) ∙ there)))
+    (later.addresses i value units)
