@@ -2,7 +2,6 @@ mod AssemblyExamples
 pub mod CellsLemmas
 pub mod CharactersLemmas
 pub mod CoreLemmas
-pub mod DigitLemmas
 pub mod FirstFaultLemmas
 pub mod LawLemmas
 pub mod ListingLemmas

@@ -1,10 +1,10 @@
 -- The lines of a listing (Autocoder, "Assembler Control"; their columns own).
-use Rattle.std.specs.Prelude.{ℕ, ◌+◌, ◌-◌, List, [], ◌∷◌, ◌++◌, length, map, take, drop, replicate, slice_index}
+use Rattle.std.specs.Prelude.{ℕ, ◌+◌, ◌-◌, List, [], ◌∷◌, ◌++◌, length, map, take, drop, slice_index}
 use Rattle.std.specs.Prelude.{ℤ, pos, negsuc, ◌+ℤ◌, nat_abs, Option, Some, None, codes}
 use Rattle.std.specs.List.{suffix_len}
-use Rattle.std.specs.Fmt.{decimal}
 use Rattle.bcd_1401.specs.Graphic.{graphics}
 use Rattle.bcd_1401.specs.declared.cell.Cell.{Cell}
+use Rattle.decimal_1401.specs.Digits.{digits_in}
 use Rattle.source_1401.specs.Constant.{bytes_of}
 use Rattle.source_1401.specs.SourceLine.{padded, is_blank}
 use Rattle.source_1401.specs.Statement.{line_of}
@@ -18,10 +18,6 @@ use Rattle.autocoder_1401.specs.Cells.{body_cells, literal_cells}
 use Rattle.autocoder_1401.specs.Characters.{characters_of}
 use Rattle.autocoder_1401.specs.Placement.{Places, nothing_placed, value_so_far, behind_literal, after_line, placed}
 use Rattle.autocoder_1401.specs.Values.{operand_value}
-
--- a number in decimal digits, with zeros in front where it has fewer than the width; one that has more has them all
-abbrev pub digits_in : ℕ → ℕ → List ℕ
-digits_in width number = replicate (width - length (decimal number)) 48 ++ decimal number
 
 -- the number of a line in at least four digits; four blanks for a line that isn't in the source
 unfoldable pub number_text : Option ℕ → List ℕ

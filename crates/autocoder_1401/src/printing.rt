@@ -3,11 +3,12 @@ ghost use Rattle.std.specs.Prelude.{◌≡◌, ◌-◌, ◌++◌, length, map, r
 ghost use Rattle.std.specs.List.{suffix_len};
 ghost use Rattle.source_1401.specs.SourceLine.{is_blank};
 ghost use Rattle.autocoder_1401.specs.Fault.{IsMemory};
-ghost use Rattle.autocoder_1401.specs.Listing.{digits_in, number_text, address_text, graphic_of, characters_text};
+ghost use Rattle.autocoder_1401.specs.Listing.{number_text, address_text, graphic_of, characters_text};
 ghost use Rattle.autocoder_1401.specs.Listing.{without_last_blanks, spelling};
 
 use crate::fault::AsmFault;
 use bcd_1401::Cell;
+use decimal_1401::put_digits;
 use source_1401::Constant;
 
 /// How many digits the number of a line has at the least.
@@ -18,18 +19,6 @@ const ADDRESS_DIGITS: u8 = 5;
 
 /// How many cells a line shows at the most.
 const SHOWN_CELLS: usize = 8;
-
-/// Adds a number, with zeros in front where it has fewer digits than the width.
-fn put_digits(text: &mut Vec<u8>, width: u8, number: u64) -> Result<(), AsmFault>
-    ensures ok { OnOk result (text.new.items ≡ text.old.items ++ digits_in width number) }
-    ensures err { IfErr result IsMemory }
-{
-    if width > 1 || number > 9 {
-        put_digits(text, width.saturating_sub(1), number / 10)?;
-    }
-    text.push(b'0' + (number % 10) as u8)?;
-    Ok(())
-}
 
 /// Adds blanks, as many as are asked for.
 fn put_blanks(text: &mut Vec<u8>, count: usize) -> Result<(), AsmFault>
