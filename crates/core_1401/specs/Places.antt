@@ -32,3 +32,16 @@ is_unequal_pair storage a b i = not ((cell_at storage (a - i)).char == (cell_at 
 -- the same in a list of characters by address
 abbrev pub are_unequal : List ℕ → ℕ → ℕ → ℕ → Bool
 are_unequal chars a b i = not (slice_index_or chars (a - i) 0 == slice_index_or chars (b - i) 0)
+
+-- the characters by address
+abbrev pub chars_of : Storage → List ℕ
+chars_of storage = map (λ (cell : Cell). cell.char) storage
+
+-- a place with its character in a list by address, and with the word mark that was there; past the end of the list as
+-- it was
+abbrev pub lent_cell : Storage → List ℕ → ℕ → Cell
+lent_cell storage chars at = record (cell_at storage at) { char = slice_index_or chars at (cell_at storage at).char }
+
+-- these characters by address, with the word marks that were there
+unfoldable pub with_all_chars : Storage → List ℕ → Storage
+with_all_chars storage chars = map (lent_cell storage chars) (range_with_len 0 (length storage))

@@ -11,6 +11,7 @@
 
 mod across;
 pub mod arithmetic;
+mod columns;
 pub mod comparison;
 mod control_word;
 mod digits;
