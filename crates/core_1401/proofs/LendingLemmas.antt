@@ -13,8 +13,8 @@ use Rattle.core_1401.specs.Storage.{Storage, blank, cell_at}
 use Rattle.core_1401.proofs.HeldLemmas.{length_held, cell_at-held, same_cell}
 
 -- the characters are those that are held
-pub chars_of-held : (chars words : List ℕ) → chars_of (held chars words) ≡ chars
-chars_of-held chars words =
+pub chars_of_held : (chars words : List ℕ) → chars_of (held chars words) ≡ chars
+chars_of_held chars words =
     let storage : Storage = held chars words in
     let char : Cell → ℕ = λ cell. cell.char in
     let size : length (chars_of storage) ≡ length chars = length-map storage char ∙ length_held chars words in

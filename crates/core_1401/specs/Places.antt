@@ -1,6 +1,6 @@
 -- The places of a field written at once (own).
-use Rattle.std.specs.Prelude.{ℕ, ◌+◌, ◌-◌, ◌==◌, ◌&&◌, not, Bool, List, length, slice_index_or, map, nat_le, nat_lt}
-use Rattle.std.specs.Prelude.{if◌then◌else◌}
+use Rattle.std.specs.Prelude.{ℕ, ◌+◌, ◌-◌, ◌==◌, ◌&&◌, not, Bool, false, List, length, slice_index_or, map}
+use Rattle.std.specs.Prelude.{nat_le, nat_lt, if◌then◌else◌}
 use Rattle.std.specs.List.{range_with_len}
 use Rattle.bcd_1401.specs.declared.cell.Cell.{Cell}
 use Rattle.core_1401.specs.Storage.{Storage, cell_at}
@@ -24,6 +24,10 @@ rewritten_cell storage at char_of i = record (cell_at storage (at - i)) { char =
 -- these characters, units first, at the n places from an address down; word marks and other places are as they were
 unfoldable pub with_chars : Storage → ℕ → ℕ → (ℕ → ℕ) → Storage
 with_chars storage at n char_of = with_cells storage at n (rewritten_cell storage at char_of)
+
+-- the i-th place below an address without its word mark, and with the character that was there
+abbrev pub unmarked_place : Storage → ℕ → ℕ → Cell
+unmarked_place storage at i = record (cell_at storage (at - i)) { mark = false }
 
 -- whether the characters of pair i differ, counted from the units
 abbrev pub is_unequal_pair : Storage → ℕ → ℕ → ℕ → Bool

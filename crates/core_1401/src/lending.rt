@@ -8,7 +8,16 @@ use crate::storage::Core;
 use bcd_1401::Char;
 
 impl Core {
-    /// The characters by address, to be written at once. Word marks stay.
+    /// The characters by address.
+    #[inline(always)]
+    #[tactic(auto, using(crate::proofs::LendingLemmas::chars_of_held))]
+    pub fn chars(&self) -> &[Char]
+        ensures { result.now ≡ chars_of self.now }
+    {
+        &self.chars
+    }
+
+    /// The characters by address, to be written. Word marks stay.
     #[inline(always)]
     #[tactic(auto, using(crate::proofs::HeldLemmas::length_held))]
     pub fn chars_mut(&mut self) -> &mut [Char]

@@ -9,10 +9,10 @@ use Rattle.bcd_1401.specs.Character.{with_zone_of}
 use Rattle.bcd_1401.specs.declared.cell.Cell.{Cell}
 use Rattle.core_1401.specs.Storage.{Storage, blank, cell_at}
 use Rattle.fields_1401.specs.Across.{chars_across, unzoned_at, units_unzoned, unmarked_cell, with_across, IsUnmarked}
-use Rattle.fields_1401.specs.Across.{IsSameOutside}
-use Rattle.fields_1401.specs.Places.{with_cells}
+use Rattle.fields_1401.specs.Across.{char_to, IsSameOutside}
+use Rattle.fields_1401.specs.Places.{with_cells, with_chars, unmarked_place, rewritten_cell}
 use Rattle.fields_1401.proofs.PlacesLemmas.{with_cells_more, cell_at-within, cell_at-outside, is_within-inside}
-use Rattle.fields_1401.proofs.PlacesLemmas.{length-with_cells}
+use Rattle.fields_1401.proofs.PlacesLemmas.{length-with_cells, with_cells_same, with_cells_again, cell_at-with_chars}
 
 -- there is a character for each place
 pub length-across : (s : Storage) (at n : ℕ) → at < length s → n ≤ at + 1 → length (chars_across s at n) ≡ n
@@ -132,3 +132,16 @@ across_kept s t at n in_core size above same =
     ∙ sym (length-across s at n in_core above)) (λ i lt.
     char_across t at n i in_t above (omega arith) ∙ ap (λ (cell : Cell). cell.char) (same (n - 1 - i) (omega arith))
     ∙ sym (char_across s at n i in_core above (omega arith)))
+
+-- the characters are put, and then the word marks cleared
+pub across_cleared : (s t r : Storage) (at n : ℕ) (chars : List ℕ) → t ≡ with_chars s at n (char_to chars)
+    → r ≡ with_cells t at n (unmarked_place t at) → length chars ≡ n → at < length s → r ≡ with_across s at chars
+unfolding with_across with_chars
+across_cleared s t r at n chars put cleared size in_core =
+    let shown : Storage = with_chars s at n (char_to chars) in
+    let unmark : Cell → Cell = λ cell. record cell { mark = false } in
+    cleared ∙ ap (λ (u : Storage). with_cells u at n (unmarked_place u at)) put
+    ∙ with_cells_same shown at n (unmarked_place shown at) (unmarked_cell chars)
+    (λ i lt le. ap unmark (cell_at-with_chars s at n (char_to chars) i in_core le lt))
+    ∙ with_cells_again s at n (rewritten_cell s at (char_to chars)) (unmarked_cell chars)
+    ∙ ap (λ m. with_cells s at m (unmarked_cell chars)) (sym size)

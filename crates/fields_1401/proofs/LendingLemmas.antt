@@ -1,13 +1,14 @@
 -- Characters that were lent by address, and the storage that they stand for.
 use Rattle.std.proofs.Common.{◌≡◌, ℕ, ◌<◌, Bool, List, length, set, inl, inr, ap, sym, ◌∙◌}
-use Rattle.std.proofs.Common.{arith, slice_index_or}
+use Rattle.std.proofs.Common.{false, arith, slice_index_or}
 use Rattle.std.proofs.lemmas.Bool.{cases_eq}
 use Rattle.std.proofs.lemmas.Grind.{get_or-set_at}
 use Rattle.std.proofs.lemmas.List.{ext_get_or, get_or-set_other, length-set, get_or_default, get_or-map, length-map}
 use Rattle.std.proofs.lemmas.List.FromFn.{get_or-map-range_with_len, length-map-range_with_len}
 use Rattle.bcd_1401.specs.declared.cell.Cell.{Cell}
-use Rattle.core_1401.specs.Places.{chars_of, lent_cell, with_all_chars}
+use Rattle.core_1401.specs.Places.{chars_of, lent_cell, with_all_chars, with_chars, is_within}
 use Rattle.core_1401.specs.Storage.{Storage, blank, cell_at, with_char}
+use Rattle.fields_1401.proofs.PlacesLemmas.{cell_at-beside_chars}
 
 -- the core is as large as before
 pub length-with_all_chars : (s : Storage) (chars : List ℕ) → length (with_all_chars s chars) ≡ length s
@@ -24,6 +25,10 @@ cell_at-with_all_chars s chars q in_core =
 -- there is a character for each place
 pub length-chars_of : (s : Storage) → length (chars_of s) ≡ length s
 length-chars_of s = length-map s (λ (cell : Cell). cell.char)
+
+-- each is that of its cell
+pub char_of_cell : (s : Storage) (q d : ℕ) → q < length s → slice_index_or (chars_of s) q d ≡ (cell_at s q).char
+char_of_cell s q d in_core = get_or-map (λ (cell : Cell). cell.char) s q blank d in_core
 
 -- a character that was lent is that of its cell
 pub char_lent : (s : Storage) (chars : List ℕ) (q d : ℕ) → q < length s → length chars ≡ length s
@@ -66,3 +71,11 @@ lent-set s chars q char in_core size =
           (get_or-set_other chars q p char (cell_at s p).char other)
           ∙ sym (cell_at-with_all_chars s chars p within) ∙ sym (get_or-set_other before q p cell blank other)
     ]))
+
+-- a character beside the places that were written is as it was
+pub still_lent : (s : Storage) (chars : List ℕ) (at n q : ℕ) (char_of : ℕ → ℕ) → length chars ≡ length s
+    → with_all_chars s chars ≡ with_chars s at n char_of → q < length s → is_within at n q ≡ false
+    → slice_index_or chars q 0 ≡ (cell_at s q).char
+still_lent s chars at n q char_of size put in_core beside =
+    char_lent s chars q 0 in_core size ∙ ap (λ (t : Storage). (cell_at t q).char) put
+    ∙ ap (λ (cell : Cell). cell.char) (cell_at-beside_chars s at n char_of q in_core beside)

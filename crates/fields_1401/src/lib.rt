@@ -28,6 +28,7 @@ mod places;
 mod refusals;
 pub mod registers;
 pub mod sign;
+mod slices;
 pub mod suppression;
 mod unlike_signs;
 pub mod zero_sums;
