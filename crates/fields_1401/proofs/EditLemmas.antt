@@ -1,6 +1,6 @@
 -- The places of a control word, and what they take.
 use Rattle.std.proofs.Common.{◌≡◌, ℕ, ◌+◌, ◌-◌, ◌<◌, ◌≤◌, ◌⊎◌, ◌==◌, Bool, true, false, List, Option, Some, None, min}
-use Rattle.std.proofs.Common.{if◌then◌else◌, length, get_or, map, drop, cond, ap, sym, ◌∙◌, inl, inr, arith}
+use Rattle.std.proofs.Common.{length, get_or, map, drop, cond, ap, sym, ◌∙◌, inl, inr, arith}
 use Rattle.std.specs.List.{count_by, range_with_len}
 use Rattle.std.specs.Prelude.{not, nat_lt, ◌&&◌}
 use Rattle.std.proofs.lemmas.Bool.{cases_lt, cases_Bool, lt-ltb, le-ltb, and_from, and_left, and_right, cond-true}
@@ -8,16 +8,15 @@ use Rattle.std.proofs.lemmas.Bool.{cond-false}
 use Rattle.std.proofs.lemmas.Bool.Decides.{nat_tests}
 use Rattle.std.proofs.lemmas.List.FromFn.{get_or-map-range_with_len, length-map-range_with_len}
 use Rattle.std.proofs.lemmas.List.Sums.{sum_by-drop_more, position_or_len_is, suffix_len_is}
-use Rattle.bcd_1401.specs.Character.{with_zone_of}
 use Rattle.core_1401.specs.Storage.{Storage, cell_at}
-use Rattle.fields_1401.specs.Across.{chars_across, units_unzoned, unzoned_down}
+use Rattle.fields_1401.specs.Across.{chars_across, units_unzoned}
 use Rattle.fields_1401.specs.Edit.{is_replaceable, taken_from, taken_by, replaceable_in, replaceable_behind}
 use Rattle.fields_1401.specs.Edit.{is_significant, before_significant, limit_of, is_suppressed, is_shared, shown}
 use Rattle.fields_1401.specs.Edit.{shown_at, edited, taken_down}
 use Rattle.fields_1401.specs.Places.{is_within}
 use Rattle.fields_1401.specs.declared.sign.Sign.{Sign}
 use Rattle.fields_1401.specs.Suppress.{zero_char}
-use Rattle.fields_1401.proofs.AcrossLemmas.{length-unzoned_across, unzoned_read}
+use Rattle.fields_1401.proofs.AcrossLemmas.{length-unzoned_across, unzoned_down_is}
 
 -- a place is one of those from it on, where it is replaceable
 pub replaceable_here : (word : List ℕ) (i : ℕ) → i < length word → is_replaceable (get_or word i 0) ≡ true
@@ -152,17 +151,10 @@ taken_down_is s chars a t own behind in_core above same =
     elim (cases_Bool (is_replaceable own)) [
       | inl is ↦ elim (cases_lt behind t) [
         | inl lt ↦
-            let zoned : Bool → ℕ → ℕ = λ last char. if last then with_zone_of char 0 else char in
-            let last : (behind == 0) ≡ (t - 1 - behind + 1 == t) = grind (arith, nat_tests) in
-            let place : a - behind ≡ a - (t - 1 - (t - 1 - behind)) = omega arith in
-            let char : unzoned_down chars a behind ≡ get_or digits (t - 1 - behind) 0 =
-            ap (zoned (behind == 0)) (same behind lt)
-            ∙ ap (λ q. zoned (behind == 0) (cell_at s q).char) place
-            ∙ ap (λ b. zoned b (cell_at s (a - (t - 1 - (t - 1 - behind)))).char) last
-            ∙ sym (unzoned_read s a t (t - 1 - behind) in_core above (omega arith)) in
             cond-true (is_replaceable own && nat_lt behind t) _ _
             (and_from (is_replaceable own) (nat_lt behind t) is (lt-ltb behind t lt))
-            ∙ ap (λ (k : ℕ). let taken : Option ℕ = Some k in taken) char
+            ∙ ap (λ (k : ℕ). let taken : Option ℕ = Some k in taken)
+            (unzoned_down_is s chars a t behind in_core above lt (same behind lt))
             ∙ takes_one digits own behind t size is lt
         | inr le ↦ cond-false (is_replaceable own && nat_lt behind t) _ _
             (and_right (is_replaceable own) (nat_lt behind t) (le-ltb behind t le))

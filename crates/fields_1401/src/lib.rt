@@ -24,7 +24,6 @@ pub mod marks;
 pub mod moves;
 mod operands;
 pub mod parts;
-mod places;
 mod refusals;
 pub mod registers;
 pub mod sign;
