@@ -7,6 +7,7 @@ pub mod EightCellsLemmas
 mod FieldExamples
 pub mod FieldLemmas
 pub mod HeldLemmas
+pub mod LendingLemmas
 mod MarkWordExamples
 pub mod MarkWordLemmas
 mod PlacesExamples

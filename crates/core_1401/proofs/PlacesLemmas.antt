@@ -7,7 +7,7 @@ use Rattle.std.proofs.lemmas.List.FromFn.{fill_by_all}
 use Rattle.bcd_1401.specs.declared.cell.Cell.{Cell}
 use Rattle.core_1401.specs.Field.{field_len_of}
 use Rattle.core_1401.specs.MarkWords.{mark_bit, held_cell, held, IsWithBit, IsWhole, AreCleared}
-use Rattle.core_1401.specs.Places.{is_within, written_cell, with_cells, rewritten_cell, with_chars}
+use Rattle.core_1401.specs.Places.{is_within, written_cell, with_cells, rewritten_cell, with_chars, unmarked_place}
 use Rattle.core_1401.specs.Storage.{Storage, blank, cell_at, is_core_size}
 use Rattle.core_1401.proofs.FieldLemmas.{marked_last, unmarked_before}
 use Rattle.core_1401.proofs.HeldLemmas.{length_held, cell_at-held, same_cell, other_bit, bit_there, whole-mark}
@@ -123,6 +123,21 @@ held-cleared chars words new marks at n at_in places blanks cleared =
       | inr under ↦
           blanks.below q (omega (arith, under))
     ])
+    (ap (λ (m : ℕ). m == 1) (beside_cleared words marks at n q cleared beside)))
+
+-- the marks alone are cleared
+pub held-unmarked : (chars words marks : List ℕ) (at n : ℕ) → at < length chars → AreCleared words (at + 1 - n) at marks
+    → held chars marks ≡ with_cells (held chars words) at n (unmarked_place (held chars words) at)
+held-unmarked chars words marks at n at_in cleared =
+    let storage : Storage = held chars words in
+    held-with_cells chars words chars marks at n (unmarked_place storage at) at_in refl
+    (λ q le near.
+    let place : q ≡ at - (at - q) = omega (arith, le) in
+    same_cell (held_cell chars marks q) (unmarked_place storage at (at - q))
+    (ap (λ (c : Cell). c.char) (sym (cell_at-held chars words q (omega (arith, le, at_in))))
+    ∙ ap (λ (p : ℕ). (cell_at storage p).char) place)
+    (ap (λ (m : ℕ). m == 1) (cleared.inside q (omega (arith, near)) le)))
+    (λ q beside. same_cell (held_cell chars marks q) (held_cell chars words q) refl
     (ap (λ (m : ℕ). m == 1) (beside_cleared words marks at n q cleared beside)))
 
 -- a field's characters are copied, the marks of its new places cleared, and its own set

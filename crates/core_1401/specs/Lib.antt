@@ -3,6 +3,7 @@ pub mod AddressTables
 pub mod Cells
 pub mod EightCells
 pub mod Field
+pub mod Lending
 pub mod MarkWords
 pub mod Places
 pub mod Storage

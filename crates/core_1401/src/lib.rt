@@ -16,6 +16,7 @@ pub mod cells;
 pub mod eight_cells;
 pub mod fault;
 pub mod indexing;
+pub mod lending;
 pub mod lengths;
 pub mod mark_words;
 pub mod storage;

@@ -2,7 +2,7 @@
 ghost use Rattle.std.specs.Prelude.{◌≡◌, ℕ, ◌+◌, ◌-◌, ◌<◌, ◌≤◌, Some, length, slice_index_or};
 ghost use Rattle.std.specs.List.{list_any, range_with_len};
 ghost use Rattle.core_1401.specs.Field.{field_len_of};
-ghost use Rattle.core_1401.specs.Places.{with_cells, with_chars, is_unequal_pair, are_unequal};
+ghost use Rattle.core_1401.specs.Places.{with_cells, with_chars, unmarked_place, is_unequal_pair, are_unequal};
 ghost use Rattle.core_1401.specs.Storage.{blank, cell_at};
 
 use crate::mark_words::{clear_marks, with_bit};
@@ -63,6 +63,20 @@ impl Core {
         let low = high + 1 - usize::from(n);
         put_blanks(&mut self.chars, low, high + 1);
         clear_marks(&mut self.words, low, high);
+    }
+
+    /// Clears the word marks of the n places from an address down. The characters there stay.
+    #[inline]
+    #[tactic(auto, using(crate::proofs::HeldLemmas::length_held))]
+    pub fn clear_marks(&mut self, at: u16, n: u16)
+        requires at { at < length self.old }
+        requires some { 0 < n }
+        requires places { n ≤ at + 1 }
+        ensures value { self.new ≡ with_cells self.old at n (unmarked_place self.old at) }
+        ensures size { length self.new ≡ length self.old }
+    {
+        let high = usize::from(at);
+        clear_marks(&mut self.words, high + 1 - usize::from(n), high);
     }
 
     /// Whether two characters of the n places from a down and of those from b down differ, pair by pair.

@@ -1,7 +1,8 @@
 -- Fields read and written from left to right.
-use Rattle.std.proofs.Common.{◌≡◌, ℕ, ◌+◌, ◌-◌, ◌==◌, ◌<◌, ◌≤◌, false, List, length, get_or, take, drop, set, ap, sym}
-use Rattle.std.proofs.Common.{◌∙◌, inl, inr, arith, if◌then◌else◌}
+use Rattle.std.proofs.Common.{◌≡◌, ℕ, ◌+◌, ◌-◌, ◌==◌, ◌<◌, ◌≤◌, Bool, false, List, length, get_or, take, drop, ap}
+use Rattle.std.proofs.Common.{sym, ◌∙◌, inl, inr, arith, if◌then◌else◌}
 use Rattle.std.proofs.lemmas.Bool.{cases_lt}
+use Rattle.std.proofs.lemmas.Bool.Decides.{nat_tests}
 use Rattle.std.proofs.lemmas.List.{ext_get_or, get_or_past, length-map, length-take, length-drop, get_or-map}
 use Rattle.std.proofs.lemmas.List.{get_or-take, get_or-drop}
 use Rattle.std.proofs.lemmas.List.FromFn.{get_or-map-range_with_len, length-map-range_with_len}
@@ -9,10 +10,10 @@ use Rattle.bcd_1401.specs.Character.{with_zone_of}
 use Rattle.bcd_1401.specs.declared.cell.Cell.{Cell}
 use Rattle.core_1401.specs.Storage.{Storage, blank, cell_at}
 use Rattle.fields_1401.specs.Across.{chars_across, unzoned_at, units_unzoned, unmarked_cell, with_across, IsUnmarked}
-use Rattle.fields_1401.specs.Across.{IsSameOutside}
-use Rattle.fields_1401.specs.Places.{with_cells}
-use Rattle.fields_1401.proofs.PlacesLemmas.{with_cells_more, cell_at-within, cell_at-outside, is_within-inside}
-use Rattle.fields_1401.proofs.PlacesLemmas.{length-with_cells}
+use Rattle.fields_1401.specs.Across.{char_to, unzoned_down, IsSameOutside}
+use Rattle.fields_1401.specs.Places.{with_cells, with_chars, unmarked_place, rewritten_cell}
+use Rattle.fields_1401.proofs.PlacesLemmas.{cell_at-within, cell_at-outside, is_within-inside}
+use Rattle.fields_1401.proofs.PlacesLemmas.{length-with_cells, with_cells_same, with_cells_again, cell_at-with_chars}
 
 -- there is a character for each place
 pub length-across : (s : Storage) (at n : ℕ) → at < length s → n ≤ at + 1 → length (chars_across s at n) ≡ n
@@ -60,30 +61,6 @@ unzoned_read s at n i in_core above within =
     ∙ ap (λ m. shown m (get_or chars i 0)) size
     ∙ ap (shown n) (char_across s at n i in_core above within)
 
--- the same character where the place is as it was
-pub unzoned_kept : (s t : Storage) (at n i : ℕ) → at < length s → length t ≡ length s → n ≤ at + 1 → i < n
-    → cell_at t (at - (n - 1 - i)) ≡ cell_at s (at - (n - 1 - i))
-    → get_or (units_unzoned (chars_across t at n)) i 0 ≡ get_or (units_unzoned (chars_across s at n)) i 0
-unzoned_kept s t at n i in_core size above within same =
-    let in_t : at < length t = omega arith in
-    let shown : Cell → ℕ = λ cell. if i + 1 == n then with_zone_of cell.char 0 else cell.char in
-    unzoned_read t at n i in_t above within ∙ ap shown same ∙ sym (unzoned_read s at n i in_core above within)
-
--- one place more is written
-pub across_more : (s : Storage) (at i : ℕ) (chars : List ℕ) (char : ℕ) → at < length s → i ≤ at → char
-    ≡ get_or chars (length chars - 1 - i) 0
-    → set (with_cells s at i (unmarked_cell chars)) (at - i) (record { char = char; mark = false })
-    ≡ with_cells s at (i + 1) (unmarked_cell chars)
-across_more s at i chars char in_core i_in e =
-    with_cells_more s at i (unmarked_cell chars) (record { char = char; mark = false }) in_core i_in
-    (ap (λ k. let cell : Cell = record { char = k; mark = false } in cell) e)
-
--- all places are written
-pub across_all : (s t : Storage) (at i : ℕ) (chars : List ℕ) → t ≡ with_cells s at i (unmarked_cell chars) → i
-    ≡ length chars → t ≡ with_across s at chars
-unfolding with_across
-across_all s t at i chars e last = e ∙ ap (λ n. with_cells s at n (unmarked_cell chars)) last
-
 -- no word mark is left at the places written
 pub across_unmarked : (s t : Storage) (at n : ℕ) (chars : List ℕ) → t ≡ with_across s at chars → length chars ≡ n
     → at < length s → n ≤ at + 1 → IsUnmarked t at n
@@ -122,13 +99,28 @@ across_again s t at n chars e size in_core above =
     (is_within-inside at (length chars) q (omega arith) (omega arith)))
     ∙ ap (λ k. get_or chars k 0) (omega arith))
 
--- the same characters where each place is as it was
-pub across_kept : (s t : Storage) (at n : ℕ) → at < length s → length t ≡ length s → n ≤ at + 1
-    → ((k : ℕ) → k < n → cell_at t (at - k) ≡ cell_at s (at - k)) → chars_across t at n ≡ chars_across s at n
-across_kept s t at n in_core size above same =
-    let in_t : at < length t = omega arith in
-    let t_size : length (chars_across t at n) ≡ n = length-across t at n in_t above in
-    ext_get_or 0 (chars_across t at n) (chars_across s at n) (t_size
-    ∙ sym (length-across s at n in_core above)) (λ i lt.
-    char_across t at n i in_t above (omega arith) ∙ ap (λ (cell : Cell). cell.char) (same (n - 1 - i) (omega arith))
-    ∙ sym (char_across s at n i in_core above (omega arith)))
+-- the characters are put, and then the word marks cleared
+pub across_cleared : (s t r : Storage) (at n : ℕ) (chars : List ℕ) → t ≡ with_chars s at n (char_to chars)
+    → r ≡ with_cells t at n (unmarked_place t at) → length chars ≡ n → at < length s → r ≡ with_across s at chars
+unfolding with_across with_chars
+across_cleared s t r at n chars put cleared size in_core =
+    let shown : Storage = with_chars s at n (char_to chars) in
+    let unmark : Cell → Cell = λ cell. record cell { mark = false } in
+    cleared ∙ ap (λ (u : Storage). with_cells u at n (unmarked_place u at)) put
+    ∙ with_cells_same shown at n (unmarked_place shown at) (unmarked_cell chars)
+    (λ i lt le. ap unmark (cell_at-with_chars s at n (char_to chars) i in_core le lt))
+    ∙ with_cells_again s at n (rewritten_cell s at (char_to chars)) (unmarked_cell chars)
+    ∙ ap (λ m. with_cells s at m (unmarked_cell chars)) (sym size)
+
+-- the same in a list of characters by address, counted from the units
+pub unzoned_down_is : (s : Storage) (chars : List ℕ) (a t i : ℕ) → a < length s → t ≤ a + 1 → i < t
+    → get_or chars (a - i) 0 ≡ (cell_at s (a - i)).char
+    → unzoned_down chars a i ≡ get_or (units_unzoned (chars_across s a t)) (t - 1 - i) 0
+unzoned_down_is s chars a t i in_core above within same =
+    let zoned : Bool → ℕ → ℕ = λ last char. if last then with_zone_of char 0 else char in
+    let last : (i == 0) ≡ (t - 1 - i + 1 == t) = grind (arith, nat_tests) in
+    let place : a - i ≡ a - (t - 1 - (t - 1 - i)) = omega arith in
+    ap (zoned (i == 0)) same
+    ∙ ap (λ q. zoned (i == 0) (cell_at s q).char) place
+    ∙ ap (λ b. zoned b (cell_at s (a - (t - 1 - (t - 1 - i)))).char) last
+    ∙ sym (unzoned_read s a t (t - 1 - i) in_core above (omega arith))

@@ -3,16 +3,20 @@ use Rattle.std.proofs.Common.{◌≡◌, ℕ, ◌+◌, ◌-◌, ◌<◌, ◌≤�
 use Rattle.std.proofs.Common.{length, get_or, map, drop, cond, ap, sym, ◌∙◌, inl, inr, arith}
 use Rattle.std.specs.List.{count_by, range_with_len}
 use Rattle.std.specs.Prelude.{not, nat_lt, ◌&&◌}
-use Rattle.std.proofs.lemmas.Bool.{lt-ltb, le-ltb, and_from, and_left, and_right, cond-true, cond-false}
+use Rattle.std.proofs.lemmas.Bool.{cases_lt, cases_Bool, lt-ltb, le-ltb, and_from, and_left, and_right, cond-true}
+use Rattle.std.proofs.lemmas.Bool.{cond-false}
 use Rattle.std.proofs.lemmas.Bool.Decides.{nat_tests}
 use Rattle.std.proofs.lemmas.List.FromFn.{get_or-map-range_with_len, length-map-range_with_len}
 use Rattle.std.proofs.lemmas.List.Sums.{sum_by-drop_more, position_or_len_is, suffix_len_is}
+use Rattle.core_1401.specs.Storage.{Storage, cell_at}
+use Rattle.fields_1401.specs.Across.{chars_across, units_unzoned}
 use Rattle.fields_1401.specs.Edit.{is_replaceable, taken_from, taken_by, replaceable_in, replaceable_behind}
 use Rattle.fields_1401.specs.Edit.{is_significant, before_significant, limit_of, is_suppressed, is_shared, shown}
-use Rattle.fields_1401.specs.Edit.{shown_at, edited}
+use Rattle.fields_1401.specs.Edit.{shown_at, edited, taken_down}
 use Rattle.fields_1401.specs.Places.{is_within}
 use Rattle.fields_1401.specs.declared.sign.Sign.{Sign}
 use Rattle.fields_1401.specs.Suppress.{zero_char}
+use Rattle.fields_1401.proofs.AcrossLemmas.{length-unzoned_across, unzoned_down_is}
 
 -- a place is one of those from it on, where it is replaceable
 pub replaceable_here : (word : List ℕ) (i : ℕ) → i < length word → is_replaceable (get_or word i 0) ≡ true
@@ -136,3 +140,27 @@ replaceable_more word j own behind from within e so_far (inr is) =
     let here = replaceable_beyond word j within (sym (ap is_replaceable e) ∙ is.0) in
     let same = is.1 in
     omega arith
+
+-- what a place takes of the characters by address, where those of A are as they were
+pub taken_down_is : (s : Storage) (chars : List ℕ) (a t own behind : ℕ) → a < length s → t ≤ a + 1
+    → ((k : ℕ) → k < t → get_or chars (a - k) 0 ≡ (cell_at s (a - k)).char)
+    → taken_down chars a t own behind ≡ taken_from (units_unzoned (chars_across s a t)) own behind
+taken_down_is s chars a t own behind in_core above same =
+    let digits = units_unzoned (chars_across s a t) in
+    let size : length digits ≡ t = length-unzoned_across s a t in_core above in
+    elim (cases_Bool (is_replaceable own)) [
+      | inl is ↦ elim (cases_lt behind t) [
+        | inl lt ↦
+            cond-true (is_replaceable own && nat_lt behind t) _ _
+            (and_from (is_replaceable own) (nat_lt behind t) is (lt-ltb behind t lt))
+            ∙ ap (λ (k : ℕ). let taken : Option ℕ = Some k in taken)
+            (unzoned_down_is s chars a t behind in_core above lt (same behind lt))
+            ∙ takes_one digits own behind t size is lt
+        | inr le ↦ cond-false (is_replaceable own && nat_lt behind t) _ _
+            (and_right (is_replaceable own) (nat_lt behind t) (le-ltb behind t le))
+            ∙ takes_none digits own behind t size (inr le)
+      ]
+      | inr fails ↦ cond-false (is_replaceable own && nat_lt behind t) _ _
+          (and_left (is_replaceable own) (nat_lt behind t) fails)
+          ∙ takes_none digits own behind t size (inl fails)
+    ]

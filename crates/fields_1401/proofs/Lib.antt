@@ -1,11 +1,13 @@
 mod AcrossLemmas
 mod ArithmeticExamples
 mod ArithmeticLemmas
+mod ColumnLemmas
 mod EditExamples
 mod EditLemmas
 mod ExampleCells
 mod ExampleGraphics
 mod FieldLemmas
+mod LendingLemmas
 mod LoadExamples
 mod LoadLemmas
 mod MarksExamples

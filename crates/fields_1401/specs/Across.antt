@@ -27,6 +27,14 @@ unmarked_cell chars i = record { char = slice_index chars (length chars - 1 - i)
 unfoldable pub with_across : Storage → ℕ → List ℕ → Storage
 with_across storage at chars = with_cells storage at (length chars) (unmarked_cell chars)
 
+-- the character that comes to the i-th place, counted from the units
+abbrev pub char_to : List ℕ → ℕ → ℕ
+char_to chars i = slice_index chars (length chars - 1 - i)
+
+-- in a list of characters by address, the i-th below an address: the units without their zone
+abbrev pub unzoned_down : List ℕ → ℕ → ℕ → ℕ
+unzoned_down chars at i = if i == 0 then with_zone_of (slice_index chars (at - i)) 0 else slice_index chars (at - i)
+
 -- no word mark stands at the n places that end at an address
 abbrev pub IsUnmarked : Storage → ℕ → ℕ → Type 0
 IsUnmarked storage at n = (i : ℕ) → i < n → (cell_at storage (at - i)).mark ≡ false

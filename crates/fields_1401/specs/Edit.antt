@@ -8,7 +8,7 @@ use Rattle.std.specs.List.{count_by, position_or_len, suffix_len, range_with_len
 use Rattle.bcd_1401.specs.Character.{zone_of}
 use Rattle.core_1401.specs.Field.{field_len_of}
 use Rattle.core_1401.specs.Storage.{Storage, cell_at}
-use Rattle.fields_1401.specs.Across.{chars_across, units_unzoned, with_across}
+use Rattle.fields_1401.specs.Across.{chars_across, units_unzoned, unzoned_down, with_across}
 use Rattle.fields_1401.specs.Number.{sign_under}
 use Rattle.fields_1401.specs.Outcome.{Outcome, below_by, registers_of}
 use Rattle.fields_1401.specs.Refusal.{used_len_of, on_lengths}
@@ -55,6 +55,11 @@ abbrev pub taken_from : List ℕ → ℕ → ℕ → Option ℕ
 taken_from digits char behind =
     if is_replaceable char && nat_lt behind (length digits) then Some (slice_index digits (length digits - 1 - behind))
     else None
+
+-- the same of a list of characters by address, where those of t places from an address down are taken
+abbrev pub taken_down : List ℕ → ℕ → ℕ → ℕ → ℕ → Option ℕ
+taken_down chars a t char behind =
+    if is_replaceable char && nat_lt behind t then Some (unzoned_down chars a behind) else None
 
 -- what place i takes
 abbrev pub taken_by : List ℕ → List ℕ → ℕ → Option ℕ

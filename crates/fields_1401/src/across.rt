@@ -1,6 +1,6 @@
 //! Fields read from left to right.
 ghost use Rattle.std.specs.Prelude.{◌≡◌, ◌+◌, ◌<◌, ◌≤◌, length, slice_index};
-ghost use Rattle.fields_1401.specs.Across.{chars_across, units_unzoned};
+ghost use Rattle.fields_1401.specs.Across.{chars_across, units_unzoned, unzoned_down};
 
 use bcd_1401::Char;
 use core_1401::Core;
@@ -27,4 +27,15 @@ pub(crate) fn unzoned_char(core: &Core, at: u16, n: u16, i: u16) -> Char
 {
     let char = core.get(at - (n - 1 - i)).char;
     if i + 1 == n { char.with_zone(0) } else { char }
+}
+
+/// The character of place i, counted from the units at an address: the units without their zone.
+#[inline(always)]
+pub(crate) fn unzoned_down(chars: &[Char], at: u16, i: u16) -> Char
+    requires at { at < length chars.now }
+    requires i { i ≤ at }
+    ensures { result ≡ unzoned_down chars.now at i }
+{
+    let char = chars[usize::from(at - i)];
+    if i == 0 { char.with_zone(0) } else { char }
 }

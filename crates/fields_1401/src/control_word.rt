@@ -4,11 +4,11 @@ ghost use Rattle.std.specs.Prelude.{IfSome};
 ghost use Rattle.core_1401.specs.Address.{addresses};
 ghost use Rattle.core_1401.specs.Field.{field_len_of};
 ghost use Rattle.fields_1401.specs.Across.{chars_across, units_unzoned};
-ghost use Rattle.fields_1401.specs.Edit.{is_replaceable, replaceable_in, taken_from, is_significant};
+ghost use Rattle.fields_1401.specs.Edit.{is_replaceable, replaceable_in, taken_from, taken_down, is_significant};
 ghost use Rattle.fields_1401.specs.Edit.{before_significant, limit_of, taken_at, is_shared, edit_lengths_at};
 ghost use Rattle.fields_1401.specs.Refusal.{used_len_of};
 
-use crate::across::{char_across, unzoned_char};
+use crate::across::{char_across, unzoned_down};
 use crate::done::FieldStop;
 use crate::lengths::field_len;
 use crate::operands::used_len;
@@ -32,6 +32,7 @@ pub(crate) struct ControlWord {
     pub(crate) replaceable: u16,
     ghost a_range: { a < addresses },
     ghost b_range: { b < addresses },
+    ghost some: { 0 < len },
     ghost fewer: { taken ≤ replaceable },
     ghost within: { replaceable ≤ len },
     ghost a_above: { taken ≤ a + 1 },
@@ -84,8 +85,17 @@ impl ControlWord {
         requires { self.a < length core.now }
         ensures { result ≡ taken_from (units_unzoned (chars_across core.now self.a self.taken)) own behind }
     {
+        self.takes_of(core.chars(), own, behind)
+    }
+
+    /// The same of the characters by address.
+    #[inline(always)]
+    pub(crate) fn takes_of(self, chars: &[Char], own: Char, behind: u16) -> Option<Char>
+        requires { self.a < length chars.now }
+        ensures { result ≡ taken_down chars.now self.a self.taken own behind }
+    {
         if is_replaceable(own) && behind < self.taken {
-            Some(unzoned_char(core, self.a, self.taken, self.taken - 1 - behind))
+            Some(unzoned_down(chars, self.a, behind))
         } else {
             None
         }

@@ -2,19 +2,21 @@
 ghost use Rattle.std.specs.Prelude.{◌≡◌, ◌+◌, ◌<◌, length, min, nat_lt, IfSome, OnOk};
 ghost use Rattle.core_1401.specs.Address.{addresses};
 ghost use Rattle.core_1401.specs.Field.{field_len_of};
-ghost use Rattle.fields_1401.specs.Across.{chars_across, units_unzoned, with_across, IsUnmarked, IsSameOutside};
+ghost use Rattle.fields_1401.specs.Across.{chars_across, units_unzoned, with_across, char_to, IsUnmarked};
+ghost use Rattle.fields_1401.specs.Across.{IsSameOutside};
 ghost use Rattle.fields_1401.specs.Edit.{replaceable_in, before_significant, limit_of, is_left_over, is_comma_blanked};
 ghost use Rattle.fields_1401.specs.Edit.{is_sign_char, is_sign_blanked, is_blanked, taken_char, kept_char, shown};
 ghost use Rattle.fields_1401.specs.Edit.{edited, sign_at, taken_at, edit_at, IsPlain, ShowsWithBlanks};
 ghost use Rattle.fields_1401.specs.Outcome.{CarriesOut};
+ghost use Rattle.fields_1401.specs.Places.{with_chars};
 
 use crate::control_word::{ControlWord, is_replaceable};
 use crate::done::{Done, FieldStop};
-use crate::places::put_cell;
 use crate::registers::{below, registers};
 use crate::sign::Sign;
+use crate::slices::{char_at, put_char};
 use crate::suppression::{COMMA, ZERO};
-use bcd_1401::{Cell, Char};
+use bcd_1401::Char;
 use core_1401::Core;
 
 /// The code of an ampersand.
@@ -100,15 +102,38 @@ fn put_edited(core: &mut Core, word: ControlWord, rules: Rules)
         core.new ≡ with_across core.old word.b (edited control digits (sign_at core.old word.a)) }
     ensures size { length core.new ≡ length core.old }
 {
+    put_shown(core, word, rules);
+    core.clear_marks(word.b, word.len);
+}
+
+/// Puts what each place shows. Word marks stay.
+#[inline(always)]
+fn put_shown(core: &mut Core, word: ControlWord, rules: Rules)
+    requires a { word.a < length core.old }
+    requires b { word.b < length core.old }
+    requires taken { rules.taken ≡ word.taken }
+    requires replaceable { rules.replaceable ≡ replaceable_in (chars_across core.old word.b word.len) }
+    requires sign { rules.sign ≡ sign_at core.old word.a }
+    requires suppressing { let control = chars_across core.old word.b word.len in
+        let digits = units_unzoned (chars_across core.old word.a word.taken) in
+        rules.suppressing ≡ min (before_significant control digits) (limit_of control) }
+    ensures put { let control = chars_across core.old word.b word.len in
+        let digits = units_unzoned (chars_across core.old word.a word.taken) in
+        let shown = edited control digits (sign_at core.old word.a) in
+        core.new ≡ with_chars core.old word.b word.len (char_to shown) }
+    ensures size { length core.new ≡ length core.old }
+{
+    let chars = core.chars_mut();
     let mut behind = 0;
     for i in 0..word.len {
-        let own = core.get(word.b - i).char;
+        let at = usize::from(word.b - i);
+        let own = char_at(chars, at);
         let spot = Spot {
             place: word.len - 1 - i,
             behind,
         };
-        let char = rules.shown(spot, word.takes(core, own, behind), own);
-        put_cell(core, word.b - i, Cell { char, mark: false });
+        let char = rules.shown(spot, word.takes_of(chars, own, behind), own);
+        put_char(chars, at, char);
         if is_replaceable(own) {
             behind += 1;
         }

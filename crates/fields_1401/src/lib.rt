@@ -11,6 +11,7 @@
 
 mod across;
 pub mod arithmetic;
+mod columns;
 pub mod comparison;
 mod control_word;
 mod digits;
@@ -23,10 +24,10 @@ pub mod marks;
 pub mod moves;
 mod operands;
 pub mod parts;
-mod places;
 mod refusals;
 pub mod registers;
 pub mod sign;
+mod slices;
 pub mod suppression;
 mod unlike_signs;
 pub mod zero_sums;

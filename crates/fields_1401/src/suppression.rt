@@ -2,18 +2,20 @@
 ghost use Rattle.std.specs.Prelude.{◌≡◌, ◌+◌, ◌<◌, ◌≤◌, false, IfSome, OnOk, length};
 ghost use Rattle.core_1401.specs.Address.{addresses};
 ghost use Rattle.core_1401.specs.Field.{field_len_of};
-ghost use Rattle.fields_1401.specs.Across.{chars_across, units_unzoned, with_across, IsUnmarked, IsSameOutside};
+ghost use Rattle.fields_1401.specs.Across.{chars_across, units_unzoned, with_across, char_to, IsUnmarked};
+ghost use Rattle.fields_1401.specs.Across.{IsSameOutside};
 ghost use Rattle.fields_1401.specs.Outcome.{CarriesOut};
+ghost use Rattle.fields_1401.specs.Places.{with_chars};
 ghost use Rattle.fields_1401.specs.Refusal.{is_overlap};
 ghost use Rattle.fields_1401.specs.Suppress.{is_figure, before_figures, suppressed, suppress_at};
 
-use crate::across::unzoned_char;
+use crate::across::{unzoned_char, unzoned_down};
 use crate::done::{Done, FieldStop};
 use crate::lengths::field_len;
-use crate::places::put_cell;
 use crate::refusals::{has_places, is_overlap};
 use crate::registers::{below, registers};
-use bcd_1401::{Cell, Char};
+use crate::slices::put_char;
+use bcd_1401::Char;
 use core_1401::{ADDRESSES, Core};
 
 /// The code of a zero.
@@ -85,6 +87,7 @@ fn before_figures(core: &Core, at: u16, n: u16) -> u16
 fn put_suppressed(core: &mut Core, a: u16, b: u16, n: u16, blanks: u16)
     requires a_in { a < length core.old }
     requires b_in { b < length core.old }
+    requires some { 0 < n }
     requires a_places { n ≤ a + 1 }
     requires b_places { n ≤ b + 1 }
     requires apart { is_overlap a n b n ≡ false }
@@ -92,12 +95,31 @@ fn put_suppressed(core: &mut Core, a: u16, b: u16, n: u16, blanks: u16)
     ensures put { core.new ≡ with_across core.old b (suppressed (units_unzoned (chars_across core.old a n))) }
     ensures size { length core.new ≡ length core.old }
 {
+    put_figures(core, a, b, n, blanks);
+    core.clear_marks(b, n);
+}
+
+/// Puts the n characters of the A field, the units without their zone, to b and the places below it, with that many
+/// blanks on the left. Word marks stay.
+#[inline(always)]
+fn put_figures(core: &mut Core, a: u16, b: u16, n: u16, blanks: u16)
+    requires a_in { a < length core.old }
+    requires b_in { b < length core.old }
+    requires a_places { n ≤ a + 1 }
+    requires b_places { n ≤ b + 1 }
+    requires apart { is_overlap a n b n ≡ false }
+    requires blanks { blanks ≡ before_figures (units_unzoned (chars_across core.old a n)) }
+    ensures put { let shown = suppressed (units_unzoned (chars_across core.old a n)) in
+        core.new ≡ with_chars core.old b n (char_to shown) }
+    ensures size { length core.new ≡ length core.old }
+{
+    let chars = core.chars_mut();
     for i in 0..n {
         let char = if n - i <= blanks {
             Char::BLANK
         } else {
-            unzoned_char(core, a, n, n - 1 - i)
+            unzoned_down(chars, a, i)
         };
-        put_cell(core, b - i, Cell { char, mark: false });
+        put_char(chars, usize::from(b - i), char);
     }
 }

@@ -1,0 +1,103 @@
+-- Each step writes one place more; what it reads of A and of the control word is as it was.
+use Rattle.std.proofs.Common.{◌≡◌, ◌-◌, length, get_or, set, drop, sym, ◌∙◌, ap, inl, inr, arith}
+use Rattle.std.proofs.lemmas.List.{length-set, drop_all}
+use Rattle.std.specs.List.{count_by}
+use Rattle.std.specs.Prelude.{nat_lt}
+use Rattle.core_1401.specs.Storage.{Storage, cell_at, with_char}
+use Rattle.fields_1401.specs.declared.sign.Sign.{Sign}
+use Rattle.fields_1401.specs.Across.{chars_across, units_unzoned, char_to}
+use Rattle.fields_1401.specs.Edit.{is_replaceable, replaceable_behind, before_significant, limit_of}
+use Rattle.fields_1401.specs.Edit.{is_suppressed, edited, sign_at}
+use Rattle.fields_1401.specs.Places.{with_chars, with_all_chars}
+use Rattle.fields_1401.proofs.AcrossLemmas.{length-across, char_across, length-unzoned_across}
+use Rattle.fields_1401.proofs.EditLemmas.{left_of_both, not_shared, length-edited, shown_place, replaceable_more}
+use Rattle.fields_1401.proofs.EditLemmas.{taken_down_is}
+use Rattle.fields_1401.proofs.LendingLemmas.{lent_at_first, length-chars_of, still_lent, lent-set}
+use Rattle.fields_1401.proofs.LendingLemmas.{length-with_all_chars}
+use Rattle.fields_1401.proofs.PlacesLemmas.{is_within-below, with_chars_none, with_chars_more}
+use Rattle.fields_1401.proofs.editing.put_shown.Goals as goal
+use Rattle.fields_1401.proofs.editing.put_shown.Goals.{then-is_replaceable, else-is_replaceable}
+
+pub loop-i-init : goal.loop-i-init
+loop-i-init c =
+    let o = c.args.word in
+    let control = chars_across c.args.core.now o.b o.len in
+    let size = length-across c.args.core.now o.b o.len c.requires.b o.b_above in record {
+      put = lent_at_first c.args.core.now c.chars_mut-chars.result.now c.chars_mut-chars.ensures.value
+          ∙ with_chars_none c.args.core.now o.b _;
+      behind = sym (ap (count_by is_replaceable) (drop_all (o.len - 0) control (omega arith)));
+      bound = omega arith;
+      size = ap length c.chars_mut-chars.ensures.value ∙ length-chars_of c.args.core.now;
+    }
+
+pub loop-i-preserved : goal.loop-i-preserved
+loop-i-preserved c =
+    let old = c.args.core.now in
+    let chars = c.loop-i.chars in
+    let o = c.args.word in
+    let a = o.a in
+    let b = o.b in
+    let t = o.taken in
+    let m = o.len in
+    let a_in = c.requires.a in
+    let b_in = c.requires.b in
+    let b_above = o.b_above in
+    let a_above = o.a_above in
+    let i = c.loop-i.i in
+    let j = m - 1 - i in
+    let control = chars_across old b m in
+    let digits = units_unzoned (chars_across old a t) in
+    let sign = c.args.rules.sign in
+    let size : length control ≡ m = length-across old b m b_in b_above in
+    let kept = char_to (edited control digits (sign_at old a)) in
+    let held = c.loop-i.invariant.size in
+    let place : c.from-at.result ≡ b - i = c.from-at.ensures in
+    let e_size = length-edited control digits (sign_at old a) in
+    let put = c.loop-i.invariant.put in
+    let own : c.char_at-own.result ≡ get_or control j 0 =
+    c.char_at-own.ensures ∙ ap (λ q. get_or chars q 0) place
+    ∙ still_lent old chars b i (b - i) kept held put (omega arith) (is_within-below b i (b - i) (omega arith))
+    ∙ ap (λ q. (cell_at old q).char) (omega arith) ∙ sym (char_across old b m j b_in b_above (omega arith)) in
+    let behind : c.loop-i.behind ≡ replaceable_behind control j = c.loop-i.invariant.behind
+    ∙ ap (λ k. count_by is_replaceable (drop k control)) (omega arith) in
+    let suppressed : nat_lt j c.args.rules.suppressing ≡ is_suppressed control digits j =
+    ap (nat_lt j) c.requires.suppressing ∙ left_of_both j (before_significant control digits) (limit_of control) in
+    let taken = c.takes_of.ensures ∙ taken_down_is old chars a t c.char_at-own.result c.loop-i.behind a_in a_above
+    (λ k lt. still_lent old chars b i (a - k) kept held put (omega arith)
+    (not_shared a t b m i k o.apart a_above lt (omega arith))) in
+    let shows : c.shown-char.result
+    ≡ get_or (edited control digits (sign_at old a)) (length (edited control digits (sign_at old a)) - 1 - i) 0 =
+    c.shown-char.ensures
+    ∙ shown_place control digits sign j c.args.rules.taken c.args.rules.replaceable c.loop-i.behind
+    (nat_lt j c.args.rules.suppressing) c.takes_of.result c.char_at-own.result (omega arith)
+    (c.requires.taken
+    ∙ sym (length-unzoned_across old a t a_in a_above)) c.requires.replaceable behind suppressed taken own
+    ∙ ap (λ (s : Sign). get_or (edited control digits s) j 0) c.requires.sign
+    ∙ ap (λ k. get_or (edited control digits (sign_at old a)) k 0) (omega arith) in
+    let more =
+    replaceable_more control j c.char_at-own.result c.loop-i.behind c.if-is_replaceable.behind
+    (omega arith) own behind (elim c.if-is_replaceable.branch [
+      | then-is_replaceable w ↦ inl (sym c.is_replaceable.ensures ∙ w.if-is_replaceable.true, w.behind-is)
+      | else-is_replaceable w ↦ inr (sym c.is_replaceable.ensures ∙ w.if-is_replaceable.false, w.behind-is)
+    ]) in
+    record {
+      put =
+          ap (with_all_chars old) c.put_char.ensures
+          ∙ ap (λ q. with_all_chars old (set chars q c.shown-char.result)) place
+          ∙ lent-set old chars (b - i) c.shown-char.result (omega arith) held
+          ∙ ap (λ (s : Storage). with_char s (b - i) c.shown-char.result) put
+          ∙ ap (λ k. with_char (with_chars old b i kept) (b - i) k) shows
+          ∙ with_chars_more old b i kept b_in (omega arith);
+      behind = more ∙ ap (λ k. count_by is_replaceable (drop k control)) (omega arith);
+      bound =
+          elim c.if-is_replaceable.branch [ then-is_replaceable w ↦ omega arith | else-is_replaceable w ↦ omega arith ];
+      size = ap length c.put_char.ensures ∙ length-set chars c.from-at.result _ ∙ held;
+    }
+
+pub returns-clause-put : goal.returns-clause-put
+returns-clause-put c =
+    let last : c.loop-i.i ≡ c.args.word.len = omega arith in
+    rw last at c.loop-i.invariant.put
+
+pub returns-clause-size : goal.returns-clause-size
+returns-clause-size c = length-with_all_chars c.args.core.now c.loop-i.chars
