@@ -27,12 +27,6 @@ next_left lines i d sources text behind inside left first =
     sym split ∙ left ∙ ap (map line_of) first in
     (cc, cc)
 
--- what is put in two turns
-pub put_in_turn : (before between after first : List (List ℕ)) (line : List ℕ) → between ≡ before ++ first
-    → after ≡ between ++ line ∷ [] → after ≡ before ++ (first ++ line ∷ [])
-put_in_turn before between after first line one two =
-    two ∙ ap (λ texts. texts ++ line ∷ []) one ∙ append_assoc before first (line ∷ [])
-
 -- with one line more, what is listed and what is left to list is the whole listing
 pub next_listed : (all here next : Places) (lines : List Line) (i : ℕ) (d : Line) (sources text behind : List ℕ)
     (later : List Line) (listing after whole : List (List ℕ))

@@ -258,7 +258,6 @@ impl Placing {
     }
 
     /// Adds the lines for a line of the source here, with these lines behind it, and places it.
-    #[tactic(auto, using(crate::proofs::ListingLemmas::put_in_turn))]
     fn list_line(
         &mut self,
         alloc: Global,
