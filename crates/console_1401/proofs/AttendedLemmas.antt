@@ -252,7 +252,10 @@ attended_at_seat size before (said ∷ lines) written after a =
       stand =
           subst (λ (now : List (Command × Answer)). Stand size before.number before.list now after.list)
           (sym carried) (front.stand rest beyond);
-      each = (front.reply grows few, all_from size before.list middle.list after.list more.replied front.grows more.each);
+      each = (
+        front.reply grows few,
+        all_from size before.list middle.list after.list more.replied front.grows more.each,
+      );
     }
 
 number_by_end : (size : ℕ) (last : SessionEnd) (left : Option (List ℕ)) (before : Knows) (read written : List ℕ)

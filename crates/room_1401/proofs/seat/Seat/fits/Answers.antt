@@ -10,7 +10,8 @@ returns g c _ =
     let seat = c.self.inside in
     let front = c.args.front.now in
     let both = c.longer-both.ensures in
-    let le : length seat.front ≤ length front = omega (arith, c.len.ensures.value, c.len-2.ensures.value, c.if-len.false) in
+    let le : length seat.front ≤ length front =
+    omega (arith, c.len.ensures.value, c.len-2.ensures.value, c.if-len.false) in
     let fits = fit_list seat.number seat.made seat.front front c.longer-both.result c.self.invariant.3 le both.this
     both.that in
     subst (λ (k : Knows). IsPrefix k.list front × (k.made ≤ own k.number front)) c.self.view_is fits
