@@ -1,0 +1,175 @@
+"""Lines, cards, images and sources of chance: whatever comes, each answer is one of those that there are.
+
+Half of what is given is a damaged copy of an example. One seed is always the same, and one is drawn anew each time and
+printed: CHANCE_SEED=n ./check --program tries that one again."""
+import os
+import random
+import re
+import socket
+import struct
+import tempfile
+
+from checks.report import PROGRAM, SECONDS, TOP, run, tell
+from checks.service import Service
+
+GRAPHICS = " 1234567890#@:>(^/STUVWXYZ',%=\\+-JKLMNOPQR!$*];_&ABCDEFGHI?.)[<\""
+ONE = f"[{re.escape(GRAPHICS)}]"
+STOPS = "LIMIT HALT READER FORMS STACKER NOMARK OPCODE LENGTH ADDRESS OVERLAP CARRIAGE NOTFITTED DCHAR".split()
+REFUSED = "ADDRESS HOPPER READER EMPTY LIMIT COUNT".split()
+ERRORS = "WORD NUMBER GRAPHIC LENGTH EXTRA".split()
+KINDS = "MEMORY|LONG LINE|GRAPHIC|LABEL|DOUBLE LABEL|OPERATION|UNDEFINED|OPERAND|OUT OF CORE|NO END|AFTER END".split("|")
+IMAGES = "MEMORY HEADER RECORD RANGE TRUNCATED".split()
+
+
+def numbered(names, digits=1):
+    """The names with their numbers in front, as a pattern."""
+    return "|".join(f"{number:0{digits}} {name}" for number, name in enumerate(names, 1))
+
+
+REPLY = re.compile(
+    rf"OK|BYE|(?:~?{ONE}){{1,40}}|AFTER \d{{1,6}} ~?{ONE}|GLANCE FAULT 1 RANGE"
+    r"|I=\d{5} A=\d{5} B=\d{5} UNEQUAL=[01] LOW=[01] HIGH=[01] OVERFLOW=[01] SWITCHES=[A-G-]{7}"
+    r" HOPPER=\d{3} STACKER=\d{3} PAPER=\d{3} FORM=\d{4} LINE=\d\d"
+    rf"|STOP (?:{numbered(STOPS, 2)}) STEPS \d{{1,7}} I \d{{5}}|LINE \d{{4}} \d\d (?:{ONE}{{0,132}})|CARD {ONE}{{0,80}}"
+    rf"|REFUSED (?:{numbered(REFUSED)})|ERROR (?:{numbered(ERRORS)})|FAULT 2 JOURNAL FULL"
+)
+IMAGE = re.compile(rf"IMAGE2 \d{{5}}\n(?:\d{{5}} \d\d (?:~?{ONE}){{1,40}}\n)*END \d{{5}}\n")
+WORDS = [
+    b"DEPOSIT", b"EXAMINE", b"REGS", b"START", b"SWITCH", b"FEED", b"LOAD", b"RUN", b"LINE", b"CARD", b"GLANCE", b"QUIT ",
+    b"ON", b"OFF", b"A", b"G", b"0", b"1", b"40", b"41", b"500", b"3999", b"4000", b"15999", b"16000", b"1000", b"9999999",
+    b"00000001", b"~A", b"~.", b"~M500600~.", b"~", b"", b"\r", b"\t", b"\0", b"\xff", b"~,008015~2~.", b" ",
+]
+
+
+def damaged(chance, text):
+    """A copy of a text with some bytes changed, taken out, doubled or moved."""
+    text = bytearray(text)
+    for _ in range(chance.randint(1, 6)):
+        at = chance.randrange(len(text) + 1)
+        end = min(len(text), at + chance.choice([1, 1, 2, 10, 60]))
+        kind = chance.randrange(4)
+        if kind == 0 and at < len(text):
+            text[at] = chance.choice([chance.randrange(256), 10, 32, 126, ord(chance.choice(GRAPHICS))])
+        elif kind == 1:
+            del text[at:end]
+        elif kind == 2:
+            text[at:at] = text[at:end]
+        else:
+            text[at:at] = bytes(chance.choice([chance.randrange(256), 32, 48, 126]) for _ in range(chance.randint(1, 90)))
+    return bytes(text)
+
+
+def lines_of_chance(chance):
+    """Lines made of words of the console, of bytes, or of an example's lines."""
+    if chance.random() < 0.5:
+        return damaged(chance, chance.choice(sorted((TOP / "examples").glob("*.console"))).read_bytes())
+    lines = []
+    for _ in range(chance.randint(0, 60)):
+        words = [chance.choice(WORDS) for _ in range(chance.randint(0, 4))]
+        lines.append(chance.choice([b" ", b" ", b"  "]).join(words))
+    return b"\n".join(lines) + chance.choice([b"\n", b"", b"\r\n"])
+
+
+def answered(lines):
+    """How many replies these lines have: one for each that isn't empty, up to QUIT."""
+    count = 0
+    for line in lines.split(b"\n")[:-1]:
+        line = line[:-1] if line.endswith(b"\r") else line
+        count += len(line) > 200 or line.strip(b" ") != b""
+        if len(line) <= 200 and line.strip(b" ") == b"QUIT":
+            return count
+    return count + (lines.split(b"\n")[-1].strip(b" ") != b"" or len(lines.split(b"\n")[-1]) > 200)
+
+
+def unlike(replies):
+    """The first line that is no reply, if there is one."""
+    return next((repr(line) for line in replies.decode("latin-1").split("\n")[:-1] if not REPLY.fullmatch(line)), "")
+
+
+def session(chance):
+    """A session with lines of chance."""
+    lines = lines_of_chance(chance)
+    ran = run([PROGRAM, "console", "--size", chance.choice(["1400", "2000", "4000"])], lines)
+    if (ran.returncode, ran.stderr) != (0, b"") or ran.stdout.count(b"\n") != answered(lines):
+        return f"{lines!r}: status {ran.returncode}, {ran.stderr!r}, {ran.stdout!r}"
+    return f"{lines!r}: {unlike(ran.stdout)}" if unlike(ran.stdout) else ""
+
+
+def image(chance, file):
+    """A session with an image of chance."""
+    text = chance.choice(sorted((TOP / "examples").glob("*.image"))).read_bytes()
+    text = damaged(chance, text) if chance.random() < 0.9 else chance.randbytes(chance.randrange(100))
+    file.write_bytes(text)
+    ran = run([PROGRAM, "load", file], b"REGS\nQUIT\n")
+    fault = rf"ibm1401: image refused: (?:{numbered(IMAGES)})\n"
+    is_refused = ran.returncode == 1 and not ran.stdout and re.fullmatch(fault, ran.stderr.decode())
+    is_loaded = (ran.returncode, ran.stderr, ran.stdout.count(b"\n"), unlike(ran.stdout)) == (0, b"", 2, "")
+    return "" if is_refused or is_loaded else f"{text!r}: status {ran.returncode}, {ran.stderr!r}, {ran.stdout!r}"
+
+
+def source(chance, file):
+    """An assembly of a source of chance."""
+    text = chance.choice(sorted((TOP / "examples").glob("*.source"))).read_bytes()
+    text = damaged(chance, text) if chance.random() < 0.9 else chance.randbytes(chance.randrange(200))
+    file.write_bytes(text)
+    ran = run([PROGRAM, "assemble", file])
+    told = re.fullmatch(rf"ibm1401: line (\d+): (?:{numbered(KINDS)})\n", ran.stderr.decode())
+    is_refused = ran.returncode == 1 and not ran.stdout and told and 1 <= int(told[1]) <= text.count(b"\n") + 2
+    is_written = (ran.returncode, ran.stderr) == (0, b"") and IMAGE.fullmatch(ran.stdout.decode("latin-1"))
+    return "" if is_refused or is_written else f"{text!r}: status {ran.returncode}, {ran.stderr!r}, {ran.stdout!r}"
+
+
+def operator(chance, console):
+    """What an operator of chance does to a connection before leaving it, and what is wrong with what came back."""
+    replies = b""
+    try:
+        console.sendall(lines_of_chance(chance).replace(b"RUN 9999999", b"RUN 9"))
+        kind = chance.randrange(4)
+        if kind == 0:
+            console.setsockopt(socket.SOL_SOCKET, socket.SO_LINGER, struct.pack("ii", 1, 0))
+        elif kind == 1:
+            console.shutdown(socket.SHUT_WR)
+        else:
+            console.sendall(b"\nQUIT\n" if kind == 2 else b"\nREGS")
+            console.shutdown(socket.SHUT_WR)
+        while kind != 0 and (more := console.recv(1 << 16)):
+            replies += more
+    except OSError:
+        pass
+    console.close()
+    return unlike(replies)
+
+
+def room(chance):
+    """A room whose operators do as chance has it. One that keeps to its lines is answered beside them."""
+    service, wrong = Service(4), []
+    steady = service.console()
+    others = [service.console() for _ in range(3)]
+    steady.sendall(b"EXAMINE 3990\n" * 20)
+    for console in others:
+        wrong.append(operator(chance, console))
+    steady.sendall(b"QUIT\n")
+    replies = b""
+    while more := steady.recv(1 << 16):
+        replies += more
+    output, error = service.process.communicate(timeout=SECONDS)
+    ended = (service.process.returncode, error) == (0, b"") and re.fullmatch(rb"JOURNAL \d+\n", output)
+    wrong += [] if replies.count(b"\n") == 21 and replies.endswith(b"BYE\n") else [repr(replies)]
+    wrong += [] if ended and int(output.split()[1]) >= 20 else [f"{service.process.returncode} {output} {error}"]
+    return "; ".join(each for each in wrong if each)
+
+
+def chance():
+    """What chance brings, for a seed that stays and for another one each time."""
+    for seed in 1401, int(os.environ.get("CHANCE_SEED", random.SystemRandom().randrange(1 << 32))):
+        given = random.Random(seed)
+        with tempfile.TemporaryDirectory() as folder:
+            file = TOP.__class__(folder) / "a file"
+            for name, times, attempt in [
+                ("sessions", 250, lambda: session(given)),
+                ("images", 150, lambda: image(given, file)),
+                ("sources", 150, lambda: source(given, file)),
+                ("rooms", 12, lambda: room(given)),
+            ]:
+                wrong = next(filter(None, (attempt() for _ in range(times))), "")
+                tell(f"{times} {name} of chance, seed {seed}", wrong)

@@ -1,0 +1,185 @@
+"""Each growth of memory refused in turn: the program runs once for each growth that it asks for, with that one refused.
+
+A small library stands in front of the C library's and refuses; it is built by cc, and without one nothing is tried. No
+run may do anything but what a run without a refusal does, up to a named end or with the one command refused."""
+import os
+import shutil
+import subprocess
+import tempfile
+from functools import cache
+from pathlib import Path
+
+from checks.report import PROGRAM, SECONDS, TOP, difference, run, tell
+from checks.service import Service, say
+
+MEMORY = b"ibm1401: memory refused\n"
+THREAD = b"ibm1401: thread refused\n"
+MOST_GROWTHS = 10_000
+LINES = [
+    b"DEPOSIT 0500 ~K\n", b"EXAMINE 0500\n", b"HELLO\n", b"DEPOSIT 0600 ~A500500~.\n", b"START 0600\n", b"GLANCE 0500\n",
+    b"RUN 1\n", b"REGS\n", b"FEED CARD\n", b"EXAMINE 0500 3\n", b"DEPOSIT 0700 ~2700\n", b"LINE\n", b"EXAMINE 0500\n",
+]
+
+
+class Refusing:
+    """Runs of the program with one growth refused."""
+
+    def __init__(self, folder):
+        self.library, self.mark = folder / "refuse_growth.so", folder / "refused"
+        source = TOP / "checks/refuse_growth.c"
+        subprocess.run(["cc", "-shared", "-fPIC", "-O2", "-o", self.library, source, "-ldl"], check=True)
+
+    def how(self, number):
+        """How a process is started in which the growth of this number is refused."""
+        self.mark.unlink(missing_ok=True)
+        asked = {"LD_PRELOAD": str(self.library), "REFUSED_FILE": str(self.mark), "REFUSED_GROWTH": str(number)}
+        return {"env": {**os.environ, **asked}}
+
+    def each(self, name, attempt, ends):
+        """Makes an attempt for each growth until one meets no refusal. An attempt gives the end that it came to, or what
+        is wrong; each of these ends is to be met."""
+        met, wrong, number = {}, [], 0
+        while number < MOST_GROWTHS and not wrong:
+            number += 1
+            end, fault = attempt(self.how(number))
+            wrong += [f"growth {number}: {fault}"] if fault else []
+            if not self.mark.exists():
+                break
+            met[end] = met.get(end, 0) + 1
+        if not wrong:
+            wrong += [f"none ended so: {end}" for end in ends if end not in met]
+            wrong += [f"{number} runs, and more growths"] if number == MOST_GROWTHS else []
+        said = ", ".join(f"{count} {end}" for end, count in met.items())
+        tell(f"{name}, each of {number - 1} growths refused ({said})", "; ".join(wrong))
+        return number
+
+
+@cache
+def replies(lines):
+    """The replies to these lines at a new machine with ample memory."""
+    return run([PROGRAM, "console"], b"".join(lines)).stdout.splitlines(keepends=True)
+
+
+def without(lines, place):
+    """The replies where the command at this place is refused for memory: the others are those without it."""
+    rest = replies((*lines[:place], *lines[place + 1 :]))
+    return [*rest[:place], b"FAULT 1 MEMORY\n", *rest[place:]]
+
+
+def session_end(lines, ran, before):
+    """How a session ended in which one growth was refused, or what is wrong with it."""
+    if ran.returncode == 1 and not ran.stdout and ran.stderr in before:
+        return "before the session", ""
+    whole = replies(lines)
+    told = ran.stdout.splitlines(keepends=True)
+    if ran.returncode == 1 and ran.stderr == b"ibm1401: session ended: MEMORY\n":
+        return "at a reply", "" if told == whole[: len(told)] and len(told) < len(whole) else f"{told}"
+    if ran.returncode == 0 and not ran.stderr and b"FAULT 1 MEMORY\n" in told:
+        place = told.index(b"FAULT 1 MEMORY\n")
+        return "at the journal", "" if told == without(lines, place) else f"{told}"
+    return "without an effect", "" if (ran.returncode, told, ran.stderr) == (0, whole, b"") else f"{ran}"
+
+
+def written_end(ran, whole, faults):
+    """How a call that writes one text ended."""
+    if ran.returncode == 1 and not ran.stdout and ran.stderr in faults:
+        return ran.stderr.decode().split(": ", 1)[1].strip(), ""
+    return "without an effect", "" if (ran.returncode, ran.stdout, ran.stderr) == (0, whole, b"") else f"{ran}"
+
+
+def sessions(refusing):
+    """A session, of a new machine and with an image loaded."""
+    lines = (*LINES, b"QUIT\n")
+    ends = ["before the session", "at the journal", "at a reply"]
+
+    def console(how):
+        return session_end(lines, run([PROGRAM, "console"], b"".join(lines), **how), [MEMORY])
+
+    number = refusing.each("console", console, ends)
+    # An image that deposits what the first lines of another session deposit.
+    loaded = (b"DEPOSIT 0400 ~HI\n", b"START 0400\n")
+    after = (b"EXAMINE 0400 2\n", b"REGS\n", b"QUIT\n")
+    with tempfile.NamedTemporaryFile() as image:
+        image.write(b"IMAGE1 4000\n0400 02 ~HI\nEND 0400\n")
+        image.flush()
+
+        def load(how):
+            ran = run([PROGRAM, "load", image.name], b"".join(after), **how)
+            ran.stdout = b"OK\nOK\n" + ran.stdout if ran.stdout or ran.returncode == 0 else ran.stdout
+            if ran.stderr == b"ibm1401: session ended: MEMORY\n" and not ran.stdout:
+                ran.stdout = b"OK\nOK\n"
+            return session_end((*loaded, *after), ran, [MEMORY, b"ibm1401: image refused: 1 MEMORY\n"])
+
+        return number + refusing.each("load", load, ["before the session", "at a reply"])
+
+
+def texts(refusing):
+    """The image and the listing of a source."""
+    source, number = TOP / "examples/five_and_five.source", 0
+    faults = [MEMORY, b"ibm1401: line 0: 1 MEMORY\n"]
+    for words, suffix in ([], ".image"), (["--list"], ".listing"):
+        whole = source.with_suffix(suffix).read_bytes()
+
+        def assemble(how, words=words, whole=whole):
+            return written_end(run([PROGRAM, "assemble", *words, source], **how), whole, faults)
+
+        number += refusing.each(f"assemble {' '.join(words)}", assemble, ["memory refused", "line 0: 1 MEMORY"])
+    return number
+
+
+def served_end(how):
+    """How a room of two consoles ended, whose lines come in turn and in which one growth was refused."""
+    service, told, consoles, gone = Service(2, **how), [], [], set()
+    try:
+        consoles += [service.console() for _ in range(2)] if service.first == b"READY\n" else []
+    except ConnectionRefusedError:
+        pass
+    if len(consoles) == 2:
+        for place, line in enumerate((*LINES, b"QUIT\n", b"QUIT\n")):
+            seat = place % 2
+            if seat not in gone:
+                said = say(consoles[seat], line)
+                reply = said if said.endswith(b"\n") else b""
+                told.append((seat, line, reply))
+                gone |= {seat} if reply in (b"", b"BYE\n") else set()
+    for console in consoles:
+        console.close()
+    output, error = service.process.communicate(timeout=SECONDS)
+    output, status = service.first + output, service.process.returncode
+    if told:
+        return served_outcome(told, status, output, error)
+    if service.first == b"READY\n":
+        is_so = (status, output, error) == (1, b"READY\nJOURNAL 0\n", THREAD)
+        return "before a console", "" if is_so else f"{status} {output} {error}"
+    is_so = (status, output) == (1, b"") and error in (MEMORY, b"ibm1401: no reader\n")
+    return "before READY", "" if is_so else f"{status} {output} {error}"
+
+
+def served_outcome(told, status, output, error):
+    """What became of a room that was opened. Its consoles are told what one console is told that gives the commands which
+    were carried out, but for the one that was refused; and the journal has these commands."""
+    is_unserved = (status, error) == (1, THREAD)
+    served = {seat for seat, _, reply in told if reply} if is_unserved else {0, 1}
+    kept = [each for each in told if each[0] in served and each[2] != b"FAULT 1 MEMORY\n" and each[1] != b"QUIT\n"]
+    wanted = replies(tuple(line for _, line, _ in kept))
+    wrong = [f"{line}: {reply}, not {want}" for (_, line, reply), want in zip(kept, wanted, strict=True) if reply not in (want, b"")]
+    lost = [line for seat, line, reply in told if not reply and seat in served]
+    refused = [line for _, line, reply in told if reply == b"FAULT 1 MEMORY\n"]
+    wrong += [f"no reply to {lost}, and {refused} refused"] if len(lost) + len(refused) > 1 else []
+    commands = [line for _, line, _ in kept if line.split()[0] not in (b"HELLO", b"GLANCE")]
+    wrong += difference("standard output", output, f"READY\nJOURNAL {len(commands)}\n")
+    wrong += [f"{status}, {error}"] if not is_unserved and (status, error) != (0, b"") else []
+    end = "at the journal" if refused else "at a reply" if lost else "at a thread" if is_unserved else "without an effect"
+    return end, "; ".join(wrong)
+
+
+def growth():
+    """Every call of the program, with each growth that it asks for refused in turn."""
+    if shutil.which("cc") is None:
+        print("LEFT OUT  there is no C compiler cc: growths of the built program aren't refused one by one")
+        return
+    with tempfile.TemporaryDirectory() as folder:
+        refusing = Refusing(Path(folder))
+        number = sessions(refusing) + texts(refusing)
+        number += refusing.each("serve", served_end, ["before READY", "at the journal", "at a reply"])
+    tell(f"{number} runs with a growth refused", "" if number > 300 else "these are few")
