@@ -131,7 +131,7 @@ def served_end(how):
     """How a room of two consoles ended, whose lines come in turn and in which one growth was refused."""
     service, told, consoles, gone = Service(2, **how), [], [], set()
     try:
-        consoles += [service.console() for _ in range(2)] if service.first == b"READY\n" else []
+        consoles += [service.console() for _ in range(2)] if service.first.startswith(b"READY\n") else []
     except ConnectionRefusedError:
         pass
     if len(consoles) == 2:
@@ -148,7 +148,7 @@ def served_end(how):
     output, status = service.first + output, service.process.returncode
     if told:
         return served_outcome(told, status, output, error)
-    if service.first == b"READY\n":
+    if service.first.startswith(b"READY\n"):
         is_so = (status, output, error) == (1, b"READY\nJOURNAL 0\n", THREAD)
         return "before a console", "" if is_so else f"{status} {output} {error}"
     is_so = (status, output) == (1, b"") and error in (MEMORY, b"ibm1401: no reader\n")
