@@ -104,6 +104,16 @@ end_takes version line start h =
     ∙ (append-nil _ ∙ ap (number_text (address_digits version)) good.1)) in
     named ∙ ap (λ (rest : List ℕ). codes "END " ++ rest) whole
 
+pub end_small : (version : Version) (line : List ℕ) (start : ℕ) → end_in version line ≡ Some start
+    → start < 10 ^ address_digits version
+unfolding end_in
+end_small version line start h =
+    let name = step (behind (codes "END ") line) _ start h in
+    let number = step (number_at (address_digits version) name.value) _ start name.then_is in
+    let good = cond_some (nat_le (length number.value.1) 0) number.value.0 start number.then_is in
+    let digits = number_takes (address_digits version) name.value number.value number.is in
+    subst (λ k. k < 10 ^ address_digits version) good.1 digits.small
+
 pub end_again : (version : Version) (start : ℕ) → start < 10 ^ address_digits version
     → end_in version (end_text version start) ≡ Some start
 unfolding end_in end_text

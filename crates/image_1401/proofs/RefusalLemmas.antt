@@ -18,7 +18,7 @@ use Rattle.image_1401.specs.Refusal.{IsNoRecord, HasFault, unfinished, no_record
 use Rattle.image_1401.specs.Refusal.{behind_the_end, further_on, HasTextFault, no_header_yet, no_header}
 use Rattle.image_1401.specs.Refusal.{behind_the_header, IsRefused}
 use Rattle.image_1401.proofs.LineLemmas.{parts_of-some}
-use Rattle.image_1401.proofs.RecordLemmas.{header_takes, header_again, segment_takes, segment_again, end_takes}
+use Rattle.image_1401.proofs.RecordLemmas.{header_takes, header_again, segment_takes, segment_again, end_takes, end_small}
 use Rattle.image_1401.proofs.RecordLemmas.{end_again}
 use Rattle.image_1401.proofs.TextLemmas.{same_Ok_image, image_takes, image_again}
 
@@ -61,7 +61,8 @@ by_bound version size line next parts start true fault e lies h =
 by_bound version size line next parts start false fault e lies h =
     subst (HasFault version size (line ∷ next
     ∷ parts)) (same_fault Range fault h)
-    (entry_outside version size line next parts start (end_takes version line start e) (ltb-false _ _ lies))
+    (entry_outside version size line next parts start (end_takes version line start e) (end_small version line start e)
+    (ltb-false _ _ lies))
 
 by_entry : (version : Version) (size : ℕ) (line next : List ℕ) (parts : List (List ℕ)) (entry : Option ℕ)
     (fault : ImageFault) → segment_in version line ≡ None → end_in version line ≡ entry
@@ -88,12 +89,14 @@ by_inside : (version : Version) (size : ℕ) (line next : List ℕ) (parts : Lis
     → ((why : ImageFault) → more ≡ Err why → HasFault version size (next ∷ parts) why)
     → HasFault version size (line ∷ next ∷ parts) fault
 by_inside version size line next parts segment true more fault e lies h others =
-    further_on version size line next parts segment fault (segment_takes version line segment e).line_is lies
+    let taken = segment_takes version line segment e in
+    further_on version size line next parts segment fault taken.line_is taken.cells taken.address lies
     (others fault (more_fault segment more fault h))
 by_inside version size line next parts segment false more fault e lies h others =
+    let taken = segment_takes version line segment e in
     subst (HasFault version size (line ∷ next
     ∷ parts)) (same_fault Range fault h)
-    (segment_outside version size line next parts segment (segment_takes version line segment e).line_is lies)
+    (segment_outside version size line next parts segment taken.line_is taken.cells taken.address lies)
 
 by_segment : (version : Version) (size : ℕ) (line next : List ℕ) (parts : List (List ℕ)) (segment : Option Segment)
     (more : Result Contents ImageFault) (fault : ImageFault) → segment_in version line ≡ segment

@@ -127,6 +127,9 @@ fn the_first_wrong_line_decides(rt: HostRuntime) {
             ImageFault::BadRecord,
         ),
         ("IMAGE1 4000\n0400 00 \nEND 0000\n", ImageFault::BadRecord),
+        ("IMAGE1 4000\n0400 00 \n", ImageFault::BadRecord),
+        ("IMAGE1 4000\n0400 01 A\nX\n", ImageFault::BadRecord),
+        ("IMAGE1 4000\nEND 0400\nX\n", ImageFault::BadRecord),
         (
             "IMAGE1 4000\n0400 41 AAAAAAAAAAAAAAAAAAAAAAAAAAAAAAAAAAAAAAAAA\nEND 0000\n",
             ImageFault::BadRecord,
