@@ -10,7 +10,7 @@ use Rattle.image_1401.specs.declared.image.Image.{Image}
 use Rattle.image_1401.specs.declared.image.Segment.{Segment}
 use Rattle.image_1401.specs.declared.version.Version.{Version}
 use Rattle.image_1401.specs.Image.{is_inside}
-use Rattle.image_1401.specs.ImageText.{IsTextOf, IsOrMemory}
+use Rattle.image_1401.specs.ImageText.{HasTexts, IsTextOf, IsOrMemory}
 use Rattle.image_1401.specs.Reading.{segment_in, end_in, header_in, parts_of, is_done, Contents, with_segments}
 use Rattle.image_1401.specs.Reading.{entry_alone, entry_by, contents_by, contents_in, image_of, image_by, image_in}
 use Rattle.image_1401.specs.Reading.{Gives}
@@ -20,7 +20,7 @@ use Rattle.image_1401.specs.Refusal.{behind_the_header, IsRefused}
 use Rattle.image_1401.proofs.LineLemmas.{parts_of-some}
 use Rattle.image_1401.proofs.RecordLemmas.{header_takes, header_again, segment_takes, segment_again, end_takes, end_small}
 use Rattle.image_1401.proofs.RecordLemmas.{end_again}
-use Rattle.image_1401.proofs.TextLemmas.{same_Ok_image, image_takes, image_again}
+use Rattle.image_1401.proofs.TextLemmas.{same_Ok_image, image_takes, image_again, has_texts}
 
 missed : {A : Type 0} (found : Option A) (x : A) → found ≡ None → found ≡ Some x → ⊥
 missed found x none some = cc
@@ -153,7 +153,7 @@ is_text : (text : List ℕ) (read : Result Image ImageFault) → image_in (parts
 is_text text (Ok image) e h = (image, image_takes text image e)
 is_text text (Err fault) e h = absurd (false≢true h)
 
--- ---- the three clauses of a call that gives what is read
+-- ---- the clauses of a call that gives what is read
 
 pub is_refused : (text : List ℕ) (result : Result Image ImageFault) → Gives result (image_in (parts_of text))
     → IfErr result (IsRefused text)
@@ -168,6 +168,11 @@ pub is_found : (text : List ℕ) (result : Result Image ImageFault) → Gives re
     → IfOk result (IsTextOf text)
 is_found text (Ok image) h = image_takes text image h
 is_found text (Err fault) h = tt
+
+pub has_versions : (text : List ℕ) (result : Result Image ImageFault) → Gives result (image_in (parts_of text))
+    → IfOk result HasTexts
+has_versions text (Ok image) h = let of = image_takes text image h in has_texts of.version image of.has_text
+has_versions text (Err fault) h = tt
 
 pub is_again : (text : List ℕ) (result : Result Image ImageFault) (image : Image)
     → Gives result (image_in (parts_of text)) → IsTextOf text image → IsOrMemory result image
