@@ -15,11 +15,16 @@ use Rattle.autocoder_1401.specs.declared.assembly.Assembly.{Assembly}
 use Rattle.autocoder_1401.specs.declared.fault.AsmFault.{AsmFault}
 use Rattle.autocoder_1401.specs.declared.fault.AsmKind.TheVariants as kinds
 
--- what a source stands for in 4,000 places, with all tables open
-stands_for : List ℕ → Result Assembly AsmFault
+-- what a source stands for in so many places, with all tables open
+in_places : ℕ → List ℕ → Result Assembly AsmFault
 unfolding columns_of instructions assembler_operations graphics number_text address_text characters_text
     without_last_blanks listing_line spelling digits
-stands_for source = assembly_in 4000 source
+in_places size source = assembly_in size source
+
+-- the same in 4,000 places
+stands_for : List ℕ → Result Assembly AsmFault
+unfolding in_places
+stands_for source = in_places 4000 source
 
 -- ?423420 and A423420 with their word marks
 zero_and_add : List Cell → List Cell
@@ -101,6 +106,37 @@ an_operation_before_a_long_line = refl
 an_entry_past_core : stands_for (codes "               END  9999\n") ≡ Err (record { line = 1; kind = kinds.OutOfCore })
 unfolding stands_for
 an_entry_past_core = refl
+
+-- but one of 12,000
+an_entry_in_a_larger_core : in_places 12000 (codes "               END  9999\n")
+    ≡ Ok (record {
+      image = record { size = 12000; segments = []; start = 9999 };
+      listing = codes "0001 09999                         END  9999" ∷ [];
+    })
+unfolding in_places
+an_entry_in_a_larger_core = refl
+
+-- the last places of 16,000, and an address with zones over its hundreds and units
+at_the_last_place : List ℕ
+at_the_last_place = codes "               ORG  15992\n               MLC  15999,12345\n               H\n               END  15992\n"
+
+the_last_place_of_16_000 : in_places 16000 at_the_last_place
+    ≡ Ok (record {
+      image = record {
+        size = 16000;
+        segments = record {
+          address = 15992;
+          cells = marked 36 ∷ plain 57 ∷ plain 9 ∷ plain 57 ∷ plain 3 ∷ plain 4 ∷ plain 53 ∷ marked 59 ∷ [];
+        } ∷ [];
+        start = 15992;
+      };
+      listing = codes "0001 15992                         ORG  15992"
+          ∷ codes "0002 15992 MI9I34E                 MLC  15999,12345"
+          ∷ codes "0003 15999 .                       H"
+          ∷ codes "0004 15992                         END  15992" ∷ [];
+    })
+unfolding in_places at_the_last_place
+the_last_place_of_16_000 = refl
 
 -- behind 39 cells the next one closes the segment; a gap of two places parts the last
 three_segments : cut 333 (replicate 39 (plain 0)) ((372, plain 1) ∷ (373, plain 2) ∷ (376, marked 49) ∷ [])

@@ -25,11 +25,6 @@ pub record IsFirstOutside (size : ℕ) (lines : List Line) (fault : AsmFault) : 
   pub earlier : (k : ℕ) → k < index → (d : Line) → outside_at size lines k (slice_index_or lines k d) ≡ false
   pub here : (d : Line) → outside_at size lines index (slice_index_or lines index d) ≡ true
 
--- nothing of any line is outside
-abbrev pub AreInside : ℕ → List Line → Type 0
-AreInside size lines =
-    (k : ℕ) → k < length lines → (d : Line) → outside_at size lines k (slice_index_or lines k d) ≡ false
-
 -- the cells of a segment, each with its address
 abbrev pub cells_in : Segment → List (ℕ × Cell)
 cells_in segment = numbered segment.address segment.cells

@@ -6,8 +6,7 @@ use std::alloc::{AllocError, AllocFailed};
 use std::fmt;
 
 /// The kinds of a fault, the lowest first. Kinds 2 to 8, 10 and 11 are looked for over the whole source first; only a
-/// source
-/// without any of them is placed, and then looked at for kind 9.
+/// source without any of them is placed, and then looked at for kind 9.
 #[derive(Clone, Copy, Debug, PartialEq, Eq)]
 pub enum AsmKind {
     /// 1: memory was refused, or the source has more than 4,294,967,295 lines.

@@ -8,9 +8,8 @@
 //!
 //! A source is read into its lines; the labels are noted; each line is looked at for the faults that it has among its
 //! neighbours; then all is placed, with the literals in the order of their first use, and looked at for places and
-//! values
-//! that aren't in core. The cells of a source without a fault are cut into segments of at most 40, and its lines are
-//! listed.
+//! values that aren't in core. The cells of a source without a fault are cut into segments of at most 40, and its lines
+//! are listed.
 #![tactic(auto)]
 
 pub mod assembly;

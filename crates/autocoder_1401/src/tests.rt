@@ -189,3 +189,48 @@ fn the_first_line_with_a_fault_is_named(rt: HostRuntime) {
     let core = b"               ORG  4000\n               END  0\n     * A COMMENT";
     assert_eq!(rt; fault(&rt, core, 4_000), None);
 }
+
+#[test]
+fn the_place_behind_the_last_takes_an_end_alone(rt: HostRuntime) {
+    for (source, size, fault_of) in [
+        (
+            b"               END  9999".as_slice(),
+            8_000,
+            Some((1, AsmKind::OutOfCore)),
+        ),
+        (b"               END  9999", 12_000, None),
+        (b"               END  15999", 16_000, None),
+        (
+            b"               END  16000",
+            16_000,
+            Some((1, AsmKind::OutOfCore)),
+        ),
+        (
+            b"               ORG  16000\n               END  0",
+            16_000,
+            None,
+        ),
+        (
+            b"               ORG  16001\n               END  0",
+            16_000,
+            Some((1, AsmKind::OutOfCore)),
+        ),
+        (
+            b"               ORG  16000\n               NOP\n               END  0",
+            16_000,
+            Some((2, AsmKind::OutOfCore)),
+        ),
+        (
+            b"               ORG  15999\n               DCW  @AB@\n               END  0",
+            16_000,
+            Some((2, AsmKind::OutOfCore)),
+        ),
+        (
+            b"     A         EQU  16000\n               END  A",
+            16_000,
+            Some((1, AsmKind::OutOfCore)),
+        ),
+    ] {
+        assert_eq!(rt; fault(&rt, source, size), fault_of);
+    }
+}

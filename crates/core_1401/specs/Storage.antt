@@ -1,5 +1,6 @@
 -- Core storage as the list of its cells by address (A24-1403, "Core Storage").
-use Rattle.std.specs.Prelude.{ℕ, ◌==◌, ◌||◌, Bool, false, List, length, replicate, slice_index_or, slice_set, nat_lt}
+use Rattle.std.specs.Prelude.{ℕ, ◌==◌, Bool, false, List, [], ◌∷◌, length, replicate, slice_index_or, slice_set, nat_lt}
+use Rattle.std.specs.List.{list_any}
 use Rattle.bcd_1401.specs.declared.cell.Cell.{Cell}
 
 -- what each address holds
@@ -14,9 +15,13 @@ blank = record { char = 0; mark = false }
 abbrev pub blanks : ℕ → Storage
 blanks size = replicate size blank
 
--- the sizes that there are
+-- the sizes that there are, the smallest first
+abbrev pub core_sizes : List ℕ
+core_sizes = 1400 ∷ 2000 ∷ 4000 ∷ 8000 ∷ 12000 ∷ 16000 ∷ []
+
+-- whether this is one of them
 abbrev pub is_core_size : ℕ → Bool
-is_core_size size = (size == 1400) || (size == 2000) || (size == 4000)
+is_core_size size = list_any (λ each. size == each) core_sizes
 
 -- whether an address is that of a place
 abbrev pub is_in_core : Storage → ℕ → Bool

@@ -1,7 +1,7 @@
 //! Core storage: one cell for each address.
 ghost use Rattle.std.specs.Prelude.{◌≡◌, ◌<◌, ◌≤◌, ◌↔◌, true, false, length, IfOk};
 ghost use Rattle.core_1401.specs.Address.{addresses};
-ghost use Rattle.core_1401.specs.Storage.{cell_at, with_char, with_mark, blanks, is_in_core, is_core_size};
+ghost use Rattle.core_1401.specs.Storage.{cell_at, with_char, with_mark, blanks, is_in_core, core_sizes, is_core_size};
 
 use crate::fault::CoreFault;
 use crate::mark_words::{WORDS, has_bit, no_marks, with_bit};
@@ -9,8 +9,8 @@ use bcd_1401::{Cell, Char};
 use std::alloc::Global;
 use std::marker::Model;
 
-/// The sizes that core storage is made in.
-const SIZES: [u16; 3] = [1_400, 2_000, 4_000];
+/// The sizes that core storage is made in, the smallest first.
+pub const SIZES: [u16; 6] = [1_400, 2_000, 4_000, 8_000, 12_000, 16_000];
 
 /// Core storage. Contracts see it as the list of its cells by address.
 #[derive(Drop)]
@@ -34,7 +34,8 @@ impl Model for Core {
 impl Core {
     /// Whether core storage is made in this size.
     pub fn is_size(size: u16) -> bool
-        ensures { result ≡ is_core_size size }
+        ensures value { result ≡ is_core_size size }
+        ensures sizes { SIZES ≡ core_sizes }
     {
         SIZES.contains(&size)
     }

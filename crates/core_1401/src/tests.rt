@@ -8,13 +8,15 @@ use std::test::Fail;
 
 #[test]
 fn core_is_made_in_its_sizes_alone(rt: HostRuntime) -> Result<(), Fail> {
-    for size in [1_400, 2_000, 4_000] {
+    for size in [1_400, 2_000, 4_000, 8_000, 12_000, 16_000] {
         let core = Core::power_on(rt.alloc(), size)?;
         assert_eq!(rt; core.size(), size);
         assert!(rt; core.in_core(size - 1) && !core.in_core(size));
         assert_eq!(rt; core.get(0), Cell::BLANK);
     }
-    for size in [0, 1_399, 1_401, 3_999, 4_001, 16_000] {
+    for size in [
+        0, 1_399, 1_401, 3_999, 4_001, 10_000, 15_999, 16_001, 65_535,
+    ] {
         assert_eq!(rt;
             Core::power_on(rt.alloc(), size).err(),
             Some(CoreFault::Size),
@@ -46,6 +48,70 @@ fn a_field_ends_at_its_first_mark(rt: HostRuntime) -> Result<(), Fail> {
     }
     core.put_mark(0, false);
     assert_eq!(rt; core.pair_len(10, 130), None);
+    Ok(())
+}
+
+#[test]
+fn a_field_ends_at_the_bottom_of_the_largest_core(rt: HostRuntime) -> Result<(), Fail> {
+    let mut core = Core::power_on(rt.alloc(), 16_000)?;
+    assert_eq!(rt; core.size(), 16_000);
+    core.put_mark(15_999, true);
+    // The mark of the last place ends no field from the first places down.
+    for (at, len) in [(0, None), (63, None), (15_998, None), (15_999, Some(1))] {
+        assert!(rt; at < 16_000 && core.size() == 16_000);
+        assert_eq!(rt; core.field_len(at), len, "{at}");
+    }
+    assert!(rt; core.size() == 16_000);
+    assert_eq!(rt; core.pair_len(0, 15_998), None);
+    assert_eq!(rt; core.next_mark(15_935, 64), 64);
+    assert_eq!(rt; core.next_mark(15_998, 8), 1);
+    assert_eq!(rt; core.next_mark(15_999, 8), 1);
+    core.put_mark(15_999, false);
+    assert!(rt; core.size() == 16_000);
+    core.put_mark(0, true);
+    for (at, len) in [(0, 1), (15_999, 16_000)] {
+        assert!(rt; at < 16_000 && core.size() == 16_000);
+        assert_eq!(rt; core.field_len(at), Some(len), "{at}");
+    }
+    assert!(rt; core.size() == 16_000);
+    assert_eq!(rt; core.pair_len(15_999, 15_998), Some(15_999));
+    core.clear(15_999, 16_000);
+    assert!(rt; core.size() == 16_000);
+    assert_eq!(rt; core.field_len(15_999), None);
+    assert_eq!(rt; core.mark_words().len(), 250);
+    Ok(())
+}
+
+#[test]
+fn an_index_register_is_added_modulo_16_000(rt: HostRuntime) -> Result<(), Fail> {
+    for (text, register, address) in [
+        (*b"I9I", *b"003", 15_999),
+        (*b"I9I", *b"   ", 15_999),
+        (*b"IZI", *b"   ", 15_999),
+        (*b"IZI", *b"001", 0),
+        (*b"IZI", *b"003", 2),
+        (*b"IZI", *b"I9I", 15_998),
+        (*b"0'0", *b"I9I", 15_999),
+        // The zone over the register's own tens counts for nothing.
+        (*b"0'1", *b"0'2", 3),
+    ] {
+        let [h, t, u] = text.map(|graphic| Char::from_graphic(graphic).unwrap_or(Char::BLANK));
+        let index = register.map(|graphic| Char::from_graphic(graphic).unwrap_or(Char::BLANK));
+        let mut core = Core::power_on(rt.alloc(), 16_000)?;
+        for (place, char) in [
+            (15_997, h),
+            (15_998, t),
+            (15_999, u),
+            (87, index[0]),
+            (88, index[1]),
+            (89, index[2]),
+        ] {
+            assert!(rt; place < 16_000 && core.size() == 16_000);
+            core.put_char(place, char);
+        }
+        assert!(rt; core.size() == 16_000);
+        assert_eq!(rt; core.effective(15_997), address, "{address}");
+    }
     Ok(())
 }
 

@@ -6,7 +6,7 @@ use Rattle.autocoder_1401.specs.Assembly.{assembly_in}
 use Rattle.autocoder_1401.specs.Fault.{IsMemory}
 use Rattle.autocoder_1401.specs.declared.assembly.Assembly.{Assembly}
 use Rattle.console_1401.specs.Sink.{AppendsPart}
-use Rattle.image_1401.specs.ImageText.{IsTextOf}
+use Rattle.image_1401.specs.ImageText.{IsTextOf, written_text}
 use Rattle.ibm1401.specs.declared.args.Product.{Product}
 use Rattle.ibm1401.specs.declared.args.Product.TheVariants as product
 use Rattle.ibm1401.specs.declared.fault.Fault.{Fault}
@@ -20,9 +20,9 @@ line_text line = line ++ codes "\n"
 unfoldable pub listing_text : List (List ℕ) → List ℕ
 listing_text lines = flat_map line_text lines
 
--- the text is what is written of an assembly: that of its image, or its listing
+-- the text is what is written of an assembly: that of its image in the newest version, or its listing
 abbrev pub IsProduct : Product → Assembly → List ℕ → Type 0
-IsProduct product.Image assembly text = IsTextOf text assembly.image
+IsProduct product.Image assembly text = (text ≡ written_text assembly.image) × IsTextOf text assembly.image
 IsProduct product.Listing assembly text = text ≡ listing_text assembly.listing
 
 -- why nothing was written: the source's own fault, or want of memory for it; or want of memory for the text

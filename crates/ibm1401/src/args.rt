@@ -64,7 +64,7 @@ fn size_arg<'a>(alloc: Global) -> Arg<'a> {
     Arg::new(alloc, "size")
         .long("size")
         .value_name("N")
-        .help("The places of core storage: 1400, 2000 or 4000")
+        .help("The places of core storage: 1400, 2000, 4000, 8000, 12000 or 16000")
         .default_value("4000")
         .value_parser(value_parser!(u16))
 }

@@ -32,7 +32,20 @@ fn expect_session(
     end: SessionEnd,
     entries: usize,
 ) {
-    let mut room = Room::power_on(alloc, 4_000).expect(rt, "a room");
+    expect_session_in(rt, alloc, 4_000, lines, replies, end, entries);
+}
+
+/// The same in a new room of any size.
+fn expect_session_in(
+    rt: &impl Abort,
+    alloc: Global,
+    size: u16,
+    lines: &str,
+    replies: &str,
+    end: SessionEnd,
+    entries: usize,
+) {
+    let mut room = Room::power_on(alloc, size).expect(rt, "a room");
     let mut reader = FromReader::new(lines.as_bytes());
     let mut writer = ToWriter::new(Vec::new(alloc));
     let ended = session(alloc, &mut room, &mut reader, &mut writer);

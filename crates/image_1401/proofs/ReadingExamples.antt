@@ -6,7 +6,7 @@ use Rattle.bcd_1401.specs.Graphic.{graphics}
 use Rattle.image_1401.specs.declared.fault.ImageFault.{ImageFault}
 use Rattle.image_1401.specs.declared.fault.ImageFault.TheVariants.{Header, BadRecord, Range, Truncated}
 use Rattle.image_1401.specs.declared.image.Image.{Image}
-use Rattle.image_1401.specs.declared.version.Version.TheVariants.{One}
+use Rattle.image_1401.specs.declared.version.Version.TheVariants.{One, Two}
 use Rattle.image_1401.specs.ImageText.{number_text, cells_text, header_text, segment_text, segments_text, end_text}
 use Rattle.image_1401.specs.ImageText.{image_text}
 use Rattle.image_1401.specs.Reading.{number_in, number_at, cells_in, few_cells_in, header_with, header_in, segment_in}
@@ -48,6 +48,12 @@ unfolding five_and_five zero_and_add halt_and_constants plain marked graphics nu
     segment_text segments_text end_text image_text
 text_of_five_and_five = refl
 
+in_version_2 : image_text Two five_and_five
+    ≡ codes "IMAGE2 04000\n00400 24 ~?423420~A423420~.414~   ~HI~E\nEND 00400\n"
+unfolding five_and_five zero_and_add halt_and_constants plain marked graphics number_text cells_text header_text
+    segment_text segments_text end_text image_text
+in_version_2 = refl
+
 -- what a text is read as
 read : List ℕ → Result Image ImageFault
 read text = image_in (parts_of text)
@@ -57,6 +63,12 @@ five_and_five_is_read : read (codes "IMAGE1 4000\n0400 24 ~?423420~A423420~.414~
 unfolding read five_and_five zero_and_add halt_and_constants plain marked graphics number_in number_at cells_in
     few_cells_in header_with header_in segment_in end_in contents_in image_in
 five_and_five_is_read = refl
+
+both_versions_are_read_as_one_image : read
+    (codes "IMAGE2 04000\n00400 24 ~?423420~A423420~.414~   ~HI~E\nEND 00400\n") ≡ Ok five_and_five
+unfolding read five_and_five zero_and_add halt_and_constants plain marked graphics number_in number_at cells_in
+    few_cells_in header_with header_in segment_in end_in contents_in image_in
+both_versions_are_read_as_one_image = refl
 
 no_segments : Image
 no_segments = record { size = 1400; segments = []; start = 1399 }
@@ -98,6 +110,14 @@ no_other_size_has_a_header : read (codes "IMAGE1 4001\n") ≡ Err Header
 unfolding read number_in number_at cells_in few_cells_in header_with header_in contents_in image_in
 no_other_size_has_a_header = refl
 
+no_version_1_is_larger_than_4_000 : read (codes "IMAGE1 8000\n") ≡ Err Header
+unfolding read number_in number_at cells_in few_cells_in header_with header_in contents_in image_in
+no_version_1_is_larger_than_4_000 = refl
+
+a_size_has_the_digits_of_its_version : read (codes "IMAGE2 4000\n") ≡ Err Header
+unfolding read number_in number_at cells_in few_cells_in header_with header_in contents_in image_in
+a_size_has_the_digits_of_its_version = refl
+
 no_other_version_has_a_header : read (codes "IMAGE3 4000\n") ≡ Err Header
 unfolding read number_in number_at cells_in few_cells_in header_with header_in contents_in image_in
 no_other_version_has_a_header = refl
@@ -110,6 +130,17 @@ an_address_has_four_digits : read (codes "IMAGE1 4000\n400 01 A\nEND 0400\n") �
 unfolding read graphics number_in number_at cells_in few_cells_in header_with header_in segment_in end_in contents_in
     image_in
 an_address_has_four_digits = refl
+
+-- the header's version holds for all lines
+a_line_of_version_1_in_version_2_is_bad : read (codes "IMAGE2 08000\n0400 01 A\nEND 00400\n") ≡ Err BadRecord
+unfolding read graphics number_in number_at cells_in few_cells_in header_with header_in segment_in end_in contents_in
+    image_in
+a_line_of_version_1_in_version_2_is_bad = refl
+
+an_end_of_version_2_in_version_1_is_bad : read (codes "IMAGE1 4000\nEND 00400\n") ≡ Err BadRecord
+unfolding read graphics number_in number_at cells_in few_cells_in header_with header_in segment_in end_in contents_in
+    image_in
+an_end_of_version_2_in_version_1_is_bad = refl
 
 a_count_is_that_of_the_cells : read (codes "IMAGE1 4000\n0400 02 ABC\nEND 0400\n") ≡ Err BadRecord
 unfolding read graphics number_in number_at cells_in few_cells_in header_with header_in segment_in end_in contents_in
@@ -131,6 +162,11 @@ a_segment_past_the_size_is_out_of_range : read (codes "IMAGE1 1400\n1399 02 AB\n
 unfolding read graphics number_in number_at cells_in few_cells_in header_with header_in segment_in end_in contents_in
     image_in
 a_segment_past_the_size_is_out_of_range = refl
+
+a_segment_past_a_larger_size_is_out_of_range : read (codes "IMAGE2 08000\n07999 02 AB\nEND 00000\n") ≡ Err Range
+unfolding read graphics number_in number_at cells_in few_cells_in header_with header_in segment_in end_in contents_in
+    image_in
+a_segment_past_a_larger_size_is_out_of_range = refl
 
 -- an entry out of core comes before what stands behind it
 an_entry_past_the_size_is_out_of_range : read (codes "IMAGE1 1400\nEND 1400\nX") ≡ Err Range

@@ -2,21 +2,22 @@
 use Rattle.std.proofs.Common.{◌≡◌, ℕ, ◌^◌, ◌<◌, ◌≤◌, ◌==◌, ◌&&◌, Bool, true, false, cond, List, [], ◌∷◌, ◌++◌, length}
 use Rattle.std.proofs.Common.{Option, Some, None, refl, sym, ap, subst, ◌∙◌, arith}
 use Rattle.std.specs.Prelude.{codes, nat_le}
-use Rattle.std.specs.Option.{option_map}
+use Rattle.std.specs.Option.{option_or}
 use Rattle.std.specs.List.{list_all}
 use Rattle.std.proofs.lemmas.Bool.{eqb-true, eq-eqb, leb-true}
 use Rattle.std.proofs.lemmas.Bool.Decides.{nat_tests}
 use Rattle.std.proofs.lemmas.List.{append-nil, append_assoc, nil_from_length}
 use Rattle.std.proofs.lemmas.Option.{cond_some, same_Some}
 use Rattle.bcd_1401.specs.declared.cell.Cell.{Cell}
+use Rattle.core_1401.specs.Storage.{is_core_size}
 use Rattle.image_1401.specs.declared.image.Segment.{Segment}
 use Rattle.image_1401.specs.declared.version.Version.{Version}
-use Rattle.image_1401.specs.declared.version.Version.TheVariants.{One}
+use Rattle.image_1401.specs.declared.version.Version.TheVariants.{One, Two}
 use Rattle.image_1401.specs.Version.{name_of, address_digits, has_size}
 use Rattle.image_1401.specs.ImageText.{number_text, cells_text, header_text, segment_text, end_text, is_character}
 use Rattle.image_1401.specs.ImageText.{is_segment}
 use Rattle.image_1401.specs.Reading.{◌>>=◌, behind, number_in, number_at, cells_in, if_few, few_cells_in, header_with}
-use Rattle.image_1401.specs.Reading.{header_in, segment_in, end_in}
+use Rattle.image_1401.specs.Reading.{in_version, header_in, segment_in, end_in}
 use Rattle.image_1401.proofs.NumberLemmas.{first_half, second_half, both, number_takes, number_again}
 use Rattle.image_1401.proofs.SpellingLemmas.{behind_takes, behind_again, cells_takes, cells_again}
 
@@ -30,9 +31,10 @@ step : {A B : Type 0} (o : Option A) (f : A → Option B) (y : B) → (o >>= f) 
 step None f y h = absurd cc
 step (Some x) f y h = record { value = x; is = refl; then_is = h }
 
--- a size is below ten thousand
+-- a size has no more digits than the version writes
 pub size_bound : (version : Version) (size : ℕ) → has_size version size ≡ true → size < 10 ^ address_digits version
-size_bound One size h = grind (arith, nat_tests)
+size_bound One size h = let most : size ≤ 4000 = leb-true _ _ (second_half (is_core_size size) _ h) in omega arith
+size_bound Two size h = grind (arith, nat_tests)
 
 -- a header
 header_with_takes : (version : Version) (line : List ℕ) (size : ℕ) → header_with version line ≡ Some size
@@ -69,22 +71,38 @@ header_with_again version size h =
     ∙ number_again digits size [] (size_bound version size h) in
     rw (behind_again (name_of version) (number_text digits size), number, h)
 
+-- the versions' headers begin with other bytes
+header_with_other : (size : ℕ) → header_with One (header_text Two size) ≡ None
+unfolding header_with header_text
+header_with_other size = refl
+
+-- what was read in one version
+in_version_takes : (tried : Version) (found : Option ℕ) (line : List ℕ) (version : Version) (size : ℕ)
+    → header_with tried line ≡ found → in_version tried found ≡ Some (version, size)
+    → (line ≡ header_text version size) × (has_size version size ≡ true)
+in_version_takes tried None line version size e h = absurd cc
+in_version_takes tried (Some number) line version size e h =
+    let pair : (tried, number) ≡ (version, size) = same_Some (tried, number) (version, size) h in
+    let same : tried ≡ version = ap (λ (p : Version × ℕ). p.0) pair in
+    let found : header_with version line ≡ Some size =
+    ap (λ v. header_with v line) (sym same) ∙ e ∙ ap (λ (p : Version × ℕ). Some p.1) pair in
+    header_with_takes version line size found
+
 pub header_takes : (line : List ℕ) (version : Version) (size : ℕ) → header_in line ≡ Some (version, size)
     → (line ≡ header_text version size) × (has_size version size ≡ true)
 unfolding header_in
-header_takes line version size h = by_one (header_with One line) line version size refl h where
-  by_one : (found : Option ℕ) (line : List ℕ) (version : Version) (size : ℕ) → header_with One line ≡ found
-      → option_map {U = Version × ℕ} (λ size. (One, size)) found ≡ Some (version, size)
+header_takes line version size h = by_one (header_with One line) refl h where
+  by_one : (found : Option ℕ) → header_with One line ≡ found
+      → option_or (in_version One found) (in_version Two (header_with Two line)) ≡ Some (version, size)
       → (line ≡ header_text version size) × (has_size version size ≡ true)
-  by_one None line version size e h = absurd cc
-  by_one (Some number) line One size e h =
-      let pair : (One, number) ≡ (One, size) = same_Some (One, number) (One, size) h in
-      header_with_takes One line size (e ∙ ap (λ (p : Version × ℕ). Some p.1) pair)
+  by_one None e h = in_version_takes Two (header_with Two line) line version size refl h
+  by_one (Some number) e h = in_version_takes One (Some number) line version size e h
 
 pub header_again : (version : Version) (size : ℕ) → has_size version size ≡ true → header_in (header_text version size)
     ≡ Some (version, size)
 unfolding header_in
-header_again One size h = ap (option_map {U = Version × ℕ} (λ size. (One, size))) (header_with_again One size h)
+header_again One size h = rw (header_with_again One size h) refl
+header_again Two size h = rw (header_with_other size, header_with_again Two size h) refl
 
 -- the last line
 pub end_takes : (version : Version) (line : List ℕ) (start : ℕ) → end_in version line ≡ Some start → line
@@ -104,6 +122,16 @@ end_takes version line start h =
     ∙ (append-nil _ ∙ ap (number_text (address_digits version)) good.1)) in
     named ∙ ap (λ (rest : List ℕ). codes "END " ++ rest) whole
 
+pub end_small : (version : Version) (line : List ℕ) (start : ℕ) → end_in version line ≡ Some start
+    → start < 10 ^ address_digits version
+unfolding end_in
+end_small version line start h =
+    let name = step (behind (codes "END ") line) _ start h in
+    let number = step (number_at (address_digits version) name.value) _ start name.then_is in
+    let good = cond_some (nat_le (length number.value.1) 0) number.value.0 start number.then_is in
+    let digits = number_takes (address_digits version) name.value number.value number.is in
+    subst (λ k. k < 10 ^ address_digits version) good.1 digits.small
+
 pub end_again : (version : Version) (start : ℕ) → start < 10 ^ address_digits version
     → end_in version (end_text version start) ≡ Some start
 unfolding end_in end_text
@@ -118,6 +146,7 @@ end_again version start small =
 pub end_is_no_segment : (version : Version) (start : ℕ) → segment_in version (end_text version start) ≡ None
 unfolding segment_in end_text number_at number_in number_text
 end_is_no_segment One start = refl
+end_is_no_segment Two start = refl
 
 -- what a segment's line says
 pub record IsSegmentLine (version : Version) (line : List ℕ) (segment : Segment) : Type 0 where

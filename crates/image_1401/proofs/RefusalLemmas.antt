@@ -10,7 +10,7 @@ use Rattle.image_1401.specs.declared.image.Image.{Image}
 use Rattle.image_1401.specs.declared.image.Segment.{Segment}
 use Rattle.image_1401.specs.declared.version.Version.{Version}
 use Rattle.image_1401.specs.Image.{is_inside}
-use Rattle.image_1401.specs.ImageText.{IsTextOf, IsOrMemory}
+use Rattle.image_1401.specs.ImageText.{HasTexts, IsTextOf, IsOrMemory}
 use Rattle.image_1401.specs.Reading.{segment_in, end_in, header_in, parts_of, is_done, Contents, with_segments}
 use Rattle.image_1401.specs.Reading.{entry_alone, entry_by, contents_by, contents_in, image_of, image_by, image_in}
 use Rattle.image_1401.specs.Reading.{Gives}
@@ -18,9 +18,9 @@ use Rattle.image_1401.specs.Refusal.{IsNoRecord, HasFault, unfinished, no_record
 use Rattle.image_1401.specs.Refusal.{behind_the_end, further_on, HasTextFault, no_header_yet, no_header}
 use Rattle.image_1401.specs.Refusal.{behind_the_header, IsRefused}
 use Rattle.image_1401.proofs.LineLemmas.{parts_of-some}
-use Rattle.image_1401.proofs.RecordLemmas.{header_takes, header_again, segment_takes, segment_again, end_takes}
+use Rattle.image_1401.proofs.RecordLemmas.{header_takes, header_again, segment_takes, segment_again, end_takes, end_small}
 use Rattle.image_1401.proofs.RecordLemmas.{end_again}
-use Rattle.image_1401.proofs.TextLemmas.{same_Ok_image, image_takes, image_again}
+use Rattle.image_1401.proofs.TextLemmas.{same_Ok_image, image_takes, image_again, has_texts}
 
 missed : {A : Type 0} (found : Option A) (x : A) → found ≡ None → found ≡ Some x → ⊥
 missed found x none some = cc
@@ -61,7 +61,8 @@ by_bound version size line next parts start true fault e lies h =
 by_bound version size line next parts start false fault e lies h =
     subst (HasFault version size (line ∷ next
     ∷ parts)) (same_fault Range fault h)
-    (entry_outside version size line next parts start (end_takes version line start e) (ltb-false _ _ lies))
+    (entry_outside version size line next parts start (end_takes version line start e) (end_small version line start e)
+    (ltb-false _ _ lies))
 
 by_entry : (version : Version) (size : ℕ) (line next : List ℕ) (parts : List (List ℕ)) (entry : Option ℕ)
     (fault : ImageFault) → segment_in version line ≡ None → end_in version line ≡ entry
@@ -88,12 +89,14 @@ by_inside : (version : Version) (size : ℕ) (line next : List ℕ) (parts : Lis
     → ((why : ImageFault) → more ≡ Err why → HasFault version size (next ∷ parts) why)
     → HasFault version size (line ∷ next ∷ parts) fault
 by_inside version size line next parts segment true more fault e lies h others =
-    further_on version size line next parts segment fault (segment_takes version line segment e).line_is lies
+    let taken = segment_takes version line segment e in
+    further_on version size line next parts segment fault taken.line_is taken.cells taken.address lies
     (others fault (more_fault segment more fault h))
 by_inside version size line next parts segment false more fault e lies h others =
+    let taken = segment_takes version line segment e in
     subst (HasFault version size (line ∷ next
     ∷ parts)) (same_fault Range fault h)
-    (segment_outside version size line next parts segment (segment_takes version line segment e).line_is lies)
+    (segment_outside version size line next parts segment taken.line_is taken.cells taken.address lies)
 
 by_segment : (version : Version) (size : ℕ) (line next : List ℕ) (parts : List (List ℕ)) (segment : Option Segment)
     (more : Result Contents ImageFault) (fault : ImageFault) → segment_in version line ≡ segment
@@ -150,7 +153,7 @@ is_text : (text : List ℕ) (read : Result Image ImageFault) → image_in (parts
 is_text text (Ok image) e h = (image, image_takes text image e)
 is_text text (Err fault) e h = absurd (false≢true h)
 
--- ---- the three clauses of a call that gives what is read
+-- ---- the clauses of a call that gives what is read
 
 pub is_refused : (text : List ℕ) (result : Result Image ImageFault) → Gives result (image_in (parts_of text))
     → IfErr result (IsRefused text)
@@ -165,6 +168,11 @@ pub is_found : (text : List ℕ) (result : Result Image ImageFault) → Gives re
     → IfOk result (IsTextOf text)
 is_found text (Ok image) h = image_takes text image h
 is_found text (Err fault) h = tt
+
+pub has_versions : (text : List ℕ) (result : Result Image ImageFault) → Gives result (image_in (parts_of text))
+    → IfOk result HasTexts
+has_versions text (Ok image) h = let of = image_takes text image h in has_texts of.version image of.has_text
+has_versions text (Err fault) h = tt
 
 pub is_again : (text : List ℕ) (result : Result Image ImageFault) (image : Image)
     → Gives result (image_in (parts_of text)) → IsTextOf text image → IsOrMemory result image

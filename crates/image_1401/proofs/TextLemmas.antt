@@ -4,7 +4,7 @@ use Rattle.std.proofs.Common.{length, slice_index, Option, Some, None, Result, O
 use Rattle.std.proofs.Common.{arith}
 use Rattle.std.specs.Prelude.{codes, not, nat_le, nat_lt, position, if◌then◌else◌}
 use Rattle.std.specs.List.{list_all, flat_map, join_with_byte, All}
-use Rattle.std.proofs.lemmas.Bool.{eqb-true, leb-true, ltb-true, false≢true}
+use Rattle.std.proofs.lemmas.Bool.{eqb-true, le-leb, leb-true, ltb-true, false≢true}
 use Rattle.std.proofs.lemmas.Bool.Decides.{nat_tests}
 use Rattle.std.proofs.lemmas.List.{append-nil, append_assoc}
 use Rattle.std.proofs.lemmas.List.Folds.{list_all-append}
@@ -12,19 +12,21 @@ use Rattle.std.proofs.lemmas.List.Sums.{AllPass-from_list_all}
 use Rattle.std.proofs.lemmas.List.Splits.{slice_split_at, join_with_byte-slice_split}
 use Rattle.bcd_1401.specs.declared.cell.Cell.{Cell}
 use Rattle.bcd_1401.specs.Graphic.{graphics}
+use Rattle.core_1401.specs.Storage.{is_core_size}
 use Rattle.image_1401.specs.declared.fault.ImageFault.{ImageFault}
 use Rattle.image_1401.specs.declared.fault.ImageFault.TheVariants.{BadRecord, Range}
 use Rattle.image_1401.specs.declared.image.Image.{Image}
 use Rattle.image_1401.specs.declared.image.Segment.{Segment}
 use Rattle.image_1401.specs.declared.version.Version.{Version}
-use Rattle.image_1401.specs.declared.version.Version.TheVariants.{One}
+use Rattle.image_1401.specs.declared.version.Version.TheVariants.{One, Two}
 use Rattle.image_1401.specs.Image.{is_inside}
 use Rattle.image_1401.specs.ImageText.{number_text, cell_text, cells_text, header_text, segment_text, end_text, line_of}
-use Rattle.image_1401.specs.ImageText.{segments_text, image_text, is_char, is_character, is_segment, HasText, IsTextOf}
+use Rattle.image_1401.specs.ImageText.{segments_text, image_text, is_char, is_character, is_segment, HasText, HasTexts}
+use Rattle.image_1401.specs.ImageText.{IsTextOf}
 use Rattle.image_1401.specs.Reading.{is_digit, segment_in, end_in, header_in, parts_of, is_done, Contents}
 use Rattle.image_1401.specs.Reading.{with_segments, entry_alone, entry_by, contents_by, contents_in, image_of, image_by}
 use Rattle.image_1401.specs.Reading.{image_in}
-use Rattle.image_1401.specs.Version.{name_of, address_digits, has_size}
+use Rattle.image_1401.specs.Version.{name_of, address_digits, most_places, has_size}
 use Rattle.image_1401.proofs.ContentsLemmas.{contents_in-line, image_in-line}
 use Rattle.image_1401.proofs.NumberLemmas.{both, first_half, second_half, digits-number_text}
 use Rattle.image_1401.proofs.RecordLemmas.{size_bound, header_takes, header_again, segment_takes, segment_again}
@@ -82,6 +84,7 @@ cells_go_on (cell ∷ cells) own =
 
 name_goes_on : (version : Version) → IsLine (name_of version)
 name_goes_on One = refl
+name_goes_on Two = refl
 
 header_goes_on : (version : Version) (size : ℕ) → IsLine (header_text version size)
 unfolding header_text
@@ -136,6 +139,23 @@ pub same_Ok_image : (x y : Image) → ◌≡◌ {A = Result Image ImageFault} (O
 same_Ok_image x y h = cc
 
 -- ---- what is written is read
+
+-- the versions differ in their sizes alone
+pub has_texts : (version : Version) (image : Image) → HasText version image → HasTexts image
+has_texts One image has =
+    let made : is_core_size image.size ≡ true = first_half _ _ has.size in
+    let newest : HasText Two image =
+    record { size = made; cells = has.cells; segments = has.segments; start = has.start } in
+    record { newest = newest; oldest = λ small. has }
+has_texts Two image has = record {
+  newest = has;
+  oldest = λ small. record {
+    size = both _ _ has.size (le-leb image.size most_places small);
+    cells = has.cells;
+    segments = has.segments;
+    start = has.start;
+  };
+}
 
 -- segments and an entry that have a text
 pub record IsGood (version : Version) (size : ℕ) (contents : Contents) : Type 0 where

@@ -1,5 +1,5 @@
 -- The text of an image (own).
-use Rattle.std.specs.Prelude.{◌≡◌, ℕ, zero, suc, ◌+◌, ◌/◌, ◌%◌, ◌==◌, Bool, true, false, Option, None, Some, position}
+use Rattle.std.specs.Prelude.{◌≡◌, ◌≤◌, ℕ, zero, suc, ◌+◌, ◌/◌, ◌%◌, ◌==◌, Bool, true, false, Option, None, Some, position}
 use Rattle.std.specs.Prelude.{Result, Ok, Err, ◌&&◌, if◌then◌else◌, List, [], ◌∷◌, ◌++◌, length, slice_index, nat_le}
 use Rattle.std.specs.Prelude.{nat_lt, codes}
 use Rattle.std.specs.List.{flat_map, list_all}
@@ -10,8 +10,9 @@ use Rattle.image_1401.specs.declared.fault.ImageFault.TheVariants.{Memory, Heade
 use Rattle.image_1401.specs.declared.image.Image.{Image}
 use Rattle.image_1401.specs.declared.image.Segment.{Segment}
 use Rattle.image_1401.specs.declared.version.Version.{Version}
+use Rattle.image_1401.specs.declared.version.Version.TheVariants.{One, Two}
 use Rattle.image_1401.specs.Image.{is_inside}
-use Rattle.image_1401.specs.Version.{name_of, address_digits, has_size}
+use Rattle.image_1401.specs.Version.{name_of, address_digits, most_places, has_size}
 
 -- a number in this many decimal digits
 unfoldable pub number_text : ℕ → ℕ → List ℕ
@@ -56,6 +57,10 @@ image_text version image =
     ++ segments_text version image.segments
     ++ line_of (end_text version image.start)
 
+-- the text that is written of an image: that of the newest version
+abbrev pub written_text : Image → List ℕ
+written_text image = image_text Two image
+
 -- whether this is the character
 abbrev pub is_char : Option ℕ → ℕ → Bool
 is_char None char = false
@@ -76,6 +81,11 @@ pub record HasText (version : Version) (image : Image) : Type 0 where
   pub cells : list_all is_segment image.segments ≡ true
   pub segments : list_all (is_inside image.size) image.segments ≡ true
   pub start : nat_lt image.start image.size ≡ true
+
+-- an image with a text has one of version 2, and if it isn't too large also one of version 1
+pub record HasTexts (image : Image) : Type 0 where
+  pub newest : HasText Two image
+  pub oldest : image.size ≤ most_places → HasText One image
 
 -- the text is the image's, in one of the versions
 pub record IsTextOf (text : List ℕ) (image : Image) : Type 0 where

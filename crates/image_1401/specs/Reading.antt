@@ -2,7 +2,7 @@
 use Rattle.std.specs.Prelude.{◌≡◌, ℕ, ◌+◌, ◌-◌, ◌*◌, ◌==◌, nat_le, nat_lt, Bool, true, false, ◌&&◌, if◌then◌else◌, List}
 use Rattle.std.specs.Prelude.{[], ◌∷◌, ◌++◌, length, take, drop, fold, position, Option, None, Some, Result, Ok, Err}
 use Rattle.std.specs.Prelude.{IsOk, option_and_then, codes}
-use Rattle.std.specs.Option.{option_map}
+use Rattle.std.specs.Option.{option_map, option_or}
 use Rattle.std.specs.List.{list_all, slice_split}
 use Rattle.std.specs.Str.{bytes_eq}
 use Rattle.bcd_1401.specs.declared.cell.Cell.{Cell}
@@ -13,7 +13,7 @@ use Rattle.image_1401.specs.declared.image.Image.{Image}
 use Rattle.image_1401.specs.declared.image.Segment.{Segment}
 use Rattle.image_1401.specs.declared.reading.Spelled.{Spelled}
 use Rattle.image_1401.specs.declared.version.Version.{Version}
-use Rattle.image_1401.specs.declared.version.Version.TheVariants.{One}
+use Rattle.image_1401.specs.declared.version.Version.TheVariants.{One, Two}
 use Rattle.image_1401.specs.Image.{is_inside}
 use Rattle.image_1401.specs.Version.{name_of, address_digits, has_size}
 
@@ -76,9 +76,13 @@ header_with version line = do
   size ← number_at (address_digits version) text
   if nat_le (length size.1) 0 && has_size version size.0 then Some size.0 else None
 
+-- a version with the size that was read in it
+abbrev pub in_version : Version → Option ℕ → Option (Version × ℕ)
+in_version version size = option_map (λ size. (version, size)) size
+
 -- the version and the size that a header names
 unfoldable pub header_in : List ℕ → Option (Version × ℕ)
-header_in line = option_map (λ size. (One, size)) (header_with One line)
+header_in line = option_or (in_version One (header_with One line)) (in_version Two (header_with Two line))
 
 -- a segment
 unfoldable pub segment_in : Version → List ℕ → Option Segment

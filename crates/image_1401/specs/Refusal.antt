@@ -27,11 +27,12 @@ pub data HasFault : Version → ℕ → List (List ℕ) → ImageFault → Type 
       → HasFault version size (line ∷ next ∷ parts) BadRecord
   -- a segment doesn't lie in core storage
   segment_outside : (version : Version) (size : ℕ) (line next : List ℕ) (parts : List (List ℕ)) (segment : Segment)
-      → line ≡ segment_text version segment → is_inside size segment ≡ false
-      → HasFault version size (line ∷ next ∷ parts) Range
+      → line ≡ segment_text version segment → is_segment segment ≡ true → segment.address < 10 ^ address_digits version
+      → is_inside size segment ≡ false → HasFault version size (line ∷ next ∷ parts) Range
   -- an entry doesn't lie in it
   entry_outside : (version : Version) (size : ℕ) (line next : List ℕ) (parts : List (List ℕ)) (start : ℕ)
-      → line ≡ end_text version start → size ≤ start → HasFault version size (line ∷ next ∷ parts) Range
+      → line ≡ end_text version start → start < 10 ^ address_digits version → size ≤ start
+      → HasFault version size (line ∷ next ∷ parts) Range
   -- a byte stands behind the entry
   behind_the_end : (version : Version) (size : ℕ) (line next : List ℕ) (parts : List (List ℕ)) (start : ℕ)
       → line ≡ end_text version start → start < size → is_done (next ∷ parts) ≡ false
@@ -39,7 +40,8 @@ pub data HasFault : Version → ℕ → List (List ℕ) → ImageFault → Type 
   -- a segment is good, and what stands behind it has a fault
   further_on : (version : Version) (size : ℕ) (line next : List ℕ) (parts : List (List ℕ)) (segment : Segment)
       (fault : ImageFault)
-      → line ≡ segment_text version segment → is_inside size segment ≡ true → HasFault version size (next ∷ parts) fault
+      → line ≡ segment_text version segment → is_segment segment ≡ true → segment.address < 10 ^ address_digits version
+      → is_inside size segment ≡ true → HasFault version size (next ∷ parts) fault
       → HasFault version size (line ∷ next ∷ parts) fault
 
 -- the fault of a text by its parts

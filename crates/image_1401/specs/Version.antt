@@ -1,17 +1,24 @@
 -- What sets the versions of an image's text apart (own).
-use Rattle.std.specs.Prelude.{ℕ, Bool, List, codes}
+use Rattle.std.specs.Prelude.{ℕ, ◌&&◌, nat_le, Bool, List, codes}
 use Rattle.core_1401.specs.Storage.{is_core_size}
 use Rattle.image_1401.specs.declared.version.Version.{Version}
-use Rattle.image_1401.specs.declared.version.Version.TheVariants.{One}
+use Rattle.image_1401.specs.declared.version.Version.TheVariants.{One, Two}
 
 -- what the header begins with
 abbrev pub name_of : Version → List ℕ
 name_of One = codes "IMAGE1 "
+name_of Two = codes "IMAGE2 "
 
 -- how many digits a size and an address have
 abbrev pub address_digits : Version → ℕ
 address_digits One = 4
+address_digits Two = 5
+
+-- how many places an image of version 1 has at the most
+abbrev pub most_places : ℕ
+most_places = 4000
 
 -- the sizes that an image can have
 abbrev pub has_size : Version → ℕ → Bool
-has_size One size = is_core_size size
+has_size One size = is_core_size size && nat_le size most_places
+has_size Two size = is_core_size size

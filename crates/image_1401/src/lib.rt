@@ -2,7 +2,7 @@
 //! kept.
 //!
 //! ```text
-//! let image = read_image(alloc, b"IMAGE1 4000\n0400 02 ~HI\nEND 0400\n")?;
+//! let image = read_image(alloc, b"IMAGE2 04000\n00400 02 ~HI\nEND 00400\n")?;
 //! image.segments.as_slice()               // one segment: H with a word mark at 400, I at 401
 //! write_image(alloc, &image)?             // the same text
 //! ```

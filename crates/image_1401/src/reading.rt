@@ -2,10 +2,10 @@
 ghost use Rattle.std.specs.Prelude.{◌≡◌, ◌<◌, ◌≤◌, ◌==◌, ◌∷◌, [], length, position, Some, None, Ok, Err};
 ghost use Rattle.std.specs.Prelude.{if◌then◌else◌, IfOk, IfErr, MatchOption};
 ghost use Rattle.std.specs.Option.{option_map};
-ghost use Rattle.image_1401.specs.ImageText.{IsTextOf, IsOrMemory};
+ghost use Rattle.image_1401.specs.ImageText.{HasTexts, IsTextOf, IsOrMemory};
 ghost use Rattle.image_1401.specs.Refusal.{IsRefused};
 ghost use Rattle.image_1401.specs.Reading.{cell_in, cells_in, in_front, few_cells_in, number_in, number_at};
-ghost use Rattle.image_1401.specs.Reading.{header_with, header_in, segment_in, end_in};
+ghost use Rattle.image_1401.specs.Reading.{header_with, in_version, header_in, segment_in, end_in};
 ghost use Rattle.image_1401.specs.Reading.{parts_of, entry_by, contents_in, image_of, image_in, as_segment, Gives};
 ghost use Rattle.image_1401.specs.Reading.{IsOfText, inside_of};
 
@@ -31,6 +31,9 @@ pub fn read_image(alloc: Global, text: &[u8]) -> Result<Image, ImageFault>
 
     // An image's text is read as the image, unless memory is refused.
     ensures again { (image : Image) → IsTextOf text.now image → IsOrMemory result image }
+
+    // In which versions it has a text doesn't depend on the one that was read.
+    ensures versions { IfOk result HasTexts }
 
     // Any other text is refused for its first wrong line.
     ensures fault { IfErr result (IsRefused text.now) }
@@ -141,8 +144,14 @@ fn line_feed_in(text: &[u8]) -> Option<usize>
 fn header(line: &[u8]) -> Option<(Version, u16)>
     ensures { result ≡ header_in line.now }
 {
-    let size = header_with(Version::One, line)?;
-    Some((Version::One, size))
+    header_of(Version::One, line).or_else(|| header_of(Version::Two, line))
+}
+
+/// A header of this version, with the size that it names.
+fn header_of(version: Version, line: &[u8]) -> Option<(Version, u16)>
+    ensures { result ≡ in_version version (header_with version line.now) }
+{
+    Some((version, header_with(version, line)?))
 }
 
 /// The size that a header of this version names.

@@ -7,7 +7,10 @@ use std::alloc::Global;
 use std::test::Fail;
 
 /// Two instructions that put five into a field and add five to it, a halt, and constants.
-const TEXT: [u8; 60] = *b"IMAGE1 4000\n0400 24 ~?423420~A423420~.414~   ~HI~E\nEND 0400\n";
+const TEXT: [u8; 63] = *b"IMAGE2 04000\n00400 24 ~?423420~A423420~.414~   ~HI~E\nEND 00400\n";
+
+/// The same in version 1.
+const OLD_TEXT: [u8; 60] = *b"IMAGE1 4000\n0400 24 ~?423420~A423420~.414~   ~HI~E\nEND 0400\n";
 
 /// The codes of the segment's cells, and 64 more for a word mark.
 const CODES: [u8; 24] = [
@@ -36,37 +39,45 @@ fn five_and_five(alloc: Global) -> Result<Image, Fail> {
 }
 
 #[test]
-fn a_text_is_read_as_its_image(rt: HostRuntime) -> Result<(), Fail> {
-    let image = read_image(rt.alloc(), &TEXT)?;
+fn both_versions_are_read_as_one_image(rt: HostRuntime) -> Result<(), Fail> {
     let wanted = five_and_five(rt.alloc())?;
-    assert_eq!(rt; image.size, wanted.size);
-    assert_eq!(rt; image.segments.as_slice(), wanted.segments.as_slice());
-    assert_eq!(rt; image.start, wanted.start);
+    for text in [TEXT.as_slice(), OLD_TEXT.as_slice()] {
+        let image = read_image(rt.alloc(), text)?;
+        assert_eq!(rt; image.size, wanted.size);
+        assert_eq!(rt; image.segments.as_slice(), wanted.segments.as_slice());
+        assert_eq!(rt; image.start, wanted.start);
+    }
     Ok(())
 }
 
 #[test]
-fn an_image_is_written_as_its_text(rt: HostRuntime) -> Result<(), Fail> {
-    let image = read_image(rt.alloc(), &TEXT)?;
-    let text = write_image(rt.alloc(), &image)?;
-    assert_eq!(rt; text.as_slice(), TEXT.as_slice());
+fn an_image_is_written_in_version_2(rt: HostRuntime) -> Result<(), Fail> {
+    for read in [TEXT.as_slice(), OLD_TEXT.as_slice()] {
+        let image = read_image(rt.alloc(), read)?;
+        let text = write_image(rt.alloc(), &image)?;
+        assert_eq!(rt; text.as_slice(), TEXT.as_slice());
+    }
     Ok(())
 }
 
 #[test]
 fn each_front_of_a_text_is_truncated(rt: HostRuntime) {
-    for end in 0..TEXT.len() {
-        let fault = read_image(rt.alloc(), &TEXT[..end]).err();
-        assert_eq!(rt; fault, Some(ImageFault::Truncated), "{end} bytes");
+    for text in [TEXT.as_slice(), OLD_TEXT.as_slice()] {
+        for end in 0..text.len() {
+            let fault = read_image(rt.alloc(), &text[..end]).err();
+            assert_eq!(rt; fault, Some(ImageFault::Truncated), "{end} bytes");
+        }
     }
 }
 
 #[test]
 fn a_line_feed_more_is_a_bad_record(rt: HostRuntime) -> Result<(), Fail> {
-    let mut text = Vec::from_slice(rt.alloc(), &TEXT)?;
-    text.push(b'\n')?;
-    let fault = read_image(rt.alloc(), text.as_slice()).err();
-    assert_eq!(rt; fault, Some(ImageFault::BadRecord));
+    for text in [TEXT.as_slice(), OLD_TEXT.as_slice()] {
+        let mut text = Vec::from_slice(rt.alloc(), text)?;
+        text.push(b'\n')?;
+        let fault = read_image(rt.alloc(), text.as_slice()).err();
+        assert_eq!(rt; fault, Some(ImageFault::BadRecord));
+    }
     Ok(())
 }
 
@@ -101,7 +112,13 @@ fn the_first_wrong_line_decides(rt: HostRuntime) {
         ("IMAGE1  4000\nEND 0000\n", ImageFault::Header),
         ("IMAGE1 4000 \nEND 0000\n", ImageFault::Header),
         ("IMAGE1 4000\r\nEND 0000\n", ImageFault::Header),
-        ("IMAGE2 04000\nEND 00000\n", ImageFault::Header),
+        ("IMAGE1 8000\n", ImageFault::Header),
+        ("IMAGE1 08000\n", ImageFault::Header),
+        ("IMAGE2 4000\n", ImageFault::Header),
+        ("IMAGE2 04001\n", ImageFault::Header),
+        ("IMAGE2 65536\n", ImageFault::Header),
+        ("IMAGE2 70000\n", ImageFault::Header),
+        ("IMAGE3 04000\nEND 00000\n", ImageFault::Header),
         ("\nIMAGE1 4000\nEND 0000\n", ImageFault::Header),
         ("IMAGE1 4000\n", ImageFault::Truncated),
         ("IMAGE1 4000\nEND 0000", ImageFault::Truncated),
@@ -109,6 +126,14 @@ fn the_first_wrong_line_decides(rt: HostRuntime) {
         ("IMAGE1 4000\nEND 0000\r\n", ImageFault::BadRecord),
         ("IMAGE1 4000\nEND 000\n", ImageFault::BadRecord),
         ("IMAGE1 4000\nEND 00000\n", ImageFault::BadRecord),
+        ("IMAGE2 04000\nEND 0000\n", ImageFault::BadRecord),
+        (
+            "IMAGE2 08000\n0400 01 A\nEND 00400\n",
+            ImageFault::BadRecord,
+        ),
+        ("IMAGE2 08000\n07999 02 AB\nEND 00000\n", ImageFault::Range),
+        ("IMAGE2 08000\n99999 01 A\nX\n", ImageFault::Range),
+        ("IMAGE2 16000\nEND 16000\n", ImageFault::Range),
         ("IMAGE1 4000\nEND 4000\n", ImageFault::Range),
         ("IMAGE1 4000\nEND 4000\nEND 0000\n", ImageFault::Range),
         ("IMAGE1 4000\nEND 0000\nEND 0000\n", ImageFault::BadRecord),
@@ -127,6 +152,9 @@ fn the_first_wrong_line_decides(rt: HostRuntime) {
             ImageFault::BadRecord,
         ),
         ("IMAGE1 4000\n0400 00 \nEND 0000\n", ImageFault::BadRecord),
+        ("IMAGE1 4000\n0400 00 \n", ImageFault::BadRecord),
+        ("IMAGE1 4000\n0400 01 A\nX\n", ImageFault::BadRecord),
+        ("IMAGE1 4000\nEND 0400\nX\n", ImageFault::BadRecord),
         (
             "IMAGE1 4000\n0400 41 AAAAAAAAAAAAAAAAAAAAAAAAAAAAAAAAAAAAAAAAA\nEND 0000\n",
             ImageFault::BadRecord,
@@ -142,24 +170,27 @@ fn the_first_wrong_line_decides(rt: HostRuntime) {
 
 #[test]
 fn the_largest_segment_at_the_last_places(rt: HostRuntime) -> Result<(), Fail> {
-    let text =
-        b"IMAGE1 1400\n1360 40 ABCDEFGHIJABCDEFGHIJABCDEFGHIJABCDEFGHI~ \n0000 01  \nEND 1399\n";
-    let image = read_image(rt.alloc(), text)?;
-    assert_eq!(rt; image.segments.as_slice().len(), 2);
-    assert_eq!(rt;
-        write_image(rt.alloc(), &image)?.as_slice(),
-        text.as_slice()
-    );
+    for text in [
+        "IMAGE2 01400\n01360 40 ABCDEFGHIJABCDEFGHIJABCDEFGHIJABCDEFGHI~ \n00000 01  \nEND 01399\n",
+        "IMAGE2 16000\n15960 40 ABCDEFGHIJABCDEFGHIJABCDEFGHIJABCDEFGHI~ \n00000 01  \nEND 15999\n",
+    ] {
+        let image = read_image(rt.alloc(), text.as_bytes())?;
+        assert_eq!(rt; image.segments.as_slice().len(), 2);
+        assert_eq!(rt;
+            write_image(rt.alloc(), &image)?.as_slice(),
+            text.as_bytes()
+        );
+    }
     Ok(())
 }
 
 #[test]
 fn a_large_image_is_written_as_it_was_read(rt: HostRuntime) -> Result<(), Fail> {
-    let mut text = Vec::from_slice(rt.alloc(), b"IMAGE1 4000\n")?;
+    let mut text = Vec::from_slice(rt.alloc(), b"IMAGE2 04000\n")?;
     for _ in 0..99_000 {
-        text.extend_from_slice(b"0400 24 ~?423420~A423420~.414~   ~HI~E\n")?;
+        text.extend_from_slice(b"00400 24 ~?423420~A423420~.414~   ~HI~E\n")?;
     }
-    text.extend_from_slice(b"END 0400\n")?;
+    text.extend_from_slice(b"END 00400\n")?;
     let image = read_image(rt.alloc(), text.as_slice())?;
     assert_eq!(rt; image.segments.as_slice().len(), 99_000);
     let again = write_image(rt.alloc(), &image)?;

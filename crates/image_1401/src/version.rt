@@ -1,14 +1,19 @@
 //! The versions of the text of an image. What sets one apart from another stands here alone.
 ghost use Rattle.std.specs.Prelude.{◌≡◌, ◌≤◌, Some, None, if◌then◌else◌};
-ghost use Rattle.image_1401.specs.Version.{name_of, address_digits, has_size};
+ghost use Rattle.image_1401.specs.Version.{name_of, address_digits, most_places, has_size};
 
 use core_1401::Core;
+
+/// How many places an image of version 1 has at the most.
+const MOST_PLACES: u16 = 4_000;
 
 /// A version of the text of an image.
 #[derive(Clone, Copy, Debug, PartialEq, Eq)]
 pub(crate) enum Version {
-    /// 1: four digits.
+    /// 1: four digits, and core storage up to 4,000 places.
     One,
+    /// 2: five digits, and core storage of any size.
+    Two,
 }
 
 impl Version {
@@ -18,6 +23,7 @@ impl Version {
     {
         match self {
             Version::One => b"IMAGE1 ",
+            Version::Two => b"IMAGE2 ",
         }
     }
 
@@ -28,6 +34,7 @@ impl Version {
     {
         match self {
             Version::One => 4,
+            Version::Two => 5,
         }
     }
 
@@ -35,10 +42,22 @@ impl Version {
     pub(crate) fn size(self, number: u32) -> Option<u16>
         ensures { result ≡ (if has_size self number then Some number else None) }
     {
+        let size = u16::try_from(number).ok()?;
+        if self.has_size(size) {
+            Some(size)
+        } else {
+            None
+        }
+    }
+
+    /// Whether an image with a text of this version can have this size.
+    fn has_size(self, size: u16) -> bool
+        ensures value { result ≡ has_size self size }
+        ensures most { MOST_PLACES ≡ most_places }
+    {
         match self {
-            Version::One => u16::try_from(number)
-                .ok()
-                .filter(|size| Core::is_size(*size)),
+            Version::One => Core::is_size(size) && size <= MOST_PLACES,
+            Version::Two => Core::is_size(size),
         }
     }
 }

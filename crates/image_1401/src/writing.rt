@@ -3,7 +3,7 @@ ghost use Rattle.std.specs.Prelude.{◌≡◌, ◌++◌, true, length, IfOk, OnO
 ghost use Rattle.std.specs.List.{flat_map, list_all};
 ghost use Rattle.image_1401.specs.Image.{IsInCore};
 ghost use Rattle.image_1401.specs.ImageText.{number_text, cell_text, cells_text, header_text, segment_text, end_text};
-ghost use Rattle.image_1401.specs.ImageText.{segments_text, image_text, line_of, is_character, is_segment, IsTextOf};
+ghost use Rattle.image_1401.specs.ImageText.{segments_text, image_text, written_text, line_of, is_character, is_segment, IsTextOf};
 
 use crate::image::{Image, Segment};
 use crate::version::Version;
@@ -13,7 +13,7 @@ use std::alloc::{AllocError, Global};
 /// How many digits a segment's count of cells has.
 pub(crate) const COUNT_DIGITS: usize = 2;
 
-/// The text of an image, in version 1.
+/// The text of an image, in version 2.
 ///
 /// # Errors
 ///
@@ -21,12 +21,12 @@ pub(crate) const COUNT_DIGITS: usize = 2;
 #[tactic(auto, unfolding(crate::specs::ImageText::image_text))]
 pub fn write_image(alloc: Global, image: &Image) -> Result<Vec<u8>, AllocError>
     requires { IsInCore image.now }
-    ensures text { IfOk result (λ text. text.items ≡ image_text Version.One image.now) }
+    ensures text { IfOk result (λ text. text.items ≡ written_text image.now) }
 
     // It is a text that is read as the image.
     ensures again { IfOk result (λ text. IsTextOf text.items image.now) }
 {
-    let version = Version::One;
+    let version = Version::Two;
     let mut text = Vec::new(alloc);
     put_header(&mut text, version, image.size)?;
     put_segments(&mut text, version, image.segments.as_slice())?;

@@ -13,7 +13,7 @@ use std::time::{Clock, Duration, Instant};
 use std::{env, io};
 
 /// The segment that each line of an image repeats.
-const SEGMENT: &[u8] = b"0400 24 ~?423420~A423420~.414~   ~HI~E\n";
+const SEGMENT: &[u8] = b"00400 24 ~?423420~A423420~.414~   ~HI~E\n";
 
 /// How often each image is read and written, of which the fastest counts.
 const ROUNDS: u32 = 5;
@@ -30,11 +30,11 @@ fn main(rt: HostRuntime) -> io::Result<()> {
 
 /// The text of an image with this number of segments.
 fn text_of(alloc: Global, segments: u32) -> Result<Vec<u8>, AllocError> {
-    let mut text = Vec::from_slice(alloc, b"IMAGE1 4000\n")?;
+    let mut text = Vec::from_slice(alloc, b"IMAGE2 04000\n")?;
     for _ in 0..segments {
         text.extend_from_slice(SEGMENT)?;
     }
-    text.extend_from_slice(b"END 0400\n")?;
+    text.extend_from_slice(b"END 00400\n")?;
     Ok(text)
 }
 

@@ -5,6 +5,7 @@ use crate::assembling::{check_size, write_assembly};
 use crate::fault::Fault;
 use autocoder_1401::{AsmFault, AsmKind, assemble};
 use console_1401::{FromReader, SessionEnd, ToWriter, put_image, session};
+use core_1401::Core;
 use room_1401::Room;
 use std::process::Abort;
 use std::test::Fail;
@@ -20,10 +21,17 @@ const FIVE_AND_FIVE: &[u8] = b"               ORG  400
                END  START
 ";
 
-/// Compares what is written of a source for core storage of 4,000 places.
-fn expect_written(rt: &(impl Abort + AllocGlobal), source: &[u8], product: Product, text: &[u8]) {
+/// Compares what is written of a source for core storage of this size.
+fn expect_written(
+    rt: &(impl Abort + AllocGlobal),
+    source: &[u8],
+    size: u16,
+    product: Product,
+    text: &[u8],
+) {
+    assert!(rt; Core::is_size(size));
     let mut writer = ToWriter::new(Vec::new(rt.alloc()));
-    let outcome = write_assembly(rt.alloc(), source, 4_000, product, &mut writer);
+    let outcome = write_assembly(rt.alloc(), source, size, product, &mut writer);
     assert!(rt; outcome.is_ok());
     assert_eq!(rt; writer.into_inner().as_slice(), text);
 }
@@ -33,12 +41,14 @@ fn an_image_or_a_listing_is_written(rt: HostRuntime) {
     expect_written(
         &rt,
         FIVE_AND_FIVE,
+        4_000,
         Product::Image,
-        b"IMAGE1 4000\n0400 24 ~?423420~A423420~.414~   ~HI~E\nEND 0400\n",
+        b"IMAGE2 04000\n00400 24 ~?423420~A423420~.414~   ~HI~E\nEND 00400\n",
     );
     expect_written(
         &rt,
         FIVE_AND_FIVE,
+        4_000,
         Product::Listing,
         b"\
 0001 00400                         ORG  400
@@ -57,8 +67,11 @@ fn an_image_or_a_listing_is_written(rt: HostRuntime) {
      KEY            3,4
                END  KEY
 ";
-    let image = b"IMAGE1 4000\n0500 08 ~  ~  ~  ~  \nEND 0503\n";
-    expect_written(&rt, areas, Product::Image, image);
+    let image = b"IMAGE2 04000\n00500 08 ~  ~  ~  ~  \nEND 00503\n";
+    expect_written(&rt, areas, 4_000, Product::Image, image);
+    let entry = b"               END  9999\n";
+    let image = b"IMAGE2 12000\nEND 09999\n";
+    expect_written(&rt, entry, 12_000, Product::Image, image);
 }
 
 #[test]

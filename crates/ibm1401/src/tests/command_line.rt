@@ -2,6 +2,7 @@
 
 use crate::args::{Call, read_call};
 use clap::error::ErrorKind;
+use core_1401::SIZES;
 use std::test::Fail;
 
 #[test]
@@ -15,6 +16,24 @@ fn a_console_has_a_size(rt: HostRuntime) -> Result<(), Fail> {
         let count = if words[2].is_empty() { 2 } else { 4 };
         let call = read_call(rt.alloc(), &words[..count])?;
         assert_eq!(rt; call, Call::Console { size });
+    }
+    Ok(())
+}
+
+#[test]
+fn the_help_names_each_size(rt: HostRuntime) -> Result<(), Fail> {
+    for subcommand in ["console", "assemble", "serve"] {
+        let Err(help) = read_call(rt.alloc(), &["ibm1401", subcommand, "--help"]) else {
+            panic!(rt; "no help of {subcommand}");
+        };
+        let text = format!(in rt.alloc(); "{help}")?;
+        for size in SIZES {
+            let name = format!(in rt.alloc(); " {size}")?;
+            assert!(rt;
+                text.as_str().contains(name.as_str()),
+                "{subcommand}: {size}"
+            );
+        }
     }
     Ok(())
 }

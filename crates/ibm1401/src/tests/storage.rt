@@ -1,6 +1,7 @@
 //! Word marks, storage cleared, index registers, and the ends of core.
 
-use super::expect_replies;
+use super::{expect_replies, expect_session_in};
+use console_1401::SessionEnd;
 
 #[test]
 fn storage_is_cleared_down_to_its_hundred(rt: HostRuntime) {
@@ -106,4 +107,64 @@ fn a_register_steps_round_the_first_address(rt: HostRuntime) {
          ~ AB \n",
         7,
     );
+}
+
+#[test]
+fn the_last_place_is_15999(rt: HostRuntime) {
+    let lines = "DEPOSIT 0600 ~,I9I~.\nSTART 0600\nRUN 1\nEXAMINE 15999\nREGS\n";
+    for (size, replies) in [
+        (
+            4_000,
+            "OK\nOK\nSTOP 09 ADDRESS STEPS 0 I 00600\nREFUSED 1 ADDRESS\n\
+             I=00600 A=00000 B=00000 UNEQUAL=0 OVERFLOW=0 SWITCHES=------- \
+             HOPPER=000 STACKER=000 PAPER=000 FORM=0001 LINE=01\n",
+        ),
+        (
+            12_000,
+            "OK\nOK\nSTOP 09 ADDRESS STEPS 0 I 00600\nREFUSED 1 ADDRESS\n\
+             I=00600 A=00000 B=00000 UNEQUAL=0 OVERFLOW=0 SWITCHES=------- \
+             HOPPER=000 STACKER=000 PAPER=000 FORM=0001 LINE=01\n",
+        ),
+        (
+            16_000,
+            "OK\nOK\nSTOP 01 LIMIT STEPS 1 I 00604\n~ \n\
+             I=00604 A=15998 B=15998 UNEQUAL=0 OVERFLOW=0 SWITCHES=------- \
+             HOPPER=000 STACKER=000 PAPER=000 FORM=0001 LINE=01\n",
+        ),
+    ] {
+        let end = SessionEnd::EndOfInput;
+        expect_session_in(&rt, rt.alloc(), size, lines, replies, end, 5);
+    }
+}
+
+#[test]
+fn address_000_follows_15999_in_registers_alone(rt: HostRuntime) {
+    for (lines, replies, entries) in [
+        (
+            "DEPOSIT 15999 ~N\nSTART 15999\nRUN 1\nEXAMINE 15999 2\n",
+            "OK\nOK\nSTOP 01 LIMIT STEPS 1 I 00000\nREFUSED 1 ADDRESS\n",
+            4,
+        ),
+        (
+            "DEPOSIT 0700 ~AB\nDEPOSIT 0600 ~L701000~.\nSTART 0600\nRUN 1\n",
+            "OK\nOK\nOK\nSTOP 09 ADDRESS STEPS 0 I 00600\n",
+            4,
+        ),
+        // Neither a move nor a sum goes on from 000 to 15999, where there is a word mark.
+        (
+            "DEPOSIT 15999 ~1\nDEPOSIT 0000 12\nDEPOSIT 0700 ~000\nDEPOSIT 0600 ~M001702~A700001~.\nSTART 0600\n\
+             RUN 1\nSTART 0607\nRUN 1\nEXAMINE 15999\n",
+            "OK\nOK\nOK\nOK\nOK\nSTOP 09 ADDRESS STEPS 0 I 00600\nOK\nSTOP 09 ADDRESS STEPS 0 I 00607\n~1\n",
+            9,
+        ),
+        // The last address and index register 1 go round to 002.
+        (
+            "DEPOSIT 0087 003\nDEPOSIT 0600 ~,IZI~.\nSTART 0600\nRUN 1\nEXAMINE 0002\nEXAMINE 15999\n",
+            "OK\nOK\nOK\nSTOP 01 LIMIT STEPS 1 I 00604\n~ \n \n",
+            6,
+        ),
+    ] {
+        let end = SessionEnd::EndOfInput;
+        expect_session_in(&rt, rt.alloc(), 16_000, lines, replies, end, entries);
+    }
 }
