@@ -15,7 +15,7 @@ use Rattle.std.proofs.lemmas.List.Folds.{list_all_at}
 use Rattle.std.proofs.lemmas.List.Sums.{suffix_len-le-length}
 use Rattle.bcd_1401.specs.Graphic.{graphics}
 use Rattle.devices_1401.specs.declared.card.Card.{Card}
-use Rattle.room_1401.specs.declared.command.Command.TheVariants as command
+use Rattle.command_1401.specs.declared.command.Command.TheVariants as command
 use Rattle.console_1401.specs.declared.line.Line.TheVariants.{Command}
 use Rattle.console_1401.specs.declared.line.LineFault.TheVariants.{Graphic, Length}
 use Rattle.console_1401.specs.CardText.{char_of, chars_of, card_of, card_with, graphics_of, trimmed}

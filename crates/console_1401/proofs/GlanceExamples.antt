@@ -4,9 +4,9 @@ use Rattle.std.specs.Fmt.{digits}
 use Rattle.std.specs.Prelude.{Ok, Err, codes}
 use Rattle.bcd_1401.specs.declared.cell.Cell.{Cell}
 use Rattle.bcd_1401.specs.Graphic.{graphics}
-use Rattle.room_1401.specs.declared.command.Command.TheVariants.{Deposit, Examine}
+use Rattle.command_1401.specs.declared.command.Command.TheVariants.{Deposit, Examine}
 use Rattle.room_1401.specs.declared.fault.GlanceFault.TheVariants.{Range, Gone}
-use Rattle.room_1401.specs.CarryOut.{carry_out}
+use Rattle.command_1401.specs.CarryOut.{carry_out}
 use Rattle.console_1401.specs.declared.line.Line.TheVariants.{Command, Glance}
 use Rattle.console_1401.specs.declared.line.LineFault.TheVariants.{Number, Extra, Word}
 use Rattle.console_1401.specs.declared.reply.Reply.{Reply}

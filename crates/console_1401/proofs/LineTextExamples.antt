@@ -6,7 +6,7 @@ use Rattle.std.specs.Prelude.{codes}
 use Rattle.bcd_1401.specs.declared.cell.Cell.{Cell}
 use Rattle.bcd_1401.specs.Graphic.{graphics}
 use Rattle.cpu_1401.specs.declared.switch_name.SwitchName.TheVariants.{C}
-use Rattle.room_1401.specs.declared.command.Command.TheVariants.{Deposit, Examine, Switch}
+use Rattle.command_1401.specs.declared.command.Command.TheVariants.{Deposit, Examine, Switch}
 use Rattle.console_1401.specs.declared.line.Line.TheVariants.{Empty, Command}
 use Rattle.console_1401.specs.CardText.{card_with, graphics_of}
 use Rattle.console_1401.specs.LineText.{IsLineOf, IsExamineOf, IsTypedBehind}

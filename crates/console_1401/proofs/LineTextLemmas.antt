@@ -14,8 +14,8 @@ use Rattle.cpu_1401.specs.declared.switch_name.SwitchName.{SwitchName}
 use Rattle.cpu_1401.specs.declared.switch_name.SwitchName.TheVariants.{A, B, C, D, E, F, G}
 use Rattle.cpu_1401.specs.CardsAndPrinter.{card_columns}
 use Rattle.devices_1401.specs.declared.card.Card.{Card}
-use Rattle.room_1401.specs.CarryOut.{most_cells}
-use Rattle.room_1401.specs.declared.command.Command.TheVariants as command
+use Rattle.command_1401.specs.CarryOut.{most_cells}
+use Rattle.command_1401.specs.declared.command.Command.TheVariants as command
 use Rattle.console_1401.specs.declared.line.Line.{Line}
 use Rattle.console_1401.specs.declared.line.Line.TheVariants.{Empty, Command, Glance, Quit}
 use Rattle.console_1401.specs.declared.words.Keyword.{Keyword}

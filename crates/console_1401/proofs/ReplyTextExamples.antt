@@ -6,9 +6,9 @@ use Rattle.bcd_1401.specs.declared.cell.Cell.{Cell}
 use Rattle.bcd_1401.specs.Graphic.{graphics}
 use Rattle.cpu_1401.specs.declared.regs.Regs.{Regs}
 use Rattle.cpu_1401.specs.declared.stop.Stop.TheVariants as stop
-use Rattle.room_1401.specs.declared.answer.Answer.{Answer}
-use Rattle.room_1401.specs.declared.answer.Answer.TheVariants as answer
-use Rattle.room_1401.specs.declared.answer.Refusal.TheVariants.{Address, Hopper, Reader, Empty, Limit, Count}
+use Rattle.command_1401.specs.declared.answer.Answer.{Answer}
+use Rattle.command_1401.specs.declared.answer.Answer.TheVariants as answer
+use Rattle.command_1401.specs.declared.answer.Refusal.TheVariants.{Address, Hopper, Reader, Empty, Limit, Count}
 use Rattle.console_1401.specs.ReplyText.{answer_text, cells_text, switches_text, regs_text, ran_text, line_text}
 use Rattle.console_1401.specs.ReplyText.{card_text}
 use Rattle.console_1401.specs.CardText.{graphics_of, trimmed}

@@ -5,8 +5,8 @@ use Rattle.std.proofs.lemmas.List.{length-replicate}
 use Rattle.std.proofs.lemmas.List.Elements.{All-nil, All-cons}
 use Rattle.std.specs.Prelude.{Some, Ok, codes}
 use Rattle.core_1401.specs.Storage.{blank}
-use Rattle.room_1401.specs.declared.answer.Answer.TheVariants.{Cells}
-use Rattle.room_1401.specs.declared.command.Command.TheVariants.{Examine}
+use Rattle.command_1401.specs.declared.answer.Answer.TheVariants.{Cells}
+use Rattle.command_1401.specs.declared.command.Command.TheVariants.{Examine}
 use Rattle.room_1401.specs.declared.entry.Entry.{Entry}
 use Rattle.room_1401.specs.Account.{Account}
 use Rattle.room_1401.specs.Journal.{entry}

@@ -3,8 +3,8 @@ use Rattle.std.proofs.Common.{◌≡◌, ℕ, Bool, true, false, List, [], ◌�
 use Rattle.std.specs.Prelude.{Ok, Err, codes}
 use Rattle.bcd_1401.specs.declared.cell.Cell.{Cell}
 use Rattle.bcd_1401.specs.Graphic.{graphics}
-use Rattle.room_1401.specs.declared.command.Command.TheVariants.{Deposit, Examine}
-use Rattle.room_1401.specs.CarryOut.{carry_out}
+use Rattle.command_1401.specs.declared.command.Command.TheVariants.{Deposit, Examine}
+use Rattle.command_1401.specs.CarryOut.{carry_out}
 use Rattle.console_1401.specs.declared.line.Line.TheVariants.{Empty, Command, Quit}
 use Rattle.console_1401.specs.declared.line.LineFault.TheVariants.{Word, Length}
 use Rattle.console_1401.specs.Words.{word_in, behind_word, keyword_of, number_of, address_of, count_of}

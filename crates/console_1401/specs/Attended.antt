@@ -2,8 +2,8 @@
 use Rattle.std.specs.Prelude.{◌≡◌, ℕ, ◌+◌, ◌<◌, List, [], ◌∷◌, ◌++◌, length, map, Option, None, Some, Ok, Err}
 use Rattle.std.specs.List.{flat_map, zip}
 use mathlib.Core.List.{IsPrefix}
-use Rattle.room_1401.specs.declared.answer.Answer.{Answer}
-use Rattle.room_1401.specs.declared.command.Command.{Command}
+use Rattle.command_1401.specs.declared.answer.Answer.{Answer}
+use Rattle.command_1401.specs.declared.command.Command.{Command}
 use Rattle.room_1401.specs.declared.entry.Pair.{Pair}
 use Rattle.room_1401.specs.declared.fault.RoomFault.{RoomFault}
 use Rattle.room_1401.specs.declared.fault.RoomFault.TheVariants.{Memory, JournalFull, NoReading}

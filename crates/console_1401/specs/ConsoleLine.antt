@@ -5,8 +5,8 @@ use Rattle.std.specs.Option.{option_map}
 use Rattle.std.specs.List.{list_all}
 use Rattle.bcd_1401.specs.declared.cell.Cell.{Cell}
 use Rattle.bcd_1401.specs.Graphic.{graphics}
-use Rattle.room_1401.specs.CarryOut.{most_cells}
-use Rattle.room_1401.specs.declared.command.Command.TheVariants as command
+use Rattle.command_1401.specs.CarryOut.{most_cells}
+use Rattle.command_1401.specs.declared.command.Command.TheVariants as command
 use Rattle.console_1401.specs.declared.line.Line.{Line}
 use Rattle.console_1401.specs.declared.line.Line.TheVariants.{Empty, Command, Glance, Quit}
 use Rattle.console_1401.specs.declared.line.LineFault.{LineFault}

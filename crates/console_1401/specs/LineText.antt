@@ -6,8 +6,8 @@ use Rattle.bcd_1401.specs.declared.cell.Cell.{Cell}
 use Rattle.core_1401.specs.Address.{addresses}
 use Rattle.cpu_1401.specs.CardsAndPrinter.{card_columns}
 use Rattle.devices_1401.specs.declared.card.Card.{Card}
-use Rattle.room_1401.specs.CarryOut.{most_cells}
-use Rattle.room_1401.specs.declared.command.Command.TheVariants as command
+use Rattle.command_1401.specs.CarryOut.{most_cells}
+use Rattle.command_1401.specs.declared.command.Command.TheVariants as command
 use Rattle.console_1401.specs.declared.line.Line.{Line}
 use Rattle.console_1401.specs.declared.line.Line.TheVariants as line
 use Rattle.console_1401.specs.Bytes.{blank}

@@ -10,11 +10,11 @@ use Rattle.cpu_1401.specs.declared.stop.Stop.{Stop}
 use Rattle.cpu_1401.specs.Stop.{stop_number, stop_name}
 use Rattle.devices_1401.specs.declared.card.Card.{Card}
 use Rattle.devices_1401.specs.declared.print_line.PrintLine.{PrintLine}
-use Rattle.room_1401.specs.declared.answer.Answer.{Answer}
-use Rattle.room_1401.specs.declared.answer.Answer.TheVariants as answer
-use Rattle.room_1401.specs.declared.answer.Refusal.{Refusal}
-use Rattle.room_1401.specs.declared.answer.Refusal.TheVariants as refusal
-use Rattle.room_1401.specs.declared.command.Command.TheVariants as command
+use Rattle.command_1401.specs.declared.answer.Answer.{Answer}
+use Rattle.command_1401.specs.declared.answer.Answer.TheVariants as answer
+use Rattle.command_1401.specs.declared.answer.Refusal.{Refusal}
+use Rattle.command_1401.specs.declared.answer.Refusal.TheVariants as refusal
+use Rattle.command_1401.specs.declared.command.Command.TheVariants as command
 use Rattle.room_1401.specs.declared.fault.GlanceFault.{GlanceFault}
 use Rattle.room_1401.specs.declared.fault.GlanceFault.TheVariants as glance_fault
 use Rattle.room_1401.specs.declared.fault.RoomFault.{RoomFault}

@@ -1,7 +1,7 @@
 -- What a line is answered at a seat of a shared room, and what the seat has seen and made then (own).
 use Rattle.std.specs.Prelude.{◌≡◌, ℕ, ◌+◌, ◌<◌, ◌≤◌, length, Option, None, Some, Ok, Err}
 use mathlib.Core.List.{IsPrefix}
-use Rattle.room_1401.specs.declared.command.Command.{Command}
+use Rattle.command_1401.specs.declared.command.Command.{Command}
 use Rattle.room_1401.specs.declared.fault.GlanceFault.{GlanceFault}
 use Rattle.room_1401.specs.declared.fault.GlanceFault.TheVariants.{Range, Gone}
 use Rattle.room_1401.specs.declared.fault.RoomFault.TheVariants.{JournalFull}

@@ -1,7 +1,7 @@
 -- What a line is answered at the console of a room, and what it leaves (own).
 use Rattle.std.specs.Prelude.{◌≡◌, ℕ, ◌+◌, ◌<◌, ◌≤◌, Bool, false, All, List, [], ◌∷◌, ◌++◌, ◌||◌, length, take, map}
 use Rattle.std.specs.Prelude.{nat_lt, if◌then◌else◌, Option, None, Some, Ok, Err}
-use Rattle.room_1401.specs.declared.command.Command.{Command}
+use Rattle.command_1401.specs.declared.command.Command.{Command}
 use Rattle.room_1401.specs.declared.entry.Entry.{Entry}
 use Rattle.room_1401.specs.declared.fault.GlanceFault.TheVariants.{Range}
 use Rattle.room_1401.specs.declared.fault.RoomFault.TheVariants.{Memory, JournalFull}

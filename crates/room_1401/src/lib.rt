@@ -16,10 +16,7 @@
 //! ```
 #![tactic(auto)]
 
-pub mod answer;
-pub mod carrying;
 mod closing;
-pub mod command;
 pub mod entry;
 pub mod fault;
 pub mod history;
@@ -32,9 +29,7 @@ mod rule;
 pub mod seat;
 pub mod shared_room;
 
-pub use answer::{Answer, Refusal};
-pub use carrying::carry_out;
-pub use command::Command;
+pub use command_1401::{Answer, Command, Refusal, carry_out};
 pub use entry::{Entry, Pair};
 pub use fault::{CloseFault, GlanceFault, RoomFault, StartFault};
 pub use history::Opened;

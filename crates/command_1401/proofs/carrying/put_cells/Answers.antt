@@ -4,8 +4,8 @@ use Rattle.std.proofs.lemmas.List.{get_or_read}
 use Rattle.bcd_1401.specs.declared.cell.Cell.{Cell}
 use Rattle.core_1401.specs.Storage.{Storage, blank}
 use Rattle.cpu_1401.specs.State.{State, with_cell}
-use Rattle.room_1401.proofs.CellsLemmas.{deposited-more}
-use Rattle.room_1401.proofs.carrying.put_cells.Goals as goal
+use Rattle.command_1401.proofs.CellsLemmas.{deposited-more}
+use Rattle.command_1401.proofs.carrying.put_cells.Goals as goal
 
 pub loop-i-preserved : goal.loop-i-preserved
 loop-i-preserved c =

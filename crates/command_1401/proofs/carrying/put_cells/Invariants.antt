@@ -1,7 +1,7 @@
 -- The cells so far are put.
 use Rattle.std.proofs.Common.{◌≡◌, take}
-use Rattle.room_1401.specs.CarryOut.{deposited}
-use Rattle.room_1401.proofs.carrying.put_cells.Given as goal
+use Rattle.command_1401.specs.CarryOut.{deposited}
+use Rattle.command_1401.proofs.carrying.put_cells.Given as goal
 
 abbrev pub invariant-loop-i : goal.invariant-loop-i
 invariant-loop-i l =

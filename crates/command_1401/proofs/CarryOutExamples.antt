@@ -1,27 +1,17 @@
--- Commands on a small machine, and their replay, computed.
+-- Commands on a small machine, computed.
 use Rattle.std.proofs.Common.{◌≡◌, true, false, List, [], ◌∷◌, refl}
-use Rattle.bcd_1401.specs.Graphic.{graphics}
 use Rattle.bcd_1401.specs.declared.cell.Cell.{Cell}
 use Rattle.core_1401.specs.Storage.{blank}
-use Rattle.cpu_1401.specs.declared.stop.Stop.TheVariants as stop
-use Rattle.cpu_1401.specs.Run.{run_for}
 use Rattle.cpu_1401.specs.State.{State, power_on}
-use Rattle.cpu_1401.specs.Step.{step}
-use Rattle.room_1401.specs.declared.answer.Answer.TheVariants.{Done, Cells, Ran, Refused}
-use Rattle.room_1401.specs.declared.answer.Refusal.TheVariants.{Address, Limit, Count}
-use Rattle.room_1401.specs.declared.command.Command.TheVariants.{Deposit, Examine, SetI, Switch, Run}
+use Rattle.command_1401.specs.declared.answer.Answer.TheVariants.{Done, Refused}
+use Rattle.command_1401.specs.declared.answer.Refusal.TheVariants.{Address, Limit, Count}
+use Rattle.command_1401.specs.declared.command.Command.TheVariants.{Deposit, Examine, SetI, Switch, Run}
 use Rattle.cpu_1401.specs.declared.switch_name.SwitchName.TheVariants.{B}
-use Rattle.room_1401.specs.CarryOut.{carry_out}
-use Rattle.room_1401.specs.declared.entry.Pair.{Pair}
-use Rattle.room_1401.specs.Replay.{pair, answers_of, replay}
+use Rattle.command_1401.specs.CarryOut.{carry_out}
 
 -- K with a word mark
 abbrev marked_k : Cell
 marked_k = record { char = 34; mark = true }
-
--- a halt, 59
-abbrev a_halt : Cell
-a_halt = record { char = 59; mark = true }
 
 -- a machine of three places
 abbrev small : State
@@ -61,21 +51,3 @@ switch_b_is_the_second = refl
 a_run_of_none_is_refused : carry_out small (Run 0) ≡ record { state = small; answer = Refused Limit }
 unfolding carry_out
 a_run_of_none_is_refused = refl
-
--- a halt is put at the last place and run, and then it is shown
-abbrev halt_and_look : List Pair
-halt_and_look =
-    pair 0 (Deposit 2 (a_halt ∷ []))
-    ∷ pair 1 (SetI 2)
-    ∷ pair 1 (Run 5)
-    ∷ pair 0 (Examine 1 2)
-    ∷ []
-
-each_answer_follows_from_the_commands_before : answers_of 3 halt_and_look
-    ≡ Done ∷ Done ∷ Ran 1 stop.Halt 3 ∷ Cells (blank ∷ a_halt ∷ []) ∷ []
-unfolding carry_out step run_for graphics
-each_answer_follows_from_the_commands_before = refl
-
-the_last_machine : (replay 3 halt_and_look).i ≡ 3
-unfolding carry_out step run_for graphics
-the_last_machine = refl

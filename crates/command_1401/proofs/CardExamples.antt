@@ -7,12 +7,11 @@ use Rattle.cpu_1401.specs.State.{State, power_on}
 use Rattle.devices_1401.specs.Devices.{Devices, no_cards}
 use Rattle.devices_1401.specs.declared.card.Card.{Card}
 use Rattle.devices_1401.specs.declared.print_line.PrintLine.{PrintLine}
-use Rattle.room_1401.specs.declared.answer.Answer.TheVariants as answer
-use Rattle.room_1401.specs.declared.answer.Refusal.{Refusal}
-use Rattle.room_1401.specs.declared.answer.Refusal.TheVariants as refusal
-use Rattle.room_1401.specs.declared.command.Command.TheVariants.{Feed, LoadKey, TakeLine, TakeCard}
-use Rattle.room_1401.specs.CarryOut.{Carried, carry_out}
-use Rattle.room_1401.specs.Replay.{pair, answers_of}
+use Rattle.command_1401.specs.declared.answer.Answer.TheVariants as answer
+use Rattle.command_1401.specs.declared.answer.Refusal.{Refusal}
+use Rattle.command_1401.specs.declared.answer.Refusal.TheVariants as refusal
+use Rattle.command_1401.specs.declared.command.Command.TheVariants.{Feed, LoadKey, TakeLine, TakeCard}
+use Rattle.command_1401.specs.CarryOut.{Carried, carry_out}
 
 abbrev card : List ℕ → Card
 card chars = record { 0 = chars }
@@ -99,11 +98,3 @@ there_is_no_line_and_no_card_to_take :
     × (carry_out nothing_to_take TakeCard ≡ is_refused refusal.Empty nothing_to_take)
 unfolding carry_out
 there_is_no_line_and_no_card_to_take = (refl, refl)
-
--- each of two operators feeds a card, and the load key reads one of them at a time
-two_cards_are_loaded :
-    answers_of 3 (pair 1 (Feed (card (49 ∷ []))) ∷ pair 2 (Feed (card (50 ∷ []))) ∷ pair 2 LoadKey ∷ pair 1 LoadKey
-    ∷ pair 1 LoadKey ∷ [])
-    ≡ answer.Done ∷ answer.Done ∷ answer.Done ∷ answer.Done ∷ answer.Refused refusal.Reader ∷ []
-unfolding carry_out with_cells
-two_cards_are_loaded = refl

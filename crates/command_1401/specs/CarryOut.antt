@@ -1,6 +1,6 @@
 -- What a command does to the machine, and what it is answered (own).
 use Rattle.std.specs.Prelude.{ℕ, ◌+◌, ◌==◌, ◌&&◌, Bool, List, [], ◌∷◌, ◌++◌}
-use Rattle.std.specs.Prelude.{length, take, drop, nat_le, if◌then◌else◌, Option, Some, None}
+use Rattle.std.specs.Prelude.{length, take, drop, nat_le, if◌then◌else◌}
 use Rattle.bcd_1401.specs.declared.cell.Cell.{Cell}
 use Rattle.core_1401.specs.Storage.{Storage, is_in_core}
 use Rattle.cpu_1401.specs.CardsAndPrinter.{load, with_devices}
@@ -10,14 +10,14 @@ use Rattle.cpu_1401.specs.SwitchName.{switch_number}
 use Rattle.devices_1401.specs.Devices.{after_card, after_line, fed, is_full}
 use Rattle.devices_1401.specs.declared.card.Card.{Card}
 use Rattle.devices_1401.specs.declared.print_line.PrintLine.{PrintLine}
-use Rattle.room_1401.specs.declared.answer.Answer.{Answer}
-use Rattle.room_1401.specs.declared.answer.Answer.TheVariants.{Done, Cells, Regs, Ran, Refused}
-use Rattle.room_1401.specs.declared.answer.Answer.TheVariants as answer
-use Rattle.room_1401.specs.declared.answer.Refusal.{Refusal}
-use Rattle.room_1401.specs.declared.answer.Refusal.TheVariants.{Address, Hopper, Reader, Empty, Limit, Count}
-use Rattle.room_1401.specs.declared.command.Command.{Command}
-use Rattle.room_1401.specs.declared.command.Command.TheVariants.{Deposit, Examine, Registers, SetI, Switch, Feed}
-use Rattle.room_1401.specs.declared.command.Command.TheVariants.{LoadKey, Run, TakeLine, TakeCard}
+use Rattle.command_1401.specs.declared.answer.Answer.{Answer}
+use Rattle.command_1401.specs.declared.answer.Answer.TheVariants.{Done, Cells, Regs, Ran, Refused}
+use Rattle.command_1401.specs.declared.answer.Answer.TheVariants as answer
+use Rattle.command_1401.specs.declared.answer.Refusal.{Refusal}
+use Rattle.command_1401.specs.declared.answer.Refusal.TheVariants.{Address, Hopper, Reader, Empty, Limit, Count}
+use Rattle.command_1401.specs.declared.command.Command.{Command}
+use Rattle.command_1401.specs.declared.command.Command.TheVariants.{Deposit, Examine, Registers, SetI, Switch, Feed}
+use Rattle.command_1401.specs.declared.command.Command.TheVariants.{LoadKey, Run, TakeLine, TakeCard}
 
 -- how many cells a command takes or shows at the most
 abbrev pub most_cells : ℕ
@@ -117,8 +117,3 @@ carry_out s LoadKey = load_key s
 carry_out s (Run limit) = run limit s
 carry_out s TakeLine = take_line s
 carry_out s TakeCard = take_card s
-
--- the machine after a command, if there is one
-abbrev pub moved : State → Option Command → State
-moved s None = s
-moved s (Some command) = (carry_out s command).state

@@ -4,7 +4,7 @@ use Rattle.std.proofs.Common.{ap, sym, ◌∙◌, arith, append_assoc, length-ta
 use Rattle.std.proofs.lemmas.List.{append-nil, take-append-drop, take_more, drop_more, set_at}
 use Rattle.bcd_1401.specs.declared.cell.Cell.{Cell}
 use Rattle.core_1401.specs.Storage.{Storage, blank}
-use Rattle.room_1401.specs.CarryOut.{deposited}
+use Rattle.command_1401.specs.CarryOut.{deposited}
 
 -- none of them leaves storage as it was
 pub deposited-none : (storage : Storage) (address : ℕ) → deposited storage address [] ≡ storage
