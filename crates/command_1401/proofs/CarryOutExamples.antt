@@ -1,5 +1,5 @@
 -- Commands on a small machine, computed.
-use Rattle.std.proofs.Common.{◌≡◌, true, false, List, [], ◌∷◌, refl}
+use Rattle.std.proofs.Common.{◌≡◌, true, false, [], ◌∷◌, refl}
 use Rattle.bcd_1401.specs.declared.cell.Cell.{Cell}
 use Rattle.core_1401.specs.Storage.{blank}
 use Rattle.cpu_1401.specs.State.{State, power_on}

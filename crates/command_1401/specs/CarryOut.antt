@@ -3,6 +3,7 @@ use Rattle.std.specs.Prelude.{ℕ, ◌+◌, ◌==◌, ◌&&◌, Bool, List, [], 
 use Rattle.std.specs.Prelude.{length, take, drop, nat_le, if◌then◌else◌}
 use Rattle.bcd_1401.specs.declared.cell.Cell.{Cell}
 use Rattle.core_1401.specs.Storage.{Storage, is_in_core}
+use Rattle.notation_1401.specs.Cells.{most_cells}
 use Rattle.cpu_1401.specs.CardsAndPrinter.{load, with_devices}
 use Rattle.cpu_1401.specs.Run.{Finished, most_steps, run_for}
 use Rattle.cpu_1401.specs.State.{State, regs_of, with_switch}
@@ -18,10 +19,6 @@ use Rattle.command_1401.specs.declared.answer.Refusal.TheVariants.{Address, Hopp
 use Rattle.command_1401.specs.declared.command.Command.{Command}
 use Rattle.command_1401.specs.declared.command.Command.TheVariants.{Deposit, Examine, Registers, SetI, Switch, Feed}
 use Rattle.command_1401.specs.declared.command.Command.TheVariants.{LoadKey, Run, TakeLine, TakeCard}
-
--- how many cells a command takes or shows at the most
-abbrev pub most_cells : ℕ
-most_cells = 40
 
 -- what a command leaves: the machine, and the answer
 pub record Carried : Type 0 where

@@ -7,11 +7,14 @@
 //! ```
 #![tactic(auto)]
 
+// what is asked
 pub mod command;
 
-pub mod answer;
-
+// what is done
 pub mod carrying;
+
+// what is answered
+pub mod answer;
 
 pub use answer::{Answer, Refusal};
 pub use carrying::carry_out;

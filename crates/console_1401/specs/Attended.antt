@@ -10,10 +10,10 @@ use Rattle.room_1401.specs.declared.fault.RoomFault.TheVariants.{Memory, Journal
 use Rattle.room_1401.specs.Journal.{most_entries}
 use Rattle.room_1401.specs.Replay.{pair, reply_to, cell_after}
 use Rattle.room_1401.specs.Seen.{Knows}
-use Rattle.console_1401.specs.declared.line.Line.TheVariants as line
+use Rattle.text_1401.specs.declared.line.Line.TheVariants as line
 use Rattle.console_1401.specs.declared.reply.Reply.{Reply}
 use Rattle.console_1401.specs.declared.reply.Reply.TheVariants as reply
-use Rattle.console_1401.specs.ConsoleLine.{Said}
+use Rattle.text_1401.specs.ConsoleLine.{Said}
 use Rattle.console_1401.specs.ReplyText.{bytes_of}
 use Rattle.console_1401.specs.SeatTurns.{GlanceRefused}
 

@@ -8,10 +8,10 @@ use Rattle.room_1401.specs.declared.fault.RoomFault.TheVariants.{JournalFull}
 use Rattle.room_1401.specs.Journal.{most_entries}
 use Rattle.room_1401.specs.Replay.{cell_after}
 use Rattle.room_1401.specs.Seen.{Knows, Carries}
-use Rattle.console_1401.specs.declared.line.Line.TheVariants as line
+use Rattle.text_1401.specs.declared.line.Line.TheVariants as line
 use Rattle.console_1401.specs.declared.reply.Reply.{Reply}
 use Rattle.console_1401.specs.declared.reply.Reply.TheVariants as reply
-use Rattle.console_1401.specs.ConsoleLine.{Said}
+use Rattle.text_1401.specs.ConsoleLine.{Said}
 
 -- a command is carried out for the seat, and answered as the sequential machine answers it; or the room takes none, and
 -- the seat has seen no less

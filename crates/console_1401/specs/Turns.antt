@@ -8,10 +8,10 @@ use Rattle.room_1401.specs.declared.fault.RoomFault.TheVariants.{Memory, Journal
 use Rattle.room_1401.specs.Account.{Account}
 use Rattle.room_1401.specs.Journal.{entry, answer_to, is_full, pairs_of}
 use Rattle.room_1401.specs.Replay.{cell_after}
-use Rattle.console_1401.specs.declared.line.Line.TheVariants as line
+use Rattle.text_1401.specs.declared.line.Line.TheVariants as line
 use Rattle.console_1401.specs.declared.reply.Reply.{Reply}
 use Rattle.console_1401.specs.declared.reply.Reply.TheVariants as reply
-use Rattle.console_1401.specs.ConsoleLine.{Said}
+use Rattle.text_1401.specs.ConsoleLine.{Said}
 use Rattle.console_1401.specs.ReplyText.{bytes_of}
 
 -- a line, and whether memory for the journal was refused at it
