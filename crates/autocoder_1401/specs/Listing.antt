@@ -4,7 +4,7 @@ use Rattle.std.specs.Prelude.{ℤ, pos, negsuc, ◌+ℤ◌, nat_abs, Option, Som
 use Rattle.std.specs.List.{suffix_len}
 use Rattle.bcd_1401.specs.Graphic.{graphics}
 use Rattle.bcd_1401.specs.declared.cell.Cell.{Cell}
-use Rattle.decimal_1401.specs.Digits.{digits_in}
+use Rattle.notation_1401.specs.Digits.{digits_in}
 use Rattle.source_1401.specs.Constant.{bytes_of}
 use Rattle.source_1401.specs.SourceLine.{padded, is_blank}
 use Rattle.source_1401.specs.Statement.{line_of}

@@ -8,7 +8,7 @@ ghost use Rattle.autocoder_1401.specs.Listing.{without_last_blanks, spelling};
 
 use crate::fault::AsmFault;
 use bcd_1401::Cell;
-use decimal_1401::put_digits;
+use notation_1401::put_digits;
 use source_1401::Constant;
 
 /// How many digits the number of a line has at the least.

@@ -6,14 +6,14 @@ use Rattle.std.proofs.lemmas.List.Concat.{flat_map-cons}
 use Rattle.std.specs.List.{zip}
 use Rattle.std.specs.Prelude.{Ok, Err}
 use mathlib.Core.List.{IsPrefix}
-use Rattle.room_1401.specs.declared.answer.Answer.{Answer}
-use Rattle.room_1401.specs.declared.command.Command.{Command}
+use Rattle.command_1401.specs.declared.answer.Answer.{Answer}
+use Rattle.command_1401.specs.declared.command.Command.{Command}
 use Rattle.room_1401.specs.declared.entry.Pair.{Pair}
 use Rattle.room_1401.specs.declared.fault.RoomFault.TheVariants.{Memory, JournalFull, NoReading}
 use Rattle.room_1401.specs.Journal.{most_entries}
 use Rattle.room_1401.specs.Replay.{pair}
 use Rattle.room_1401.specs.Seen.{Knows}
-use Rattle.console_1401.specs.declared.line.Line.TheVariants as line
+use Rattle.text_1401.specs.declared.line.Line.TheVariants as line
 use Rattle.console_1401.specs.declared.reply.Reply.{Reply}
 use Rattle.console_1401.specs.declared.reply.Reply.TheVariants as reply
 use Rattle.console_1401.specs.declared.session_end.SessionEnd.{SessionEnd}
@@ -21,7 +21,7 @@ use Rattle.console_1401.specs.declared.session_end.SessionEnd.TheVariants as end
 use Rattle.console_1401.specs.Answering.{AnsweredAll}
 use Rattle.console_1401.specs.Attended.{Replied, Stand, Between, LineReplied, AllReplied, Attended, carried_in}
 use Rattle.console_1401.specs.Attended.{command_in, answer_in}
-use Rattle.console_1401.specs.ConsoleLine.{Said}
+use Rattle.text_1401.specs.ConsoleLine.{Said}
 use Rattle.console_1401.specs.ReplyText.{bytes_of}
 use Rattle.console_1401.specs.Session.{HasEnded, SessionDid}
 use Rattle.console_1401.specs.SeatTurns.{SeatResponds, LineResponds}

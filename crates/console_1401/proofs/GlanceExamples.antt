@@ -4,17 +4,19 @@ use Rattle.std.specs.Fmt.{digits}
 use Rattle.std.specs.Prelude.{Ok, Err, codes}
 use Rattle.bcd_1401.specs.declared.cell.Cell.{Cell}
 use Rattle.bcd_1401.specs.Graphic.{graphics}
-use Rattle.room_1401.specs.declared.command.Command.TheVariants.{Deposit, Examine}
+use Rattle.command_1401.specs.declared.command.Command.TheVariants.{Deposit, Examine}
 use Rattle.room_1401.specs.declared.fault.GlanceFault.TheVariants.{Range, Gone}
-use Rattle.room_1401.specs.CarryOut.{carry_out}
-use Rattle.console_1401.specs.declared.line.Line.TheVariants.{Command, Glance}
-use Rattle.console_1401.specs.declared.line.LineFault.TheVariants.{Number, Extra, Word}
+use Rattle.command_1401.specs.CarryOut.{carry_out}
+use Rattle.text_1401.specs.declared.line.Line.TheVariants.{Command, Glance}
+use Rattle.text_1401.specs.declared.line.LineFault.TheVariants.{Number, Extra, Word}
 use Rattle.console_1401.specs.declared.reply.Reply.{Reply}
 use Rattle.console_1401.specs.declared.reply.Reply.TheVariants as reply
-use Rattle.console_1401.specs.Words.{word_in, behind_word, keyword_of, number_of, address_of}
-use Rattle.console_1401.specs.ConsoleLine.{Said, said_by, said_in_words, said_with, ended, glance_of}
-use Rattle.console_1401.specs.LineText.{IsLineOf}
-use Rattle.console_1401.specs.ReplyText.{answer_text, cells_text, glance_text, text_of_reply}
+use Rattle.text_1401.specs.Words.{word_in, behind_word, keyword_of, number_of, address_of}
+use Rattle.text_1401.specs.ConsoleLine.{Said, said_by, said_in_words, said_with, ended, glance_of}
+use Rattle.text_1401.specs.LineText.{IsLineOf}
+use Rattle.text_1401.specs.AnswerText.{answer_text, glance_text}
+use Rattle.notation_1401.specs.Cells.{cells_text}
+use Rattle.console_1401.specs.ReplyText.{text_of_reply}
 use Rattle.console_1401.specs.Turns.{Turn, replies_to, journal_after}
 
 -- what a line says, with all that its grammar consists of open

@@ -7,11 +7,11 @@ use Rattle.std.proofs.lemmas.List.{append-nil}
 use Rattle.std.proofs.lemmas.List.Elements.{All-append, All-nil, All-cons}
 use Rattle.std.specs.Io.KnownBytes.{Appends, Consumes, IsAtEnd}
 use Rattle.std.specs.Prelude.{IsSome, Ok}
-use Rattle.console_1401.specs.declared.line.Line.TheVariants.{Quit}
+use Rattle.text_1401.specs.declared.line.Line.TheVariants.{Quit}
 use Rattle.console_1401.specs.declared.reply.Reply.{Reply}
 use Rattle.console_1401.specs.declared.session_end.SessionEnd.{SessionEnd}
 use Rattle.console_1401.specs.declared.session_end.SessionEnd.TheVariants as end
-use Rattle.console_1401.specs.ConsoleLine.{Said, said_by}
+use Rattle.text_1401.specs.ConsoleLine.{Said, said_by}
 use Rattle.console_1401.specs.ReplyText.{text_of_reply, bytes_of}
 use Rattle.console_1401.specs.Session.{NoQuit, IsAllRead, LastLine, SessionDid}
 use Rattle.console_1401.specs.Answering.{Response, AnsweredAll, AnswersLine, AnswersLast, EntersByte, end_after}

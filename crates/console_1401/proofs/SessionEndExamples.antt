@@ -5,13 +5,13 @@ use Rattle.std.proofs.lemmas.List.{length-replicate}
 use Rattle.std.proofs.lemmas.List.Elements.{All-nil, All-cons}
 use Rattle.std.specs.Prelude.{Some, Ok, codes}
 use Rattle.core_1401.specs.Storage.{blank}
-use Rattle.room_1401.specs.declared.answer.Answer.TheVariants.{Cells}
-use Rattle.room_1401.specs.declared.command.Command.TheVariants.{Examine}
+use Rattle.command_1401.specs.declared.answer.Answer.TheVariants.{Cells}
+use Rattle.command_1401.specs.declared.command.Command.TheVariants.{Examine}
 use Rattle.room_1401.specs.declared.entry.Entry.{Entry}
 use Rattle.room_1401.specs.Account.{Account}
 use Rattle.room_1401.specs.Journal.{entry}
-use Rattle.console_1401.specs.declared.line.Line.TheVariants.{Command, Quit}
-use Rattle.console_1401.specs.ConsoleLine.{Said}
+use Rattle.text_1401.specs.declared.line.Line.TheVariants.{Command, Quit}
+use Rattle.text_1401.specs.ConsoleLine.{Said}
 use Rattle.console_1401.specs.declared.session_end.SessionEnd.TheVariants as end
 use Rattle.console_1401.specs.Bytes.{line_feed}
 use Rattle.console_1401.specs.Session.{NoQuit, SessionDid}

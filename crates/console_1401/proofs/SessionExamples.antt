@@ -3,13 +3,15 @@ use Rattle.std.proofs.Common.{◌≡◌, ℕ, Bool, true, false, List, [], ◌�
 use Rattle.std.specs.Prelude.{Ok, Err, codes}
 use Rattle.bcd_1401.specs.declared.cell.Cell.{Cell}
 use Rattle.bcd_1401.specs.Graphic.{graphics}
-use Rattle.room_1401.specs.declared.command.Command.TheVariants.{Deposit, Examine}
-use Rattle.room_1401.specs.CarryOut.{carry_out}
-use Rattle.console_1401.specs.declared.line.Line.TheVariants.{Empty, Command, Quit}
-use Rattle.console_1401.specs.declared.line.LineFault.TheVariants.{Word, Length}
-use Rattle.console_1401.specs.Words.{word_in, behind_word, keyword_of, number_of, address_of, count_of}
-use Rattle.console_1401.specs.ConsoleLine.{Said, said_by, said_in_words, said_with, ended, examine_of}
-use Rattle.console_1401.specs.ReplyText.{answer_text, cells_text, text_of_reply}
+use Rattle.command_1401.specs.declared.command.Command.TheVariants.{Deposit, Examine}
+use Rattle.command_1401.specs.CarryOut.{carry_out}
+use Rattle.text_1401.specs.declared.line.Line.TheVariants.{Empty, Command, Quit}
+use Rattle.text_1401.specs.declared.line.LineFault.TheVariants.{Word, Length}
+use Rattle.text_1401.specs.Words.{word_in, behind_word, keyword_of, number_of, address_of, count_of}
+use Rattle.text_1401.specs.ConsoleLine.{Said, said_by, said_in_words, said_with, ended, examine_of}
+use Rattle.text_1401.specs.AnswerText.{answer_text}
+use Rattle.notation_1401.specs.Cells.{cells_text}
+use Rattle.console_1401.specs.ReplyText.{text_of_reply}
 use Rattle.console_1401.specs.Turns.{Turn, replies_to, journal_after}
 use Rattle.console_1401.specs.Text.{cut_of, without_return, lines_of}
 

@@ -9,9 +9,9 @@ use Rattle.room_1401.specs.Account.{Account}
 use Rattle.console_1401.specs.declared.reply.Reply.{Reply}
 use Rattle.console_1401.specs.declared.session_end.SessionEnd.{SessionEnd}
 use Rattle.console_1401.specs.declared.session_end.SessionEnd.TheVariants as end
-use Rattle.console_1401.specs.ConsoleLine.{Said}
+use Rattle.text_1401.specs.ConsoleLine.{Said}
 use Rattle.console_1401.specs.ReplyText.{bytes_of}
-use Rattle.console_1401.specs.declared.line.Line.TheVariants as line
+use Rattle.text_1401.specs.declared.line.Line.TheVariants as line
 use Rattle.console_1401.specs.Turns.{Turn, RoomResponds, Answered, NoneRefused, entries_of, commands_in, reply_of}
 use Rattle.console_1401.specs.Turns.{journal_after, replies_to}
 use Rattle.console_1401.specs.Session.{Exchange, BrokenOff, HasEnded, SessionDid}

@@ -4,8 +4,8 @@ use Rattle.std.proofs.Common.{take, get_or, refl, sym, ◌∙◌, ap, arith, ltb
 use Rattle.std.proofs.lemmas.Bool.{cases_lt, lt-ltb}
 use Rattle.std.proofs.lemmas.List.{map-append, take-take, take-append-le}
 use Rattle.std.specs.Prelude.{Err}
-use Rattle.console_1401.specs.declared.line.LineFault.TheVariants.{Length}
-use Rattle.console_1401.specs.ConsoleLine.{Said, said_by}
+use Rattle.text_1401.specs.declared.line.LineFault.TheVariants.{Length}
+use Rattle.text_1401.specs.ConsoleLine.{Said, said_by}
 use Rattle.console_1401.specs.Text.{Cut, onto_lines, in_front, cut_of, without_return, said_finished, lines_of}
 
 -- the text goes on by a line feed

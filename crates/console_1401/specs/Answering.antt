@@ -1,11 +1,11 @@
 -- What answering lines did, at any console (own).
 use Rattle.std.specs.Prelude.{◌≡◌, ◌≢◌, ℕ, Bool, true, false, List, [], ◌∷◌, ◌++◌, take, Option, None, Some, IsSome, Ok}
 use Rattle.std.specs.Io.KnownBytes.{Appends, Keeps}
-use Rattle.console_1401.specs.declared.line.Line.TheVariants.{Quit}
+use Rattle.text_1401.specs.declared.line.Line.TheVariants.{Quit}
 use Rattle.console_1401.specs.declared.reply.Reply.{Reply}
 use Rattle.console_1401.specs.declared.session_end.SessionEnd.{SessionEnd}
 use Rattle.console_1401.specs.declared.session_end.SessionEnd.TheVariants as end
-use Rattle.console_1401.specs.ConsoleLine.{Said, said_by}
+use Rattle.text_1401.specs.ConsoleLine.{Said, said_by}
 use Rattle.console_1401.specs.ReplyText.{bytes_of}
 use Rattle.console_1401.specs.Session.{Exchange}
 use Rattle.console_1401.specs.Sink.{AppendsPart}

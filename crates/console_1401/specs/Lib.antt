@@ -1,11 +1,8 @@
 pub mod Answering
 pub mod Attended
 pub mod Bytes
-pub mod CardText
-pub mod ConsoleLine
 pub mod ImageLoading
 pub mod Limits
-pub mod LineText
 pub mod ReplyText
 pub mod SeatTurns
 pub mod Served
@@ -13,4 +10,3 @@ pub mod Session
 pub mod Sink
 pub mod Text
 pub mod Turns
-pub mod Words

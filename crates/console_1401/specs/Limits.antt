@@ -1,10 +1,6 @@
 -- How much the console takes (own).
 use Rattle.std.specs.Prelude.{ℕ}
 
--- how many bytes a line has at the most
-abbrev pub most_line_bytes : ℕ
-most_line_bytes = 200
-
 -- how many bytes of a line are kept: as many as it has at the most, a carriage return, and one that is too many
 abbrev pub kept_bytes : ℕ
 kept_bytes = 202
@@ -12,7 +8,3 @@ kept_bytes = 202
 -- how many bytes a session reads at the most
 abbrev pub most_bytes : ℕ
 most_bytes = 16777216
-
--- how many digits a number has at the most
-abbrev pub most_digits : ℕ
-most_digits = 7

@@ -1,130 +1,19 @@
 -- What the console replies (own).
-use Rattle.std.specs.Prelude.{◌≡◌, ℕ, Bool, if◌then◌else◌, List, [], ◌∷◌, ◌++◌, length, drop, map}
-use Rattle.std.specs.Prelude.{slice_index, Option, None, Some, Ok, codes}
-use Rattle.std.specs.List.{flat_map, zip}
-use Rattle.bcd_1401.specs.declared.cell.Cell.{Cell}
-use Rattle.bcd_1401.specs.Graphic.{graphics}
-use Rattle.decimal_1401.specs.Digits.{digits_in}
-use Rattle.cpu_1401.specs.declared.regs.Regs.{Regs}
-use Rattle.cpu_1401.specs.declared.stop.Stop.{Stop}
-use Rattle.cpu_1401.specs.Stop.{stop_number, stop_name}
-use Rattle.devices_1401.specs.declared.card.Card.{Card}
-use Rattle.devices_1401.specs.declared.print_line.PrintLine.{PrintLine}
-use Rattle.room_1401.specs.declared.answer.Answer.{Answer}
-use Rattle.room_1401.specs.declared.answer.Answer.TheVariants as answer
-use Rattle.room_1401.specs.declared.answer.Refusal.{Refusal}
-use Rattle.room_1401.specs.declared.answer.Refusal.TheVariants as refusal
-use Rattle.room_1401.specs.declared.command.Command.TheVariants as command
+use Rattle.std.specs.Prelude.{ℕ, List, [], ◌∷◌, ◌++◌, Option, None, Some, codes}
+use Rattle.text_1401.specs.AnswerText.{answer_text, fault_text, glance_text}
 use Rattle.room_1401.specs.declared.fault.GlanceFault.{GlanceFault}
 use Rattle.room_1401.specs.declared.fault.GlanceFault.TheVariants as glance_fault
 use Rattle.room_1401.specs.declared.fault.RoomFault.{RoomFault}
 use Rattle.room_1401.specs.declared.fault.RoomFault.TheVariants as room_fault
-use Rattle.console_1401.specs.declared.line.LineFault.{LineFault}
-use Rattle.console_1401.specs.declared.line.LineFault.TheVariants as line_fault
 use Rattle.console_1401.specs.declared.reply.Reply.{Reply}
 use Rattle.console_1401.specs.declared.reply.Reply.TheVariants as reply
-use Rattle.console_1401.specs.declared.line.Line.TheVariants as line
-use Rattle.console_1401.specs.CardText.{graphics_of, trimmed}
-use Rattle.console_1401.specs.ConsoleLine.{spelled, cells_of, feed_of}
-use Rattle.console_1401.specs.Bytes.{line_feed, tilde}
-
--- a cell by its graphic, with a tilde in front where it has a word mark
-abbrev pub cell_text : Cell → List ℕ
-cell_text cell = if cell.mark then tilde ∷ slice_index graphics cell.char ∷ [] else slice_index graphics cell.char ∷ []
-
--- cells one after another, blanks at the end too
-unfoldable pub cells_text : List Cell → List ℕ
-cells_text cells = flat_map cell_text cells
-
--- an indicator: 1 where it is on
-abbrev pub indicator_text : Bool → List ℕ
-indicator_text on = if on then codes "1" else codes "0"
-
--- a switch by its letter where it is on, and by - where it isn't
-abbrev pub switch_text : Bool → ℕ → ℕ
-switch_text on letter = if on then letter else 45
-
--- the switches A to G
-unfoldable pub switches_text : List Bool → List ℕ
-switches_text switches = map (λ (switch : Bool × ℕ). switch_text switch.0 switch.1) (zip switches (codes "ABCDEFG"))
-
--- the registers: five digits for an address, three for cards and lines, of which there are 500 at the most, four for
--- the form and two for the line
-unfoldable pub regs_text : Regs → List ℕ
-regs_text regs =
-    codes "I=" ++ digits_in 5 regs.i ++ codes " A=" ++ digits_in 5 regs.a ++ codes " B=" ++ digits_in 5 regs.b
-    ++ codes " UNEQUAL=" ++ indicator_text regs.unequal ++ codes " OVERFLOW=" ++ indicator_text regs.overflow
-    ++ codes " SWITCHES=" ++ switches_text regs.switches
-    ++ codes " HOPPER=" ++ digits_in 3 regs.hopper ++ codes " STACKER=" ++ digits_in 3 regs.stacker
-    ++ codes " PAPER=" ++ digits_in 3 regs.paper ++ codes " FORM=" ++ digits_in 4 regs.form
-    ++ codes " LINE=" ++ digits_in 2 regs.line
-
--- a run: the stop by number and name, how many instructions were carried out, and the I register
-unfoldable pub ran_text : ℕ → Stop → ℕ → List ℕ
-ran_text steps stop i =
-    codes "STOP " ++ digits_in 2 (stop_number stop) ++ codes " " ++ stop_name stop
-    ++ codes " STEPS " ++ digits_in 1 steps ++ codes " I " ++ digits_in 5 i
-
--- a printed line: its form and its line, and its characters without the blanks at their end
-unfoldable pub line_text : PrintLine → List ℕ
-line_text line =
-    codes "LINE " ++ digits_in 4 line.form ++ codes " " ++ digits_in 2 line.line ++ codes " "
-    ++ graphics_of (trimmed line.text)
-
--- a card: its characters without the blanks at their end
-unfoldable pub card_text : Card → List ℕ
-card_text card = codes "CARD " ++ graphics_of (trimmed card.0)
-
--- a refusal by number and name
-abbrev pub refusal_text : Refusal → List ℕ
-refusal_text refusal.Address = codes "REFUSED 1 ADDRESS"
-refusal_text refusal.Hopper = codes "REFUSED 2 HOPPER"
-refusal_text refusal.Reader = codes "REFUSED 3 READER"
-refusal_text refusal.Empty = codes "REFUSED 4 EMPTY"
-refusal_text refusal.Limit = codes "REFUSED 5 LIMIT"
-refusal_text refusal.Count = codes "REFUSED 6 COUNT"
-
--- an answer
-unfoldable pub answer_text : Answer → List ℕ
-answer_text answer.Done = codes "OK"
-answer_text (answer.Cells cells) = cells_text cells
-answer_text (answer.Regs regs) = regs_text regs
-answer_text (answer.Ran steps why i) = ran_text steps why i
-answer_text (answer.Line line) = line_text line
-answer_text (answer.Card card) = card_text card
-answer_text (answer.Refused why) = refusal_text why
-
--- what stands behind CARD is read as that card where it stands behind FEED
-abbrev pub IsFedAgain : Card → List ℕ → Type 0
-IsFedAgain card text = feed_of (drop (length (codes "CARD")) text) ≡ Ok (line.Command (command.Feed card))
-
--- cells that are shown are read again from their text, as DEPOSIT reads one, and so is a card, as FEED reads one
-abbrev pub IsReadAgain : Answer → List ℕ → Type 0
-IsReadAgain answer.Done text = Unit {0}
-IsReadAgain (answer.Cells cells) text = cells_of (spelled text) ≡ Ok cells
-IsReadAgain (answer.Regs regs) text = Unit {0}
-IsReadAgain (answer.Ran steps why i) text = Unit {0}
-IsReadAgain (answer.Line line) text = Unit {0}
-IsReadAgain (answer.Card card) text = IsFedAgain card text
-IsReadAgain (answer.Refused why) text = Unit {0}
-
--- a line that can't be read
-abbrev pub fault_text : LineFault → List ℕ
-fault_text line_fault.Word = codes "ERROR 1 WORD"
-fault_text line_fault.Number = codes "ERROR 2 NUMBER"
-fault_text line_fault.Graphic = codes "ERROR 3 GRAPHIC"
-fault_text line_fault.Length = codes "ERROR 4 LENGTH"
-fault_text line_fault.Extra = codes "ERROR 5 EXTRA"
+use Rattle.console_1401.specs.Bytes.{line_feed}
 
 -- a room that can't carry a command out
 abbrev pub room_fault_text : RoomFault → List ℕ
 room_fault_text room_fault.Memory = codes "FAULT 1 MEMORY"
 room_fault_text room_fault.JournalFull = codes "FAULT 2 JOURNAL FULL"
 room_fault_text room_fault.NoReading = codes "FAULT 3 NO READING"
-
--- a glance: after how many commands, and the cell that stands there then
-unfoldable pub glance_text : ℕ → Cell → List ℕ
-glance_text after cell = codes "AFTER " ++ digits_in 1 after ++ codes " " ++ cell_text cell
 
 -- a glance that shows nothing
 abbrev pub glance_fault_text : GlanceFault → List ℕ

@@ -1,10 +1,10 @@
 -- What a session has read and written, and what it leaves, by how it ended (own).
 use Rattle.std.specs.Prelude.{◌≡◌, ◌≢◌, ℕ, ◌<◌, ◌≤◌, Bool, true, false, List, [], ◌∷◌, ◌++◌, length, Option, All, Ok}
 use Rattle.std.specs.Io.KnownBytes.{Appends, Consumes, IsAtEnd}
-use Rattle.console_1401.specs.declared.line.Line.TheVariants.{Quit}
+use Rattle.text_1401.specs.declared.line.Line.TheVariants.{Quit}
 use Rattle.console_1401.specs.declared.session_end.SessionEnd.{SessionEnd}
 use Rattle.console_1401.specs.declared.session_end.SessionEnd.TheVariants as end
-use Rattle.console_1401.specs.ConsoleLine.{Said}
+use Rattle.text_1401.specs.ConsoleLine.{Said}
 use Rattle.console_1401.specs.Sink.{BeginsWith}
 use Rattle.console_1401.specs.Text.{cut_of, lines_of}
 use Rattle.console_1401.specs.Limits.{most_bytes}

@@ -1,7 +1,7 @@
 -- The lines of a text (own).
 use Rattle.std.specs.Prelude.{ℕ, ◌-◌, ◌==◌, Bool, true, false, List, [], ◌∷◌, ◌++◌, map, length, take, slice_index}
 use Rattle.std.specs.Prelude.{if◌then◌else◌}
-use Rattle.console_1401.specs.ConsoleLine.{Said, said_by}
+use Rattle.text_1401.specs.ConsoleLine.{Said, said_by}
 use Rattle.console_1401.specs.Bytes.{line_feed, carriage_return}
 
 -- a text cut at its line feeds: the finished lines, and what comes after the last line feed

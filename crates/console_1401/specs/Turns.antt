@@ -1,17 +1,17 @@
 -- What a line is answered at the console of a room, and what it leaves (own).
 use Rattle.std.specs.Prelude.{◌≡◌, ℕ, ◌+◌, ◌<◌, ◌≤◌, Bool, false, All, List, [], ◌∷◌, ◌++◌, ◌||◌, length, take, map}
 use Rattle.std.specs.Prelude.{nat_lt, if◌then◌else◌, Option, None, Some, Ok, Err}
-use Rattle.room_1401.specs.declared.command.Command.{Command}
+use Rattle.command_1401.specs.declared.command.Command.{Command}
 use Rattle.room_1401.specs.declared.entry.Entry.{Entry}
 use Rattle.room_1401.specs.declared.fault.GlanceFault.TheVariants.{Range}
 use Rattle.room_1401.specs.declared.fault.RoomFault.TheVariants.{Memory, JournalFull}
 use Rattle.room_1401.specs.Account.{Account}
 use Rattle.room_1401.specs.Journal.{entry, answer_to, is_full, pairs_of}
 use Rattle.room_1401.specs.Replay.{cell_after}
-use Rattle.console_1401.specs.declared.line.Line.TheVariants as line
+use Rattle.text_1401.specs.declared.line.Line.TheVariants as line
 use Rattle.console_1401.specs.declared.reply.Reply.{Reply}
 use Rattle.console_1401.specs.declared.reply.Reply.TheVariants as reply
-use Rattle.console_1401.specs.ConsoleLine.{Said}
+use Rattle.text_1401.specs.ConsoleLine.{Said}
 use Rattle.console_1401.specs.ReplyText.{bytes_of}
 
 -- a line, and whether memory for the journal was refused at it

@@ -5,7 +5,6 @@ ghost use Rattle.console_1401.specs.Answering.{AnsweredAll, AnswersLine, Answers
 ghost use Rattle.console_1401.specs.Text.{without_return};
 ghost use Rattle.console_1401.specs.Bytes.{line_feed};
 
-use crate::line::{Line, LineFault, parse_line};
 use crate::line_buffer::LineBuffer;
 use crate::reply::reply_bytes;
 use crate::responder::Responder;
@@ -13,6 +12,7 @@ use crate::session_end::SessionEnd;
 use crate::sink::{Sink, put_all};
 use crate::source::Source;
 use std::alloc::Global;
+use text_1401::{Line, LineFault, parse_line};
 
 /// How many bytes a session reads at the most.
 const MOST_BYTES: u32 = 16_777_216;

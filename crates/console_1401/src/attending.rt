@@ -7,7 +7,6 @@ ghost use Rattle.console_1401.specs.Session.{SessionDid};
 
 use crate::answering::answer_lines;
 use crate::door::Door;
-use crate::line::{Line, LineFault};
 use crate::reply::Reply;
 use crate::responder::Responder;
 use crate::session_end::SessionEnd;
@@ -17,6 +16,7 @@ use room_1401::{Naming, Seat, SharedRoom};
 use std::alloc::Global;
 use std::marker::Model;
 use std::sync::Wait;
+use text_1401::{Line, LineFault};
 
 /// What stands behind a console at a seat: the seat, its room, and the door. Contracts see what the seat knows.
 struct Attendant<'a, J: Naming, R: Wait + Drop, W: Wait, D: Door> {

@@ -35,7 +35,7 @@ pub fn put_image(room: &mut Room, image: &Image) -> Result<(), RoomFault>
 }
 
 /// Deposits a segment that lies in core storage.
-#[tactic(auto, unfolding(room_1401::specs::CarryOut::carry_out))]
+#[tactic(auto, unfolding(command_1401::specs::CarryOut::carry_out))]
 fn deposit(room: &mut Room, segment: &Segment) -> Result<(), RoomFault>
     requires { is_inside room.old.size segment.now ≡ true }
     ensures done { OnOk result (room.new.journal ≡ room.old.journal ++ segment_entry segment.now ∷ []) }
@@ -56,7 +56,7 @@ fn deposit(room: &mut Room, segment: &Segment) -> Result<(), RoomFault>
 }
 
 /// Sets the I register to an entry that lies in core storage.
-#[tactic(auto, unfolding(room_1401::specs::CarryOut::carry_out))]
+#[tactic(auto, unfolding(command_1401::specs::CarryOut::carry_out))]
 fn start(room: &mut Room, address: u16) -> Result<(), RoomFault>
     requires { nat_lt address room.old.size ≡ true }
     ensures done { OnOk result (room.new.journal ≡ room.old.journal ++ start_entry address ∷ []) }

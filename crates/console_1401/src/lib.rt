@@ -8,38 +8,42 @@
 //! ```
 #![tactic(auto)]
 
-pub mod answer_text;
-mod answering;
-pub mod attending;
-mod card_text;
-pub mod door;
+// where bytes come from and go to, and how a read or a write fails
 pub mod failure;
 pub mod from_reader;
-pub mod image_loading;
-pub mod line;
-mod line_buffer;
-mod reply;
-mod responder;
-pub mod serving;
-pub mod session_end;
-pub mod sessions;
 pub mod sink;
 pub mod source;
 pub mod to_writer;
-mod words;
 
-pub use answer_text::reply_text;
+// a line's bytes, what stands behind the console, and the reply
+mod line_buffer;
+mod reply;
+mod responder;
+
+// lines answered one after the other, and how that ends
+mod answering;
+pub mod session_end;
+
+// the console of a room, and an image put into it
+pub mod image_loading;
+pub mod sessions;
+
+// consoles at the seats of a shared room
+pub mod attending;
+pub mod door;
+pub mod serving;
+
 pub use attending::attend;
 pub use door::{Door, OpenDoor};
 pub use failure::Failed;
 pub use from_reader::FromReader;
 pub use image_loading::put_image;
-pub use line::{LINE_LIMIT, Line, LineFault, parse_line};
 pub use serving::{ServeFault, Served, serve};
 pub use session_end::SessionEnd;
 pub use sessions::session;
 pub use sink::{Sink, put_all};
 pub use source::Source;
+pub use text_1401::{LINE_LIMIT, Line, LineFault, parse_line, reply_text};
 pub use to_writer::ToWriter;
 
 #[cfg(test)]

@@ -1,10 +1,10 @@
 //! What stands behind a console.
 ghost use Rattle.std.specs.Prelude.{◌≡◌, Option};
 ghost use Rattle.console_1401.specs.declared.reply.Reply.{Reply};
-ghost use Rattle.console_1401.specs.ConsoleLine.{Said};
+ghost use Rattle.text_1401.specs.ConsoleLine.{Said};
 
-use crate::line::{Line, LineFault};
 use crate::reply::Reply;
+use text_1401::{Line, LineFault};
 
 /// What stands behind a console and carries out its lines: a room, or a seat of one that is shared.
 pub(crate) trait Responder {

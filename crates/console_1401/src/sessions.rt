@@ -4,7 +4,6 @@ ghost use Rattle.console_1401.specs.Turns.{Answered, RoomResponds, glance_reply}
 ghost use Rattle.console_1401.specs.Session.{SessionDid};
 
 use crate::answering::answer_lines;
-use crate::line::{Line, LineFault};
 use crate::reply::Reply;
 use crate::responder::Responder;
 use crate::session_end::SessionEnd;
@@ -12,6 +11,7 @@ use crate::sink::Sink;
 use crate::source::Source;
 use room_1401::{Glance, GlanceFault, Room};
 use std::alloc::Global;
+use text_1401::{Line, LineFault};
 
 /// The seat of a console that isn't shared.
 const OWN_SEAT: u8 = 0;

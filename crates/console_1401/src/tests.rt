@@ -1,29 +1,8 @@
-//! Lines, answers, sources and sinks, and whole sessions, worked out by hand.
+//! Sources and sinks, and whole sessions, worked out by hand.
 
-mod answers;
 mod attending;
 mod failures;
 mod glances;
-mod lines;
 mod order;
 mod serving;
 mod sessions;
-
-use bcd_1401::{Cell, Char};
-use core_1401::Cells;
-
-/// Zero with a word mark, and K.
-fn marked_zero_and_k() -> Option<Cells> {
-    let zero = Char::from_code(10)?;
-    let k = Char::from_code(34)?;
-    Cells::from_slice(&[
-        Cell {
-            char: zero,
-            mark: true,
-        },
-        Cell {
-            char: k,
-            mark: false,
-        },
-    ])
-}

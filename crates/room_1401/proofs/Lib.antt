@@ -1,11 +1,9 @@
-mod CardExamples
-mod CarryOutExamples
-pub mod CellsLemmas
 pub mod ClosingLemmas
 pub mod HistoryLemmas
 mod JournalExamples
 pub mod PrefixLemmas
 pub mod PublishLemmas
+mod ReplayExamples
 pub mod ReplayLemmas
 pub mod RuleLemmas
 mod SeenExamples

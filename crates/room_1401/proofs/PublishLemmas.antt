@@ -5,14 +5,14 @@ use Rattle.std.specs.Prelude.{Some, Option, ltb, if◌then◌else◌}
 use mathlib.Core.List.{IsPrefix}
 use Rattle.logbook.specs.Pages.{Book}
 use Rattle.cpu_1401.specs.State.{State, power_on}
-use Rattle.room_1401.specs.declared.command.Command.{Command}
+use Rattle.command_1401.specs.declared.command.Command.{Command}
 use Rattle.room_1401.specs.declared.entry.Pair.{Pair}
 use Rattle.room_1401.specs.declared.published.Shown.{Shown}
 use Rattle.room_1401.specs.declared.published.Change.{Change}
-use Rattle.room_1401.specs.CarryOut.{carry_out, moved}
+use Rattle.command_1401.specs.CarryOut.{carry_out}
 use Rattle.room_1401.specs.Journal.{most_entries}
 use Rattle.room_1401.specs.Replay.{pair, replay}
-use Rattle.room_1401.specs.Rule.{IsReplay, Publishes, changed}
+use Rattle.room_1401.specs.Rule.{IsReplay, Publishes, changed, moved}
 use Rattle.room_1401.proofs.PrefixLemmas.{prefix_self, prefix_trans}
 use Rattle.room_1401.proofs.ReplayLemmas.{state_after-append}
 use Rattle.room_1401.proofs.SeenLemmas.{caught_up}

@@ -3,12 +3,12 @@ use Rattle.std.proofs.Common.{◌≡◌, ℕ, suc, List, [], ◌∷◌, ◌++◌
 use Rattle.std.proofs.Common.{refl, ap, sym, ◌∙◌, subst, arith, length-append}
 use Rattle.std.proofs.lemmas.List.{map_push}
 use Rattle.cpu_1401.specs.State.{State, power_on}
-use Rattle.room_1401.specs.declared.answer.Answer.{Answer}
-use Rattle.room_1401.specs.declared.command.Command.{Command}
+use Rattle.command_1401.specs.declared.answer.Answer.{Answer}
+use Rattle.command_1401.specs.declared.command.Command.{Command}
 use Rattle.room_1401.specs.declared.entry.Entry.{Entry}
 use Rattle.room_1401.specs.declared.entry.Pair.{Pair}
 use Rattle.room_1401.specs.Account.{IsExplained}
-use Rattle.room_1401.specs.CarryOut.{carry_out}
+use Rattle.command_1401.specs.CarryOut.{carry_out}
 use Rattle.room_1401.specs.Replay.{pair, state_after, answers_after, replay, answers_of}
 use Rattle.room_1401.specs.Journal.{entry, pair_of, answer_in, pairs_of, state_of, IsLegal, answer_to, most_entries}
 

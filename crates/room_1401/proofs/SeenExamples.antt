@@ -2,13 +2,13 @@
 use Rattle.std.proofs.Common.{◌≡◌, true, List, [], ◌∷◌, refl, arith}
 use Rattle.bcd_1401.specs.declared.cell.Cell.{Cell}
 use Rattle.core_1401.specs.Storage.{blank}
-use Rattle.room_1401.specs.declared.answer.Answer.TheVariants.{Done, Cells, Refused}
-use Rattle.room_1401.specs.declared.answer.Refusal.TheVariants.{Address}
-use Rattle.room_1401.specs.declared.command.Command.TheVariants.{Deposit, Examine, SetI}
+use Rattle.command_1401.specs.declared.answer.Answer.TheVariants.{Done, Cells, Refused}
+use Rattle.command_1401.specs.declared.answer.Refusal.TheVariants.{Address}
+use Rattle.command_1401.specs.declared.command.Command.TheVariants.{Deposit, Examine, SetI}
 use Rattle.room_1401.specs.declared.entry.Entry.{Entry}
 use Rattle.room_1401.specs.declared.entry.Pair.{Pair}
 use Rattle.room_1401.specs.declared.fault.CloseFault.TheVariants.{Unreturned}
-use Rattle.room_1401.specs.CarryOut.{carry_out}
+use Rattle.command_1401.specs.CarryOut.{carry_out}
 use Rattle.room_1401.specs.Closing.{ClosesBy, IsSettled, back_of}
 use Rattle.room_1401.specs.Journal.{entry}
 use Rattle.room_1401.specs.Replay.{cell_after, pair}

@@ -1,8 +1,8 @@
 -- The journal: each command with its seat and its answer, oldest first (own).
 use Rattle.std.specs.Prelude.{◌≡◌, ℕ, Bool, List, length, map, nat_le, if◌then◌else◌}
 use Rattle.cpu_1401.specs.State.{State}
-use Rattle.room_1401.specs.declared.answer.Answer.{Answer}
-use Rattle.room_1401.specs.declared.command.Command.{Command}
+use Rattle.command_1401.specs.declared.answer.Answer.{Answer}
+use Rattle.command_1401.specs.declared.command.Command.{Command}
 use Rattle.room_1401.specs.declared.entry.Entry.{Entry}
 use Rattle.room_1401.specs.declared.entry.Pair.{Pair}
 use Rattle.room_1401.specs.declared.fault.RoomFault.{RoomFault}

@@ -1,5 +1,4 @@
 pub mod Account
-pub mod CarryOut
 pub mod Closing
 pub mod History
 pub mod Journal

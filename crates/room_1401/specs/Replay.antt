@@ -3,10 +3,10 @@ use Rattle.std.specs.Prelude.{ℕ, List, [], ◌∷◌}
 use Rattle.bcd_1401.specs.declared.cell.Cell.{Cell}
 use Rattle.core_1401.specs.Storage.{cell_at}
 use Rattle.cpu_1401.specs.State.{State, power_on}
-use Rattle.room_1401.specs.declared.answer.Answer.{Answer}
-use Rattle.room_1401.specs.declared.command.Command.{Command}
+use Rattle.command_1401.specs.declared.answer.Answer.{Answer}
+use Rattle.command_1401.specs.declared.command.Command.{Command}
 use Rattle.room_1401.specs.declared.entry.Pair.{Pair}
-use Rattle.room_1401.specs.CarryOut.{carry_out}
+use Rattle.command_1401.specs.CarryOut.{carry_out}
 
 -- a command of a seat
 abbrev pub pair : ℕ → Command → Pair

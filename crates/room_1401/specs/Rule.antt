@@ -1,5 +1,6 @@
 -- What is published to the readers of a shared room, and the rule that each step keeps (own).
-use Rattle.std.specs.Prelude.{◌≡◌, ◌≤◌, ℕ, List, length, fold}
+use Rattle.std.specs.Prelude.{◌≡◌, ◌≤◌, ℕ, List, length, fold, Option, Some, None}
+use Rattle.cpu_1401.specs.State.{State}
 use mathlib.Core.List.{IsPrefix}
 use mathlib.Core.Option.{some}
 use lib.ListN.{get_elem?}
@@ -7,9 +8,15 @@ use Rattle.logbook.specs.Pages.{Book}
 use Rattle.room_1401.specs.declared.entry.Pair.{Pair}
 use Rattle.room_1401.specs.declared.published.Shown.{Shown}
 use Rattle.room_1401.specs.declared.published.Change.{Change}
-use Rattle.room_1401.specs.CarryOut.{moved}
+use Rattle.command_1401.specs.declared.command.Command.{Command}
+use Rattle.command_1401.specs.CarryOut.{carry_out}
 use Rattle.room_1401.specs.Journal.{most_entries}
 use Rattle.room_1401.specs.Replay.{replay}
+
+-- the machine after a command, if there is one
+abbrev pub moved : State → Option Command → State
+moved s None = s
+moved s (Some command) = (carry_out s command).state
 
 -- what is shown after a change
 abbrev pub changed : Shown → Change → Shown

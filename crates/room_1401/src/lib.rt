@@ -16,25 +16,27 @@
 //! ```
 #![tactic(auto)]
 
-pub mod answer;
-pub mod carrying;
-mod closing;
-pub mod command;
+// the journal, and the room that one console has
 pub mod entry;
 pub mod fault;
+pub mod room;
+
+// a shared room's history of commands, as far as somebody has reached it, and what names the room
 pub mod history;
-mod locked;
 pub mod naming;
+
+// what readers are shown, the rule that each step keeps, and the writer
 mod published;
 mod publisher;
-pub mod room;
 mod rule;
+
+// what a seat has, what the lock keeps, and how a room is opened, shared and closed
+mod closing;
+mod locked;
 pub mod seat;
 pub mod shared_room;
 
-pub use answer::{Answer, Refusal};
-pub use carrying::carry_out;
-pub use command::Command;
+pub use command_1401::{Answer, Command, Refusal, carry_out};
 pub use entry::{Entry, Pair};
 pub use fault::{CloseFault, GlanceFault, RoomFault, StartFault};
 pub use history::Opened;

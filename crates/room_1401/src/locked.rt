@@ -7,9 +7,7 @@ ghost use Rattle.room_1401.specs.Journal.{IsLegal, entry, most_entries, pairs_of
 ghost use Rattle.room_1401.specs.Rule.{Publishes};
 ghost use Rattle.room_1401.specs.Seen.{Carries, own};
 
-use crate::answer::Answer;
 use crate::closing::{all_fit, merge_all};
-use crate::command::Command;
 use crate::entry::Pair;
 use crate::fault::RoomFault;
 use crate::history::{Front, Head};
@@ -18,6 +16,7 @@ use crate::published::Change;
 use crate::publisher::Publisher;
 use crate::room::Room;
 use crate::seat::{Seat, Told};
+use command_1401::{Answer, Command};
 use std::marker::Model;
 use std::sync::Wait;
 use std::sync::ledger::{Book, Share};

@@ -1,7 +1,7 @@
 //! What a shared room shows to its readers: a machine of its own and a count, with a token that says after which
 //! commands.
-use crate::command::Command;
 use crate::history::Reached;
+use command_1401::Command;
 use cpu_1401::Machine;
 
 /// What readers are shown.

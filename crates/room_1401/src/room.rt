@@ -4,11 +4,9 @@ ghost use Rattle.std.specs.Prelude.{IsOk, IfOk, IfErr, OnOk, OnErr};
 ghost use Rattle.core_1401.specs.Storage.{is_core_size};
 ghost use Rattle.room_1401.specs.Journal.{IsLegal, answer_to, entry, is_full, most_entries, refusal_of, state_of};
 
-use crate::answer::Answer;
-use crate::carrying::carry_out;
-use crate::command::Command;
 use crate::entry::Entry;
 use crate::fault::RoomFault;
+use command_1401::{Answer, Command, carry_out};
 use core_1401::CoreFault;
 use cpu_1401::Machine;
 use std::alloc::Global;

@@ -3,12 +3,12 @@ ghost use Rattle.std.specs.Prelude.{◌≡◌, ◌<◌, ◌≤◌, length, IfSom
 ghost use Rattle.room_1401.specs.Journal.{most_entries};
 ghost use Rattle.room_1401.specs.Replay.{cell_after};
 
-use crate::carrying::carry_out;
 use crate::entry::Pair;
 use crate::history::Reached;
 use crate::naming::Naming;
 use crate::published::{Change, Shown};
 use bcd_1401::Cell;
+use command_1401::carry_out;
 use crossbeam_utils::rule::{Outcome, Protocol};
 use left_right::Absorb;
 use left_right::reader::Reader;

@@ -9,9 +9,7 @@ ghost use Rattle.room_1401.specs.Journal.{IsLegal, most_entries};
 ghost use Rattle.room_1401.specs.Rule.{Publishes};
 ghost use Rattle.room_1401.specs.Seen.{Carries, most_seats, newcomers, own};
 
-use crate::answer::Answer;
 use crate::closing::count_back;
-use crate::command::Command;
 use crate::fault::{CloseFault, RoomFault, StartFault};
 use crate::history::{Front, Opened, Reached};
 use crate::locked::LockedRoom;
@@ -20,6 +18,7 @@ use crate::published::{Change, Shown};
 use crate::publisher::Publisher;
 use crate::room::Room;
 use crate::seat::{Seat, Told};
+use command_1401::{Answer, Command};
 use core_1401::CoreFault;
 use cpu_1401::Machine;
 use std::alloc::Global;

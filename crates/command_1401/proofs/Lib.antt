@@ -1,0 +1,3 @@
+mod CardExamples
+mod CarryOutExamples
+pub mod CellsLemmas

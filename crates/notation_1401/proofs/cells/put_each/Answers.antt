@@ -1,0 +1,26 @@
+-- One cell more behind those so far.
+use Rattle.std.proofs.Common.{◌≡◌, ◌+◌, [], ◌∷◌, ◌++◌, take, arith, refl, sym, ap, ◌∙◌}
+use Rattle.std.proofs.lemmas.Grind.{common_steps, flat_map-append}
+use Rattle.std.proofs.lemmas.List.{take_more, append-nil}
+use Rattle.std.specs.List.{flat_map}
+use Rattle.notation_1401.specs.Cells.{cell_text, spelled}
+use Rattle.notation_1401.proofs.SpelledLemmas.{cells_again}
+use Rattle.notation_1401.proofs.cells.put_each.Goals as goal
+
+pub loop-cell-init : goal.loop-cell-init
+unfolding spelled
+loop-cell-init c = record { text = sym (append-nil c.args.text.now.items); again = refl }
+
+pub loop-cell-preserved : goal.loop-cell-preserved
+loop-cell-preserved c =
+    let cells = c.args.cells.now in
+    let cell = c.cell-item.result in
+    let i = c.loop-cell.cell-index in
+    let more : take (i + 1) cells ≡ take i cells ++ cell ∷ [] =
+    take_more cells i cell (omega arith) ∙ ap (λ each. take i cells ++ each ∷ []) (sym c.cell-item.is) in
+    let one_more : flat_map cell_text (take i cells ++ cell ∷ [])
+    ≡ flat_map cell_text (take i cells) ++ cell_text cell = search (flat_map-append, append-nil) in
+    record {
+      text = grind (arith, common_steps);
+      again = rw (more, one_more) (cells_again _ _ (take i cells) cell c.loop-cell.invariant.again c.in_ok-put_cell.ensures.again);
+    }

@@ -1,0 +1,97 @@
+//! Cells by their graphics, one with a word mark behind a tilde.
+ghost use Rattle.std.specs.Prelude.{◌≡◌, ◌<◌, [], ◌∷◌, ◌++◌, length, map, OnOk, MatchOption};
+ghost use Rattle.notation_1401.specs.Cells.{cell_of, cell_text, cells_of, cells_text, spelled};
+
+use crate::fault::CellsFault;
+use bcd_1401::{Cell, Char};
+use core_1401::{Cells, MOST_CELLS};
+use std::alloc::AllocError;
+
+/// Adds a cell by its graphic, with a tilde in front of it where it has a word mark.
+///
+/// # Errors
+///
+/// Where the memory for the text is refused. The tilde may have been added then.
+pub fn put_cell(text: &mut Vec<u8>, cell: Cell) -> Result<(), AllocError>
+    ensures text { OnOk result (text.new.items ≡ text.old.items ++ cell_text cell) }
+    ensures again { OnOk result (spelled (cell_text cell) ≡ Some cell ∷ []) }
+{
+    if cell.mark {
+        text.push(b'~')?;
+    }
+    text.push(cell.char.graphic())?;
+    Ok(())
+}
+
+/// Adds cells, one behind the other.
+#[tactic(auto, unfolding(crate::specs::Cells::cells_text))]
+fn put_each(text: &mut Vec<u8>, cells: &[Cell]) -> Result<(), AllocError>
+    ensures text { OnOk result (text.new.items ≡ text.old.items ++ cells_text cells.now) }
+    ensures again { OnOk result (spelled (cells_text cells.now) ≡ map Some cells.now) }
+{
+    for cell in cells {
+        put_cell(text, *cell)?;
+    }
+    Ok(())
+}
+
+/// Adds 1 to 40 cells, one behind the other.
+///
+/// # Errors
+///
+/// Where the memory for the text is refused. Some of the cells may have been added then.
+pub fn put_cells(text: &mut Vec<u8>, cells: &Cells) -> Result<(), AllocError>
+    ensures text { OnOk result (text.new.items ≡ text.old.items ++ cells_text cells.now) }
+
+    // What is added is read as these cells.
+    ensures again { OnOk result (cells_of (spelled (cells_text cells.now)) ≡ Ok cells.now) }
+{
+    put_each(text, cells.as_slice())
+}
+
+/// The 1 to 40 cells that a text spells.
+///
+/// # Errors
+///
+/// `Graphic` where one of the first 40 has no graphic, else `Length` where there are none or more.
+#[tactic(auto, unfolding(crate::specs::Cells::cells_of))]
+pub fn read_cells(text: &[u8]) -> Result<Cells, CellsFault>
+    ensures { result ≡ cells_of (spelled text.now) }
+{
+    let mut cells = [Cell::BLANK; MOST_CELLS];
+    let mut count = 0;
+    let mut rest = text;
+    while let Some((cell, behind)) = split_cell(rest) {
+        if count == MOST_CELLS {
+            return Err(CellsFault::Length);
+        }
+        let Some(cell) = cell else {
+            return Err(CellsFault::Graphic);
+        };
+        cells[count] = cell;
+        count += 1;
+        rest = behind;
+    }
+    Cells::from_slice(&cells[..count]).ok_or(CellsFault::Length)
+}
+
+/// The first cell that a text spells, which is none where a graphic is missed, and what stands behind it; none at the
+/// end of the text.
+#[tactic(auto, unfolding(crate::specs::Cells::spelled))]
+fn split_cell(text: &[u8]) -> Option<(Option<Cell>, &[u8])>
+    ensures { MatchOption result (text.now ≡ []) (λ first.
+        (spelled text.now ≡ first.0 ∷ spelled first.1.now) × (length first.1.now < length text.now)) }
+{
+    match text {
+        [] => None,
+        [b'~', graphic, rest @ ..] => Some((cell(true, *graphic), rest)),
+        [graphic, rest @ ..] => Some((cell(false, *graphic), rest)),
+    }
+}
+
+/// The cell with this graphic, if it is one.
+fn cell(mark: bool, graphic: u8) -> Option<Cell>
+    ensures { result ≡ cell_of mark graphic }
+{
+    Char::from_graphic(graphic).map(|char| Cell { char, mark })
+}

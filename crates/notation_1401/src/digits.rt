@@ -1,0 +1,36 @@
+//! Numbers in decimal digits.
+ghost use Rattle.std.specs.Prelude.{◌≡◌, ◌≤◌, ◌++◌, length, OnOk};
+ghost use Rattle.notation_1401.specs.Digits.{digits_in, most_read, number_in};
+
+use std::alloc::AllocError;
+
+/// Adds a number, with zeros in front where it has fewer digits than the width (own).
+///
+/// # Errors
+///
+/// Where the memory for the text is refused. Some of the digits may have been added then.
+pub fn put_digits(text: &mut Vec<u8>, width: u8, number: u64) -> Result<(), AllocError>
+    ensures { OnOk result (text.new.items ≡ text.old.items ++ digits_in width number) }
+{
+    if width > 1 || number > 9 {
+        put_digits(text, width.saturating_sub(1), number / 10)?;
+    }
+    text.push(b'0' + (number % 10) as u8)?;
+    Ok(())
+}
+
+/// The number that up to nine digits stand for, if all of the bytes are digits. Without a digit it is 0.
+#[tactic(auto, unfolding(crate::specs::Digits::number_in))]
+pub fn read_digits(digits: &[u8]) -> Option<u32>
+    requires { length digits.now ≤ most_read }
+    ensures { result ≡ number_in digits.now }
+{
+    let mut number = 0;
+    for digit in digits {
+        if !digit.is_ascii_digit() {
+            return None;
+        }
+        number = 10 * number + u32::from(*digit - b'0');
+    }
+    Some(number)
+}

@@ -1,0 +1,6 @@
+mod AnswerTextExamples
+pub mod CardTextLemmas
+mod ConsoleLineExamples
+mod LineTextExamples
+pub mod LineTextLemmas
+pub mod WordLemmas

@@ -1,0 +1,188 @@
+//! The texts of replies, without the line feed behind them.
+ghost use Rattle.std.specs.Prelude.{◌≡◌, ◌++◌, IfOk, OnOk};
+ghost use Rattle.notation_1401.specs.Digits.{digits_in};
+ghost use Rattle.notation_1401.specs.Cells.{cells_of, cells_text, spelled};
+ghost use Rattle.text_1401.specs.AnswerText.{answer_text, IsReadAgain, IsFedAgain};
+ghost use Rattle.text_1401.specs.AnswerText.{regs_text, ran_text};
+ghost use Rattle.text_1401.specs.AnswerText.{indicator_text, switch_text, switches_text, refusal_text};
+ghost use Rattle.text_1401.specs.AnswerText.{line_text, card_text, fault_text, glance_text};
+
+use crate::card_text::{put_chars, trimmed};
+use crate::line::LineFault;
+use bcd_1401::Cell;
+use command_1401::{Answer, Refusal};
+use core_1401::Cells;
+use cpu_1401::{Regs, Stop};
+use devices_1401::{Card, PrintLine};
+use notation_1401::{put_cell, put_cells, put_digits};
+use std::alloc::{AllocError, Global};
+
+/// The text of an answer.
+///
+/// # Errors
+///
+/// Where the memory for the text is refused.
+#[tactic(auto, unfolding(crate::specs::AnswerText::answer_text))]
+pub fn reply_text(alloc: Global, answer: &Answer) -> Result<Vec<u8>, AllocError>
+    ensures text { IfOk result (λ text. text.items ≡ answer_text answer.now) }
+
+    // Cells that are shown can be deposited as they stand, and a card that is shown can be fed.
+    ensures again { IfOk result (λ text. IsReadAgain answer.now text.items) }
+{
+    match answer {
+        Answer::Done => Vec::from_slice(alloc, b"OK"),
+        Answer::Cells(cells) => cells_reply(alloc, cells),
+        Answer::Regs(regs) => regs_reply(alloc, regs),
+        Answer::Ran { steps, stop, i } => ran_reply(alloc, *steps, *stop, *i),
+        Answer::Line(line) => line_reply(alloc, line),
+        Answer::Card(card) => card_reply(alloc, card),
+        Answer::Refused(why) => Vec::from_slice(alloc, refusal_reply(*why)),
+    }
+}
+
+/// Cells by their graphics, each marked one with a tilde in front of it.
+fn cells_reply(alloc: Global, cells: &Cells) -> Result<Vec<u8>, AllocError>
+    ensures text { IfOk result (λ text. text.items ≡ cells_text cells.now) }
+    ensures again { IfOk result (λ text. cells_of (spelled text.items) ≡ Ok cells.now) }
+{
+    let mut text = Vec::new(alloc);
+    put_cells(&mut text, cells)?;
+    Ok(text)
+}
+
+/// The registers, each behind its name.
+#[tactic(auto, unfolding(crate::specs::AnswerText::regs_text))]
+fn regs_reply(alloc: Global, regs: &Regs) -> Result<Vec<u8>, AllocError>
+    ensures { IfOk result (λ text. text.items ≡ regs_text regs.now) }
+{
+    let mut text = Vec::new(alloc);
+    put_number(&mut text, b"I=", 5, u32::from(regs.i))?;
+    put_number(&mut text, b" A=", 5, u32::from(regs.a))?;
+    put_number(&mut text, b" B=", 5, u32::from(regs.b))?;
+    put_indicator(&mut text, b" UNEQUAL=", regs.unequal)?;
+    put_indicator(&mut text, b" OVERFLOW=", regs.overflow)?;
+    put_switches(&mut text, b" SWITCHES=", regs.switches)?;
+    put_number(&mut text, b" HOPPER=", 3, u32::from(regs.hopper))?;
+    put_number(&mut text, b" STACKER=", 3, u32::from(regs.stacker))?;
+    put_number(&mut text, b" PAPER=", 3, u32::from(regs.paper))?;
+    put_number(&mut text, b" FORM=", 4, u32::from(regs.form))?;
+    put_number(&mut text, b" LINE=", 2, u32::from(regs.line))?;
+    Ok(text)
+}
+
+/// A run: why it ended, how many instructions were carried out, and the I register.
+#[tactic(auto, unfolding(crate::specs::AnswerText::ran_text))]
+fn ran_reply(alloc: Global, steps: u32, stop: Stop, i: u16) -> Result<Vec<u8>, AllocError>
+    ensures { IfOk result (λ text. text.items ≡ ran_text steps stop i) }
+{
+    let mut text = Vec::new(alloc);
+    put_number(&mut text, b"STOP ", 2, u32::from(stop.number()))?;
+    text.extend_from_slice(b" ")?;
+    text.extend_from_slice(stop.name().as_bytes())?;
+    put_number(&mut text, b" STEPS ", 1, steps)?;
+    put_number(&mut text, b" I ", 5, u32::from(i))?;
+    Ok(text)
+}
+
+/// A printed line: its form, its line, and its characters without the blanks at their end.
+#[tactic(auto, unfolding(crate::specs::AnswerText::line_text))]
+fn line_reply(alloc: Global, line: &PrintLine) -> Result<Vec<u8>, AllocError>
+    ensures { IfOk result (λ text. text.items ≡ line_text line.now) }
+{
+    let mut text = Vec::new(alloc);
+    put_number(&mut text, b"LINE ", 4, u32::from(line.form))?;
+    put_number(&mut text, b" ", 2, u32::from(line.line))?;
+    text.extend_from_slice(b" ")?;
+    put_chars(&mut text, trimmed(&line.text))?;
+    Ok(text)
+}
+
+/// A card: its characters without the blanks at their end.
+#[tactic(auto, unfolding(crate::specs::AnswerText::card_text))]
+fn card_reply(alloc: Global, card: &Card) -> Result<Vec<u8>, AllocError>
+    ensures text { IfOk result (λ text. text.items ≡ card_text card.now) }
+    ensures again { IfOk result (λ text. IsFedAgain card.now text.items) }
+{
+    let mut text = Vec::from_slice(alloc, b"CARD ")?;
+    put_chars(&mut text, trimmed(&card.0))?;
+    Ok(text)
+}
+
+/// Adds a name, and behind it a number, with zeros in front where it has fewer digits than the width.
+fn put_number(text: &mut Vec<u8>, name: &[u8], width: u8, number: u32) -> Result<(), AllocError>
+    ensures { OnOk result (text.new.items ≡ text.old.items ++ name.now ++ digits_in width number) }
+{
+    text.extend_from_slice(name)?;
+    put_digits(text, width, u64::from(number))
+}
+
+/// Adds a name, and behind it whether an indicator is on.
+fn put_indicator(text: &mut Vec<u8>, name: &[u8], on: bool) -> Result<(), AllocError>
+    ensures { OnOk result (text.new.items ≡ text.old.items ++ name.now ++ indicator_text on) }
+{
+    text.extend_from_slice(name)?;
+    text.extend_from_slice(if on { b"1" } else { b"0" })
+}
+
+/// Adds a name, and behind it the letters of the switches that are on.
+fn put_switches(text: &mut Vec<u8>, name: &[u8], switches: [bool; 7]) -> Result<(), AllocError>
+    ensures { OnOk result (text.new.items ≡ text.old.items ++ name.now ++ switches_text switches) }
+{
+    text.extend_from_slice(name)?;
+    text.extend(
+        switches
+            .iter()
+            .zip(b"ABCDEFG")
+            .map(|(on, letter)| switch_letter(*on, *letter)),
+    )
+}
+
+/// A switch by its letter where it is on, and by - where it isn't.
+fn switch_letter(on: bool, letter: u8) -> u8
+    ensures { result ≡ switch_text on letter }
+{
+    if on { letter } else { b'-' }
+}
+
+/// The text of a refusal.
+fn refusal_reply(why: Refusal) -> &'static [u8]
+    ensures { result.now ≡ refusal_text why }
+{
+    match why {
+        Refusal::Address => b"REFUSED 1 ADDRESS",
+        Refusal::Hopper => b"REFUSED 2 HOPPER",
+        Refusal::Reader => b"REFUSED 3 READER",
+        Refusal::Empty => b"REFUSED 4 EMPTY",
+        Refusal::Limit => b"REFUSED 5 LIMIT",
+        Refusal::Count => b"REFUSED 6 COUNT",
+    }
+}
+
+/// A glance: after how many commands, and the cell that stands there then.
+///
+/// # Errors
+///
+/// Where the memory for the text is refused.
+#[tactic(auto, unfolding(crate::specs::AnswerText::glance_text))]
+pub fn glance_text(alloc: Global, after: u64, cell: Cell) -> Result<Vec<u8>, AllocError>
+    ensures { IfOk result (λ text. text.items ≡ glance_text after cell) }
+{
+    let mut text = Vec::from_slice(alloc, b"AFTER ")?;
+    put_digits(&mut text, 1, after)?;
+    text.extend_from_slice(b" ")?;
+    put_cell(&mut text, cell)?;
+    Ok(text)
+}
+
+/// The text of a line's fault.
+pub fn fault_text(fault: LineFault) -> &'static [u8]
+    ensures { result.now ≡ fault_text fault }
+{
+    match fault {
+        LineFault::Word => b"ERROR 1 WORD",
+        LineFault::Number => b"ERROR 2 NUMBER",
+        LineFault::Graphic => b"ERROR 3 GRAPHIC",
+        LineFault::Length => b"ERROR 4 LENGTH",
+        LineFault::Extra => b"ERROR 5 EXTRA",
+    }
+}
