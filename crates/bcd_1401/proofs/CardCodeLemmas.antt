@@ -27,7 +27,7 @@ all_small : list_all is_small (range_with_len 0 64) ≡ true
 all_small = refl
 
 -- what is tested of all characters holds of each
-of_each : (test : ℕ → Bool) → list_all test (range_with_len 0 64) ≡ true → (char : ℕ) → char < 64 → test char ≡ true
+pub of_each : (test : ℕ → Bool) → list_all test (range_with_len 0 64) ≡ true → (char : ℕ) → char < 64 → test char ≡ true
 of_each test all char h =
     let at =
     All-get_or (λ (k : ℕ). test k ≡ true) (range_with_len 0 64) char 0

@@ -1,3 +1,5 @@
 mod CardCodeExamples
 pub mod CardCodeLemmas
+mod CollationExamples
+pub mod CollationLemmas
 pub mod GraphicLemmas

@@ -1,3 +1,4 @@
 pub mod CardCode
 pub mod Character
+pub mod Collation
 pub mod Graphic

@@ -1,14 +1,16 @@
-//! The characters of the IBM 1401: 64 codes of six bits, each with a zone, a digit, a graphic and a column of
-//! a card, and the cell that holds one of them with its word mark.
+//! The characters of the IBM 1401: 64 codes of six bits, each with a zone, a digit, a graphic, a column of a
+//! card and a place in the collating order, and the cell that holds one of them with its word mark.
 //!
 //! ```text
 //! let five = Char::from_graphic(b'5')?;   // code 5, no zone
 //! five.with_zone(2).graphic()             // b'N', minus five
+//! five.order()                            // 59: above each letter in the collating order
 //! ```
 #![tactic(auto)]
 
 pub mod cell;
 pub mod character;
+pub mod collation;
 pub mod graphic;
 pub mod punch;
 

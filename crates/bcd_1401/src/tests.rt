@@ -129,3 +129,38 @@ fn sixty_four_columns_are_characters(rt: HostRuntime) {
     }
     assert_eq!(rt; count, 64);
 }
+
+#[test]
+fn each_character_has_its_place_in_the_collating_order(rt: HostRuntime) {
+    for (graphic, place) in [
+        (b' ', 0),
+        (b'.', 1),
+        (b'&', 6),
+        (b'-', 12),
+        (b'/', 13),
+        (b'^', 19),
+        (b'(', 24),
+        (b'?', 25),
+        (b'A', 26),
+        (b'I', 34),
+        (b'!', 35),
+        (b'J', 36),
+        (b'R', 44),
+        (b'\'', 45),
+        (b'S', 46),
+        (b'Z', 53),
+        (b'0', 54),
+        (b'9', 63),
+    ] {
+        let found = Char::from_graphic(graphic);
+        assert_eq!(rt; found.map(|char| char.order()), Some(place), "{graphic}");
+    }
+}
+
+#[test]
+fn a_blank_has_no_bit_and_no_mark(rt: HostRuntime) {
+    assert_eq!(rt; Char::BLANK.code(), 0);
+    assert_eq!(rt; Char::BLANK.graphic(), b' ');
+    assert_eq!(rt; Cell::BLANK.char, Char::BLANK);
+    assert_eq!(rt; Cell::BLANK.mark, false);
+}

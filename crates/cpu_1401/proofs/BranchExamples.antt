@@ -1,10 +1,10 @@
--- Branches on small machines, and what their d-characters look at, computed. The codes: 17 is the slash, 25 Z, 49 to 55
--- A to G, 9 the digit, 12 the at sign, 18 S; 34 is K, 51 C, 35 L, 19 T.
+-- Branches on small machines, and what their d-characters look at, computed. The codes: 17 is the slash, 18 to 20 S, T
+-- and U, 25 Z, 49 to 55 A to G, 9 the digit, 12 the at sign; 34 is K, 51 C, 35 L.
 use Rattle.std.proofs.Common.{◌≡◌, true, false, [], ◌∷◌, None, Some, refl}
 use Rattle.bcd_1401.specs.Graphic.{graphics}
 use Rattle.core_1401.specs.Storage.{Storage}
-use Rattle.cpu_1401.specs.declared.condition.Condition.TheVariants.{Unequal, Overflow, LastCard, SwitchOn, ChannelNine}
-use Rattle.cpu_1401.specs.declared.condition.Condition.TheVariants.{ChannelTwelve}
+use Rattle.cpu_1401.specs.declared.condition.Condition.TheVariants.{Unequal, Equal, Low, High, Overflow, LastCard}
+use Rattle.cpu_1401.specs.declared.condition.Condition.TheVariants.{SwitchOn, ChannelNine, ChannelTwelve}
 use Rattle.cpu_1401.specs.declared.stop.Stop.TheVariants as stop
 use Rattle.cpu_1401.specs.declared.switch_name.SwitchName.TheVariants.{B, G}
 use Rattle.cpu_1401.specs.Branch.{condition_of, is_so, passes}
@@ -40,9 +40,19 @@ the_at_sign_looks_at_the_carriage : condition_of 12 ≡ Some ChannelTwelve
 unfolding graphics
 the_at_sign_looks_at_the_carriage = refl
 
-an_s_looks_at_nothing : condition_of 18 ≡ None
+s_t_and_u_look_at_a_compare : (condition_of 18 ≡ Some Equal) × (condition_of 19 ≡ Some Low)
+    × (condition_of 20 ≡ Some High)
 unfolding graphics
-an_s_looks_at_nothing = refl
+s_t_and_u_look_at_a_compare = (refl, refl, refl)
+
+a_k_looks_at_nothing : condition_of 34 ≡ None
+unfolding graphics
+a_k_looks_at_nothing = refl
+
+-- nothing was compared at power-on: equal, and neither low nor high
+no_compare_is_equal : (is_so (power_on 0) Equal ≡ true) × (is_so (power_on 0) Low ≡ false)
+    × (is_so (power_on 0) High ≡ false)
+no_compare_is_equal = (refl, refl, refl)
 
 -- switch A alone means the last card, as long as the hopper is empty
 the_last_card_wants_switch_a : (is_so (power_on 0) LastCard ≡ false)

@@ -1,4 +1,5 @@
 mod BranchExamples
+mod CompareExamples
 mod CardsExamples
 pub mod CardsAndPrinterLemmas
 pub mod DecodedLemmas

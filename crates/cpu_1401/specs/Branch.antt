@@ -1,6 +1,6 @@
 -- Branches and what they look at (A24-1403, "Branch", "Branch if Indicator On", "Branch if Character Equal", "Branch if
 -- Word Mark and/or Zone", "Halt and Branch"; what the registers hold afterwards, and the channel tests, are own).
-use Rattle.std.specs.Prelude.{ℕ, ◌==◌, ◌&&◌, ◌||◌, Bool, true, false, List, [], ◌∷◌, Option, None, Some, codes, find}
+use Rattle.std.specs.Prelude.{ℕ, ◌==◌, ◌&&◌, ◌||◌, not, Bool, true, false, List, [], ◌∷◌, Option, None, Some, codes, find}
 use Rattle.std.specs.Prelude.{length, slice_index, slice_index_or, if◌then◌else◌}
 use Rattle.std.specs.List.{zip}
 use Rattle.std.specs.Option.{option_map, unwrap_or}
@@ -11,8 +11,8 @@ use Rattle.core_1401.specs.Storage.{is_in_core, cell_at}
 use Rattle.devices_1401.specs.Carriage.{is_at_channel}
 use Rattle.fields_1401.specs.Outcome.{below_by}
 use Rattle.cpu_1401.specs.declared.condition.Condition.{Condition}
-use Rattle.cpu_1401.specs.declared.condition.Condition.TheVariants.{Unequal, Overflow, LastCard, SwitchOn, ChannelNine}
-use Rattle.cpu_1401.specs.declared.condition.Condition.TheVariants.{ChannelTwelve}
+use Rattle.cpu_1401.specs.declared.condition.Condition.TheVariants.{Unequal, Equal, Low, High, Overflow, LastCard}
+use Rattle.cpu_1401.specs.declared.condition.Condition.TheVariants.{SwitchOn, ChannelNine, ChannelTwelve}
 use Rattle.cpu_1401.specs.declared.instruction.Instruction.{Instruction}
 use Rattle.cpu_1401.specs.declared.stop.Stop.TheVariants as stop
 use Rattle.cpu_1401.specs.declared.switch_name.SwitchName.TheVariants.{B, C, D, E, F, G}
@@ -40,8 +40,8 @@ go_on false this s = record s { i = this.next }
 
 -- what a branch of five characters looks at, by the graphic of its d-character
 abbrev pub conditions : List (ℕ × Condition)
-conditions = zip (codes "/ZABCDEFG9@") (
-    Unequal ∷ Overflow ∷ LastCard ∷ SwitchOn B ∷ SwitchOn C ∷ SwitchOn D ∷ SwitchOn E ∷ SwitchOn F ∷ SwitchOn G
+conditions = zip (codes "/STUZABCDEFG9@") (
+    Unequal ∷ Equal ∷ Low ∷ High ∷ Overflow ∷ LastCard ∷ SwitchOn B ∷ SwitchOn C ∷ SwitchOn D ∷ SwitchOn E ∷ SwitchOn F ∷ SwitchOn G
     ∷ ChannelNine ∷ ChannelTwelve ∷ []
     )
 
@@ -53,6 +53,9 @@ condition_of d =
 -- whether it is so
 abbrev pub is_so : State → Condition → Bool
 is_so s Unequal = s.unequal
+is_so s Equal = not s.unequal
+is_so s Low = s.low
+is_so s High = s.high
 is_so s Overflow = s.overflow
 is_so s LastCard = slice_index_or s.switches 0 false && (length s.devices.hopper == 0)
 is_so s (SwitchOn name) = slice_index_or s.switches (switch_number name) false
@@ -62,6 +65,9 @@ is_so s ChannelTwelve = is_at_channel s.devices.carriage 12
 -- what looking leaves: the overflow indicator is turned off by its test
 abbrev pub after_look : State → Condition → State
 after_look s Unequal = s
+after_look s Equal = s
+after_look s Low = s
+after_look s High = s
 after_look s Overflow = record s { overflow = false }
 after_look s LastCard = s
 after_look s (SwitchOn name) = s

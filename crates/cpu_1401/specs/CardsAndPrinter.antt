@@ -130,7 +130,7 @@ line_alone marks storage =
       punches = false;
     }
 
--- a line written: the lozenge as d-character asks for word marks, and another for nothing
+-- a line written: the lozenge as d-character asks for word marks, and any other is a stop
 abbrev pub after_line : Instruction → State → Stepped
 after_line this s =
     if has_d this.len && not (this.d == 60) then stopped stop.DChar s

@@ -1,5 +1,5 @@
 -- Operations on fields (A24-1403, the descriptions of the instructions; what the registers hold afterwards is own).
-use Rattle.std.specs.Prelude.{◌==◌, ◌&&◌, ◌||◌, Result, Ok, Err, if◌then◌else◌}
+use Rattle.std.specs.Prelude.{◌==◌, ◌&&◌, ◌||◌, not, Result, Ok, Err, if◌then◌else◌}
 use Rattle.fields_1401.specs.declared.done.Done.{Done}
 use Rattle.fields_1401.specs.declared.done.FieldStop.{FieldStop}
 use Rattle.fields_1401.specs.Outcome.{Outcome}
@@ -10,7 +10,7 @@ use Rattle.cpu_1401.specs.Stepped.{Stepped, step_to, stopped}
 use Rattle.cpu_1401.specs.Stop.{stop_of}
 
 -- after an operation on fields: its core and its registers, and the next instruction; a sum that was too large turns
--- the overflow indicator on, and no other operation turns it off
+-- the overflow indicator on, and one that fits leaves it as it is
 abbrev pub after_field : Instruction → State → Outcome → Stepped
 after_field this s (Ok done) =
     step_to (record s {
@@ -22,15 +22,16 @@ after_field this s (Ok done) =
     })
 after_field this s (Err why) = stopped (stop_of why) s
 
--- after a comparison: one without an address leaves an unequal result unequal
+-- the indicators of a compare by its result: an equal one of an instruction without an address leaves them as they are
+abbrev pub with_result : Instruction → Done → State → State
+with_result this done s =
+    if (this.len == 1) && not done.unequal then s
+    else record s { unequal = done.unequal; low = done.low; high = done.high }
+
+-- after a comparison: its registers, the indicators, and the next instruction
 abbrev pub after_comparison : Instruction → State → Result Done FieldStop → Stepped
 after_comparison this s (Ok done) =
-    step_to (record s {
-      i = this.next;
-      a = done.a;
-      b = done.b;
-      unequal = done.unequal || ((this.len == 1) && s.unequal);
-    })
+    step_to (with_result this done (record s { i = this.next; a = done.a; b = done.b }))
 after_comparison this s (Err why) = stopped (stop_of why) s
 
 -- after storage was cleared: with two addresses a branch is taken, else the A register stays

@@ -22,7 +22,18 @@ one_more run = record run { steps = run.steps + 1 }
 -- how many instructions a step that stops the machine has carried out: a halt is carried out, and nothing else is
 abbrev pub carried_out_by : Stop → ℕ
 carried_out_by stop.Halt = 1
-carried_out_by why = 0
+carried_out_by stop.Limit = 0
+carried_out_by stop.Reader = 0
+carried_out_by stop.Forms = 0
+carried_out_by stop.Stacker = 0
+carried_out_by stop.NoMark = 0
+carried_out_by stop.OpCode = 0
+carried_out_by stop.Length = 0
+carried_out_by stop.Address = 0
+carried_out_by stop.Overlap = 0
+carried_out_by stop.Carriage = 0
+carried_out_by stop.NotFitted = 0
+carried_out_by stop.DChar = 0
 
 -- a run goes on after a step that doesn't stop the machine
 abbrev pub run_on : Option Stop → State → (State → Finished) → Finished

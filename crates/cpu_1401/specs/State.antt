@@ -14,6 +14,8 @@ pub record State : Type 0 where
   pub a : ℕ
   pub b : ℕ
   pub unequal : Bool
+  pub low : Bool
+  pub high : Bool
   pub overflow : Bool
   pub switches : List Bool
   pub devices : Devices
@@ -26,6 +28,8 @@ power_on size = record {
   a = 0;
   b = 0;
   unequal = false;
+  low = false;
+  high = false;
   overflow = false;
   switches = replicate 7 false;
   devices = no_cards;
@@ -38,6 +42,8 @@ regs_of s = record {
   a = s.a;
   b = s.b;
   unequal = s.unequal;
+  low = s.low;
+  high = s.high;
   overflow = s.overflow;
   switches = s.switches;
   hopper = length s.devices.hopper;

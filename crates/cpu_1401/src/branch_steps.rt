@@ -1,7 +1,7 @@
 //! Branches, and what goes on at an address.
 ghost use Rattle.std.specs.Prelude.{◌≡◌, ◌==◌, ◌<◌, None, Some, length};
 ghost use Rattle.core_1401.specs.Address.{addresses};
-ghost use Rattle.cpu_1401.specs.Branch.{after_branch, branch_if, branch_on, branch_on_cell, condition_of, go_on, is_so};
+ghost use Rattle.cpu_1401.specs.Branch.{after_branch, after_look, branch_if, branch_on, branch_on_cell, condition_of, go_on, is_so};
 ghost use Rattle.cpu_1401.specs.Branch.{passes};
 
 use crate::condition::{Condition, passes};
@@ -70,20 +70,38 @@ impl Machine {
             return;
         };
         let is_so = self.is_so(condition);
-        if condition == Condition::Overflow {
-            self.overflow = false;
-        }
+        self.look_at(condition);
         self.branch_if(is_so, this.b, this);
     }
 
-    /// Whether the condition of a branch is so. There are no cards and no paper yet: the hopper is empty, and the
-    /// carriage stands at the first line.
+    /// Leaves the machine as it is after a look at a condition: the overflow indicator is turned off by its test.
+    #[inline(always)]
+    fn look_at(&mut self, condition: Condition)
+        ensures { self.new ≡ after_look self.old condition }
+    {
+        match condition {
+            Condition::Overflow => self.overflow = false,
+            Condition::Unequal => {}
+            Condition::Equal => {}
+            Condition::Low => {}
+            Condition::High => {}
+            Condition::LastCard => {}
+            Condition::SwitchOn(_) => {}
+            Condition::ChannelNine => {}
+            Condition::ChannelTwelve => {}
+        }
+    }
+
+    /// Whether the condition of a branch is so.
     #[inline(always)]
     fn is_so(&self, condition: Condition) -> bool
         ensures { result ≡ is_so self.now condition }
     {
         match condition {
             Condition::Unequal => self.unequal,
+            Condition::Equal => !self.unequal,
+            Condition::Low => self.low,
+            Condition::High => self.high,
             Condition::Overflow => self.overflow,
             Condition::LastCard => self.switches[0] && self.devices.hopper() == 0,
             Condition::SwitchOn(name) => self.switches[usize::from(name.number())],

@@ -10,6 +10,12 @@ use bcd_1401::{Cell, Char};
 pub enum Condition {
     /// `/`: the last compare found its fields unequal.
     Unequal,
+    /// `S`: it found them equal.
+    Equal,
+    /// `T`: it found the B field low.
+    Low,
+    /// `U`: it found the B field high.
+    High,
     /// `Z`: a sum was too large. The test turns the indicator off.
     Overflow,
     /// `A`: sense switch A is on and the hopper is empty.
@@ -29,6 +35,9 @@ impl Condition {
     {
         match d.graphic() {
             b'/' => Some(Condition::Unequal),
+            b'S' => Some(Condition::Equal),
+            b'T' => Some(Condition::Low),
+            b'U' => Some(Condition::High),
             b'Z' => Some(Condition::Overflow),
             b'A' => Some(Condition::LastCard),
             b'B' => Some(Condition::SwitchOn(SwitchName::B)),

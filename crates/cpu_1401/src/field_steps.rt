@@ -44,8 +44,8 @@ impl Machine {
         }
     }
 
-    /// Compares the fields and sets the unequal indicator. A compare without an address leaves an unequal result
-    /// unequal.
+    /// Compares the fields and sets the unequal, low and high indicators. An equal result of a compare without an
+    /// address leaves them as they are.
     #[inline(always)]
     pub(crate) fn compare(&mut self, this: Instruction) -> Option<Stop>
         requires a { this.a < addresses }
@@ -64,7 +64,11 @@ impl Machine {
         self.i = this.next;
         self.a = done.a;
         self.b = done.b;
-        self.unequal = done.unequal || (this.len == 1 && self.unequal);
+        if done.unequal || this.len != 1 {
+            self.unequal = done.unequal;
+            self.low = done.low;
+            self.high = done.high;
+        }
         None
     }
 

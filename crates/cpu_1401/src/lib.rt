@@ -7,18 +7,18 @@
 //! ```
 #![tactic(auto)]
 
-pub mod asked;
+mod asked;
 mod branch_steps;
-pub mod condition;
+mod condition;
 mod decoded;
 mod decoding;
 mod device_steps;
 mod field_steps;
-pub mod instruction;
+mod instruction;
 mod kept;
 mod loading;
 pub mod machine;
-pub mod operation;
+mod operation;
 mod register_steps;
 pub mod regs;
 pub mod running;

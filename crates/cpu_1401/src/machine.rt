@@ -20,6 +20,8 @@ pub struct Machine {
     pub(crate) a: u16,
     pub(crate) b: u16,
     pub(crate) unequal: bool,
+    pub(crate) low: bool,
+    pub(crate) high: bool,
     pub(crate) overflow: bool,
     pub(crate) switches: [bool; 7],
     pub(crate) devices: Devices,
@@ -38,6 +40,8 @@ impl Model for Machine {
       a = m.a;
       b = m.b;
       unequal = m.unequal;
+      low = m.low;
+      high = m.high;
       overflow = m.overflow;
       switches = m.switches;
       devices = m.devices;
@@ -71,6 +75,8 @@ impl Machine {
             a: 0,
             b: 0,
             unequal: false,
+            low: false,
+            high: false,
             overflow: false,
             switches: [false; 7],
             devices,
@@ -94,6 +100,8 @@ impl Machine {
             a: self.a,
             b: self.b,
             unequal: self.unequal,
+            low: self.low,
+            high: self.high,
             overflow: self.overflow,
             switches: self.switches,
             hopper: self.devices.hopper(),

@@ -11,6 +11,10 @@ pub struct Regs {
     pub b: u16,
     /// Whether the last compare found its fields unequal.
     pub unequal: bool,
+    /// Whether it found the B field low.
+    pub low: bool,
+    /// Whether it found the B field high.
+    pub high: bool,
     /// Whether a sum was too large since this was last tested.
     pub overflow: bool,
     /// The sense switches A to G.

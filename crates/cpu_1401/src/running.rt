@@ -50,6 +50,17 @@ fn carried_out(stop: Stop) -> u32
 {
     match stop {
         Stop::Halt => 1,
-        _ => 0,
+        Stop::Limit
+        | Stop::Reader
+        | Stop::Forms
+        | Stop::Stacker
+        | Stop::NoMark
+        | Stop::OpCode
+        | Stop::Length
+        | Stop::Address
+        | Stop::Overlap
+        | Stop::Carriage
+        | Stop::NotFitted
+        | Stop::DChar => 0,
     }
 }

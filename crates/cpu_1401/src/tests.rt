@@ -326,3 +326,142 @@ fn a_machine_may_be_handed_to_another_thread(rt: HostRuntime) -> Result<(), Fail
     assert!(rt; is_shared(&machine));
     Ok(())
 }
+
+#[test]
+fn each_stop_writes_its_name(rt: HostRuntime) -> Result<(), Fail> {
+    for (stop, name) in [
+        (Stop::Limit, "LIMIT"),
+        (Stop::Halt, "HALT"),
+        (Stop::Reader, "READER"),
+        (Stop::Forms, "FORMS"),
+        (Stop::Stacker, "STACKER"),
+        (Stop::NoMark, "NOMARK"),
+        (Stop::OpCode, "OPCODE"),
+        (Stop::Length, "LENGTH"),
+        (Stop::Address, "ADDRESS"),
+        (Stop::Overlap, "OVERLAP"),
+        (Stop::Carriage, "CARRIAGE"),
+        (Stop::NotFitted, "NOTFITTED"),
+        (Stop::DChar, "DCHAR"),
+    ] {
+        let written = format!(in rt.alloc(); "{stop}")?;
+        assert_eq!(rt; written.as_str(), name);
+    }
+    Ok(())
+}
+
+#[test]
+fn b_holds_the_place_behind_the_area_used_last(rt: HostRuntime) -> Result<(), Fail> {
+    for (operation, b) in [
+        (b"~1~.".as_slice(), 81),
+        (b"~2~.", 333),
+        (b"~3~.", 81),
+        (b"~4~.", 181),
+        (b"~5~.", 181),
+        (b"~6~.", 181),
+        (b"~7~.", 181),
+    ] {
+        let mut machine = Machine::power_on(rt.alloc(), 1_400)?;
+        assert!(rt; machine.feed(card(&rt, b"X")).is_ok());
+        put(&rt, &mut machine, 600, operation);
+        assert!(rt; machine.core().in_core(600));
+        machine.set_i(600);
+        assert_eq!(rt; machine.step(), None, "{b}");
+        let regs = machine.regs();
+        assert_eq!(rt; (regs.i, regs.a, regs.b), (601, 0, b));
+    }
+    Ok(())
+}
+
+#[test]
+fn each_sense_switch_has_its_d_character(rt: HostRuntime) -> Result<(), Fail> {
+    for on in 1..7u8 {
+        for (tested, branch) in [
+            (1, b"~B700B~.".as_slice()),
+            (2, b"~B700C~."),
+            (3, b"~B700D~."),
+            (4, b"~B700E~."),
+            (5, b"~B700F~."),
+            (6, b"~B700G~."),
+        ] {
+            let mut machine = Machine::power_on(rt.alloc(), 1_400)?;
+            machine.switch(on, true);
+            put(&rt, &mut machine, 600, branch);
+            assert!(rt; machine.core().in_core(600));
+            machine.set_i(600);
+            assert_eq!(rt; machine.step(), None);
+            assert_eq!(rt;
+                machine.regs().i == 700,
+                tested == on,
+                "{tested} with {on} on"
+            );
+        }
+    }
+    Ok(())
+}
+
+#[test]
+fn the_channels_are_met_at_their_lines_alone(rt: HostRuntime) -> Result<(), Fail> {
+    let mut machine = Machine::power_on(rt.alloc(), 1_400)?;
+    put(&rt, &mut machine, 600, b"~B7009~B700@~FJ~.");
+    for line in 1..67u8 {
+        assert_eq!(rt; machine.regs().line, line);
+        for (at, of_channel) in [(600, 60), (605, 63)] {
+            assert!(rt; machine.core().in_core(at));
+            machine.set_i(at);
+            assert_eq!(rt; machine.step(), None);
+            assert_eq!(rt;
+                machine.regs().i == 700,
+                line == of_channel,
+                "{at} at line {line}"
+            );
+        }
+        assert!(rt; machine.core().in_core(610));
+        machine.set_i(610);
+        assert_eq!(rt; machine.step(), None);
+    }
+    Ok(())
+}
+
+/// The unequal, low and high indicators.
+fn indicators(machine: &Machine) -> (bool, bool, bool) {
+    let regs = machine.regs();
+    (regs.unequal, regs.low, regs.high)
+}
+
+#[test]
+fn a_branch_looks_at_what_the_compare_found(rt: HostRuntime) -> Result<(), Fail> {
+    for (a, b, found, taken) in [
+        (
+            b"~13".as_slice(),
+            b"~12".as_slice(),
+            (true, true, false),
+            b"/T".as_slice(),
+        ),
+        (b"~19", b"~21", (true, false, true), b"/U"),
+        (b"~12", b"~12", (false, false, false), b"S"),
+    ] {
+        for d in *b"/STU" {
+            let mut machine = Machine::power_on(rt.alloc(), 1_400)?;
+            put(&rt, &mut machine, 700, a);
+            put(&rt, &mut machine, 710, b);
+            put(&rt, &mut machine, 600, b"~C701711~B800X~.");
+            let d_char = Char::from_graphic(d).expect(&rt, "a graphic");
+            assert!(rt; machine.core().in_core(611));
+            machine.put(
+                611,
+                Cell {
+                    char: d_char,
+                    mark: false,
+                },
+            );
+            machine.set_i(600);
+            assert_eq!(rt; machine.step(), None);
+            assert_eq!(rt; machine.step(), None);
+            assert_eq!(rt; indicators(&machine), found);
+            let name = char::from(d);
+            assert_eq!(rt; machine.regs().i == 800, taken.contains(&d), "{name}");
+        }
+    }
+    Ok(())
+}

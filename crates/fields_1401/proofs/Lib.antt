@@ -2,6 +2,8 @@ mod AcrossLemmas
 mod ArithmeticExamples
 mod ArithmeticLemmas
 mod ColumnLemmas
+mod CompareExamples
+pub mod CompareLemmas
 mod EditExamples
 mod EditLemmas
 mod ExampleCells

@@ -15,7 +15,7 @@ below_by at by = (at + addresses - by) % addresses
 
 -- the registers afterwards, and no indicator
 abbrev pub registers_of : ℕ → ℕ → Done
-registers_of a b = record { a = a; b = b; overflow = false; unequal = false }
+registers_of a b = record { a = a; b = b; overflow = false; unequal = false; low = false; high = false }
 
 -- A call that found the core old, left it new and gave this result has carried out the operation that has this outcome;
 -- or the operation can't be carried out, and the core is as it was. Both registers hold addresses, and the core keeps

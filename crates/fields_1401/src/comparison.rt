@@ -1,7 +1,12 @@
 //! Fields compared.
-ghost use Rattle.std.specs.Prelude.{◌≡◌, ◌<◌, IfOk};
+ghost use Rattle.std.specs.Prelude.{ℕ, ◌≡◌, ◌≢◌, ◌+◌, ◌-◌, ◌<◌, ◌≤◌, IfOk, IfSome, Some, length};
+ghost use Rattle.std.specs.Cmp.Lexicographic.{slice_cmp};
+ghost use Rattle.std.specs.Ordering.{nat_cmp};
 ghost use Rattle.core_1401.specs.Address.{addresses};
-ghost use Rattle.fields_1401.specs.Compare.{comparison_at};
+ghost use Rattle.core_1401.specs.Field.{field_len_of};
+ghost use Rattle.core_1401.specs.Storage.{cell_at};
+ghost use Rattle.fields_1401.specs.Compare.{comparison_at, ends_first, highest_difference, is_higher, order_at};
+ghost use Rattle.fields_1401.specs.Compare.{orders_across, IsOneOfThree, Tells};
 
 use crate::done::{Done, FieldStop};
 use crate::lengths::pair_len;
@@ -9,7 +14,9 @@ use crate::registers::{below, registers};
 use core_1401::Core;
 
 /// Compares the fields at both addresses, up to and including the first word mark in either: they are unequal where two
-/// characters differ, or where the A field ends before the B field (A24-1403, "Compare").
+/// characters differ, or where the A field ends before the B field (A24-1403, "Compare"). An unequal B field is high
+/// where the A field ends before it, or where the highest place at which they differ has the higher character in B; else
+/// it is low (A24-1403, "High-Low-Equal Compare Device").
 ///
 /// # Errors
 ///
@@ -20,13 +27,75 @@ pub fn compare(core: &Core, a: u16, b: u16) -> Result<Done, FieldStop>
     requires b { b < addresses }
     ensures value { result ≡ comparison_at core.now a b }
     ensures registers { IfOk result (λ done. (done.a < addresses) × (done.b < addresses)) }
+    ensures one { IfOk result (λ done. IsOneOfThree done) }
+
+    // Fields of one length compare as words of one length do in a dictionary, by the collating order.
+    ensures dictionary { (n : ℕ) → field_len_of core.now a ≡ Some n → field_len_of core.now b ≡ Some n →
+        IfOk result (λ done.
+        Tells done (slice_cmp nat_cmp (orders_across core.now a n) (orders_across core.now b n))) }
 {
     let Some(n) = pair_len(core, a, b) else {
         return Err(FieldStop::Address);
     };
-    let ends_first = core.get(a + 1 - n).mark && !core.get(b + 1 - n).mark;
+    let ends_first = ends_first(core, a, b, n);
+    let difference = highest_difference(core, a, b, n);
+    let unequal = difference.is_some() | ends_first;
+    let high = ends_first | is_higher(core, a, b, difference);
     Ok(Done {
-        unequal: core.chars_differ(a, b, n) || ends_first,
+        unequal,
+        low: unequal & !high,
+        high,
         ..registers(below(a, n), below(b, n))
     })
+}
+
+/// Whether the A field ends before the B field: of n pairs the last has a word mark in A, and none in B.
+#[inline(always)]
+fn ends_first(core: &Core, a: u16, b: u16, n: u16) -> bool
+    requires some { 0 < n }
+    requires address { (a < addresses) × (b < addresses) }
+    requires a { (n ≤ a + 1) × (a < length core.now) }
+    requires b { (n ≤ b + 1) × (b < length core.now) }
+    ensures { result ≡ ends_first core.now a b n }
+{
+    core.get(a + 1 - n).mark && !core.get(b + 1 - n).mark
+}
+
+/// The highest of n pairs whose characters differ, counted from the units.
+#[inline(always)]
+fn highest_difference(core: &Core, a: u16, b: u16, n: u16) -> Option<u16>
+    requires some { 0 < n }
+    requires a { (n ≤ a + 1) × (a < length core.now) }
+    requires b { (n ≤ b + 1) × (b < length core.now) }
+    ensures value { result ≡ highest_difference core.now a b n }
+    ensures pair { IfSome result (λ i. i < n) }
+    ensures differ { IfSome result (λ i. (cell_at core.now (a - i)).char ≢ (cell_at core.now (b - i)).char) }
+{
+    if !core.chars_differ(a, b, n) {
+        return None;
+    }
+    for behind in 0..n {
+        let i = n - 1 - behind;
+        if core.get(a - i).char != core.get(b - i).char {
+            return Some(i);
+        }
+    }
+    None
+}
+
+/// Whether the character of B is higher than that of A in the pair that decides, if there is one.
+#[inline(always)]
+fn is_higher(core: &Core, a: u16, b: u16, pair: Option<u16>) -> bool
+    requires a { IfSome pair (λ i. (i ≤ a) × (a < length core.now)) }
+    requires b { IfSome pair (λ i. (i ≤ b) × (b < length core.now)) }
+    requires differ { IfSome pair (λ i. (cell_at core.now (a - i)).char ≢ (cell_at core.now (b - i)).char) }
+    ensures value { result ≡ is_higher core.now a b pair }
+
+    // Characters that differ have different places in the collating order.
+    ensures apart { IfSome pair (λ i. order_at core.now (a - i) ≢ order_at core.now (b - i)) }
+{
+    match pair {
+        Some(i) => core.get(a - i).char.order() < core.get(b - i).char.order(),
+        None => false,
+    }
 }

@@ -11,6 +11,10 @@ pub struct Done {
     pub overflow: bool,
     /// Whether the fields compared differ; false where the operation compares nothing.
     pub unequal: bool,
+    /// Whether the B field is lower than the A field; false where the operation compares nothing.
+    pub low: bool,
+    /// Whether the B field is higher than the A field; false where the operation compares nothing.
+    pub high: bool,
 }
 
 /// Why an operation on fields can't be carried out, in the order of the refusals. The core is as it was.

@@ -29,5 +29,7 @@ pub(crate) fn registers(a: u16, b: u16) -> Done
         b,
         overflow: false,
         unequal: false,
+        low: false,
+        high: false,
     }
 }

@@ -5,29 +5,43 @@ use crate::{Done, FieldStop, compare};
 use core_1401::Core;
 use std::test::Fail;
 
+/// The unequal, low and high indicators of each result.
+const EQUAL: (bool, bool, bool) = (false, false, false);
+
+const LOW: (bool, bool, bool) = (true, true, false);
+
+const HIGH: (bool, bool, bool) = (true, false, true);
+
 #[test]
 fn fields_are_compared(rt: HostRuntime) -> Result<(), Fail> {
-    for (a, b, unequal) in [
-        ("~12", "~012", true),
-        ("~12", "0~12", false),
-        ("~12", "~12", false),
-        ("~12", "~13", true),
-        ("~22", "~12", true),
-        ("~912", "~12", false),
-        ("~A", "~1", true),
-        ("~?", "~0", true),
-        ("~ ", "~-", true),
-        ("~ ", "~ ", false),
-        ("~12", "9~2", false),
+    for (a, b, expected) in [
+        ("~12", "~012", HIGH),
+        ("~99", "~012", HIGH),
+        ("~12", "0~12", EQUAL),
+        ("~12", "~12", EQUAL),
+        ("~12", "~13", HIGH),
+        ("~19", "~21", HIGH),
+        ("~21", "~19", LOW),
+        ("~22", "~12", LOW),
+        ("~912", "~12", EQUAL),
+        ("~912", "~13", HIGH),
+        ("~A", "~1", HIGH),
+        ("~Z", "~0", HIGH),
+        ("~A", "~!", HIGH),
+        ("~!", "~J", HIGH),
+        ("~?", "~0", HIGH),
+        ("~ ", "~-", HIGH),
+        ("~-", "~&", LOW),
+        ("~ ", "~ ", EQUAL),
+        ("~12", "9~2", EQUAL),
+        ("~SMITH", "~SMYTH", HIGH),
+        ("~JONES", "~JANET", LOW),
     ] {
         let mut core = Core::power_on(rt.alloc(), 1_400)?;
         let a_units = deposit(&mut core, 100, a);
         let b_units = deposit(&mut core, 200, b);
-        assert_eq!(rt;
-            compare(&core, a_units, b_units)?.unequal,
-            unequal,
-            "{a} {b}"
-        );
+        let done = compare(&core, a_units, b_units)?;
+        assert_eq!(rt; (done.unequal, done.low, done.high), expected, "{a} {b}");
     }
     Ok(())
 }
@@ -42,6 +56,8 @@ fn compare_steps_below_the_shorter_field(rt: HostRuntime) -> Result<(), Fail> {
         b: 710,
         overflow: false,
         unequal: true,
+        low: false,
+        high: true,
     };
     assert_eq!(rt; compare(&core, 701, 712), Ok(expected));
     assert_eq!(rt; compare(&core, 701, 4_000), Err(FieldStop::Address));

@@ -21,6 +21,8 @@ fn done(a: u16, b: u16) -> Result<Done, FieldStop> {
         b,
         overflow: false,
         unequal: false,
+        low: false,
+        high: false,
     })
 }
 

@@ -1,5 +1,5 @@
 -- The table has the column of each character at its code.
-use Rattle.std.proofs.Common.{◌≡◌, ◌<◌, ◌∙◌, get_or, refl, arith}
+use Rattle.std.proofs.Common.{◌∙◌, refl, arith}
 use Rattle.bcd_1401.specs.CardCode.{column_of}
 use Rattle.bcd_1401.proofs.CardCodeLemmas.{column_read, column_of-small, one_character}
 use Rattle.bcd_1401.proofs.character.Char.punch.Goals as goal
