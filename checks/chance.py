@@ -28,12 +28,12 @@ def numbered(names, digits=1):
 
 REPLY = re.compile(
     rf"OK|BYE|(?:~?{ONE}){{1,40}}|AFTER \d{{1,6}} ~?{ONE}|GLANCE FAULT 1 RANGE"
-    r"|I=\d{5} A=\d{5} B=\d{5} UNEQUAL=[01] OVERFLOW=[01] SWITCHES=[A-G-]{7}"
+    r"|I=\d{5} A=\d{5} B=\d{5} UNEQUAL=[01] LOW=[01] HIGH=[01] OVERFLOW=[01] SWITCHES=[A-G-]{7}"
     r" HOPPER=\d{3} STACKER=\d{3} PAPER=\d{3} FORM=\d{4} LINE=\d\d"
     rf"|STOP (?:{numbered(STOPS, 2)}) STEPS \d{{1,7}} I \d{{5}}|LINE \d{{4}} \d\d (?:{ONE}{{0,132}})|CARD {ONE}{{0,80}}"
     rf"|REFUSED (?:{numbered(REFUSED)})|ERROR (?:{numbered(ERRORS)})|FAULT 2 JOURNAL FULL"
 )
-IMAGE = re.compile(rf"IMAGE1 \d{{4}}\n(?:\d{{4}} \d\d (?:~?{ONE}){{1,40}}\n)*END \d{{4}}\n")
+IMAGE = re.compile(rf"IMAGE2 \d{{5}}\n(?:\d{{5}} \d\d (?:~?{ONE}){{1,40}}\n)*END \d{{5}}\n")
 WORDS = [
     b"DEPOSIT", b"EXAMINE", b"REGS", b"START", b"SWITCH", b"FEED", b"LOAD", b"RUN", b"LINE", b"CARD", b"GLANCE", b"QUIT ",
     b"ON", b"OFF", b"A", b"G", b"0", b"1", b"40", b"41", b"500", b"3999", b"4000", b"15999", b"16000", b"1000", b"9999999",
@@ -89,7 +89,7 @@ def unlike(replies):
 def session(chance):
     """A session with lines of chance."""
     lines = lines_of_chance(chance)
-    ran = run([PROGRAM, "console", "--size", chance.choice(["1400", "2000", "4000"])], lines)
+    ran = run([PROGRAM, "console", "--size", chance.choice(["1400", "2000", "4000", "8000", "12000", "16000"])], lines)
     if (ran.returncode, ran.stderr) != (0, b"") or ran.stdout.count(b"\n") != answered(lines):
         return f"{lines!r}: status {ran.returncode}, {ran.stderr!r}, {ran.stdout!r}"
     return f"{lines!r}: {unlike(ran.stdout)}" if unlike(ran.stdout) else ""
