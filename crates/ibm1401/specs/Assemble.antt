@@ -7,8 +7,8 @@ use Rattle.autocoder_1401.specs.Fault.{IsMemory}
 use Rattle.autocoder_1401.specs.declared.assembly.Assembly.{Assembly}
 use Rattle.console_1401.specs.Sink.{AppendsPart}
 use Rattle.image_1401.specs.ImageText.{IsTextOf, written_text}
-use Rattle.ibm1401.specs.declared.args.Product.{Product}
-use Rattle.ibm1401.specs.declared.args.Product.TheVariants as product
+use Rattle.arguments_1401.specs.declared.call.Product.{Product}
+use Rattle.arguments_1401.specs.declared.call.Product.TheVariants as product
 use Rattle.ibm1401.specs.declared.fault.Fault.{Fault}
 use Rattle.ibm1401.specs.declared.fault.Fault.TheVariants as fault
 

@@ -4,8 +4,8 @@ ghost use Rattle.core_1401.specs.Storage.{is_core_size};
 ghost use Rattle.image_1401.specs.Image.{IsInCore};
 ghost use Rattle.ibm1401.specs.Assemble.{listing_text, IsProduct, Wrote, AssembleDid};
 
-use crate::args::Product;
 use crate::fault::Fault;
+use arguments_1401::Product;
 use autocoder_1401::{Assembly, ListingLine, assemble};
 use console_1401::{Sink, put_all};
 use core_1401::Core;

@@ -1,7 +1,6 @@
 //! The IBM 1401 at a terminal: reads the command line, and runs what it asks for.
 #![tactic(auto)]
 
-mod args;
 mod assembling;
 mod fault;
 mod loading;
@@ -10,12 +9,12 @@ mod subcommands;
 #[cfg(test)]
 mod tests;
 
-use crate::args::{Call, read_call};
 use crate::assembling::{check_size, write_assembly};
 use crate::fault::{Fault, report};
 use crate::loading::{load, read_file};
 use crate::serving::open_room;
 use crate::subcommands::{console, tell};
+use arguments_1401::{Call, read_call};
 use console_1401::{FromReader, ToWriter};
 use std::net::{Net, TcpListener, TcpStream};
 use std::process::ExitCode;

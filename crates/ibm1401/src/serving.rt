@@ -3,6 +3,7 @@ ghost use Rattle.std.specs.Prelude.{◌≡◌};
 ghost use Rattle.ibm1401.specs.Status.{service_outcome, start_fault};
 
 use crate::fault::Fault;
+use arguments_1401::Service;
 use console_1401::{OpenDoor, ServeFault, serve};
 use room_1401::{Naming, Opened, SharedRoom, StartFault};
 use std::alloc::Global;
@@ -10,17 +11,6 @@ use std::marker::Brand;
 use std::net::{Ipv4Addr, Net, TcpListener, TcpStream};
 use std::sync::Wait;
 use std::thread::Threads;
-
-/// How many places the machine has, how many operators share it, and the port at which they come.
-#[derive(Clone, Copy, Debug, PartialEq, Eq)]
-pub struct Service {
-    /// How many places core storage has.
-    pub size: u16,
-    /// How many seats there are, from 1 to 8.
-    pub seats: u8,
-    /// The port on 127.0.0.1.
-    pub port: u16,
-}
 
 /// What a room that couldn't be opened means for the program. The command line asks for no other seats than 1 to 8, so
 /// that there are places for their readers, or there are none.

@@ -1,8 +1,8 @@
 //! Sources that are assembled, from the command line to what is written.
 
-use crate::args::{Call, Product, read_call};
 use crate::assembling::{check_size, write_assembly};
 use crate::fault::Fault;
+use arguments_1401::{Call, Product, read_call};
 use autocoder_1401::{AsmFault, AsmKind, assemble};
 use console_1401::{FromReader, SessionEnd, ToWriter, put_image, session};
 use core_1401::Core;

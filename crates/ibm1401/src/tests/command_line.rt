@@ -1,6 +1,6 @@
 //! The command line, and what it is refused for.
 
-use crate::args::{Call, read_call};
+use arguments_1401::{Call, read_call};
 use clap::error::ErrorKind;
 use core_1401::SIZES;
 use std::test::Fail;

@@ -1,9 +1,9 @@
 //! What a run may fail by, its one line, and the status that it ends with.
 
-use crate::args::read_call;
 use crate::fault::{Fault, ended, report};
 use crate::subcommands::tell;
 use crate::tests::recorder::{Full, Recorder};
+use arguments_1401::read_call;
 use clap::Error;
 use console_1401::SessionEnd;
 use std::alloc::Global;

@@ -1,8 +1,8 @@
 //! Images that are loaded, and what a session then finds.
 
-use crate::args::{Call, read_call};
 use crate::fault::Fault;
 use crate::loading::load;
+use arguments_1401::{Call, read_call};
 use console_1401::{FromReader, SessionEnd, ToWriter, put_image, session};
 use image_1401::{ImageFault, read_image};
 use room_1401::{Room, RoomFault};

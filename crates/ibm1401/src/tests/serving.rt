@@ -1,8 +1,8 @@
 //! The call that serves a room.
 
-use crate::args::{Call, read_call};
 use crate::fault::Fault;
-use crate::serving::{Service, open_room};
+use crate::serving::open_room;
+use arguments_1401::{Call, Service, read_call};
 use clap::error::ErrorKind;
 use std::net::{Ipv4Addr, TcpListener};
 use std::test::Fail;

@@ -1,6 +1,6 @@
-//! The command line.
+//! The words of the command line, read by `clap`.
 
-use crate::serving::Service;
+use crate::call::{Call, Product, Service};
 use clap::{Arg, ArgAction, ArgMatches, Command, Error, value_parser};
 use std::alloc::{AllocError, Global};
 use std::convert::AsStr;
@@ -23,41 +23,6 @@ Lines, each with one reply:
   CARD            takes the oldest punched card
   GLANCE A        shows the cell at address A, and after how many commands; it isn't recorded
   QUIT            ends the session, of which nothing is kept";
-
-/// What `assemble` writes.
-#[derive(Clone, Copy, Debug, PartialEq, Eq)]
-pub enum Product {
-    /// The text of the core image.
-    Image,
-    /// The listing.
-    Listing,
-}
-
-/// What the command line asks for.
-#[derive(Debug, Drop, PartialEq, Eq)]
-pub enum Call {
-    /// A session of standard input and output.
-    Console {
-        /// How many places core storage has.
-        size: u16,
-    },
-    /// The image of a source, or its listing, on standard output.
-    Assemble {
-        /// The name of the source's file.
-        file: String,
-        /// How many places core storage has.
-        size: u16,
-        /// Which of the two is written.
-        product: Product,
-    },
-    /// A session on a room that has an image loaded.
-    Load {
-        /// The name of the image's file.
-        file: String,
-    },
-    /// A room that operators share.
-    Serve(Service),
-}
 
 /// The size of core storage, as an option.
 fn size_arg<'a>(alloc: Global) -> Arg<'a> {

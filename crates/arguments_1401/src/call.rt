@@ -1,0 +1,47 @@
+//! What the command line asks for, as plain data.
+
+/// What `assemble` writes.
+#[derive(Clone, Copy, Debug, PartialEq, Eq)]
+pub enum Product {
+    /// The text of the core image.
+    Image,
+    /// The listing.
+    Listing,
+}
+
+/// How many places the machine has, how many operators share it, and the port at which they come.
+#[derive(Clone, Copy, Debug, PartialEq, Eq)]
+pub struct Service {
+    /// How many places core storage has.
+    pub size: u16,
+    /// How many seats there are, from 1 to 8.
+    pub seats: u8,
+    /// The port on 127.0.0.1.
+    pub port: u16,
+}
+
+/// What the command line asks for.
+#[derive(Debug, Drop, PartialEq, Eq)]
+pub enum Call {
+    /// A session of standard input and output.
+    Console {
+        /// How many places core storage has.
+        size: u16,
+    },
+    /// The image of a source, or its listing, on standard output.
+    Assemble {
+        /// The name of the source's file.
+        file: String,
+        /// How many places core storage has.
+        size: u16,
+        /// Which of the two is written.
+        product: Product,
+    },
+    /// A session on a room that has an image loaded.
+    Load {
+        /// The name of the image's file.
+        file: String,
+    },
+    /// A room that operators share.
+    Serve(Service),
+}
