@@ -1,5 +1,5 @@
--- Commands of two operators on a small machine of three places, carried out in turn, computed. The codes: 49 and 50 are A
--- and B.
+-- Commands of two operators on a small machine of three places, carried out in turn, computed. The codes: 49 and 50 are
+-- A and B.
 use Rattle.std.proofs.Common.{◌≡◌, ℕ, true, List, [], ◌∷◌, refl}
 use Rattle.bcd_1401.specs.Graphic.{graphics}
 use Rattle.bcd_1401.specs.declared.cell.Cell.{Cell}

@@ -22,5 +22,7 @@ loop-cell-preserved c =
     ≡ flat_map cell_text (take i cells) ++ cell_text cell = search (flat_map-append, append-nil) in
     record {
       text = grind (arith, common_steps);
-      again = rw (more, one_more) (cells_again _ _ (take i cells) cell c.loop-cell.invariant.again c.in_ok-put_cell.ensures.again);
+      again =
+          rw (more, one_more)
+          (cells_again _ _ (take i cells) cell c.loop-cell.invariant.again c.in_ok-put_cell.ensures.again);
     }
