@@ -38,6 +38,8 @@ power_on = record {
   a = 0;
   b = 0;
   unequal = false;
+  low = false;
+  high = false;
   overflow = false;
   switches = false ∷ false ∷ false ∷ false ∷ false ∷ false ∷ false ∷ [];
   hopper = 0;
@@ -63,16 +65,16 @@ blanks_at_the_end_stay = refl
 
 registers_have_their_widths : AllRead ((
   answer.Regs power_on,
-  codes "I=00000 A=00000 B=00000 UNEQUAL=0 OVERFLOW=0 SWITCHES=-------"
+  codes "I=00000 A=00000 B=00000 UNEQUAL=0 LOW=0 HIGH=0 OVERFLOW=0 SWITCHES=-------"
       ++ codes " HOPPER=000 STACKER=000 PAPER=000 FORM=0001 LINE=01",
 ) ∷ (
   answer.Regs
-      (record power_on { i = 41; a = 56; b = 15999; unequal = true; hopper = 3; paper = 500; form = 8; line = 40 }),
-  codes "I=00041 A=00056 B=15999 UNEQUAL=1 OVERFLOW=0 SWITCHES=-------"
+      (record power_on { i = 41; a = 56; b = 15999; unequal = true; low = true; hopper = 3; paper = 500; form = 8; line = 40 }),
+  codes "I=00041 A=00056 B=15999 UNEQUAL=1 LOW=1 HIGH=0 OVERFLOW=0 SWITCHES=-------"
       ++ codes " HOPPER=003 STACKER=000 PAPER=500 FORM=0008 LINE=40",
 ) ∷ (
-  answer.Regs (record power_on { overflow = true; stacker = 12; form = 9999; line = 66 }),
-  codes "I=00000 A=00000 B=00000 UNEQUAL=0 OVERFLOW=1 SWITCHES=-------"
+  answer.Regs (record power_on { high = true; overflow = true; stacker = 12; form = 9999; line = 66 }),
+  codes "I=00000 A=00000 B=00000 UNEQUAL=0 LOW=0 HIGH=1 OVERFLOW=1 SWITCHES=-------"
       ++ codes " HOPPER=000 STACKER=012 PAPER=000 FORM=9999 LINE=66",
 ) ∷ [])
 unfolding text
@@ -80,11 +82,11 @@ registers_have_their_widths = refl
 
 a_switch_that_is_on_shows_its_letter : AllRead ((
   answer.Regs (record power_on { switches = true ∷ false ∷ true ∷ false ∷ false ∷ false ∷ true ∷ [] }),
-  codes "I=00000 A=00000 B=00000 UNEQUAL=0 OVERFLOW=0 SWITCHES=A-C---G"
+  codes "I=00000 A=00000 B=00000 UNEQUAL=0 LOW=0 HIGH=0 OVERFLOW=0 SWITCHES=A-C---G"
       ++ codes " HOPPER=000 STACKER=000 PAPER=000 FORM=0001 LINE=01",
 ) ∷ (
   answer.Regs (record power_on { switches = true ∷ true ∷ true ∷ true ∷ true ∷ true ∷ true ∷ [] }),
-  codes "I=00000 A=00000 B=00000 UNEQUAL=0 OVERFLOW=0 SWITCHES=ABCDEFG"
+  codes "I=00000 A=00000 B=00000 UNEQUAL=0 LOW=0 HIGH=0 OVERFLOW=0 SWITCHES=ABCDEFG"
       ++ codes " HOPPER=000 STACKER=000 PAPER=000 FORM=0001 LINE=01",
 ) ∷ [])
 unfolding text
@@ -92,7 +94,7 @@ a_switch_that_is_on_shows_its_letter = refl
 
 a_number_that_needs_more_digits_has_them : AllRead ((
   answer.Regs (record power_on { i = 65535; hopper = 1000; form = 65535; line = 255 }),
-  codes "I=65535 A=00000 B=00000 UNEQUAL=0 OVERFLOW=0 SWITCHES=-------"
+  codes "I=65535 A=00000 B=00000 UNEQUAL=0 LOW=0 HIGH=0 OVERFLOW=0 SWITCHES=-------"
       ++ codes " HOPPER=1000 STACKER=000 PAPER=000 FORM=65535 LINE=255",
 ) ∷ [])
 unfolding text

@@ -38,7 +38,8 @@ switches_text switches = map (λ (switch : Bool × ℕ). switch_text switch.0 sw
 unfoldable pub regs_text : Regs → List ℕ
 regs_text regs =
     codes "I=" ++ digits_in 5 regs.i ++ codes " A=" ++ digits_in 5 regs.a ++ codes " B=" ++ digits_in 5 regs.b
-    ++ codes " UNEQUAL=" ++ indicator_text regs.unequal ++ codes " OVERFLOW=" ++ indicator_text regs.overflow
+    ++ codes " UNEQUAL=" ++ indicator_text regs.unequal ++ codes " LOW=" ++ indicator_text regs.low
+    ++ codes " HIGH=" ++ indicator_text regs.high ++ codes " OVERFLOW=" ++ indicator_text regs.overflow
     ++ codes " SWITCHES=" ++ switches_text regs.switches
     ++ codes " HOPPER=" ++ digits_in 3 regs.hopper ++ codes " STACKER=" ++ digits_in 3 regs.stacker
     ++ codes " PAPER=" ++ digits_in 3 regs.paper ++ codes " FORM=" ++ digits_in 4 regs.form

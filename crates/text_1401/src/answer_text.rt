@@ -60,6 +60,8 @@ fn regs_reply(alloc: Global, regs: &Regs) -> Result<Vec<u8>, AllocError>
     put_number(&mut text, b" A=", 5, u32::from(regs.a))?;
     put_number(&mut text, b" B=", 5, u32::from(regs.b))?;
     put_indicator(&mut text, b" UNEQUAL=", regs.unequal)?;
+    put_indicator(&mut text, b" LOW=", regs.low)?;
+    put_indicator(&mut text, b" HIGH=", regs.high)?;
     put_indicator(&mut text, b" OVERFLOW=", regs.overflow)?;
     put_switches(&mut text, b" SWITCHES=", regs.switches)?;
     put_number(&mut text, b" HOPPER=", 3, u32::from(regs.hopper))?;

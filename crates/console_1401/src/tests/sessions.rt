@@ -41,7 +41,7 @@ fn each_line_has_its_reply(rt: HostRuntime) -> Result<(), Fail> {
             "SWITCH C ON\nSWITCH G ON\nSWITCH C OFF\nREGS\nSWITCH H ON\n",
             SessionEnd::EndOfInput,
             "OK\nOK\nOK\n\
-             I=00000 A=00000 B=00000 UNEQUAL=0 OVERFLOW=0 SWITCHES=------G \
+             I=00000 A=00000 B=00000 UNEQUAL=0 LOW=0 HIGH=0 OVERFLOW=0 SWITCHES=------G \
              HOPPER=000 STACKER=000 PAPER=000 FORM=0001 LINE=01\nERROR 1 WORD\n",
             4,
         ),

@@ -43,7 +43,7 @@ fn a_longer_a_field_is_used_as_far_as_b_reaches(rt: HostRuntime) {
         rt.alloc(),
         "DEPOSIT 0698 ~123\nDEPOSIT 0709 ~45\nDEPOSIT 0600 ~A700710~.\nSTART 0600\nRUN 1\nEXAMINE 0709 2\nREGS\n",
         "OK\nOK\nOK\nOK\nSTOP 01 LIMIT STEPS 1 I 00607\n~68\n\
-         I=00607 A=00698 B=00708 UNEQUAL=0 OVERFLOW=0 SWITCHES=------- \
+         I=00607 A=00698 B=00708 UNEQUAL=0 LOW=0 HIGH=0 OVERFLOW=0 SWITCHES=------- \
          HOPPER=000 STACKER=000 PAPER=000 FORM=0001 LINE=01\n",
         7,
     );
@@ -79,7 +79,7 @@ fn zeros_on_the_left_are_suppressed(rt: HostRuntime) {
         rt.alloc(),
         "DEPOSIT 0700 ~0012P\nDEPOSIT 0600 ~Z704724~.\nSTART 0600\nRUN 1\nEXAMINE 0720 5\nREGS\n",
         "OK\nOK\nOK\nSTOP 01 LIMIT STEPS 1 I 00607\n  127\n\
-         I=00607 A=00699 B=00725 UNEQUAL=0 OVERFLOW=0 SWITCHES=------- \
+         I=00607 A=00699 B=00725 UNEQUAL=0 LOW=0 HIGH=0 OVERFLOW=0 SWITCHES=------- \
          HOPPER=000 STACKER=000 PAPER=000 FORM=0001 LINE=01\n",
         6,
     );

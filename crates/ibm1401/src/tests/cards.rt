@@ -10,7 +10,7 @@ fn a_card_that_sets_word_marks_loads_itself(rt: HostRuntime) {
         rt.alloc(),
         "FEED ,008015,022026,030034,041,045,053,0570571026\nLOAD\nRUN 100\nREGS\n",
         "OK\nOK\nSTOP 03 READER STEPS 7 I 00041\n\
-         I=00041 A=00056 B=00056 UNEQUAL=0 OVERFLOW=0 SWITCHES=------- \
+         I=00041 A=00056 B=00056 UNEQUAL=0 LOW=0 HIGH=0 OVERFLOW=0 SWITCHES=------- \
          HOPPER=000 STACKER=000 PAPER=000 FORM=0001 LINE=01\n",
         4,
     );
@@ -26,7 +26,7 @@ fn the_paper_is_full_with_five_hundred_lines(rt: HostRuntime) {
         "OK\nOK\nOK\nSTOP 04 FORMS STEPS 500 I 00600\n\
          OK\nSTOP 04 FORMS STEPS 0 I 00604\nLINE 0001 01 HELLO\nSTOP 03 READER STEPS 0 I 00604\n\
          OK\nSTOP 01 LIMIT STEPS 1 I 00605\nX\n\
-         I=00605 A=00600 B=00081 UNEQUAL=0 OVERFLOW=0 SWITCHES=------- \
+         I=00605 A=00600 B=00081 UNEQUAL=0 LOW=0 HIGH=0 OVERFLOW=0 SWITCHES=------- \
          HOPPER=000 STACKER=000 PAPER=500 FORM=0008 LINE=40\n",
         12,
     );
@@ -40,7 +40,7 @@ fn a_pending_control_is_done_after_the_print_and_an_immediate_one_at_once(rt: Ho
         "DEPOSIT 0201 HI\nDEPOSIT 0600 ~F1~FI~2~2~F2~.\nSTART 0600\nRUN 9\nLINE\nLINE\nREGS\n\
          DEPOSIT 0607 Q\nRUN 9\n",
         "OK\nOK\nOK\nSTOP 11 CARRIAGE STEPS 4 I 00606\nLINE 0001 04 HI\nLINE 0001 60 HI\n\
-         I=00606 A=00000 B=00333 UNEQUAL=0 OVERFLOW=0 SWITCHES=------- \
+         I=00606 A=00000 B=00333 UNEQUAL=0 LOW=0 HIGH=0 OVERFLOW=0 SWITCHES=------- \
          HOPPER=000 STACKER=000 PAPER=000 FORM=0001 LINE=61\n\
          OK\nSTOP 13 DCHAR STEPS 0 I 00606\n",
         9,
@@ -58,7 +58,7 @@ fn five_hundred_cards_fill_the_hopper(rt: HostRuntime) -> Result<(), Fail> {
     lines.push_str("FEED A\nREGS\n")?;
     replies.push_str(
         "REFUSED 2 HOPPER\n\
-         I=00000 A=00000 B=00000 UNEQUAL=0 OVERFLOW=0 SWITCHES=------- \
+         I=00000 A=00000 B=00000 UNEQUAL=0 LOW=0 HIGH=0 OVERFLOW=0 SWITCHES=------- \
          HOPPER=500 STACKER=000 PAPER=000 FORM=0001 LINE=01\n",
     )?;
     expect_replies(&rt, rt.alloc(), lines.as_str(), replies.as_str(), 502);

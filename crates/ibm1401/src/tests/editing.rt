@@ -11,7 +11,7 @@ fn an_amount_is_edited_by_its_control_word(rt: HostRuntime) {
          EXAMINE 0720 13\n\
          REGS\n",
         "OK\nOK\nOK\nOK\nSTOP 01 LIMIT STEPS 1 I 00607\n  2,574.26   \n\
-         I=00607 A=00699 B=00719 UNEQUAL=0 OVERFLOW=0 SWITCHES=------- \
+         I=00607 A=00699 B=00719 UNEQUAL=0 LOW=0 HIGH=0 OVERFLOW=0 SWITCHES=------- \
          HOPPER=000 STACKER=000 PAPER=000 FORM=0001 LINE=01\n",
         7,
     );

@@ -24,7 +24,7 @@ fn a_refused_command_changes_nothing(rt: HostRuntime) {
         rt.alloc(),
         "DEPOSIT 3999 KL\nEXAMINE 3999\nSTART 4000\nEXAMINE 0 0\nREGS\nQUIT",
         "REFUSED 1 ADDRESS\n \nREFUSED 1 ADDRESS\nREFUSED 6 COUNT\n\
-         I=00000 A=00000 B=00000 UNEQUAL=0 OVERFLOW=0 SWITCHES=------- \
+         I=00000 A=00000 B=00000 UNEQUAL=0 LOW=0 HIGH=0 OVERFLOW=0 SWITCHES=------- \
          HOPPER=000 STACKER=000 PAPER=000 FORM=0001 LINE=01\n\
          BYE\n",
         SessionEnd::Quit,

@@ -11,7 +11,7 @@ fn storage_is_cleared_down_to_its_hundred(rt: HostRuntime) {
         "DEPOSIT 0798 ~XY~Z\nDEPOSIT 0699 K\nDEPOSIT 0500 ~/799~.\nSTART 0500\nRUN 1\nEXAMINE 0798 3\n\
          EXAMINE 0699\nREGS\n",
         "OK\nOK\nOK\nOK\nSTOP 01 LIMIT STEPS 1 I 00504\n  ~Z\nK\n\
-         I=00504 A=00799 B=00699 UNEQUAL=0 OVERFLOW=0 SWITCHES=------- \
+         I=00504 A=00799 B=00699 UNEQUAL=0 LOW=0 HIGH=0 OVERFLOW=0 SWITCHES=------- \
          HOPPER=000 STACKER=000 PAPER=000 FORM=0001 LINE=01\n",
         8,
     );
@@ -24,7 +24,7 @@ fn clearing_with_two_addresses_branches(rt: HostRuntime) {
         rt.alloc(),
         "DEPOSIT 0500 ~AB\nDEPOSIT 0600 ~/700501~.\nSTART 0600\nRUN 1\nEXAMINE 0500 2\nREGS\nRUN 1\n",
         "OK\nOK\nOK\nSTOP 01 LIMIT STEPS 1 I 00700\n  \n\
-         I=00700 A=00700 B=00607 UNEQUAL=0 OVERFLOW=0 SWITCHES=------- \
+         I=00700 A=00700 B=00607 UNEQUAL=0 LOW=0 HIGH=0 OVERFLOW=0 SWITCHES=------- \
          HOPPER=000 STACKER=000 PAPER=000 FORM=0001 LINE=01\n\
          STOP 06 NOMARK STEPS 0 I 00700\n",
         7,
@@ -38,7 +38,7 @@ fn clearing_below_the_first_hundred_steps_round(rt: HostRuntime) {
         rt.alloc(),
         "DEPOSIT 0000 ~AB\nDEPOSIT 0600 ~/001~/~.\nSTART 0600\nRUN 2\nEXAMINE 0000 3\nREGS\n",
         "OK\nOK\nOK\nSTOP 09 ADDRESS STEPS 1 I 00604\n   \n\
-         I=00604 A=00001 B=15999 UNEQUAL=0 OVERFLOW=0 SWITCHES=------- \
+         I=00604 A=00001 B=15999 UNEQUAL=0 LOW=0 HIGH=0 OVERFLOW=0 SWITCHES=------- \
          HOPPER=000 STACKER=000 PAPER=000 FORM=0001 LINE=01\n",
         6,
     );
@@ -63,7 +63,7 @@ fn an_index_register_is_added_round_the_last_address(rt: HostRuntime) {
         rt.alloc(),
         "DEPOSIT 0087 003\nDEPOSIT 0002 Q\nDEPOSIT 0600 ~,IZI~.\nSTART 0600\nRUN 1\nEXAMINE 2\nREGS\n",
         "OK\nOK\nOK\nOK\nSTOP 01 LIMIT STEPS 1 I 00604\n~Q\n\
-         I=00604 A=00001 B=00001 UNEQUAL=0 OVERFLOW=0 SWITCHES=------- \
+         I=00604 A=00001 B=00001 UNEQUAL=0 LOW=0 HIGH=0 OVERFLOW=0 SWITCHES=------- \
          HOPPER=000 STACKER=000 PAPER=000 FORM=0001 LINE=01\n",
         7,
     );
@@ -88,7 +88,7 @@ fn an_instruction_ends_with_core(rt: HostRuntime) {
         rt.alloc(),
         "DEPOSIT 3996 ~,500\nSTART 3996\nRUN 2\nREGS\nDEPOSIT 3999 ~.\nSTART 3999\nRUN 5\n",
         "OK\nOK\nSTOP 06 NOMARK STEPS 1 I 04000\n\
-         I=04000 A=00499 B=00499 UNEQUAL=0 OVERFLOW=0 SWITCHES=------- \
+         I=04000 A=00499 B=00499 UNEQUAL=0 LOW=0 HIGH=0 OVERFLOW=0 SWITCHES=------- \
          HOPPER=000 STACKER=000 PAPER=000 FORM=0001 LINE=01\n\
          OK\nOK\nSTOP 02 HALT STEPS 1 I 04000\n",
         7,
@@ -102,7 +102,7 @@ fn a_register_steps_round_the_first_address(rt: HostRuntime) {
         rt.alloc(),
         "DEPOSIT 0000 ~AB\nDEPOSIT 0502 ~   \nDEPOSIT 0600 ~M002505~,~.\nSTART 0600\nRUN 2\nREGS\nEXAMINE 0502 4\n",
         "OK\nOK\nOK\nOK\nSTOP 09 ADDRESS STEPS 1 I 00607\n\
-         I=00607 A=15999 B=00502 UNEQUAL=0 OVERFLOW=0 SWITCHES=------- \
+         I=00607 A=15999 B=00502 UNEQUAL=0 LOW=0 HIGH=0 OVERFLOW=0 SWITCHES=------- \
          HOPPER=000 STACKER=000 PAPER=000 FORM=0001 LINE=01\n\
          ~ AB \n",
         7,

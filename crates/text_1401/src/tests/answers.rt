@@ -13,6 +13,8 @@ const POWER_ON: Regs = Regs {
     a: 0,
     b: 0,
     unequal: false,
+    low: false,
+    high: false,
     overflow: false,
     switches: [false; 7],
     hopper: 0,
@@ -30,6 +32,7 @@ fn an_answer_has_its_text(rt: HostRuntime) {
         a: 56,
         b: 15_999,
         unequal: true,
+        high: true,
         switches: [true, false, false, false, false, false, true],
         paper: 500,
         form: 8,
@@ -41,12 +44,12 @@ fn an_answer_has_its_text(rt: HostRuntime) {
         (Answer::Cells(cells), "~0K"),
         (
             Answer::Regs(POWER_ON),
-            "I=00000 A=00000 B=00000 UNEQUAL=0 OVERFLOW=0 SWITCHES=------- \
+            "I=00000 A=00000 B=00000 UNEQUAL=0 LOW=0 HIGH=0 OVERFLOW=0 SWITCHES=------- \
              HOPPER=000 STACKER=000 PAPER=000 FORM=0001 LINE=01",
         ),
         (
             Answer::Regs(after_a_run),
-            "I=00041 A=00056 B=15999 UNEQUAL=1 OVERFLOW=0 SWITCHES=A-----G \
+            "I=00041 A=00056 B=15999 UNEQUAL=1 LOW=0 HIGH=1 OVERFLOW=0 SWITCHES=A-----G \
              HOPPER=000 STACKER=000 PAPER=500 FORM=0008 LINE=40",
         ),
         (
