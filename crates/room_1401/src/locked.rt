@@ -144,13 +144,15 @@ impl<J: Naming, R: Wait + Drop> LockedRoom<J, R> {
     pub(crate) fn note(&self, seat: &mut Seat<J>) -> Result<Told<J>, RoomFault>
         ensures same { (seat.new.number ≡ seat.old.number) × (seat.new.made ≡ seat.old.made) }
         ensures grows { IsPrefix seat.old.list seat.new.list }
+        ensures all { OnOk result (seat.new.list ≡ pairs_of self.now.journal) }
         ensures told { IfOk result (λ told. told ≡ seat.new.list) }
         ensures err { OnErr result (result ≡ Err RoomFault.NoReading) }
     {
-        if !self.brief(seat) {
-            return Err(RoomFault::NoReading);
+        if self.brief(seat) {
+            Ok(Told::new(self.front.again()))
+        } else {
+            Err(RoomFault::NoReading)
         }
-        Ok(Told::new(self.front.again()))
     }
 
     /// How many seats the room has.

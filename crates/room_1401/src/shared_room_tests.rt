@@ -106,6 +106,12 @@ fn two_operators<J: Naming, R: Wait + Abort>(
         )
     );
     assert_eq!(rt; (one.made(), two.made()), (2, 1));
+
+    // Seat 2 tells of the last command too, which is seat 1's.
+    let note = room.tell(rt, &mut two)?;
+    assert_eq!(rt; two.len(), 3);
+    one.learn(note);
+    assert_eq!(rt; one.len(), 3);
     if !closes {
         assert_eq!(rt; room.abandon().journal().len(), 3);
         return Ok(());
