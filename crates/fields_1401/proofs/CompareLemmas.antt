@@ -60,6 +60,32 @@ pub no_pairs : (s : Storage) (a b : ℕ) → highest_difference s a b 0 ≡ None
 unfolding highest_difference
 no_pairs s a b = refl
 
+last_agrees : (some more : Bool) → (some || (more || false)) ≡ false → (some ≡ false) × (more ≡ false)
+last_agrees true true e = absurd cc
+last_agrees true false e = absurd cc
+last_agrees false true e = absurd cc
+last_agrees false false e = (refl, refl)
+
+-- pairs that agree are passed, k of them above the lowest ones
+pub passed_pairs : (s : Storage) (a b low k : ℕ)
+    → list_any (is_unequal_pair s (a - low) (b - low)) (range_with_len 0 k) ≡ false
+    → highest_difference s a b (low + k) ≡ highest_difference s a b low
+passed_pairs s a b low zero agree = ap (highest_difference s a b) (omega arith)
+passed_pairs s a b low (suc k) agree =
+    let test : ℕ → Bool = is_unequal_pair s (a - low) (b - low) in
+    let split : (list_any test (range_with_len 0 k) || (test k || false)) ≡ false =
+    sym (list_any-append test (range_with_len 0 k) (k ∷ [])) ∙ sym (ap (list_any test) (range_push k))
+    ∙ ap (λ m. list_any test (range_with_len 0 m)) (add-one k) ∙ agree in
+    let both = last_agrees (list_any test (range_with_len 0 k)) (test k) split in
+    let of_a : a - (low + k) ≡ a - low - k = omega arith in
+    let of_b : b - (low + k) ≡ b - low - k = omega arith in
+    let same : is_unequal_pair s a b (low + k) ≡ test k =
+    ap (λ x. not ((cell_at s x).char == (cell_at s (b - (low + k))).char)) of_a
+    ∙ ap (λ y. not ((cell_at s (a - low - k)).char == (cell_at s y).char)) of_b in
+    ap (highest_difference s a b) (omega arith) ∙ one_pair_more s a b (low + k)
+    ∙ ap (λ (d : Bool). if d then Some (low + k) else highest_difference s a b (low + k)) (same ∙ both.1)
+    ∙ passed_pairs s a b low k both.0
+
 either : (some more : Bool) (n : ℕ) (highest : Option ℕ) → some ≡ is_some highest
     → (some || (more || false)) ≡ is_some (if more then Some n else highest)
 either true true n highest e = refl

@@ -13,6 +13,9 @@ use crate::lengths::pair_len;
 use crate::registers::{below, registers};
 use core_1401::Core;
 
+/// How many pairs are compared at once.
+const BLOCK: u16 = 8;
+
 /// Compares the fields at both addresses, up to and including the first word mark in either: they are unequal where two
 /// characters differ, or where the A field ends before the B field (A24-1403, "Compare"). An unequal B field is high
 /// where the A field ends before it, or where the highest place at which they differ has the higher character in B; else
@@ -74,13 +77,29 @@ fn highest_difference(core: &Core, a: u16, b: u16, n: u16) -> Option<u16>
     if !core.chars_differ(a, b, n) {
         return None;
     }
-    for behind in 0..n {
-        let i = n - 1 - behind;
+    let left = left_to_compare(core, a, b, n);
+    for behind in 0..left {
+        let i = left - 1 - behind;
         if core.get(a - i).char != core.get(b - i).char {
             return Some(i);
         }
     }
     None
+}
+
+/// How many of n pairs are left below the highest blocks of eight that agree.
+#[inline(always)]
+fn left_to_compare(core: &Core, a: u16, b: u16, n: u16) -> u16
+    requires a { (n ≤ a + 1) × (a < length core.now) }
+    requires b { (n ≤ b + 1) × (b < length core.now) }
+    ensures most { result ≤ n }
+    ensures kept { highest_difference core.now a b result ≡ highest_difference core.now a b n }
+{
+    let mut left = n;
+    while left >= BLOCK && !core.chars_differ(a - (left - BLOCK), b - (left - BLOCK), BLOCK) {
+        left -= BLOCK;
+    }
+    left
 }
 
 /// Whether the character of B is higher than that of A in the pair that decides, if there is one.

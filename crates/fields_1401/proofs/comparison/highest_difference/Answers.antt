@@ -12,26 +12,26 @@ returns-then-not-chars_differ-clause-value c =
 
 pub returns-then-ne-clause-value : goal.returns-then-ne-clause-value
 returns-then-ne-clause-value c =
-    let x = (cell_at c.args.core.now (c.args.a - (c.args.n - 1 - c.loop-behind.behind))).char in
-    let y = (cell_at c.args.core.now (c.args.b - (c.args.n - 1 - c.loop-behind.behind))).char in
+    let x = (cell_at c.args.core.now (c.args.a - (c.left_to_compare-left.result - 1 - c.loop-behind.behind))).char in
+    let y = (cell_at c.args.core.now (c.args.b - (c.left_to_compare-left.result - 1 - c.loop-behind.behind))).char in
     let differs : not (x == y) ≡ true =
     sym (ap (λ (p : Cell). not (p.char == y)) c.get.ensures)
     ∙ sym (ap (λ (p : Cell). not (c.get.result.char == p.char)) c.get-in-loop-behind.ensures) ∙ sym c.ne.ensures
     ∙ c.if-ne.true in
-    found_pair c.args.core.now c.args.a c.args.b c.args.n (c.args.n - c.loop-behind.behind)
-    (c.args.n - 1 - c.loop-behind.behind) c.loop-behind.invariant (omega arith) differs
+    found_pair c.args.core.now c.args.a c.args.b c.args.n (c.left_to_compare-left.result - c.loop-behind.behind)
+    (c.left_to_compare-left.result - 1 - c.loop-behind.behind) c.loop-behind.invariant (omega arith) differs
 
 pub loop-behind-preserved : goal.loop-behind-preserved
 loop-behind-preserved c =
-    let x = (cell_at c.args.core.now (c.args.a - (c.args.n - 1 - c.loop-behind.behind))).char in
-    let y = (cell_at c.args.core.now (c.args.b - (c.args.n - 1 - c.loop-behind.behind))).char in
+    let x = (cell_at c.args.core.now (c.args.a - (c.left_to_compare-left.result - 1 - c.loop-behind.behind))).char in
+    let y = (cell_at c.args.core.now (c.args.b - (c.left_to_compare-left.result - 1 - c.loop-behind.behind))).char in
     let differs : not (x == y) ≡ false =
     sym (ap (λ (p : Cell). not (p.char == y)) c.get.ensures)
     ∙ sym (ap (λ (p : Cell). not (c.get.result.char == p.char)) c.get-in-loop-behind.ensures) ∙ sym c.ne.ensures
     ∙ c.if-ne.false in
     ap (highest_difference c.args.core.now c.args.a c.args.b) (omega arith)
-    ∙ passed_pair c.args.core.now c.args.a c.args.b c.args.n (c.args.n - c.loop-behind.behind)
-    (c.args.n - 1 - c.loop-behind.behind) c.loop-behind.invariant (omega arith) differs
+    ∙ passed_pair c.args.core.now c.args.a c.args.b c.args.n (c.left_to_compare-left.result - c.loop-behind.behind)
+    (c.left_to_compare-left.result - 1 - c.loop-behind.behind) c.loop-behind.invariant (omega arith) differs
 
 pub returns-clause-value : goal.returns-clause-value
 returns-clause-value c =
