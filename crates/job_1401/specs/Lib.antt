@@ -1,0 +1,4 @@
+pub mod DeckText
+pub mod Frame
+pub mod Paper
+pub mod Unattended

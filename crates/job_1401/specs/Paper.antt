@@ -1,0 +1,58 @@
+-- The paper as a text (own): each line at its place of the form, and a form feed for each new form.
+use Rattle.std.specs.Prelude.{ℕ, ◌+◌, ◌-◌, ◌%◌, ◌==◌, ◌&&◌, nat_lt, if◌then◌else◌, List, [], ◌∷◌, ◌++◌, length, map, take}
+use Rattle.std.specs.Prelude.{replicate, slice_index}
+use Rattle.std.specs.List.{suffix_len}
+use Rattle.bcd_1401.specs.Graphic.{graphics}
+use Rattle.devices_1401.specs.Carriage.{forms}
+use Rattle.devices_1401.specs.declared.print_line.PrintLine.{PrintLine}
+use Rattle.job_1401.specs.declared.paper.Place.{Place}
+
+abbrev pub blank_code : ℕ
+blank_code = 0
+
+abbrev pub line_feed : ℕ
+line_feed = 10
+
+abbrev pub form_feed : ℕ
+form_feed = 12
+
+-- characters without the blanks at their end
+unfoldable pub trimmed : List ℕ → List ℕ
+trimmed chars = take (length chars - suffix_len (λ char. char == blank_code) chars) chars
+
+-- characters by their graphics
+unfoldable pub graphics_of : List ℕ → List ℕ
+graphics_of chars = map (λ char. slice_index graphics char) chars
+
+-- how many forms lie between a place and a line, by their numbers
+abbrev pub forms_on : Place → PrintLine → ℕ
+forms_on place line = (line.form + forms - place.form % forms) % forms
+
+-- how many new forms the paper comes to: a line above the place is one of a later form with the same number
+abbrev pub new_forms : Place → PrintLine → ℕ
+new_forms place line =
+    if (forms_on place line == 0) && nat_lt line.line place.line then forms else forms_on place line
+
+-- the line at which the text goes on, on the line's form
+abbrev pub begun_at : Place → PrintLine → ℕ
+begun_at place line = if new_forms place line == 0 then place.line else 1
+
+-- a line behind a text that goes on at a place: new forms, empty lines, and its characters
+unfoldable pub line_text : Place → PrintLine → List ℕ
+line_text place line =
+    replicate (new_forms place line) form_feed ++ replicate (line.line - begun_at place line) line_feed
+    ++ graphics_of (trimmed line.text) ++ line_feed ∷ []
+
+-- the place below a line
+abbrev pub place_after : PrintLine → Place
+place_after line = record { form = line.form; line = line.line + 1 }
+
+-- lines behind a text that goes on at a place
+abbrev pub paper_text : Place → List PrintLine → List ℕ
+paper_text place [] = []
+paper_text place (line ∷ lines) = line_text place line ++ paper_text (place_after line) lines
+
+-- where it goes on behind them
+abbrev pub place_behind : Place → List PrintLine → Place
+place_behind place [] = place
+place_behind place (line ∷ lines) = place_behind (place_after line) lines

@@ -1,0 +1,23 @@
+//! Where the cards of a deck come from.
+ghost use Rattle.std.specs.Prelude.{◌≡◌, ◌++◌, [], List, Ok, None, IfOk, IfErr, OnErr, option_to_list};
+ghost use Rattle.devices_1401.specs.declared.card.Card.{Card as ACard};
+
+use crate::fault::JobFault;
+use devices_1401::Card;
+
+/// Gives the cards of a deck, one after the other.
+pub trait Cards {
+    // The cards that it will give from here on.
+    ghost left: { Self → List ACard };
+
+    /// The next card, or none at the end.
+    ///
+    /// # Errors
+    ///
+    /// `Read` where a card can't be read.
+    fn next_card(&mut self) -> Result<Option<Card>, JobFault>
+        ensures card { IfOk result (λ card. left self.old ≡ option_to_list card ++ left self.new) }
+        ensures end { result ≡ Ok None → left self.new ≡ [] }
+        ensures err { OnErr result (left self.new ≡ left self.old) }
+        ensures fault { IfErr result (λ why. why ≡ JobFault.Read) };
+}

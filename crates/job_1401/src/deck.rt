@@ -1,0 +1,43 @@
+//! A deck in memory.
+ghost use Rattle.std.specs.Prelude.{◌≡◌, drop, length};
+
+use crate::cards::Cards;
+use crate::fault::JobFault;
+use devices_1401::Card;
+
+/// The cards of a list, first to last.
+#[derive(Drop)]
+pub struct Deck<'a> {
+    cards: &'a [Card],
+    next: usize,
+}
+
+impl<'a> Deck<'a> {
+    /// All these cards.
+    pub fn new(cards: &'a [Card]) -> Deck<'a>
+        ensures { ⟦<Deck<'a> as Cards>⟧.left result ≡ cards.now }
+    {
+        Deck { cards, next: 0 }
+    }
+
+    /// How many cards it will still give.
+    pub fn left(&self) -> usize
+        ensures { result ≡ length (⟦<Deck<'a> as Cards>⟧.left self.now) }
+    {
+        self.cards.len().saturating_sub(self.next)
+    }
+}
+
+impl<'a> Cards for Deck<'a> {
+    ghost left = { λ d. drop d.next d.cards.now };
+
+    fn next_card(&mut self) -> Result<Option<Card>, JobFault> {
+        if self.next < self.cards.len() {
+            let card = self.cards[self.next];
+            self.next += 1;
+            Ok(Some(card))
+        } else {
+            Ok(None)
+        }
+    }
+}

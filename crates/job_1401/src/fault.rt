@@ -1,0 +1,17 @@
+//! Why a job breaks off.
+
+use thiserror::Error;
+
+/// Why a job breaks off.
+#[derive(Clone, Copy, Debug, PartialEq, Eq, Error)]
+pub enum JobFault {
+    /// A card can't be read.
+    #[error("a card can't be read")]
+    Read,
+    /// A line or a card can't be written.
+    #[error("a line or a card can't be written")]
+    Write,
+    /// The memory for a line or a card was refused.
+    #[error("memory refused")]
+    Memory,
+}

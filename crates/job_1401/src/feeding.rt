@@ -1,0 +1,34 @@
+//! The hopper filled from a deck.
+ghost use Rattle.std.specs.Prelude.{◌≡◌, ◌≤◌, ◌⊎◌, [], IfErr, OnOk, length};
+ghost use Rattle.devices_1401.specs.Devices.{most_held};
+ghost use Rattle.job_1401.specs.Unattended.{with_deck};
+
+use crate::cards::Cards;
+use crate::fault::JobFault;
+use cpu_1401::Machine;
+
+/// How many cards the hopper holds.
+const MOST_HELD: u16 = 500;
+
+/// Feeds cards until the hopper is full or the deck is at its end.
+///
+/// # Errors
+///
+/// `Read` where a card can't be read. Those before are in the hopper.
+pub(crate) fn fill_hopper<R: Cards>(machine: &mut Machine, cards: &mut R) -> Result<(), JobFault>
+    ensures deck { with_deck (R.left cards.new) machine.new ≡ with_deck (R.left cards.old) machine.old }
+    ensures full { OnOk result ((most_held ≤ length machine.new.devices.hopper) ⊎ (R.left cards.new ≡ [])) }
+    ensures fault { IfErr result (λ why. why ≡ JobFault.Read) }
+    ensures stacker { machine.new.devices.stacker ≡ machine.old.devices.stacker }
+    ensures paper { machine.new.devices.paper ≡ machine.old.devices.paper }
+    ensures size { length machine.new.storage ≡ length machine.old.storage }
+{
+    for held in machine.regs().hopper..MOST_HELD {
+        let Some(card) = cards.next_card()? else {
+            return Ok(());
+        };
+        let fed = machine.feed(card);
+        prove!(fed.is_ok());
+    }
+    Ok(())
+}

@@ -1,0 +1,36 @@
+//! A deck run to its end on the IBM 1401: cards in, paper and punched cards out, and no operator.
+//!
+//! ```text
+//! let mut deck = Deck::new(cards.as_slice());
+//! let mut output = Collected::new(alloc);
+//! run_job(&mut machine, &mut deck, 1_000_000, &mut output)?   // the steps, and why it ended
+//! output.lines                            // all that was printed, however much
+//! ```
+//!
+//! Hopper, stacker and paper hold 500 each. A job feeds the hopper and takes what was printed and punched every 500
+//! steps, of which each reads, prints and punches one at most: so the machine meets neither an empty hopper while there
+//! are cards nor a full stacker.
+#![tactic(auto)]
+
+pub mod cards;
+pub mod collected;
+pub mod deck;
+pub mod deck_text;
+pub mod fault;
+mod feeding;
+pub mod job;
+pub mod output;
+pub mod paper;
+mod taking;
+
+pub use cards::Cards;
+pub use collected::Collected;
+pub use deck::Deck;
+pub use deck_text::{DeckFault, put_cards, read_deck};
+pub use fault::JobFault;
+pub use job::{JobEnd, run_job};
+pub use output::Output;
+pub use paper::{Place, put_paper};
+
+#[cfg(test)]
+mod tests;

@@ -1,0 +1,124 @@
+//! The paper as a text: each line at its place of the form, and a form feed for each new form.
+ghost use Rattle.std.specs.Prelude.{◌≡◌, ◌-◌, ◌≤◌, ◌==◌, ◌++◌, length, replicate, IfOk, OnOk};
+ghost use Rattle.std.specs.List.{suffix_len};
+ghost use Rattle.job_1401.specs.Paper.{blank_code, trimmed, graphics_of, line_text, new_forms, paper_text};
+ghost use Rattle.job_1401.specs.Paper.{place_after, place_behind};
+
+use bcd_1401::Char;
+use devices_1401::PrintLine;
+use std::alloc::AllocError;
+
+/// How many forms are counted before their count begins again.
+const FORMS: u32 = 10_000;
+
+/// Where a text of the paper goes on: the form, and the line of it that comes next.
+#[derive(Clone, Copy, Debug, PartialEq, Eq)]
+pub struct Place {
+    /// The form.
+    pub form: u16,
+    /// The line of the form, from 1 on.
+    pub line: u16,
+}
+
+impl Place {
+    /// The first line of form 1.
+    pub const FIRST: Place = Place { form: 1, line: 1 };
+}
+
+/// How many blanks characters end with.
+fn blanks_at_end(chars: &[Char]) -> usize
+    ensures value { result ≡ suffix_len (λ char. char == blank_code) chars.now }
+    ensures bound { result ≤ length chars.now }
+{
+    chars
+        .iter()
+        .rev()
+        .take_while(|char| **char == Char::BLANK)
+        .count()
+}
+
+/// Characters without the blanks at their end.
+#[tactic(auto, unfolding(crate::specs::Paper::trimmed))]
+fn trimmed(chars: &[Char]) -> &[Char]
+    ensures { result.now ≡ trimmed chars.now }
+{
+    &chars[..chars.len() - blanks_at_end(chars)]
+}
+
+/// Adds characters by their graphics.
+#[tactic(auto, unfolding(crate::specs::Paper::graphics_of))]
+fn put_graphics(text: &mut Vec<u8>, chars: &[Char]) -> Result<(), AllocError>
+    ensures { OnOk result (text.new.items ≡ text.old.items ++ graphics_of chars.now) }
+{
+    for char in chars {
+        text.push(char.graphic())?;
+    }
+    Ok(())
+}
+
+/// Adds characters by their graphics, without the blanks at their end.
+pub(crate) fn put_trimmed(text: &mut Vec<u8>, chars: &[Char]) -> Result<(), AllocError>
+    ensures { OnOk result (text.new.items ≡ text.old.items ++ graphics_of (trimmed chars.now)) }
+{
+    put_graphics(text, trimmed(chars))
+}
+
+/// Adds one byte a number of times.
+fn put_times(text: &mut Vec<u8>, count: u32, byte: u8) -> Result<(), AllocError>
+    ensures { OnOk result (text.new.items ≡ text.old.items ++ replicate count byte) }
+{
+    let mut done = 0;
+    while done < count {
+        text.push(byte)?;
+        done += 1;
+    }
+    Ok(())
+}
+
+/// How many forms the paper moves on from a place to a line: the carriage goes down alone, so a line above the place
+/// is one of 10,000 forms on.
+fn new_forms(place: Place, line: &PrintLine) -> u32
+    ensures { result ≡ new_forms place line.now }
+{
+    let on = (u32::from(line.form) + FORMS - u32::from(place.form) % FORMS) % FORMS;
+    if on == 0 && u16::from(line.line) < place.line {
+        FORMS
+    } else {
+        on
+    }
+}
+
+/// Adds a printed line behind a text that goes on at a place, and tells where it then goes on.
+#[tactic(auto, unfolding(crate::specs::Paper::line_text))]
+fn put_line(text: &mut Vec<u8>, place: Place, line: &PrintLine) -> Result<Place, AllocError>
+    ensures text { OnOk result (text.new.items ≡ text.old.items ++ line_text place line.now) }
+    ensures place { IfOk result (λ next. next ≡ place_after line.now) }
+{
+    let forms = new_forms(place, line);
+    let from = if forms == 0 { place.line } else { 1 };
+    let number = u16::from(line.line);
+    put_times(text, forms, b'\x0c')?;
+    put_times(text, u32::from(number.saturating_sub(from)), b'\n')?;
+    put_trimmed(text, &line.text)?;
+    text.push(b'\n')?;
+    Ok(Place {
+        form: line.form,
+        line: number + 1,
+    })
+}
+
+/// Adds printed lines behind a text that goes on at a place, and tells where it then goes on.
+///
+/// # Errors
+///
+/// Where there is no room for the text.
+pub fn put_paper(text: &mut Vec<u8>, place: Place, lines: &[PrintLine]) -> Result<Place, AllocError>
+    ensures text { OnOk result (text.new.items ≡ text.old.items ++ paper_text place lines.now) }
+    ensures place { IfOk result (λ next. next ≡ place_behind place lines.now) }
+{
+    let mut next = place;
+    for line in lines {
+        next = put_line(text, next, line)?;
+    }
+    Ok(next)
+}

@@ -1,0 +1,62 @@
+//! Paper and stacker emptied.
+ghost use Rattle.std.specs.Prelude.{◌≡◌, ◌≢◌, ◌++◌, [], IfErr, OnOk, OnErr};
+ghost use Rattle.cpu_1401.specs.CardsAndPrinter.{with_devices};
+ghost use Rattle.job_1401.specs.Unattended.{IsBeginning, emptied};
+
+use crate::fault::JobFault;
+use crate::output::Output;
+use cpu_1401::Machine;
+
+/// Takes all printed lines.
+///
+/// # Errors
+///
+/// `Write` or `Memory` where one isn't received. Those before are.
+fn take_lines<W: Output>(machine: &mut Machine, output: &mut W) -> Result<(), JobFault>
+    ensures lines { OnOk result (W.lines output.new ≡ W.lines output.old ++ machine.old.devices.paper) }
+    ensures part { OnErr result (IsBeginning (W.lines output.new) (W.lines output.old ++ machine.old.devices.paper)) }
+    ensures state { OnOk result (machine.new ≡ with_devices (record machine.old.devices { paper = [] }) machine.old) }
+    ensures fault { IfErr result (λ why. why ≢ JobFault.Read) }
+    ensures cards { W.cards output.new ≡ W.cards output.old }
+{
+    while let Some(line) = machine.take_line() {
+        output.put_line(&line)?;
+    }
+    Ok(())
+}
+
+/// Takes all punched cards.
+///
+/// # Errors
+///
+/// `Write` or `Memory` where one isn't received. Those before are.
+fn take_cards<W: Output>(machine: &mut Machine, output: &mut W) -> Result<(), JobFault>
+    ensures cards { OnOk result (W.cards output.new ≡ W.cards output.old ++ machine.old.devices.stacker) }
+    ensures part { OnErr result (IsBeginning (W.cards output.new) (W.cards output.old ++ machine.old.devices.stacker)) }
+    ensures state { OnOk result (machine.new ≡ with_devices (record machine.old.devices { stacker = [] }) machine.old) }
+    ensures fault { IfErr result (λ why. why ≢ JobFault.Read) }
+    ensures lines { W.lines output.new ≡ W.lines output.old }
+{
+    while let Some(card) = machine.take_card() {
+        output.put_card(&card)?;
+    }
+    Ok(())
+}
+
+/// Takes all that was printed and punched.
+///
+/// # Errors
+///
+/// `Write` or `Memory` where one isn't received. Those before are.
+pub(crate) fn take_all<W: Output>(machine: &mut Machine, output: &mut W) -> Result<(), JobFault>
+    ensures lines { OnOk result (W.lines output.new ≡ W.lines output.old ++ machine.old.devices.paper) }
+    ensures cards { OnOk result (W.cards output.new ≡ W.cards output.old ++ machine.old.devices.stacker) }
+    ensures state { OnOk result (machine.new ≡ emptied machine.old) }
+    ensures fault { IfErr result (λ why. why ≢ JobFault.Read) }
+    ensures part_lines { OnErr result (IsBeginning (W.lines output.new) (W.lines output.old ++ machine.old.devices.paper)) }
+    ensures part_cards { OnErr result
+        (IsBeginning (W.cards output.new) (W.cards output.old ++ machine.old.devices.stacker)) }
+{
+    take_lines(machine, output)?;
+    take_cards(machine, output)
+}
