@@ -4,7 +4,9 @@
 mod args;
 mod assembling;
 mod fault;
+mod job_report;
 mod loading;
+mod running;
 mod serving;
 mod subcommands;
 #[cfg(test)]
@@ -14,6 +16,7 @@ use crate::args::{Call, read_call};
 use crate::assembling::{check_size, write_assembly};
 use crate::fault::{Fault, report};
 use crate::loading::{load, read_file};
+use crate::running::run_file;
 use crate::serving::open_room;
 use crate::subcommands::{console, tell};
 use console_1401::{FromReader, ToWriter};
@@ -39,6 +42,7 @@ fn run<
         + Files
         + Input
         + Print
+        + Eprint
         + AllocGlobal
         + Threads
         + Wait
@@ -70,6 +74,7 @@ fn run<
             let mut writer = ToWriter::new(io::writer(rt));
             load(rt.alloc(), text.as_slice(), &mut reader, &mut writer)
         }
+        Ok(Call::Run(job)) => run_file(rt, job),
         Ok(Call::Serve(service)) => open_room(rt, service),
         Err(error) => tell(rt, error),
     }
