@@ -20,6 +20,25 @@ pub struct Service {
     pub port: u16,
 }
 
+/// A job: a program, its deck, and where paper and punched cards go.
+#[derive(Debug, Drop, PartialEq, Eq)]
+pub struct Job {
+    /// The name of the file of the source or the image.
+    pub file: String,
+    /// The name of the deck's file; without one there are no cards.
+    pub cards: Option<String>,
+    /// The name of the file of the punched cards; without one they are counted alone.
+    pub punch: Option<String>,
+    /// The name of the file of the paper; without one it is standard output.
+    pub paper: Option<String>,
+    /// How many places core storage has, where the file is a source.
+    pub size: u16,
+    /// How many instructions are carried out at the most.
+    pub limit: u32,
+    /// The sense switches A to G.
+    pub switches: [bool; 7],
+}
+
 /// What the command line asks for.
 #[derive(Debug, Drop, PartialEq, Eq)]
 pub enum Call {
@@ -42,6 +61,8 @@ pub enum Call {
         /// The name of the image's file.
         file: String,
     },
+    /// A program run to its end.
+    Run(Job),
     /// A room that operators share.
     Serve(Service),
 }

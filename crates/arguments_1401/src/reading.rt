@@ -1,12 +1,16 @@
 //! The words of the command line, read by `clap`.
 
-use crate::call::{Call, Product, Service};
+use crate::call::{Call, Job, Product, Service};
+use clap::error::ErrorKind;
 use clap::{Arg, ArgAction, ArgMatches, Command, Error, value_parser};
 use std::alloc::{AllocError, Global};
 use std::convert::AsStr;
 
 /// The size of core storage where none is named.
 const DEFAULT_SIZE: u16 = 4_000;
+
+/// How many instructions are carried out at the most where no number is named.
+const DEFAULT_LIMIT: u32 = 1_000_000_000;
 
 /// The lines of a session, for the help.
 const LINES: &str = "\
@@ -93,6 +97,45 @@ fn serve_command<'a>(alloc: Global) -> Result<Command<'a>, AllocError> {
         .arg(size_arg(alloc))
 }
 
+/// The subcommand `run`.
+fn run_command<'a>(alloc: Global) -> Result<Command<'a>, AllocError> {
+    let file = Arg::new(alloc, "file")
+        .value_name("FILE")
+        .help("The file of the source or the image; - is a name like any other")
+        .required(true);
+    let cards = Arg::new(alloc, "cards")
+        .long("cards")
+        .value_name("DECK")
+        .help("The file of the deck, a card a line");
+    let punch = Arg::new(alloc, "punch")
+        .long("punch")
+        .value_name("OUT")
+        .help("The file for the punched cards, which are else only counted");
+    let paper = Arg::new(alloc, "paper")
+        .long("paper")
+        .value_name("OUT")
+        .help("The file for the paper, in place of standard output");
+    let limit = Arg::new(alloc, "limit")
+        .long("limit")
+        .value_name("STEPS")
+        .help("How many instructions are carried out at most, up to 4294967295")
+        .default_value("1000000000")
+        .value_parser(value_parser!(u32));
+    let switches = Arg::new(alloc, "switches")
+        .long("switches")
+        .value_name("LETTERS")
+        .help("The sense switches that are on, as in BCG");
+    Command::new(alloc, "run")
+        .about("Runs a source or an image with a deck, from cards to paper")
+        .arg(cards)?
+        .arg(punch)?
+        .arg(paper)?
+        .arg(size_arg(alloc))?
+        .arg(limit)?
+        .arg(switches)?
+        .arg(file)
+}
+
 /// The size that the options of a subcommand name.
 fn size_in(matches: &ArgMatches<'_>) -> u16 {
     matches.get_one::<u16>("size").unwrap_or(DEFAULT_SIZE)
@@ -113,6 +156,48 @@ fn assemble_call(alloc: Global, matches: &ArgMatches<'_>, file: &str) -> Result<
     })
 }
 
+/// The value of an option, if it is there.
+fn name_in(
+    alloc: Global,
+    matches: &ArgMatches<'_>,
+    option: &str,
+) -> Result<Option<String>, AllocError> {
+    match matches.get_str(option) {
+        Some(name) => Ok(Some(String::from_str(alloc, name)?)),
+        None => Ok(None),
+    }
+}
+
+/// The switches that these letters name; none where a byte is no letter from A to G.
+fn switches_of(letters: &str) -> Option<[bool; 7]> {
+    let mut switches = [false; 7];
+    for letter in letters.as_bytes() {
+        match letter {
+            b'A'..=b'G' => switches[usize::from(*letter - b'A')] = true,
+            _ => return None,
+        }
+    }
+    Some(switches)
+}
+
+/// What the options of `run` ask for.
+fn run_call(alloc: Global, matches: &ArgMatches<'_>, file: &str) -> Result<Call, Error> {
+    let Some(switches) = switches_of(matches.get_str("switches").unwrap_or("")) else {
+        let text = "the switches are letters from A to G";
+        let refusal = run_command(alloc)?.error(ErrorKind::ValueValidation, text)?;
+        return Err(refusal);
+    };
+    Ok(Call::Run(Job {
+        file: String::from_str(alloc, file)?,
+        cards: name_in(alloc, matches, "cards")?,
+        punch: name_in(alloc, matches, "punch")?,
+        paper: name_in(alloc, matches, "paper")?,
+        size: size_in(matches),
+        limit: matches.get_one("limit").unwrap_or(DEFAULT_LIMIT),
+        switches,
+    }))
+}
+
 /// Reads the command line, the program's own name in front.
 ///
 /// # Errors
@@ -125,6 +210,7 @@ pub fn read_call(alloc: Global, words: &[impl AsStr]) -> Result<Call, Error> {
         .subcommand(console_command(alloc)?)?
         .subcommand(assemble_command(alloc)?)?
         .subcommand(load_command(alloc)?)?
+        .subcommand(run_command(alloc)?)?
         .subcommand(serve_command(alloc)?)?;
     let matches = program.try_get_matches_from(words)?;
     if let Some(assemble) = matches.subcommand_matches("assemble") {
@@ -138,6 +224,11 @@ pub fn read_call(alloc: Global, words: &[impl AsStr]) -> Result<Call, Error> {
     {
         let file = String::from_str(alloc, file)?;
         return Ok(Call::Load { file });
+    }
+    if let Some(run) = matches.subcommand_matches("run") {
+        if let Some(file) = run.get_str("file") {
+            return run_call(alloc, run, file);
+        }
     }
     if let Some(serve) = matches.subcommand_matches("serve") {
         if let (Some(port), Some(seats)) = (serve.get_one("port"), serve.get_one("seats")) {

@@ -1,4 +1,5 @@
 pub mod Assemble
 pub mod Console
 pub mod Load
+pub mod Run
 pub mod Status

@@ -2,10 +2,12 @@
 ghost use Rattle.std.specs.Prelude.{◌≡◌};
 ghost use Rattle.ibm1401.specs.Status.{outcome_of, run_status, status_of};
 
+use crate::job_report::JobReport;
 use autocoder_1401::AsmFault;
 use clap::Error as Refusal;
 use console_1401::SessionEnd;
 use image_1401::ImageFault;
+use job_1401::DeckFault;
 use thiserror::Error;
 
 /// The status of a command line that can't be read.
@@ -32,6 +34,15 @@ pub enum Fault {
     /// The file of this name can't be read, or is longer than any image.
     #[error("cannot read {0}")]
     Unread(String),
+    /// The file of this name can't be made or written.
+    #[error("cannot write {0}")]
+    Unwritten(String),
+    /// The file of this name is no deck.
+    #[error("{0}: {1}")]
+    Deck(String, DeckFault),
+    /// The machine stopped otherwise than by a halt.
+    #[error("{0}")]
+    Stopped(JobReport),
     /// The file has no source that can be assembled.
     #[error("{0}")]
     Source(AsmFault),
@@ -80,6 +91,7 @@ impl Fault {
             Fault::Output | Fault::Size | Fault::Memory => FAILED,
             Fault::Unread(_) | Fault::Image(_) | Fault::JournalFull => FAILED,
             Fault::Source(_) => FAILED,
+            Fault::Unwritten(_) | Fault::Deck(..) | Fault::Stopped(_) => FAILED,
             Fault::Read | Fault::Write | Fault::Bound | Fault::Reply => FAILED,
             Fault::NoReader | Fault::Port | Fault::Accept | Fault::Thread => FAILED,
         }

@@ -3,7 +3,9 @@
 
 mod assembling;
 mod fault;
+mod job_report;
 mod loading;
+mod running;
 mod serving;
 mod subcommands;
 #[cfg(test)]
@@ -12,6 +14,7 @@ mod tests;
 use crate::assembling::{check_size, write_assembly};
 use crate::fault::{Fault, report};
 use crate::loading::{load, read_file};
+use crate::running::run_file;
 use crate::serving::open_room;
 use crate::subcommands::{console, tell};
 use arguments_1401::{Call, read_call};
@@ -38,6 +41,7 @@ fn run<
         + Files
         + Input
         + Print
+        + Eprint
         + AllocGlobal
         + Threads
         + Wait
@@ -69,6 +73,7 @@ fn run<
             let mut writer = ToWriter::new(io::writer(rt));
             load(rt.alloc(), text.as_slice(), &mut reader, &mut writer)
         }
+        Ok(Call::Run(job)) => run_file(rt, job),
         Ok(Call::Serve(service)) => open_room(rt, service),
         Err(error) => tell(rt, error),
     }
