@@ -127,6 +127,23 @@ def texts(refusing):
     return number
 
 
+def jobs(refusing):
+    """A source that is run with its deck: what went out is a beginning of the paper."""
+    source = TOP / "examples/sales.source"
+    words = ["run", source, "--cards", source.with_suffix(".cards"), "--switches", "A"]
+    whole = run([PROGRAM, *words])
+    faults = [MEMORY, b"ibm1401: line 0: 1 MEMORY\n"]
+
+    def job(how):
+        ran = run([PROGRAM, *words], **how)
+        if ran.returncode == 1 and ran.stderr in faults:
+            return ran.stderr.decode().split(": ", 1)[1].strip(), "" if whole.stdout.startswith(ran.stdout) else f"{ran}"
+        is_whole = (ran.returncode, ran.stdout, ran.stderr) == (0, whole.stdout, whole.stderr)
+        return "without an effect", "" if is_whole else f"{ran}"
+
+    return refusing.each("run", job, ["memory refused", "line 0: 1 MEMORY"])
+
+
 def served_end(how):
     """How a room of two consoles ended, whose lines come in turn and in which one growth was refused."""
     service, told, consoles, gone = Service(2, **how), [], [], set()
@@ -180,6 +197,6 @@ def growth():
         return
     with tempfile.TemporaryDirectory() as folder:
         refusing = Refusing(Path(folder))
-        number = sessions(refusing) + texts(refusing)
+        number = sessions(refusing) + texts(refusing) + jobs(refusing)
         number += refusing.each("serve", served_end, ["before READY", "at the journal", "at a reply"])
     tell(f"{number} runs with a growth refused", "" if number > 300 else "these are few")

@@ -286,7 +286,7 @@ pub fn run_file<R: Files + Print + Eprint + AllocGlobal>(rt: &R, job: Job) -> Re
 }
 
 /// Tells on standard error how a program ended that halted; any other stop is a fault, which tells it.
-fn tell_report(rt: &impl Eprint, report: JobReport) -> Result<(), Fault>
+pub fn tell_report(rt: &impl Eprint, report: JobReport) -> Result<(), Fault>
     ensures { result ≡ job_outcome report }
 {
     let outcome = job_outcome(report);

@@ -13,6 +13,7 @@ mod moves;
 mod programs;
 mod recorder;
 mod refusals;
+mod running;
 mod serving;
 mod storage;
 mod wiring;

@@ -1,0 +1,113 @@
+//! Programs that are run with a deck, and what is told of them.
+
+use crate::fault::{Fault, report};
+use crate::job_report::JobReport;
+use crate::running::{job_outcome, tell_report};
+use crate::tests::recorder::Recorder;
+use arguments_1401::{Call, Job, read_call};
+use cpu_1401::Stop;
+use job_1401::DeckFault;
+use std::test::Fail;
+
+/// How a job ended whose counts are one to four.
+fn report_of(stop: Stop, i: u16) -> JobReport {
+    JobReport {
+        stop,
+        i,
+        steps: 1,
+        read: 2,
+        printed: 3,
+        punched: 4,
+    }
+}
+
+#[test]
+fn each_end_of_a_job_is_one_line(rt: HostRuntime) -> Result<(), Fail> {
+    for (stop, i, status, line) in [
+        (Stop::Halt, 7, 0, "HALT at 0007"),
+        (Stop::Reader, 418, 1, "READER at 0418"),
+        (Stop::Limit, 15_999, 1, "LIMIT at 15999"),
+    ] {
+        let told = Recorder::new(rt.alloc());
+        let outcome = tell_report(&told, report_of(stop, i));
+        assert_eq!(rt; report(&told, outcome), status, "{line}");
+        let counts = "2 cards read, 3 lines printed, 4 cards punched";
+        let wanted = format!(in rt.alloc(); "ibm1401: {line} after 1 steps; {counts}\n")?;
+        let text = told.text(rt.alloc())?;
+        assert_eq!(rt; text.as_str(), wanted.as_str());
+    }
+    assert!(rt; job_outcome(report_of(Stop::Halt, 0)).is_ok());
+    Ok(())
+}
+
+#[test]
+fn the_faults_of_files_name_them(rt: HostRuntime) -> Result<(), Fail> {
+    let (line, column) = (7, 12);
+    for (fault, text) in [
+        (
+            DeckFault::Graphic { line, column },
+            "ibm1401: a deck: line 7, column 12: no card has this character\n",
+        ),
+        (
+            DeckFault::Length { line },
+            "ibm1401: a deck: line 7, column 81: a card has 80 columns\n",
+        ),
+    ] {
+        let told = Recorder::new(rt.alloc());
+        let name = String::from_str(rt.alloc(), "a deck")?;
+        assert_eq!(rt; report(&told, Err(Fault::Deck(name, fault))), 1);
+        let found = told.text(rt.alloc())?;
+        assert_eq!(rt; found.as_str(), text);
+    }
+    let told = Recorder::new(rt.alloc());
+    let name = String::from_str(rt.alloc(), "out")?;
+    assert_eq!(rt; report(&told, Err(Fault::Unwritten(name))), 1);
+    let found = told.text(rt.alloc())?;
+    assert_eq!(rt; found.as_str(), "ibm1401: cannot write out\n");
+    Ok(())
+}
+
+#[test]
+fn a_run_is_named_with_its_files(rt: HostRuntime) -> Result<(), Fail> {
+    let words = ["ibm1401", "run", "a source"];
+    let job = Job {
+        file: String::from_str(rt.alloc(), "a source")?,
+        cards: None,
+        punch: None,
+        paper: None,
+        size: 4_000,
+        limit: 1_000_000_000,
+        switches: [false; 7],
+    };
+    let call = read_call(rt.alloc(), &words)?;
+    assert_eq!(rt; call, Call::Run(job));
+    let words = [
+        "ibm1401",
+        "run",
+        "--cards",
+        "a deck",
+        "a source",
+        "--punch",
+        "cards",
+        "--paper",
+        "lines",
+        "--size",
+        "1400",
+        "--limit",
+        "7",
+        "--switches",
+        "GA",
+    ];
+    let job = Job {
+        file: String::from_str(rt.alloc(), "a source")?,
+        cards: Some(String::from_str(rt.alloc(), "a deck")?),
+        punch: Some(String::from_str(rt.alloc(), "cards")?),
+        paper: Some(String::from_str(rt.alloc(), "lines")?),
+        size: 1_400,
+        limit: 7,
+        switches: [true, false, false, false, false, false, true],
+    };
+    let call = read_call(rt.alloc(), &words)?;
+    assert_eq!(rt; call, Call::Run(job));
+    Ok(())
+}
