@@ -16,6 +16,7 @@ LIST_AND_PUNCH = """\
                BLC  DONE
                B    NEXT
      DONE      H    *-3
+               NOP
                END  START
 """
 
@@ -127,7 +128,7 @@ def places(folder):
     source = folder / "source"
     source.write_text("""\
                ORG  400
-               CC   1
+     START     CC   1
                CC   I
                MLC  ONE,201
                W
@@ -140,7 +141,7 @@ def places(folder):
      DONE      H    *-3
      ONE       DCW  @1@
      TWO       DCW  @2@
-               END  0
+               END  START
 """)
     paper = "\n" * 3 + "1\n" + "\n" * 55 + "2\n" + "\f" + "\n" * 62 + "2\n2\n"
     expect("lines at their places", run([PROGRAM, "run", source]), 0, paper, told("HALT", 426, 11, 0, 4))

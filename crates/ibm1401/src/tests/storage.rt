@@ -116,19 +116,19 @@ fn the_last_place_is_15999(rt: HostRuntime) {
         (
             4_000,
             "OK\nOK\nSTOP 09 ADDRESS STEPS 0 I 00600\nREFUSED 1 ADDRESS\n\
-             I=00600 A=00000 B=00000 UNEQUAL=0 OVERFLOW=0 SWITCHES=------- \
+             I=00600 A=00000 B=00000 UNEQUAL=0 LOW=0 HIGH=0 OVERFLOW=0 SWITCHES=------- \
              HOPPER=000 STACKER=000 PAPER=000 FORM=0001 LINE=01\n",
         ),
         (
             12_000,
             "OK\nOK\nSTOP 09 ADDRESS STEPS 0 I 00600\nREFUSED 1 ADDRESS\n\
-             I=00600 A=00000 B=00000 UNEQUAL=0 OVERFLOW=0 SWITCHES=------- \
+             I=00600 A=00000 B=00000 UNEQUAL=0 LOW=0 HIGH=0 OVERFLOW=0 SWITCHES=------- \
              HOPPER=000 STACKER=000 PAPER=000 FORM=0001 LINE=01\n",
         ),
         (
             16_000,
             "OK\nOK\nSTOP 01 LIMIT STEPS 1 I 00604\n~ \n\
-             I=00604 A=15998 B=15998 UNEQUAL=0 OVERFLOW=0 SWITCHES=------- \
+             I=00604 A=15998 B=15998 UNEQUAL=0 LOW=0 HIGH=0 OVERFLOW=0 SWITCHES=------- \
              HOPPER=000 STACKER=000 PAPER=000 FORM=0001 LINE=01\n",
         ),
     ] {
