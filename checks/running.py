@@ -1,4 +1,5 @@
 """Programs run to their end with a deck: paper, punched cards, what is told, and the statuses."""
+import re
 import tempfile
 from pathlib import Path
 
@@ -38,6 +39,10 @@ def running():
     expect("sales.source: its paper", ran, 0, paper, told("HALT", 463, 24, 3, 2))
     ran = run([PROGRAM, "run", sales.with_suffix(".image"), *words])
     expect("sales.image: its paper", ran, 0, paper, told("HALT", 463, 24, 3, 2))
+    for page in TOP / "README.md", TOP / "docs/RUNNING.md":
+        shown = re.search(r"```sh\n(\./ibm1401 run [^\n]*)\n```\n\n```text\n(.*?)```", page.read_text(), re.DOTALL)
+        call, printed = shown.groups() if shown else ("exit 3", "")
+        expect(f"what {page.name} runs", run(["bash", "-c", call], cwd=TOP), 0, printed, told("HALT", 463, 24, 3, 2))
     with tempfile.TemporaryDirectory() as name:
         folder = Path(name)
         long_deck(folder)
