@@ -1,4 +1,6 @@
 """What the tests share: the program's paths, runs of it, and the count of what passed and what failed."""
+import os
+import signal
 import subprocess
 from pathlib import Path
 
@@ -35,14 +37,29 @@ def count(name, cases, least):
 
 
 def run(words, lines=b"", **how):
-    """Runs a command with these bytes as its input, and keeps what it writes, unless either is named."""
-    how = {"stdout": subprocess.PIPE, "stderr": subprocess.PIPE, "timeout": SECONDS, **how}
-    if "stdin" not in how:
-        how["input"] = lines
-    try:
-        return subprocess.run([str(word) if isinstance(word, Path) else word for word in words], **how)
-    except subprocess.TimeoutExpired as late:
-        return subprocess.CompletedProcess(words, f"none after {SECONDS} seconds", late.stdout, late.stderr)
+    """Runs a command with these bytes as its input, and keeps what it writes, unless either is named. One that takes too
+    long is ended with all that it has started."""
+    how = {"stdout": subprocess.PIPE, "stderr": subprocess.PIPE, "stdin": subprocess.PIPE, **how}
+    seconds = how.pop("timeout", SECONDS)
+    given = lines if how["stdin"] == subprocess.PIPE else None
+    words = [str(word) if isinstance(word, Path) else word for word in words]
+    with subprocess.Popen(words, start_new_session=True, **how) as process:
+        try:
+            return subprocess.CompletedProcess(words, *ended(process, given, seconds))
+        except subprocess.TimeoutExpired:
+            os.killpg(process.pid, signal.SIGTERM)
+        try:
+            _, output, error = ended(process, None, REPLY_SECONDS)
+        except subprocess.TimeoutExpired:
+            os.killpg(process.pid, signal.SIGKILL)
+            _, output, error = ended(process, None, None)
+        return subprocess.CompletedProcess(words, f"none after {seconds} seconds", output, error)
+
+
+def ended(process, given, seconds):
+    """The status of a process that ends within this time, and what it wrote."""
+    output, error = process.communicate(given, timeout=seconds)
+    return process.returncode, output, error
 
 
 def difference(what, is_it, wanted):
