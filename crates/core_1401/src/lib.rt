@@ -10,17 +10,22 @@
 //! ```
 #![tactic(auto)]
 
+// addresses: their three characters, and index registers
 pub mod address;
 mod address_tables;
+pub mod indexing;
+
+// core storage: its characters, the words of marks beside them, and how both are read and written
 pub mod cells;
 pub mod eight_cells;
 pub mod fault;
-pub mod indexing;
 pub mod lending;
-pub mod lengths;
 pub mod mark_words;
 pub mod storage;
 pub mod stretches;
+
+// where a field or an instruction ends
+pub mod lengths;
 
 pub use address::{ADDRESSES, decode, encode};
 pub use cells::{Cells, MOST_CELLS};

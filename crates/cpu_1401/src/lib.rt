@@ -7,24 +7,31 @@
 //! ```
 #![tactic(auto)]
 
-mod asked;
-mod branch_steps;
+// the machine's parts, and what an operator does at them
+mod loading;
+pub mod machine;
+pub mod regs;
+pub mod switch_name;
+
+// an instruction: its operation, the cells that it is decoded from, and the decoded ones that are kept
 mod condition;
 mod decoded;
 mod decoding;
-mod device_steps;
-mod field_steps;
 mod instruction;
 mod kept;
-mod loading;
-pub mod machine;
 mod operation;
-mod register_steps;
-pub mod regs;
+
+// a step, a run of them, and why one ends
 pub mod running;
 pub mod stepping;
 pub mod stop;
-pub mod switch_name;
+
+// what each kind of operation does
+mod asked;
+mod branch_steps;
+mod device_steps;
+mod field_steps;
+mod register_steps;
 
 pub use machine::Machine;
 pub use regs::Regs;

@@ -10,12 +10,15 @@
 //! ```
 #![tactic(auto)]
 
+// what goes through the devices
 pub mod card;
+pub mod print_line;
+
+// the carriage, its controls, and the devices together
 mod carriage;
 mod control;
 pub mod devices;
 pub mod fault;
-pub mod print_line;
 
 pub use card::Card;
 pub use devices::{Devices, MOST_HELD};

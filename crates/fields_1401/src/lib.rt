@@ -9,28 +9,37 @@
 //! ```
 #![tactic(auto)]
 
-mod across;
-pub mod arithmetic;
-mod columns;
-pub mod comparison;
-mod control_word;
-mod digits;
+// what an operation leaves, and what it is refused for
 pub mod done;
-pub mod editing;
 mod lengths;
-mod like_signs;
+mod refusals;
+pub mod registers;
+
+// moves, loads and word marks
 pub mod loads;
 pub mod marks;
 pub mod moves;
-mod operands;
 pub mod parts;
-mod refusals;
-pub mod registers;
-pub mod sign;
 mod slices;
-pub mod suppression;
+
+// fields compared
+pub mod comparison;
+
+// sums: the operands, their signs and digits, then one pass or two over the columns
+pub mod arithmetic;
+mod columns;
+mod digits;
+mod like_signs;
+mod operands;
+pub mod sign;
 mod unlike_signs;
 pub mod zero_sums;
+
+// editing by a control word, and zero suppression
+mod across;
+mod control_word;
+pub mod editing;
+pub mod suppression;
 
 pub use arithmetic::{add, subtract};
 pub use comparison::compare;

@@ -8,10 +8,13 @@
 //! ```
 #![tactic(auto)]
 
+// an image, the version of its text, and why a text is none
 pub mod fault;
 pub mod image;
-pub mod reading;
 mod version;
+
+// its text, both ways
+pub mod reading;
 pub mod writing;
 
 pub use fault::ImageFault;
