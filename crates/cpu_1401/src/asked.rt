@@ -3,7 +3,7 @@ ghost use Rattle.std.specs.Prelude.{◌≡◌};
 ghost use Rattle.cpu_1401.specs.CardsAndPrinter.{asks, card_of, characters_line, line_alone, mark_char, marks_line};
 
 use bcd_1401::{Cell, Char};
-use core_1401::Core;
+use core_1401::{Core, LEAST_SIZE};
 use devices_1401::Card;
 
 /// What an operation asks of the card reader, the punch and the printer. What is asked for is done in this order.
@@ -58,7 +58,7 @@ pub(crate) fn characters_line(core: &Core) -> [Char; 132]
     let mut line = [Char::BLANK; 132];
     let size = core.size();
     for i in 0..132 {
-        prove!(size >= 1_400);
+        prove!(size >= LEAST_SIZE);
         line[i] = core.get(201 + i as u16).char;
     }
     line
@@ -71,7 +71,7 @@ pub(crate) fn marks_line(core: &Core) -> [Char; 132]
     let mut line = [Char::BLANK; 132];
     let size = core.size();
     for i in 0..132 {
-        prove!(size >= 1_400);
+        prove!(size >= LEAST_SIZE);
         line[i] = mark_char(core.get(201 + i as u16));
     }
     line
@@ -95,7 +95,7 @@ pub(crate) fn card_of(core: &Core) -> Card
     let mut columns = [Char::BLANK; 80];
     let size = core.size();
     for i in 0..80 {
-        prove!(size >= 1_400);
+        prove!(size >= LEAST_SIZE);
         columns[i] = core.get(101 + i as u16).char;
     }
     Card(columns)

@@ -12,7 +12,7 @@ use crate::instruction::Instruction;
 use crate::machine::Machine;
 use crate::stop::Stop;
 use bcd_1401::Char;
-use core_1401::Core;
+use core_1401::{Core, LEAST_SIZE};
 use devices_1401::{ControlFault, MOST_HELD};
 
 /// The first place of the area that a card is read into, 001 to 080.
@@ -150,7 +150,7 @@ impl Machine {
             return;
         }
         let size = self.core.size();
-        prove!(size >= 1_400);
+        prove!(size >= LEAST_SIZE);
         if let Ok(card) = self.devices.read() {
             put_chars(&mut self.core, READ_AREA, &card.0);
         }
