@@ -7,6 +7,7 @@
 //! ```
 #![tactic(auto)]
 
+mod areas;
 mod asked;
 mod branch_steps;
 mod condition;

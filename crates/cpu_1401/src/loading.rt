@@ -3,7 +3,8 @@ ghost use Rattle.std.specs.Prelude.{◌≡◌, ◌==◌, not, is_ok, length, sli
 ghost use Rattle.devices_1401.specs.Devices.{after_card, after_line, fed, is_full};
 ghost use Rattle.cpu_1401.specs.CardsAndPrinter.{load, with_devices};
 
-use crate::device_steps::{READ_AREA, put_chars};
+use crate::areas::READ_AREA;
+use crate::device_steps::put_chars;
 use crate::machine::Machine;
 use core_1401::LEAST_SIZE;
 use devices_1401::{Card, HopperFull, PrintLine, ReaderEmpty};
