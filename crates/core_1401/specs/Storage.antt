@@ -19,6 +19,10 @@ blanks size = replicate size blank
 abbrev pub core_sizes : List ℕ
 core_sizes = 1400 ∷ 2000 ∷ 4000 ∷ 8000 ∷ 12000 ∷ 16000 ∷ []
 
+-- the smallest of them
+abbrev pub least_core_size : ℕ
+least_core_size = slice_index_or core_sizes 0 0
+
 -- whether this is one of them
 abbrev pub is_core_size : ℕ → Bool
 is_core_size size = list_any (λ each. size == each) core_sizes

@@ -31,7 +31,7 @@ pub use address::{ADDRESSES, decode, encode};
 pub use cells::{Cells, MOST_CELLS};
 pub use eight_cells::EightCells;
 pub use fault::CoreFault;
-pub use storage::{Core, SIZES};
+pub use storage::{Core, LEAST_SIZE, SIZES};
 
 #[cfg(test)]
 mod tests;

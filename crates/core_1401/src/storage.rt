@@ -2,6 +2,7 @@
 ghost use Rattle.std.specs.Prelude.{◌≡◌, ◌<◌, ◌≤◌, ◌↔◌, true, false, length, IfOk};
 ghost use Rattle.core_1401.specs.Address.{addresses};
 ghost use Rattle.core_1401.specs.Storage.{cell_at, with_char, with_mark, blanks, is_in_core, core_sizes, is_core_size};
+ghost use Rattle.core_1401.specs.Storage.{least_core_size};
 
 use crate::fault::CoreFault;
 use crate::mark_words::{WORDS, has_bit, no_marks, with_bit};
@@ -11,6 +12,9 @@ use std::marker::Model;
 
 /// The sizes that core storage is made in, the smallest first.
 pub const SIZES: [u16; 6] = [1_400, 2_000, 4_000, 8_000, 12_000, 16_000];
+
+/// The smallest of them.
+pub const LEAST_SIZE: u16 = SIZES[0];
 
 /// Core storage. Contracts see it as the list of its cells by address.
 #[derive(Drop)]
@@ -68,7 +72,7 @@ impl Core {
     pub fn size(&self) -> u16
         ensures value { result ≡ length self.now }
         ensures core { is_core_size result ≡ true }
-        ensures least { 1400 ≤ result }
+        ensures least { least_core_size ≤ result }
         ensures most { result ≤ addresses }
     {
         self.chars.len() as u16

@@ -1,14 +1,16 @@
 -- Branches on small machines, and what their d-characters look at, computed. The codes: 17 is the slash, 18 to 20 S, T
 -- and U, 25 Z, 49 to 55 A to G, 9 the digit, 12 the at sign; 34 is K, 51 C, 35 L.
-use Rattle.std.proofs.Common.{◌≡◌, true, false, [], ◌∷◌, None, Some, refl}
+use Rattle.std.proofs.Common.{◌≡◌, ℕ, ◌+◌, Bool, true, false, List, [], ◌∷◌, None, Some, filter, refl}
+use Rattle.std.specs.List.{range_with_len}
 use Rattle.bcd_1401.specs.Graphic.{graphics}
 use Rattle.core_1401.specs.Storage.{Storage}
+use Rattle.cpu_1401.specs.declared.condition.Condition.{Condition}
 use Rattle.cpu_1401.specs.declared.condition.Condition.TheVariants.{Unequal, Equal, Low, High, Overflow, LastCard}
 use Rattle.cpu_1401.specs.declared.condition.Condition.TheVariants.{SwitchOn, ChannelNine, ChannelTwelve}
 use Rattle.cpu_1401.specs.declared.stop.Stop.TheVariants as stop
-use Rattle.cpu_1401.specs.declared.switch_name.SwitchName.TheVariants.{B, G}
+use Rattle.cpu_1401.specs.declared.switch_name.SwitchName.TheVariants.{B, C, D, E, F, G}
 use Rattle.cpu_1401.specs.Branch.{condition_of, is_so, passes}
-use Rattle.cpu_1401.specs.State.{power_on, with_switch}
+use Rattle.cpu_1401.specs.State.{State, power_on, with_switch}
 use Rattle.cpu_1401.specs.Step.{step}
 use Rattle.cpu_1401.proofs.ExampleCells.{plain, marked, with_program}
 
@@ -36,6 +38,11 @@ nine_looks_at_the_carriage : condition_of 9 ≡ Some ChannelNine
 unfolding graphics
 nine_looks_at_the_carriage = refl
 
+c_to_f_look_at_their_switches : (condition_of 51 ≡ Some (SwitchOn C)) × (condition_of 52 ≡ Some (SwitchOn D))
+    × (condition_of 53 ≡ Some (SwitchOn E)) × (condition_of 54 ≡ Some (SwitchOn F))
+unfolding graphics
+c_to_f_look_at_their_switches = (refl, refl, refl, refl)
+
 the_at_sign_looks_at_the_carriage : condition_of 12 ≡ Some ChannelTwelve
 unfolding graphics
 the_at_sign_looks_at_the_carriage = refl
@@ -62,6 +69,31 @@ the_last_card_wants_switch_a = (refl, refl)
 switch_g_is_the_seventh : (is_so (with_switch (power_on 0) 6 true) (SwitchOn G) ≡ true)
     × (is_so (with_switch (power_on 0) 6 true) (SwitchOn B) ≡ false)
 switch_g_is_the_seventh = (refl, refl)
+
+-- the switches that a machine's conditions find on, of B to G
+abbrev on_of : State → List Bool
+on_of s =
+    is_so s (SwitchOn B) ∷ is_so s (SwitchOn C) ∷ is_so s (SwitchOn D) ∷ is_so s (SwitchOn E) ∷ is_so s (SwitchOn F)
+    ∷ is_so s (SwitchOn G) ∷ []
+
+each_switch_is_its_own : (on_of (with_switch (power_on 0) 0 true) ≡ false ∷ false ∷ false ∷ false ∷ false ∷ false ∷ [])
+    × (on_of (with_switch (power_on 0) 2 true) ≡ false ∷ true ∷ false ∷ false ∷ false ∷ false ∷ [])
+    × (on_of (with_switch (power_on 0) 3 true) ≡ false ∷ false ∷ true ∷ false ∷ false ∷ false ∷ [])
+    × (on_of (with_switch (power_on 0) 4 true) ≡ false ∷ false ∷ false ∷ true ∷ false ∷ false ∷ [])
+    × (on_of (with_switch (power_on 0) 5 true) ≡ false ∷ false ∷ false ∷ false ∷ true ∷ false ∷ [])
+each_switch_is_its_own = (refl, refl, refl, refl, refl)
+
+-- the machine with its carriage at a line of form 2
+abbrev at_line : ℕ → State
+at_line line = let s = power_on 0 in
+    record s { devices = record s.devices { carriage = record s.devices.carriage { position = 131 + line } } }
+
+-- the lines of a form at which a condition is so
+abbrev lines_of : Condition → List ℕ
+lines_of condition = filter (λ line. is_so (at_line line) condition) (range_with_len 1 66)
+
+each_channel_is_met_at_one_line : (lines_of ChannelNine ≡ 60 ∷ []) × (lines_of ChannelTwelve ≡ 63 ∷ [])
+each_channel_is_met_at_one_line = (refl, refl)
 
 no_channel_is_at_the_first_line : (is_so (power_on 0) ChannelNine ≡ false) × (is_so (power_on 0) ChannelTwelve ≡ false)
 no_channel_is_at_the_first_line = (refl, refl)

@@ -1,5 +1,6 @@
 -- Cards and lines on small machines, computed. The codes: 49 to 51 are A to C, 33 is J.
-use Rattle.std.proofs.Common.{◌≡◌, true, false, [], ◌∷◌, None, Some, replicate, refl}
+use Rattle.std.proofs.Common.{◌≡◌, ℕ, true, false, [], ◌∷◌, None, Some, replicate, refl}
+use Rattle.bcd_1401.specs.Graphic.{graphics}
 use Rattle.devices_1401.specs.Devices.{Devices, no_cards}
 use Rattle.devices_1401.specs.declared.card.Card.{Card}
 use Rattle.devices_1401.specs.declared.print_line.PrintLine.{PrintLine}
@@ -7,7 +8,8 @@ use Rattle.cpu_1401.specs.declared.asked.Asked.{Asked}
 use Rattle.cpu_1401.specs.declared.stop.Stop.TheVariants as stop
 use Rattle.core_1401.specs.Places.{with_cells}
 use Rattle.cpu_1401.specs.CardsAndPrinter.{hindrance, mark_char, with_chars_from, with_program_card}
-use Rattle.cpu_1401.proofs.ExampleCells.{plain, marked}
+use Rattle.cpu_1401.specs.Step.{step}
+use Rattle.cpu_1401.proofs.ExampleCells.{plain, marked, with_program}
 
 abbrev a_card : Card
 a_card = record { 0 = [] }
@@ -41,6 +43,18 @@ room_for_one_line_is_enough : hindrance all_three (record no_cards {
       ∷ [];
 }) ≡ None
 room_for_one_line_is_enough = refl
+
+-- the B register after an operation with no address, and a card in the hopper
+abbrev b_after : ℕ → ℕ
+b_after char =
+    (step (record (with_program (marked char ∷ marked 59 ∷ []) 0) {
+      devices = record no_cards { hopper = a_card ∷ [] };
+    })).state.b
+
+b_is_the_place_behind_the_last_area : (b_after 1 ≡ 81) × (b_after 2 ≡ 333) × (b_after 3 ≡ 81) × (b_after 4 ≡ 181)
+    × (b_after 5 ≡ 181) × (b_after 6 ≡ 181) × (b_after 7 ≡ 181)
+unfolding step graphics
+b_is_the_place_behind_the_last_area = (refl, refl, refl, refl, refl, refl, refl)
 
 marks_stay_under_a_card : with_chars_from (plain 33 ∷ marked 33 ∷ plain 33 ∷ []) 1 (49 ∷ 50 ∷ []) ≡ plain 33 ∷ marked 49
     ∷ plain 50 ∷ []

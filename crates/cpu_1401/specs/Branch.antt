@@ -1,9 +1,7 @@
 -- Branches and what they look at (A24-1403, "Branch", "Branch if Indicator On", "Branch if Character Equal", "Branch if
 -- Word Mark and/or Zone", "Halt and Branch"; what the registers hold afterwards, and the channel tests, are own).
-use Rattle.std.specs.Prelude.{ℕ, ◌==◌, ◌&&◌, ◌||◌, not, Bool, true, false, List, [], ◌∷◌, Option, None, Some, codes, find}
+use Rattle.std.specs.Prelude.{ℕ, ◌==◌, ◌&&◌, ◌||◌, not, Bool, true, false, List, [], ◌∷◌, Option, None, Some, codes}
 use Rattle.std.specs.Prelude.{length, slice_index, slice_index_or, if◌then◌else◌}
-use Rattle.std.specs.List.{zip}
-use Rattle.std.specs.Option.{option_map, unwrap_or}
 use Rattle.bcd_1401.specs.Character.{zone_of}
 use Rattle.bcd_1401.specs.Graphic.{graphics}
 use Rattle.bcd_1401.specs.declared.cell.Cell.{Cell}
@@ -16,6 +14,7 @@ use Rattle.cpu_1401.specs.declared.condition.Condition.TheVariants.{SwitchOn, Ch
 use Rattle.cpu_1401.specs.declared.instruction.Instruction.{Instruction}
 use Rattle.cpu_1401.specs.declared.stop.Stop.TheVariants as stop
 use Rattle.cpu_1401.specs.declared.switch_name.SwitchName.TheVariants.{B, C, D, E, F, G}
+use Rattle.cpu_1401.specs.Rows.{meaning_in, row}
 use Rattle.cpu_1401.specs.State.{State}
 use Rattle.cpu_1401.specs.Stepped.{Stepped, step_to, stopped}
 use Rattle.cpu_1401.specs.SwitchName.{switch_number}
@@ -40,15 +39,26 @@ go_on false this s = record s { i = this.next }
 
 -- what a branch of five characters looks at, by the graphic of its d-character
 abbrev pub conditions : List (ℕ × Condition)
-conditions = zip (codes "/STUZABCDEFG9@") (
-    Unequal ∷ Equal ∷ Low ∷ High ∷ Overflow ∷ LastCard ∷ SwitchOn B ∷ SwitchOn C ∷ SwitchOn D ∷ SwitchOn E ∷ SwitchOn F ∷ SwitchOn G
-    ∷ ChannelNine ∷ ChannelTwelve ∷ []
-    )
+conditions =
+    row (codes "/") Unequal
+    ∷ row (codes "S") Equal
+    ∷ row (codes "T") Low
+    ∷ row (codes "U") High
+    ∷ row (codes "Z") Overflow
+    ∷ row (codes "A") LastCard
+    ∷ row (codes "B") (SwitchOn B)
+    ∷ row (codes "C") (SwitchOn C)
+    ∷ row (codes "D") (SwitchOn D)
+    ∷ row (codes "E") (SwitchOn E)
+    ∷ row (codes "F") (SwitchOn F)
+    ∷ row (codes "G") (SwitchOn G)
+    ∷ row (codes "9") ChannelNine
+    ∷ row (codes "@") ChannelTwelve
+    ∷ []
 
 -- the same for a d-character; none where it looks at nothing
 abbrev pub condition_of : ℕ → Option Condition
-condition_of d =
-    option_map (λ (entry : ℕ × Condition). entry.1) (find (λ entry. entry.0 == slice_index graphics d) conditions)
+condition_of d = meaning_in conditions (slice_index graphics d)
 
 -- whether it is so
 abbrev pub is_so : State → Condition → Bool
@@ -110,15 +120,23 @@ has_mark_or_zone zone cell = cell.mark || (zone_of cell.char == zone)
 -- what a branch by word mark or zone looks for, by the graphic of its d-character: a word mark, no zone, the zones BA,
 -- B and A, and each zone or a word mark
 abbrev pub cell_tests : List (ℕ × (Cell → Bool))
-cell_tests = zip (codes "12BKS3CLT") (
-    has_mark ∷ has_zone 0 ∷ has_zone 3 ∷ has_zone 2 ∷ has_zone 1
-    ∷ has_mark_or_zone 0 ∷ has_mark_or_zone 3 ∷ has_mark_or_zone 2 ∷ has_mark_or_zone 1 ∷ []
-    )
+cell_tests =
+    row (codes "1") has_mark
+    ∷ row (codes "2") (has_zone 0)
+    ∷ row (codes "B") (has_zone 3)
+    ∷ row (codes "K") (has_zone 2)
+    ∷ row (codes "S") (has_zone 1)
+    ∷ row (codes "3") (has_mark_or_zone 0)
+    ∷ row (codes "C") (has_mark_or_zone 3)
+    ∷ row (codes "L") (has_mark_or_zone 2)
+    ∷ row (codes "T") (has_mark_or_zone 1)
+    ∷ []
 
--- what a d-character looks for, if it looks for anything
-abbrev pub cell_test_of : ℕ → Option (ℕ × (Cell → Bool))
-cell_test_of d = find (λ entry. entry.0 == slice_index graphics d) cell_tests
+-- whether a cell is what is looked for, if anything is
+abbrev pub is_met : Cell → Option (Cell → Bool) → Bool
+is_met cell None = false
+is_met cell (Some test) = test cell
 
 -- whether a cell is what the d-character looks for
 abbrev pub passes : ℕ → Cell → Bool
-passes d cell = unwrap_or (option_map (λ (entry : ℕ × (Cell → Bool)). entry.1 cell) (cell_test_of d)) false
+passes d cell = is_met cell (meaning_in cell_tests (slice_index graphics d))

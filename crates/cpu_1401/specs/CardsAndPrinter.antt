@@ -13,6 +13,7 @@ use Rattle.devices_1401.specs.declared.card.Card.{Card}
 use Rattle.devices_1401.specs.declared.fault.ControlFault.{ControlFault}
 use Rattle.devices_1401.specs.declared.fault.ControlFault.TheVariants as fault
 use Rattle.cpu_1401.specs.declared.asked.Asked.{Asked}
+use Rattle.cpu_1401.specs.declared.asked.CardWork.{CardWork}
 use Rattle.cpu_1401.specs.declared.instruction.Instruction.{Instruction}
 use Rattle.cpu_1401.specs.declared.stop.Stop.{Stop}
 use Rattle.cpu_1401.specs.declared.stop.Stop.TheVariants as stop
@@ -45,6 +46,16 @@ card_columns = 80
 
 abbrev pub print_positions : ℕ
 print_positions = 132
+
+-- the places behind the areas, one of which an operation leaves in the B register
+abbrev pub behind_read_area : ℕ
+behind_read_area = read_area + card_columns
+
+abbrev pub behind_punch_area : ℕ
+behind_punch_area = punch_area + card_columns
+
+abbrev pub behind_print_area : ℕ
+behind_print_area = print_area + print_positions
 
 -- what is printed: the characters of the print area
 abbrev pub characters_line : Storage → List ℕ
@@ -111,10 +122,42 @@ abbrev pub after_cards : Asked → ℕ → Instruction → State → Stepped
 after_cards asked b this s =
     unless_hindered (hindrance asked s.devices) s (move_on (nat_le 4 this.len) b this (with_all asked s))
 
--- what the six operations without a d-character ask for
-abbrev pub asks : Bool → Bool → Bool → Storage → Asked
-asks writes reads punches storage =
-    record { line = if writes then Some (characters_line storage) else None; reads = reads; punches = punches }
+-- what the six operations without a d-character do, each by its name
+abbrev pub reading : CardWork
+reading = record { writes = false; reads = true; punches = false }
+
+abbrev pub writing_and_reading : CardWork
+writing_and_reading = record { writes = true; reads = true; punches = false }
+
+abbrev pub punching : CardWork
+punching = record { writes = false; reads = false; punches = true }
+
+abbrev pub reading_and_punching : CardWork
+reading_and_punching = record { writes = false; reads = true; punches = true }
+
+abbrev pub writing_and_punching : CardWork
+writing_and_punching = record { writes = true; reads = false; punches = true }
+
+abbrev pub all_three : CardWork
+all_three = record { writes = true; reads = true; punches = true }
+
+-- what is asked for by such work: the line is that of the print area's characters
+abbrev pub asks : CardWork → Storage → Asked
+asks work storage =
+    record {
+      line = if work.writes then Some (characters_line storage) else None;
+      reads = work.reads;
+      punches = work.punches;
+    }
+
+-- the place behind the area of the last that is done
+abbrev pub behind_last : CardWork → ℕ
+behind_last work =
+    if work.punches then behind_punch_area else (if work.reads then behind_read_area else behind_print_area)
+
+-- an operation that does such work
+abbrev pub after_work : CardWork → Instruction → State → Stepped
+after_work work this s = after_cards (asks work s.storage) (behind_last work) this s
 
 -- whether an instruction of the printer with this length has a d-character
 abbrev pub has_d : ℕ → Bool
@@ -130,11 +173,15 @@ line_alone marks storage =
       punches = false;
     }
 
+-- the d-character that asks for word marks
+abbrev pub lozenge : ℕ
+lozenge = 60
+
 -- a line written: the lozenge as d-character asks for word marks, and any other is a stop
 abbrev pub after_line : Instruction → State → Stepped
 after_line this s =
-    if has_d this.len && not (this.d == 60) then stopped stop.DChar s
-    else after_cards (line_alone (has_d this.len) s.storage) 333 this s
+    if has_d this.len && not (this.d == lozenge) then stopped stop.DChar s
+    else after_cards (line_alone (has_d this.len) s.storage) behind_print_area this s
 
 -- the stop of a carriage that can't be controlled: the one of the same name
 abbrev pub control_stop : ControlFault → Stop

@@ -5,6 +5,7 @@ pub mod FieldStep
 pub mod Instruction
 pub mod Operation
 pub mod RegisterStep
+pub mod Rows
 pub mod Run
 pub mod State
 pub mod Step

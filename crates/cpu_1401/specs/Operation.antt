@@ -1,9 +1,8 @@
 -- The operations by their characters, and what their instructions look like (A24-1403, "Instruction Format", "Address
 -- Registers"; the choice of lengths is own).
-use Rattle.std.specs.Prelude.{ℕ, ◌==◌, Bool, true, false, List, [], ◌∷◌, Option, codes, find, slice_index}
+use Rattle.std.specs.Prelude.{ℕ, ◌==◌, Bool, true, false, List, [], ◌∷◌, Option, codes, slice_index}
 use Rattle.std.specs.Prelude.{if◌then◌else◌}
-use Rattle.std.specs.List.{list_any, zip}
-use Rattle.std.specs.Option.{option_map}
+use Rattle.std.specs.List.{list_any}
 use Rattle.bcd_1401.specs.Graphic.{graphics}
 use Rattle.cpu_1401.specs.declared.operation.Operation.{Operation}
 use Rattle.cpu_1401.specs.declared.operation.Operation.TheVariants.{Add, Subtract, ZeroAdd, ZeroSubtract, Move, Load}
@@ -13,25 +12,45 @@ use Rattle.cpu_1401.specs.declared.operation.Operation.TheVariants.{BranchOnCell
 use Rattle.cpu_1401.specs.declared.operation.Operation.TheVariants.{SelectStacker, ReadCard, WriteLine, WriteAndRead}
 use Rattle.cpu_1401.specs.declared.operation.Operation.TheVariants.{PunchCard, ReadAndPunch, WriteAndPunch}
 use Rattle.cpu_1401.specs.declared.operation.Operation.TheVariants.{WriteReadAndPunch, ControlCarriage}
+use Rattle.cpu_1401.specs.Rows.{meaning_in, row}
 
--- the operations, each with its graphic in front
+-- the operations, each by its graphic
 abbrev pub operations : List (ℕ × Operation)
 operations =
-    zip (codes "AS?!MLDY,)/CZEBVQHN.K1234567F") (Add ∷ Subtract ∷ ZeroAdd ∷ ZeroSubtract ∷ Move ∷ Load ∷ MoveDigit
-    ∷ MoveZone
-    ∷ SetWordMark ∷ ClearWordMark ∷ ClearStorage ∷ Compare ∷ ZeroSuppress ∷ Edit ∷ Branch ∷ BranchOnCell ∷ StoreA
-    ∷ StoreB
-    ∷ NoOperation ∷ Halt ∷ SelectStacker ∷ ReadCard ∷ WriteLine ∷ WriteAndRead ∷ PunchCard ∷ ReadAndPunch
-    ∷ WriteAndPunch ∷ WriteReadAndPunch ∷ ControlCarriage ∷ [])
-
--- the operation with this graphic, if it is one's
-abbrev pub operation_named : ℕ → Option Operation
-operation_named graphic =
-    option_map (λ (entry : ℕ × Operation). entry.1) (find (λ entry. entry.0 == graphic) operations)
+    row (codes "A") Add
+    ∷ row (codes "S") Subtract
+    ∷ row (codes "?") ZeroAdd
+    ∷ row (codes "!") ZeroSubtract
+    ∷ row (codes "M") Move
+    ∷ row (codes "L") Load
+    ∷ row (codes "D") MoveDigit
+    ∷ row (codes "Y") MoveZone
+    ∷ row (codes ",") SetWordMark
+    ∷ row (codes ")") ClearWordMark
+    ∷ row (codes "/") ClearStorage
+    ∷ row (codes "C") Compare
+    ∷ row (codes "Z") ZeroSuppress
+    ∷ row (codes "E") Edit
+    ∷ row (codes "B") Branch
+    ∷ row (codes "V") BranchOnCell
+    ∷ row (codes "Q") StoreA
+    ∷ row (codes "H") StoreB
+    ∷ row (codes "N") NoOperation
+    ∷ row (codes ".") Halt
+    ∷ row (codes "K") SelectStacker
+    ∷ row (codes "1") ReadCard
+    ∷ row (codes "2") WriteLine
+    ∷ row (codes "3") WriteAndRead
+    ∷ row (codes "4") PunchCard
+    ∷ row (codes "5") ReadAndPunch
+    ∷ row (codes "6") WriteAndPunch
+    ∷ row (codes "7") WriteReadAndPunch
+    ∷ row (codes "F") ControlCarriage
+    ∷ []
 
 -- the operation of a character
 abbrev pub operation_of : ℕ → Option Operation
-operation_of char = operation_named (slice_index graphics char)
+operation_of char = meaning_in operations (slice_index graphics char)
 
 -- the graphics of the operations that belong to features that this machine hasn't got
 abbrev pub unfitted : List ℕ

@@ -16,7 +16,9 @@ use Rattle.cpu_1401.specs.declared.operation.Operation.{Operation}
 use Rattle.cpu_1401.specs.declared.operation.Operation.TheVariants as op
 use Rattle.cpu_1401.specs.declared.stop.Stop.TheVariants as stop
 use Rattle.cpu_1401.specs.Branch.{after_branch, branch_on_cell, go_on, passes}
-use Rattle.cpu_1401.specs.CardsAndPrinter.{after_cards, after_line, after_control, asks}
+use Rattle.cpu_1401.specs.CardsAndPrinter.{after_line, after_control, after_work}
+use Rattle.cpu_1401.specs.CardsAndPrinter.{punching, reading, reading_and_punching}
+use Rattle.cpu_1401.specs.CardsAndPrinter.{writing_and_punching, writing_and_reading, all_three}
 use Rattle.cpu_1401.specs.FieldStep.{after_field, after_comparison, after_clear}
 use Rattle.cpu_1401.specs.Instruction.{begins_at, instruction_of, length_at}
 use Rattle.cpu_1401.specs.Operation.{operation_of, is_unfitted, is_unfitted_length, has_length}
@@ -47,13 +49,13 @@ perform op.StoreB this s = after_store s.b this s
 perform op.NoOperation this s = step_to (go_on false this s)
 perform op.Halt this s = record { state = go_on (this.len == 4) this s; stop = Some stop.Halt }
 perform op.SelectStacker this s = step_to (go_on (this.len == 5) this s)
-perform op.ReadCard this s = after_cards (asks false true false s.storage) 81 this s
+perform op.ReadCard this s = after_work reading this s
 perform op.WriteLine this s = after_line this s
-perform op.WriteAndRead this s = after_cards (asks true true false s.storage) 81 this s
-perform op.PunchCard this s = after_cards (asks false false true s.storage) 181 this s
-perform op.ReadAndPunch this s = after_cards (asks false true true s.storage) 181 this s
-perform op.WriteAndPunch this s = after_cards (asks true false true s.storage) 181 this s
-perform op.WriteReadAndPunch this s = after_cards (asks true true true s.storage) 181 this s
+perform op.WriteAndRead this s = after_work writing_and_reading this s
+perform op.PunchCard this s = after_work punching this s
+perform op.ReadAndPunch this s = after_work reading_and_punching this s
+perform op.WriteAndPunch this s = after_work writing_and_punching this s
+perform op.WriteReadAndPunch this s = after_work all_three this s
 perform op.ControlCarriage this s = after_control this s (controlled s.devices.carriage this.d)
 
 -- an operation at a length: it must be fitted, and the length must be one of its own

@@ -1,10 +1,84 @@
 //! What an operation asks of the card reader, the punch and the printer.
-ghost use Rattle.std.specs.Prelude.{◌≡◌};
-ghost use Rattle.cpu_1401.specs.CardsAndPrinter.{asks, card_of, characters_line, line_alone, mark_char, marks_line};
+ghost use Rattle.std.specs.Prelude.{◌≡◌, ◌<◌};
+ghost use Rattle.core_1401.specs.Address.{addresses};
+ghost use Rattle.cpu_1401.specs.CardsAndPrinter.{asks, behind_last, card_of, characters_line, line_alone, mark_char};
+ghost use Rattle.cpu_1401.specs.CardsAndPrinter.{marks_line};
 
+use crate::areas::{
+    BEHIND_PRINT_AREA, BEHIND_PUNCH_AREA, BEHIND_READ_AREA, PRINT_AREA, PUNCH_AREA,
+};
 use bcd_1401::{Cell, Char};
-use core_1401::Core;
+use core_1401::{Core, LEAST_SIZE};
 use devices_1401::Card;
+
+/// What an operation of the card reader, the punch and the printer does, in this order.
+#[derive(Clone, Copy, Debug, PartialEq, Eq)]
+pub struct CardWork {
+    /// Whether it writes the print area.
+    pub writes: bool,
+    /// Whether it reads a card.
+    pub reads: bool,
+    /// Whether it punches a card.
+    pub punches: bool,
+}
+
+impl CardWork {
+    /// `1`: reads a card.
+    pub const READING: CardWork = CardWork {
+        writes: false,
+        reads: true,
+        punches: false,
+    };
+
+    /// `3`: writes a line and reads a card.
+    pub const WRITING_AND_READING: CardWork = CardWork {
+        writes: true,
+        reads: true,
+        punches: false,
+    };
+
+    /// `4`: punches a card.
+    pub const PUNCHING: CardWork = CardWork {
+        writes: false,
+        reads: false,
+        punches: true,
+    };
+
+    /// `5`: reads a card and punches one.
+    pub const READING_AND_PUNCHING: CardWork = CardWork {
+        writes: false,
+        reads: true,
+        punches: true,
+    };
+
+    /// `6`: writes a line and punches a card.
+    pub const WRITING_AND_PUNCHING: CardWork = CardWork {
+        writes: true,
+        reads: false,
+        punches: true,
+    };
+
+    /// `7`: writes a line, reads a card and punches one.
+    pub const ALL_THREE: CardWork = CardWork {
+        writes: true,
+        reads: true,
+        punches: true,
+    };
+
+    /// The place behind the area of the last that is done, which the B register is left with.
+    pub fn behind_last(self) -> u16
+        ensures value { result ≡ behind_last self }
+        ensures range { result < addresses }
+    {
+        if self.punches {
+            BEHIND_PUNCH_AREA
+        } else if self.reads {
+            BEHIND_READ_AREA
+        } else {
+            BEHIND_PRINT_AREA
+        }
+    }
+}
 
 /// What an operation asks of the card reader, the punch and the printer. What is asked for is done in this order.
 #[derive(Clone, Copy, Debug, PartialEq, Eq)]
@@ -18,19 +92,19 @@ pub struct Asked {
 }
 
 impl Asked {
-    /// What an operation asks for that writes the print area, reads or punches.
-    pub fn of(core: &Core, writes: bool, reads: bool, punches: bool) -> Asked
-        ensures { result ≡ asks writes reads punches core.now }
+    /// What an operation asks for that does this work.
+    pub fn of(core: &Core, work: CardWork) -> Asked
+        ensures { result ≡ asks work core.now }
     {
-        let line = if writes {
+        let line = if work.writes {
             Some(characters_line(core))
         } else {
             None
         };
         Asked {
             line,
-            reads,
-            punches,
+            reads: work.reads,
+            punches: work.punches,
         }
     }
 
@@ -58,8 +132,8 @@ pub(crate) fn characters_line(core: &Core) -> [Char; 132]
     let mut line = [Char::BLANK; 132];
     let size = core.size();
     for i in 0..132 {
-        prove!(size >= 1_400);
-        line[i] = core.get(201 + i as u16).char;
+        prove!(size >= LEAST_SIZE);
+        line[i] = core.get(PRINT_AREA + i as u16).char;
     }
     line
 }
@@ -71,8 +145,8 @@ pub(crate) fn marks_line(core: &Core) -> [Char; 132]
     let mut line = [Char::BLANK; 132];
     let size = core.size();
     for i in 0..132 {
-        prove!(size >= 1_400);
-        line[i] = mark_char(core.get(201 + i as u16));
+        prove!(size >= LEAST_SIZE);
+        line[i] = mark_char(core.get(PRINT_AREA + i as u16));
     }
     line
 }
@@ -95,8 +169,8 @@ pub(crate) fn card_of(core: &Core) -> Card
     let mut columns = [Char::BLANK; 80];
     let size = core.size();
     for i in 0..80 {
-        prove!(size >= 1_400);
-        columns[i] = core.get(101 + i as u16).char;
+        prove!(size >= LEAST_SIZE);
+        columns[i] = core.get(PUNCH_AREA + i as u16).char;
     }
     Card(columns)
 }

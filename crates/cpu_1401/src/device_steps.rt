@@ -3,20 +3,18 @@ ghost use Rattle.std.specs.Prelude.{◌≡◌, ◌+◌, ◌^◌, ◌<◌, ◌≤
 ghost use Rattle.core_1401.specs.Address.{addresses};
 ghost use Rattle.devices_1401.specs.Carriage.{controlled};
 ghost use Rattle.devices_1401.specs.Devices.{is_full};
-ghost use Rattle.cpu_1401.specs.CardsAndPrinter.{after_cards, after_control, after_line, asks, has_d, hindrance};
-ghost use Rattle.cpu_1401.specs.CardsAndPrinter.{line_alone};
+ghost use Rattle.cpu_1401.specs.CardsAndPrinter.{after_cards, after_control, after_line, after_work, has_d, hindrance};
+ghost use Rattle.cpu_1401.specs.CardsAndPrinter.{behind_print_area, line_alone};
 ghost use Rattle.cpu_1401.specs.CardsAndPrinter.{with_chars_from, with_line, with_punch, with_read};
 
-use crate::asked::{Asked, card_of};
+use crate::areas::{BEHIND_PRINT_AREA, READ_AREA};
+use crate::asked::{Asked, CardWork, card_of};
 use crate::instruction::Instruction;
 use crate::machine::Machine;
 use crate::stop::Stop;
 use bcd_1401::Char;
-use core_1401::Core;
+use core_1401::{Core, LEAST_SIZE};
 use devices_1401::{ControlFault, MOST_HELD};
-
-/// The first place of the area that a card is read into, 001 to 080.
-pub(crate) const READ_AREA: u16 = 1;
 
 /// The code of the lozenge, which asks for word marks to be printed.
 const LOZENGE: u8 = 60;
@@ -24,23 +22,15 @@ const LOZENGE: u8 = 60;
 impl Machine {
     /// Writes the print area, reads a card and punches one, as far as the operation does. The B register is then the
     /// place behind the area of the last, unless there is an address to branch to.
-    pub(crate) fn use_cards(
-        &mut self,
-        this: Instruction,
-        writes: bool,
-        reads: bool,
-        punches: bool,
-        b: u16,
-    ) -> Option<Stop>
+    pub(crate) fn use_cards(&mut self, this: Instruction, work: CardWork) -> Option<Stop>
         requires a { this.a < addresses }
         requires next { this.next < addresses }
-        requires b { b < addresses }
-        ensures stop { result ≡ (after_cards (asks writes reads punches self.old.storage) b this self.old).stop }
-        ensures state { self.new ≡ (after_cards (asks writes reads punches self.old.storage) b this self.old).state }
+        ensures stop { result ≡ (after_work work this self.old).stop }
+        ensures state { self.new ≡ (after_work work this self.old).state }
         ensures size { length self.new.storage ≡ length self.old.storage }
     {
-        let asked = Asked::of(&self.core, writes, reads, punches);
-        self.carry_cards(this, &asked, b)
+        let asked = Asked::of(&self.core, work);
+        self.carry_cards(this, &asked, work.behind_last())
     }
 
     /// Writes a line: the characters of the print area, or its word marks where the d-character is the lozenge.
@@ -65,12 +55,14 @@ impl Machine {
     fn write_alone(&mut self, this: Instruction, marks: bool) -> Option<Stop>
         requires a { this.a < addresses }
         requires next { this.next < addresses }
-        ensures stop { result ≡ (after_cards (line_alone marks self.old.storage) 333 this self.old).stop }
-        ensures state { self.new ≡ (after_cards (line_alone marks self.old.storage) 333 this self.old).state }
+        ensures stop { let asked = line_alone marks self.old.storage in
+            result ≡ (after_cards asked behind_print_area this self.old).stop }
+        ensures state { let asked = line_alone marks self.old.storage in
+            self.new ≡ (after_cards asked behind_print_area this self.old).state }
         ensures size { length self.new.storage ≡ length self.old.storage }
     {
         let asked = Asked::to_write(&self.core, marks);
-        self.carry_cards(this, &asked, 333)
+        self.carry_cards(this, &asked, BEHIND_PRINT_AREA)
     }
 
     /// Does what is asked for of the card reader, the punch and the printer, or says what hinders it. Then it branches
@@ -150,7 +142,7 @@ impl Machine {
             return;
         }
         let size = self.core.size();
-        prove!(size >= 1_400);
+        prove!(size >= LEAST_SIZE);
         if let Ok(card) = self.devices.read() {
             put_chars(&mut self.core, READ_AREA, &card.0);
         }

@@ -8,6 +8,7 @@
 #![tactic(auto)]
 
 // the machine's parts, and what an operator does at them
+mod areas;
 mod loading;
 pub mod machine;
 pub mod regs;

@@ -3,8 +3,10 @@ ghost use Rattle.std.specs.Prelude.{◌≡◌, ◌==◌, not, is_ok, length, sli
 ghost use Rattle.devices_1401.specs.Devices.{after_card, after_line, fed, is_full};
 ghost use Rattle.cpu_1401.specs.CardsAndPrinter.{load, with_devices};
 
-use crate::device_steps::{READ_AREA, put_chars};
+use crate::areas::READ_AREA;
+use crate::device_steps::put_chars;
 use crate::machine::Machine;
+use core_1401::LEAST_SIZE;
 use devices_1401::{Card, HopperFull, PrintLine, ReaderEmpty};
 
 impl Machine {
@@ -20,7 +22,7 @@ impl Machine {
         ensures size { length self.new.storage ≡ length self.old.storage }
     {
         let size = self.core.size();
-        prove!(size >= 1_400);
+        prove!(size >= LEAST_SIZE);
         let card = self.devices.read()?;
         self.core.clear(80, 80);
         put_chars(&mut self.core, READ_AREA, &card.0);

@@ -6,6 +6,7 @@ ghost use Rattle.cpu_1401.specs.Step.{perform, step};
 ghost use Rattle.cpu_1401.specs.Decoded.{Says};
 ghost use Rattle.cpu_1401.specs.Stepped.{stopped};
 
+use crate::asked::CardWork;
 use crate::decoded::Decoded;
 use crate::instruction::Instruction;
 use crate::machine::Machine;
@@ -149,13 +150,13 @@ impl Machine {
             Operation::NoOperation => return self.go_on(false, this),
             Operation::SelectStacker => return self.go_on(this.len == 5, this),
             Operation::Halt => return self.halt(this),
-            Operation::ReadCard => return self.use_cards(this, false, true, false, 81),
+            Operation::ReadCard => return self.use_cards(this, CardWork::READING),
             Operation::WriteLine => return self.write_line(this),
-            Operation::WriteAndRead => return self.use_cards(this, true, true, false, 81),
-            Operation::PunchCard => return self.use_cards(this, false, false, true, 181),
-            Operation::ReadAndPunch => return self.use_cards(this, false, true, true, 181),
-            Operation::WriteAndPunch => return self.use_cards(this, true, false, true, 181),
-            Operation::WriteReadAndPunch => return self.use_cards(this, true, true, true, 181),
+            Operation::WriteAndRead => return self.use_cards(this, CardWork::WRITING_AND_READING),
+            Operation::PunchCard => return self.use_cards(this, CardWork::PUNCHING),
+            Operation::ReadAndPunch => return self.use_cards(this, CardWork::READING_AND_PUNCHING),
+            Operation::WriteAndPunch => return self.use_cards(this, CardWork::WRITING_AND_PUNCHING),
+            Operation::WriteReadAndPunch => return self.use_cards(this, CardWork::ALL_THREE),
             Operation::ControlCarriage => return self.control_carriage(this),
         };
         self.after_field(this, outcome)

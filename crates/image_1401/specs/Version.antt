@@ -1,6 +1,6 @@
 -- What sets the versions of an image's text apart (own).
-use Rattle.std.specs.Prelude.{ℕ, ◌&&◌, nat_le, Bool, List, codes}
-use Rattle.core_1401.specs.Storage.{is_core_size}
+use Rattle.std.specs.Prelude.{ℕ, ◌&&◌, nat_le, Bool, List, codes, slice_index_or}
+use Rattle.core_1401.specs.Storage.{core_sizes, is_core_size}
 use Rattle.image_1401.specs.declared.version.Version.{Version}
 use Rattle.image_1401.specs.declared.version.Version.TheVariants.{One, Two}
 
@@ -14,9 +14,9 @@ abbrev pub address_digits : Version → ℕ
 address_digits One = 4
 address_digits Two = 5
 
--- how many places an image of version 1 has at the most
+-- how many places an image of version 1 has at the most: the third of the sizes
 abbrev pub most_places : ℕ
-most_places = 4000
+most_places = slice_index_or core_sizes 2 0
 
 -- the sizes that an image can have
 abbrev pub has_size : Version → ℕ → Bool

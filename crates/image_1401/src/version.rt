@@ -2,10 +2,10 @@
 ghost use Rattle.std.specs.Prelude.{◌≡◌, ◌≤◌, Some, None, if◌then◌else◌};
 ghost use Rattle.image_1401.specs.Version.{name_of, address_digits, most_places, has_size};
 
-use core_1401::Core;
+use core_1401::{Core, SIZES};
 
-/// How many places an image of version 1 has at the most.
-const MOST_PLACES: u16 = 4_000;
+/// How many places an image of version 1 has at the most: the third of the sizes.
+const MOST_PLACES: u16 = SIZES[2];
 
 /// A version of the text of an image.
 #[derive(Clone, Copy, Debug, PartialEq, Eq)]

@@ -1,6 +1,6 @@
 -- What is asked for is the line alone.
 use Rattle.std.proofs.Common.{ap, ◌∙◌, ◌≡◌}
-use Rattle.cpu_1401.specs.CardsAndPrinter.{after_cards, line_alone}
+use Rattle.cpu_1401.specs.CardsAndPrinter.{after_cards, behind_print_area, line_alone}
 use Rattle.cpu_1401.specs.State.{State}
 use Rattle.cpu_1401.specs.declared.asked.Asked.{Asked}
 use Rattle.cpu_1401.proofs.machine.Machine.write_alone.Goals as goal
@@ -9,11 +9,12 @@ pub returns-clause-stop : goal.returns-clause-stop
 returns-clause-stop c =
     let wanted : c.to_write-asked.result ≡ line_alone c.args.marks c.args.self.now.storage =
     c.to_write-asked.ensures ∙ ap (λ (s : State). line_alone c.args.marks s.storage) c.self.view_is in
-    c.carry_cards.ensures.stop ∙ ap (λ (asked : Asked). (after_cards asked 333 c.args.this c.args.self.now).stop) wanted
+    c.carry_cards.ensures.stop
+    ∙ ap (λ (asked : Asked). (after_cards asked behind_print_area c.args.this c.args.self.now).stop) wanted
 
 pub returns-clause-state : goal.returns-clause-state
 returns-clause-state c =
     let wanted : c.to_write-asked.result ≡ line_alone c.args.marks c.args.self.now.storage =
     c.to_write-asked.ensures ∙ ap (λ (s : State). line_alone c.args.marks s.storage) c.self.view_is in
     c.carry_cards.ensures.state
-    ∙ ap (λ (asked : Asked). (after_cards asked 333 c.args.this c.args.self.now).state) wanted
+    ∙ ap (λ (asked : Asked). (after_cards asked behind_print_area c.args.this c.args.self.now).state) wanted
