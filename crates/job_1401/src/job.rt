@@ -1,6 +1,6 @@
 //! A job: a deck, a machine, and steps until it stops.
-ghost use Rattle.std.specs.Prelude.{◌≡◌, ◌≤◌, IfOk, OnErr};
-ghost use Rattle.job_1401.specs.Unattended.{IsPartOf, after_output, unattended, with_deck};
+ghost use Rattle.std.specs.Prelude.{◌≡◌, ◌≢◌, ◌≤◌, IfOk, OnOk, OnErr};
+ghost use Rattle.job_1401.specs.Unattended.{AtEnd, Begins, GoesOn, IsPartOf, after_output, unattended, with_deck};
 
 use crate::cards::Cards;
 use crate::fault::JobFault;
@@ -47,6 +47,11 @@ pub fn run_job<R: Cards, W: Output>(
     // The limit is met exactly.
     ensures most { IfOk result (λ end. end.steps ≤ limit) }
     ensures limit { IfOk result (λ end. end.stop ≡ Stop.Limit → end.steps ≡ limit) }
+
+    // Two calls join: a job of more steps goes on where this call met its limit, and has ended where it stopped.
+    ensures goes_on { IfOk result (λ end. end.stop ≡ Stop.Limit → GoesOn limit (with_deck (R.left cards.old) machine.old)) }
+    ensures at_end { IfOk result (λ end. end.stop ≢ Stop.Limit → AtEnd limit (with_deck (R.left cards.old) machine.old)) }
+    ensures begins { OnOk result (Begins limit (with_deck (R.left cards.old) machine.old)) }
 
     ensures part { OnErr result (IsPartOf (W.lines output.new) (W.cards output.new)
         (after_output (W.lines output.old) (W.cards output.old) 0
