@@ -4,7 +4,7 @@ use mathlib.Core.List.{IsPrefix}
 use Rattle.command_1401.specs.declared.command.Command.{Command}
 use Rattle.room_1401.specs.declared.fault.GlanceFault.{GlanceFault}
 use Rattle.room_1401.specs.declared.fault.GlanceFault.TheVariants.{Range, Gone}
-use Rattle.room_1401.specs.declared.fault.RoomFault.TheVariants.{JournalFull}
+use Rattle.room_1401.specs.declared.fault.RoomFault.TheVariants.{Memory, JournalFull}
 use Rattle.room_1401.specs.Journal.{most_entries}
 use Rattle.room_1401.specs.Replay.{cell_after}
 use Rattle.room_1401.specs.Seen.{Knows, Carries}
@@ -14,13 +14,14 @@ use Rattle.console_1401.specs.declared.reply.Reply.TheVariants as reply
 use Rattle.text_1401.specs.ConsoleLine.{Said}
 
 -- a command is carried out for the seat, and answered as the sequential machine answers it; or the room takes none, and
--- the seat has seen no less
+-- the seat has seen no less: a full journal, or one that isn't full where memory is the reason
 abbrev pub CommandResponds : ℕ → Knows → Command → Reply → Knows → Type 0
 CommandResponds size before command (reply.Answer answer) after =
     Carries size before.list after.list before.number command answer × (after.made ≡ before.made + 1)
 CommandResponds size before command (reply.RoomFault fault) after =
     IsPrefix before.list after.list × (after.made ≡ before.made)
     × (fault ≡ JournalFull → length after.list ≡ most_entries)
+    × (fault ≡ Memory → length after.list < most_entries)
 CommandResponds size before command (reply.Glance glance) after = ⊥
 CommandResponds size before command (reply.GlanceFault fault) after = ⊥
 CommandResponds size before command (reply.LineFault fault) after = ⊥

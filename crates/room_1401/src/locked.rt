@@ -1,5 +1,5 @@
 //! What the lock of a shared room keeps.
-ghost use Rattle.std.specs.Prelude.{◌≡◌, ◌+◌, ◌≤◌, [], ◌∷◌, ◌++◌, true, length, drop, Some};
+ghost use Rattle.std.specs.Prelude.{◌≡◌, ◌+◌, ◌<◌, ◌≤◌, [], ◌∷◌, ◌++◌, true, length, drop, Some};
 ghost use Rattle.std.specs.Prelude.{IfOk, OnOk, OnErr, MatchBool};
 ghost use mathlib.Core.List.{IsPrefix};
 ghost use Rattle.room_1401.specs.Closing.{AllFit, IsSettled, back_of};
@@ -115,6 +115,7 @@ impl<J: Naming, R: Wait + Drop> LockedRoom<J, R> {
         ensures grows { OnErr result (IsPrefix seat.old.list seat.new.list) }
         ensures number { seat.new.number ≡ seat.old.number }
         ensures full { result ≡ Err RoomFault.JournalFull → length seat.new.list ≡ most_entries }
+        ensures memory { result ≡ Err RoomFault.Memory → length seat.new.list < most_entries }
     {
         if !self.brief(seat) {
             return Err(RoomFault::NoReading);

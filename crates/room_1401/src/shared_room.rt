@@ -105,6 +105,9 @@ impl<J: Naming, R: Wait + Drop> SharedRoom<J, R> {
         ensures err { OnErr result (seat.new.made ≡ seat.old.made) }
         ensures grows { OnErr result (IsPrefix seat.old.list seat.new.list) }
         ensures full { result ≡ Err RoomFault.JournalFull → length seat.new.list ≡ most_entries }
+
+        // A journal that is full is told as nothing else.
+        ensures memory { result ≡ Err RoomFault.Memory → length seat.new.list < most_entries }
     {
         let answer = self.locked.lock(wait).carry(seat, command);
         let _made = seat.made();
