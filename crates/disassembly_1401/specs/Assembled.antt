@@ -10,7 +10,7 @@ use Rattle.core_1401.specs.Address.{spelling_of, value_of}
 use Rattle.source_1401.specs.Mnemonic.{ARow, instructions}
 use Rattle.source_1401.specs.Statement.{line_of, has_bad_label, has_bad_operands}
 use Rattle.source_1401.specs.declared.mnemonic.DCharacter.{DCharacter}
-use Rattle.source_1401.specs.declared.mnemonic.DCharacter.TheVariants as d
+use Rattle.source_1401.specs.declared.mnemonic.DCharacter.TheVariants as kinds
 use Rattle.source_1401.specs.declared.statement.Bytes.TheVariants as bytes
 use Rattle.source_1401.specs.declared.statement.Line.{Line}
 use Rattle.source_1401.specs.declared.statement.Statement.{Statement}
@@ -20,11 +20,11 @@ use Rattle.disassembly_1401.specs.InstructionText.{graphic_of, addresses_in, d_i
 
 -- whether a mnemonic with a d-character of this kind may be one of an instruction with this d-character
 abbrev pub takes_d : DCharacter → Option ℕ → Bool
-takes_d d.Never d = is_none d
-takes_d (d.Fixed graphic) None = false
-takes_d (d.Fixed graphic) (Some d) = graphic == d
-takes_d d.Optional d = true
-takes_d d.Required d = is_some d
+takes_d kinds.Never d = is_none d
+takes_d (kinds.Fixed graphic) None = false
+takes_d (kinds.Fixed graphic) (Some d) = graphic == d
+takes_d kinds.Optional d = true
+takes_d kinds.Required d = is_some d
 
 -- whether a row of the assembler's mnemonics is for this operation, with so many addresses and this d-character
 abbrev pub is_for : ℕ → ℕ → Option ℕ → ARow → Bool
