@@ -1,0 +1,5 @@
+pub mod AddressLemmas
+mod InstructionTextExamples
+pub mod MnemonicLemmas
+pub mod NumberLemmas
+pub mod OperandsLemmas

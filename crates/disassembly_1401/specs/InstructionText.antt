@@ -1,0 +1,45 @@
+-- An instruction as Autocoder writes it, from column 16 on (Autocoder, "Coding Sheet", "Operation", "Operand").
+use Rattle.std.specs.Prelude.{ℕ, ◌-◌, ◌/◌, ◌==◌, if◌then◌else◌, List, [], ◌∷◌, ◌++◌, length, take}
+use Rattle.std.specs.Prelude.{slice_index, Option, None, Some}
+use Rattle.bcd_1401.specs.declared.cell.Cell.{Cell}
+use Rattle.bcd_1401.specs.Graphic.{graphics}
+use Rattle.disassembly_1401.specs.Address.{address_text}
+use Rattle.disassembly_1401.specs.Mnemonic.{mnemonic_of}
+use Rattle.disassembly_1401.specs.declared.mnemonic.Mnemonic.{Mnemonic}
+
+-- the graphic of a cell's character
+abbrev pub graphic_of : Cell → ℕ
+graphic_of cell = slice_index graphics cell.char
+
+-- how many addresses the cells behind an operation are
+abbrev pub addresses_in : List Cell → ℕ
+addresses_in behind = length behind / 3
+
+-- the graphic of the d-character of an instruction with two, five or eight characters
+abbrev pub d_in : List Cell → Option ℕ
+d_in [] = None
+d_in (d ∷ []) = Some (graphic_of d)
+d_in (x ∷ y ∷ []) = None
+d_in (h ∷ t ∷ u ∷ behind) = d_in behind
+
+-- addresses as far as there are any, and the character behind them, with commas; two characters that are neither an
+-- address nor a d-character stand by themselves
+unfoldable pub operands_text : List Cell → List ℕ
+operands_text [] = []
+operands_text (d ∷ []) = graphic_of d ∷ []
+operands_text (x ∷ y ∷ []) = graphic_of x ∷ graphic_of y ∷ []
+operands_text (h ∷ t ∷ u ∷ behind) =
+    address_text h.char t.char u.char ++ (if length behind == 0 then [] else 44 ∷ operands_text behind)
+
+-- the cells whose operands are written: not the d-character that the mnemonic says
+abbrev pub written : Mnemonic → List Cell → List Cell
+written mnemonic behind = if mnemonic.says_d then take (length behind - 1) behind else behind
+
+abbrev pub text_with : Mnemonic → List Cell → List ℕ
+text_with mnemonic behind = mnemonic.columns ++ operands_text (written mnemonic behind)
+
+-- the columns 16 to 20, and the operands from column 21 on
+abbrev pub instruction_text : List Cell → List ℕ
+instruction_text [] = []
+instruction_text (operation ∷ behind) =
+    text_with (mnemonic_of (graphic_of operation) (addresses_in behind) (d_in behind)) behind

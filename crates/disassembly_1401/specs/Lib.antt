@@ -1,0 +1,4 @@
+pub mod Address
+pub mod Assembled
+pub mod InstructionText
+pub mod Mnemonic
