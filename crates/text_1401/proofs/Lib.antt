@@ -1,6 +1,9 @@
 mod AnswerTextExamples
 pub mod CardTextLemmas
+mod CommandTextExamples
+pub mod CommandTextLemmas
 mod ConsoleLineExamples
 mod LineTextExamples
 pub mod LineTextLemmas
+pub mod SayableLemmas
 pub mod WordLemmas

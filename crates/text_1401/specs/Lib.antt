@@ -1,5 +1,6 @@
 pub mod AnswerText
 pub mod CardText
+pub mod CommandText
 pub mod ConsoleLine
 pub mod LineText
 pub mod Words

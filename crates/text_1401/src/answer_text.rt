@@ -111,7 +111,12 @@ fn card_reply(alloc: Global, card: &Card) -> Result<Vec<u8>, AllocError>
 }
 
 /// Adds a name, and behind it a number, with zeros in front where it has fewer digits than the width.
-fn put_number(text: &mut Vec<u8>, name: &[u8], width: u8, number: u32) -> Result<(), AllocError>
+pub(crate) fn put_number(
+    text: &mut Vec<u8>,
+    name: &[u8],
+    width: u8,
+    number: u32,
+) -> Result<(), AllocError>
     ensures { OnOk result (text.new.items ≡ text.old.items ++ name.now ++ digits_in width number) }
 {
     text.extend_from_slice(name)?;

@@ -1,12 +1,14 @@
 //! What a line at the console says.
-ghost use Rattle.std.specs.Prelude.{◌≡◌, ℕ};
+ghost use Rattle.std.specs.Prelude.{◌≡◌, ℕ, IfOk};
+ghost use Rattle.command_1401.specs.declared.command.Command.{Command};
 ghost use Rattle.text_1401.specs.declared.line.Line.{Line};
+ghost use Rattle.text_1401.specs.CommandText.{command_text};
 ghost use Rattle.notation_1401.specs.Cells.{cells_of, spelled};
 ghost use Rattle.text_1401.specs.AnswerText.{fault_text};
 ghost use Rattle.text_1401.specs.ConsoleLine.{if_cells, ended, deposit_of, examine_of, start_of};
 ghost use Rattle.text_1401.specs.ConsoleLine.{switch_said, feed_of, run_of, glance_of, said_with, said_in_words};
 ghost use Rattle.text_1401.specs.ConsoleLine.{said_by};
-ghost use Rattle.text_1401.specs.LineText.{IsLineOf, IsExamineOf, one_cell};
+ghost use Rattle.text_1401.specs.LineText.{CanBeSaid, IsLineOf, IsExamineOf, one_cell};
 
 use crate::card_text::card;
 use crate::words::{Keyword, address, count, number, setting, split_word, switch};
@@ -77,6 +79,13 @@ pub fn parse_line(line: &[u8]) -> Result<Line, LineFault>
 
     // EXAMINE without a number asks for one cell.
     ensures one { (address : ℕ) → IsExamineOf address line.now → result ≡ Ok (one_cell address) }
+
+    // A command's text is read as that command.
+    ensures again { (command : Command) → CanBeSaid (Line.Command command) → line.now ≡ command_text command
+        → result ≡ Ok (Line.Command command) }
+
+    // Nothing is read that a line can't say.
+    ensures sayable { IfOk result CanBeSaid }
 {
     if line.len() > LINE_LIMIT {
         return Err(LineFault::Length);

@@ -1,6 +1,7 @@
 //! Lines and answers, worked out by hand.
 
 mod answers;
+mod commands;
 mod lines;
 
 use bcd_1401::{Cell, Char};

@@ -172,7 +172,7 @@ const SWITCHES: [SwitchName; 7] = [
 ];
 
 /// The letter of a sense switch.
-fn letter(switch: SwitchName) -> &'static [u8]
+pub(crate) fn letter(switch: SwitchName) -> &'static [u8]
     ensures { result.now ≡ letter_of switch }
 {
     match switch {

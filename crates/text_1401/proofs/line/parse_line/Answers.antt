@@ -1,6 +1,12 @@
 -- What is typed for a line says it.
-use Rattle.std.proofs.Common.{◌∙◌}
+use Rattle.std.proofs.Common.{◌∙◌, ap, arith, length, subst, sym}
+use Rattle.std.specs.Prelude.{IfOk}
+use Rattle.text_1401.specs.declared.line.Line.TheVariants.{Command}
+use Rattle.text_1401.specs.ConsoleLine.{Said}
+use Rattle.text_1401.specs.LineText.{CanBeSaid, IsLineOf}
+use Rattle.text_1401.proofs.CommandTextLemmas.{line_of_command}
 use Rattle.text_1401.proofs.LineTextLemmas.{in_words, in_words-one}
+use Rattle.text_1401.proofs.SayableLemmas.{words_can}
 use Rattle.text_1401.proofs.line.parse_line.Goals as goal
 
 pub returns-clause-typed : goal.returns-clause-typed
@@ -8,3 +14,17 @@ returns-clause-typed c = λ said is. c.parse_words.ensures ∙ in_words said c.a
 
 pub returns-clause-one : goal.returns-clause-one
 returns-clause-one c = λ address is. c.parse_words.ensures ∙ in_words-one address c.args.line.now is.in_range is.typed
+
+pub returns-clause-again : goal.returns-clause-again
+returns-clause-again c = λ command can is.
+    let line = subst (IsLineOf (Command command)) (sym is) (line_of_command command can) in
+    c.parse_words.ensures ∙ in_words (Command command) c.args.line.now can line.typed
+
+pub returns-clause-sayable : goal.returns-clause-sayable
+returns-clause-sayable c =
+    subst (λ (said : Said). IfOk said CanBeSaid) (sym c.parse_words.ensures) (words_can c.args.line.now)
+
+-- a command's text isn't as long
+pub returns-then-line-gt-LINE_LIMIT-clause-again : goal.returns-then-line-gt-LINE_LIMIT-clause-again
+returns-then-line-gt-LINE_LIMIT-clause-again c = λ command can is.
+    let short = (line_of_command command can).short in absurd (omega (arith, short, ap length is))
