@@ -19,6 +19,7 @@ pub mod indexing;
 pub mod lending;
 pub mod lengths;
 pub mod mark_words;
+mod short_copies;
 pub mod storage;
 pub mod stretches;
 
