@@ -36,6 +36,11 @@ window_marks words at both e fits j within le =
           ∙ same_bit words (at / 64 + 1) (i - 64) (at - j) (omega (arith, above, le)) (omega (arith, above, le, within))
     ])
 
+-- the window of a place itself
+pub window_here : (words : List ℕ) (at w : ℕ) → IsWindowDown words at w → IsWindowDown words (at - 0) w
+window_here words at w window j within le =
+    window j within (omega (arith, le)) ∙ ap (λ (n : ℕ). mark_bit words (n - j)) (omega arith)
+
 -- none of the marks below a place, down to this far
 abbrev pub NoneBelow : List ℕ → ℕ → ℕ → Type 0
 NoneBelow words at n = (j : ℕ) → j < n → j ≤ at → mark_bit words (at - j) ≡ 0

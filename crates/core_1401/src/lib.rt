@@ -21,6 +21,7 @@ pub mod eight_cells;
 pub mod fault;
 pub mod lending;
 pub mod mark_words;
+mod short_copies;
 pub mod storage;
 pub mod stretches;
 

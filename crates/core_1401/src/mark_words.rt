@@ -76,9 +76,25 @@ pub(crate) fn marks_up(words: &[u64], at: usize) -> u8
     (window_up(words, at) % 256) as u8
 }
 
-/// How far below a place the first mark stands; more than there are places where there is none.
+/// How far below a place the first mark stands; more than there are places where there is none. Most fields end within
+/// 64 places, so the marks of those are looked at first.
 #[inline(always)]
 pub(crate) fn first_mark(words: &[u64], at: usize) -> usize
+    requires within { at / 64 + 1 < length words.now }
+    requires fits { at < 65536 }
+    ensures first { IsFirstMark words.now at result }
+    ensures range { result ≤ at + 64 }
+{
+    let near = window_down(words, at);
+    if near != 0 {
+        return near.leading_zeros() as usize;
+    }
+    first_mark_by_words(words, at)
+}
+
+/// The same by all words below the place.
+#[inline(never)]
+fn first_mark_by_words(words: &[u64], at: usize) -> usize
     requires within { at / 64 + 1 < length words.now }
     requires fits { at < 65536 }
     ensures first { IsFirstMark words.now at result }
@@ -94,9 +110,27 @@ pub(crate) fn first_mark(words: &[u64], at: usize) -> usize
 }
 
 /// How far below two places the first mark below either stands; more than there are places below one of them where
-/// there is none.
+/// there is none. The 64 places next to them are looked at first.
 #[inline(always)]
 pub(crate) fn first_pair(words: &[u64], a: usize, b: usize) -> usize
+    requires a_in { a / 64 + 1 < length words.now }
+    requires b_in { b / 64 + 1 < length words.now }
+    requires a_fits { a < 65536 }
+    requires b_fits { b < 65536 }
+    ensures first { IsFirstPair words.now a b result }
+{
+    let near_a = window_down(words, a);
+    let near_b = window_down(words, b);
+    let near = near_a | near_b;
+    if near != 0 {
+        return near.leading_zeros() as usize;
+    }
+    first_pair_by_words(words, a, b)
+}
+
+/// The same by all words below the places.
+#[inline(never)]
+fn first_pair_by_words(words: &[u64], a: usize, b: usize) -> usize
     requires a_in { a / 64 + 1 < length words.now }
     requires b_in { b / 64 + 1 < length words.now }
     requires a_fits { a < 65536 }

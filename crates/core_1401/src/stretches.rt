@@ -6,6 +6,7 @@ ghost use Rattle.core_1401.specs.Places.{with_cells, with_chars, unmarked_place,
 ghost use Rattle.core_1401.specs.Storage.{blank, cell_at};
 
 use crate::mark_words::{clear_marks, with_bit};
+use crate::short_copies::copy_up;
 use crate::storage::Core;
 use bcd_1401::Char;
 
@@ -121,7 +122,7 @@ fn copy_down(chars: &mut [Char], a: usize, b: usize, n: usize)
     ensures above { (i : ℕ) → b < i → slice_index_or chars.new i 0 ≡ slice_index_or chars.old i 0 }
     ensures below { (i : ℕ) → i + n ≤ b → slice_index_or chars.new i 0 ≡ slice_index_or chars.old i 0 }
 {
-    chars.copy_within(a + 1 - n..a + 1, b + 1 - n);
+    copy_up(chars, a + 1 - n, b + 1 - n, n);
 }
 
 /// Puts blanks from one place up to another.

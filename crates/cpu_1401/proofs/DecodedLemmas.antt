@@ -158,6 +158,19 @@ pub b_of_two : (s : State) (this : Decoded) → Says s.storage s.i this → 7 �
     → indexed_by s.storage this.b.value this.b.register ≡ (instruction_of this.operation this.len s).b
 b_of_two s this says h = rw (le-leb 7 this.len h) (effective_is s.storage (s.i + 4) this.b (says.b h))
 
+pub plain_a_is : (s : State) (this : Decoded) → Says s.storage s.i this → this.is_plain ≡ true
+    → indexed_by s.storage this.a.value 0 ≡ (instruction_of this.operation this.len s).a
+plain_a_is s this says plain =
+    let h : 4 ≤ this.len = omega (arith, this.plain_len plain) in
+    rw (le-leb 4 this.len h) (ap (λ (n : ℕ). indexed_by s.storage this.a.value n) (sym (this.plain_a plain))
+    ∙ effective_is s.storage (s.i + 1) this.a (says.a h))
+
+pub plain_b_is : (s : State) (this : Decoded) → Says s.storage s.i this → this.is_plain ≡ true
+    → indexed_by s.storage this.b.value 0 ≡ (instruction_of this.operation this.len s).b
+plain_b_is s this says plain =
+    ap (λ (n : ℕ). indexed_by s.storage this.b.value n) (sym (this.plain_b plain))
+    ∙ b_of_two s this says (this.plain_len plain)
+
 pub b_of_one : (s : State) (this : Decoded) → Says s.storage s.i this → 4 ≤ this.len → this.len < 7
     → (form_of this.operation).loads_both ≡ true
     → indexed_by s.storage this.a.value this.a.register ≡ (instruction_of this.operation this.len s).b

@@ -1,5 +1,5 @@
 //! What an instruction says by itself, whatever the registers hold.
-ghost use Rattle.std.specs.Prelude.{◌<◌, ◌≤◌};
+ghost use Rattle.std.specs.Prelude.{◌≡◌, ◌<◌, ◌≤◌, true};
 ghost use Rattle.core_1401.specs.Address.{addresses};
 
 use crate::operation::Operation;
@@ -29,6 +29,26 @@ pub(crate) struct Decoded {
     pub(crate) a: Address,
     /// The B address, if it has two.
     pub(crate) b: Address,
+    /// Whether it has two addresses, and neither has an index register.
+    pub(crate) is_plain: bool,
     ghost some: { 0 < len },
     ghost most: { len ≤ 8 },
+    ghost plain_len: { is_plain ≡ true → 7 ≤ len },
+    ghost plain_a: { is_plain ≡ true → a.register ≡ 0 },
+    ghost plain_b: { is_plain ≡ true → b.register ≡ 0 },
+}
+
+/// Whether an instruction of this length has two addresses, and neither of these has an index register.
+pub(crate) fn is_plain(len: u16, a: Address, b: Address) -> bool
+    ensures len { result ≡ true → 7 ≤ len }
+    ensures a { result ≡ true → a.register ≡ 0 }
+    ensures b { result ≡ true → b.register ≡ 0 }
+{
+    if len < 7 {
+        return false;
+    }
+    if a.register != 0 {
+        return false;
+    }
+    b.register == 0
 }

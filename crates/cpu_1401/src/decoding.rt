@@ -6,7 +6,7 @@ ghost use Rattle.cpu_1401.specs.Instruction.{begins_at, length_at, longest_at};
 ghost use Rattle.cpu_1401.specs.Step.{step};
 ghost use Rattle.cpu_1401.specs.Stepped.{stopped};
 
-use crate::decoded::{Address, Decoded};
+use crate::decoded::{Address, Decoded, is_plain};
 use crate::machine::Machine;
 use crate::operation::{Operation, is_unfitted};
 use crate::stop::Stop;
@@ -39,12 +39,15 @@ impl Machine {
         if !operation.has_length(len) {
             return Err(Stop::Length);
         }
+        let a = self.address(self.i + 1, len >= 4);
+        let b = self.address(self.i + 4, len >= 7);
         Ok(Decoded {
             operation,
             len,
             d: self.core.get(self.i + len - 1).char,
-            a: self.address(self.i + 1, len >= 4),
-            b: self.address(self.i + 4, len >= 7),
+            a,
+            b,
+            is_plain: is_plain(len, a, b),
         })
     }
 

@@ -100,6 +100,7 @@ fn nothing_kept() -> Kept {
             d: Char::BLANK,
             a: none,
             b: none,
+            is_plain: false,
         },
     }
 }

@@ -16,8 +16,10 @@ use std::marker::Model;
 pub struct Machine {
     pub(crate) core: Core,
     pub(crate) kept: Instructions,
-    pub(crate) i: u16,
+    // The I register stands between the others: beside each other they would be computed as one pair, in more
+    // instructions.
     pub(crate) a: u16,
+    pub(crate) i: u16,
     pub(crate) b: u16,
     pub(crate) unequal: bool,
     pub(crate) low: bool,

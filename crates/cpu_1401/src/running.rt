@@ -17,6 +17,7 @@ pub struct Ran {
 impl Machine {
     /// Carries out instructions until one stops the machine, or until this many were carried out, from 1 to 1,000,000.
     /// That is the stop LIMIT, unless the last one was a halt.
+    #[inline(never)]
     pub fn run(&mut self, limit: u32) -> Ran
         requires some { 0 < limit }
         requires most { limit ≤ most_steps }

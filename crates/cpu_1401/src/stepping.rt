@@ -1,5 +1,5 @@
 //! One step of the machine: the instruction, kept or decoded, then what the operation does.
-ghost use Rattle.std.specs.Prelude.{◌≡◌, ◌≢◌, ◌<◌, length, Some, IfSome, IfOk, IfErr};
+ghost use Rattle.std.specs.Prelude.{◌≡◌, ◌≢◌, ◌<◌, length, true, Some, IfSome, IfOk, IfErr};
 ghost use Rattle.core_1401.specs.Address.{addresses};
 ghost use Rattle.cpu_1401.specs.Instruction.{instruction_of};
 ghost use Rattle.cpu_1401.specs.Step.{perform, step};
@@ -35,14 +35,30 @@ impl Machine {
         ensures size { length self.new.storage ≡ length self.old.storage }
     {
         let machine = &*self;
-        let fetched = match machine.kept.find(&machine.core, machine.i) {
-            Some(said) => (said.operation, machine.instruction(said)),
-            None => match self.decode_anew() {
-                Ok(said) => (said.operation, self.instruction(&said)),
-                Err(stop) => return Some(stop),
-            },
+        if let Some(said) = machine.kept.find(&machine.core, machine.i) {
+            let operation = said.operation;
+            let this = machine.instruction(said);
+            return self.perform(operation, this);
+        }
+        self.step_anew()
+    }
+
+    /// Carries out an instruction that isn't kept, as a step does.
+    #[inline(never)]
+    #[tactic(auto, using(crate::proofs::DecodedLemmas::says_step))]
+    fn step_anew(&mut self) -> Option<Stop>
+        ensures stop { result ≡ (step self.old).stop }
+        ensures state { self.new ≡ (step self.old).state }
+        ensures unchanged { IfSome result (λ why. why ≢ Stop.Halt → self.new ≡ self.old) }
+        ensures limit { result ≢ Some Stop.Limit }
+        ensures size { length self.new.storage ≡ length self.old.storage }
+    {
+        let said = match self.decode_anew() {
+            Ok(said) => said,
+            Err(stop) => return Some(stop),
         };
-        self.perform(fetched.0, fetched.1)
+        let this = self.instruction(&said);
+        self.perform(said.operation, this)
     }
 
     /// Decodes the instruction at the I register and keeps it, or says why it can't be carried out.
@@ -74,6 +90,15 @@ impl Machine {
         } else {
             self.i + len - ADDRESSES
         };
+        if said.is_plain {
+            return Instruction {
+                len,
+                a: self.plain_a(said),
+                b: self.plain_b(said),
+                next,
+                d: said.d,
+            };
+        }
         Instruction {
             len,
             a: self.a_address(said),
@@ -81,6 +106,30 @@ impl Machine {
             next,
             d: said.d,
         }
+    }
+
+    /// The A address of an instruction with two and without index registers.
+    #[inline(always)]
+    #[tactic(auto, using(crate::proofs::DecodedLemmas::plain_a_is))]
+    fn plain_a(&self, said: &Decoded) -> u16
+        requires says { Says self.now.storage self.now.i said.now }
+        requires plain { said.now.is_plain ≡ true }
+        ensures value { result ≡ (instruction_of said.now.operation said.now.len self.now).a }
+        ensures range { result < addresses }
+    {
+        self.core.indexed(said.a.value, 0)
+    }
+
+    /// The B address of an instruction with two and without index registers.
+    #[inline(always)]
+    #[tactic(auto, using(crate::proofs::DecodedLemmas::plain_b_is))]
+    fn plain_b(&self, said: &Decoded) -> u16
+        requires says { Says self.now.storage self.now.i said.now }
+        requires plain { said.now.is_plain ≡ true }
+        ensures value { result ≡ (instruction_of said.now.operation said.now.len self.now).b }
+        ensures range { result < addresses }
+    {
+        self.core.indexed(said.b.value, 0)
     }
 
     /// What the instruction has for its A address: its own, or the A register as it stands.
@@ -128,37 +177,72 @@ impl Machine {
         ensures size { length self.new.storage ≡ length self.old.storage }
     {
         let Instruction { a, b, .. } = this;
-        let outcome = match operation {
-            Operation::Add => add(&mut self.core, a, b),
-            Operation::Subtract => subtract(&mut self.core, a, b),
-            Operation::ZeroAdd => zero_add(&mut self.core, a, b),
-            Operation::ZeroSubtract => zero_subtract(&mut self.core, a, b),
-            Operation::Move => move_chars(&mut self.core, a, b),
-            Operation::Load => load_chars(&mut self.core, a, b),
-            Operation::MoveDigit => move_digit(&mut self.core, a, b),
-            Operation::MoveZone => move_zone(&mut self.core, a, b),
-            Operation::SetWordMark => set_marks(&mut self.core, a, b),
-            Operation::ClearWordMark => clear_marks(&mut self.core, a, b),
-            Operation::ZeroSuppress => suppress(&mut self.core, a, b),
-            Operation::Edit => edit(&mut self.core, a, b),
-            Operation::ClearStorage => return self.clear_storage(this),
-            Operation::Compare => return self.compare(this),
-            Operation::Branch => return self.branch(this),
-            Operation::BranchOnCell => return self.branch_on_cell(this),
-            Operation::StoreA => return self.store(this, self.a),
-            Operation::StoreB => return self.store(this, self.b),
-            Operation::NoOperation => return self.go_on(false, this),
-            Operation::SelectStacker => return self.go_on(this.len == 5, this),
-            Operation::Halt => return self.halt(this),
-            Operation::ReadCard => return self.use_cards(this, CardWork::READING),
-            Operation::WriteLine => return self.write_line(this),
-            Operation::WriteAndRead => return self.use_cards(this, CardWork::WRITING_AND_READING),
-            Operation::PunchCard => return self.use_cards(this, CardWork::PUNCHING),
-            Operation::ReadAndPunch => return self.use_cards(this, CardWork::READING_AND_PUNCHING),
-            Operation::WriteAndPunch => return self.use_cards(this, CardWork::WRITING_AND_PUNCHING),
-            Operation::WriteReadAndPunch => return self.use_cards(this, CardWork::ALL_THREE),
-            Operation::ControlCarriage => return self.control_carriage(this),
-        };
-        self.after_field(this, outcome)
+        match operation {
+            Operation::Add => {
+                let outcome = add(&mut self.core, a, b);
+                self.after_field(this, outcome)
+            }
+            Operation::Subtract => {
+                let outcome = subtract(&mut self.core, a, b);
+                self.after_field(this, outcome)
+            }
+            Operation::ZeroAdd => {
+                let outcome = zero_add(&mut self.core, a, b);
+                self.after_field(this, outcome)
+            }
+            Operation::ZeroSubtract => {
+                let outcome = zero_subtract(&mut self.core, a, b);
+                self.after_field(this, outcome)
+            }
+            Operation::Move => {
+                let outcome = move_chars(&mut self.core, a, b);
+                self.after_field(this, outcome)
+            }
+            Operation::Load => {
+                let outcome = load_chars(&mut self.core, a, b);
+                self.after_field(this, outcome)
+            }
+            Operation::MoveDigit => {
+                let outcome = move_digit(&mut self.core, a, b);
+                self.after_field(this, outcome)
+            }
+            Operation::MoveZone => {
+                let outcome = move_zone(&mut self.core, a, b);
+                self.after_field(this, outcome)
+            }
+            Operation::SetWordMark => {
+                let outcome = set_marks(&mut self.core, a, b);
+                self.after_field(this, outcome)
+            }
+            Operation::ClearWordMark => {
+                let outcome = clear_marks(&mut self.core, a, b);
+                self.after_field(this, outcome)
+            }
+            Operation::ZeroSuppress => {
+                let outcome = suppress(&mut self.core, a, b);
+                self.after_field(this, outcome)
+            }
+            Operation::Edit => {
+                let outcome = edit(&mut self.core, a, b);
+                self.after_field(this, outcome)
+            }
+            Operation::ClearStorage => self.clear_storage(this),
+            Operation::Compare => self.compare(this),
+            Operation::Branch => self.branch(this),
+            Operation::BranchOnCell => self.branch_on_cell(this),
+            Operation::StoreA => self.store(this, self.a),
+            Operation::StoreB => self.store(this, self.b),
+            Operation::NoOperation => self.go_on(false, this),
+            Operation::SelectStacker => self.go_on(this.len == 5, this),
+            Operation::Halt => self.halt(this),
+            Operation::ReadCard => self.use_cards(this, CardWork::READING),
+            Operation::WriteLine => self.write_line(this),
+            Operation::WriteAndRead => self.use_cards(this, CardWork::WRITING_AND_READING),
+            Operation::PunchCard => self.use_cards(this, CardWork::PUNCHING),
+            Operation::ReadAndPunch => self.use_cards(this, CardWork::READING_AND_PUNCHING),
+            Operation::WriteAndPunch => self.use_cards(this, CardWork::WRITING_AND_PUNCHING),
+            Operation::WriteReadAndPunch => self.use_cards(this, CardWork::ALL_THREE),
+            Operation::ControlCarriage => self.control_carriage(this),
+        }
     }
 }

@@ -1,5 +1,5 @@
 -- Characters that were lent by address, and the storage that they stand for.
-use Rattle.std.proofs.Common.{◌≡◌, ℕ, ◌<◌, Bool, List, length, set, inl, inr, ap, sym, ◌∙◌}
+use Rattle.std.proofs.Common.{◌≡◌, ℕ, ◌-◌, ◌<◌, Bool, List, length, set, inl, inr, ap, sym, ◌∙◌}
 use Rattle.std.proofs.Common.{false, arith, slice_index_or}
 use Rattle.std.proofs.lemmas.Bool.{cases_eq}
 use Rattle.std.proofs.lemmas.Grind.{get_or-set_at}
@@ -36,6 +36,14 @@ pub char_lent : (s : Storage) (chars : List ℕ) (q d : ℕ) → q < length s �
 char_lent s chars q d in_core size =
     get_or_default chars q d (cell_at s q).char (omega (arith, size, in_core))
     ∙ sym (ap (λ (cell : Cell). cell.char) (cell_at-with_all_chars s chars q in_core))
+
+-- the i-th below an address, read of the characters by address
+pub char_below : (s : Storage) (chars : List ℕ) (at from i char : ℕ) → chars ≡ chars_of s → from ≡ at → at < length s
+    → char ≡ slice_index_or chars (from - i) 0 → char ≡ (cell_at s (at - i)).char
+char_below s chars at from i char lent e in_core read =
+    read ∙ ap (λ (l : List ℕ). slice_index_or l (from - i) 0) lent
+    ∙ ap (λ (k : ℕ). slice_index_or (chars_of s) (k - i) 0) e
+    ∙ char_of_cell s (at - i) 0 (omega (arith, in_core))
 
 -- before anything is written
 pub lent_at_first : (s : Storage) (chars : List ℕ) → chars ≡ chars_of s → with_all_chars s chars ≡ s

@@ -11,10 +11,14 @@ ghost use Rattle.fields_1401.specs.Compare.{orders_across, IsOneOfThree, Tells};
 use crate::done::{Done, FieldStop};
 use crate::lengths::pair_len;
 use crate::registers::{below, registers};
+use crate::slices::char_at;
 use core_1401::Core;
 
 /// How many pairs are compared at once.
 const BLOCK: u16 = 8;
+
+/// How many pairs are compared one by one.
+const FEW: u16 = 16;
 
 /// Compares the fields at both addresses, up to and including the first word mark in either: they are unequal where two
 /// characters differ, or where the A field ends before the B field (A24-1403, "Compare"). An unequal B field is high
@@ -74,14 +78,32 @@ fn highest_difference(core: &Core, a: u16, b: u16, n: u16) -> Option<u16>
     ensures pair { IfSome result (λ i. i < n) }
     ensures differ { IfSome result (λ i. (cell_at core.now (a - i)).char ≢ (cell_at core.now (b - i)).char) }
 {
+    if n <= FEW {
+        return highest_of_few(core, a, b, n);
+    }
     if !core.chars_differ(a, b, n) {
         return None;
     }
-    let left = left_to_compare(core, a, b, n);
-    for behind in 0..left {
-        let i = left - 1 - behind;
-        if core.get(a - i).char != core.get(b - i).char {
-            return Some(i);
+    highest_of_few(core, a, b, left_to_compare(core, a, b, n))
+}
+
+/// The same, looked for from the highest pair down.
+#[inline(always)]
+fn highest_of_few(core: &Core, a: u16, b: u16, n: u16) -> Option<u16>
+    requires a { (n ≤ a + 1) × (a < length core.now) }
+    requires b { (n ≤ b + 1) × (b < length core.now) }
+    ensures value { result ≡ highest_difference core.now a b n }
+    ensures pair { IfSome result (λ i. i < n) }
+    ensures differ { IfSome result (λ i. (cell_at core.now (a - i)).char ≢ (cell_at core.now (b - i)).char) }
+{
+    let chars = core.chars();
+    let (a, b, n) = (usize::from(a), usize::from(b), usize::from(n));
+    for behind in 0..n {
+        let i = n - 1 - behind;
+        let of_a = char_at(chars, a - i);
+        let of_b = char_at(chars, b - i);
+        if of_a != of_b {
+            return Some(i as u16);
         }
     }
     None

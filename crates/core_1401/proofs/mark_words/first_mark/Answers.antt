@@ -1,15 +1,13 @@
-use Rattle.std.proofs.Common.{arith, ◌+◌, ◌*◌}
-use Rattle.core_1401.proofs.MarkWordLemmas.{first_found, no_more}
+-- The first mark is in the window of the place itself.
+use Rattle.std.proofs.Common.{ℕ, arith, subst}
+use Rattle.core_1401.specs.MarkWords.{IsFirstMark}
+use Rattle.core_1401.proofs.MarkWordLemmas.{first_found, window_here}
 use Rattle.core_1401.proofs.mark_words.first_mark.Goals as goal
 
-pub returns-then-word-ne0-clause-first : goal.returns-then-word-ne0-clause-first
-returns-then-word-ne0-clause-first c =
-    first_found c.args.words.now c.args.at
-    (64 * c.loop-turn.turn) c.window_down-word.result c.loop-turn.invariant c.window_down-word.ensures
-    (omega (arith, c.if-word-ne0.true)) c.window_down-word.type_inv
-
-pub loop-turn-preserved : goal.loop-turn-preserved
-loop-turn-preserved c =
-    no_more c.args.words.now c.args.at (64 * c.loop-turn.turn) c.window_down-word.result
-    (64 * (c.loop-turn.turn + 1)) c.loop-turn.invariant c.window_down-word.ensures
-    c.if-word-ne0.false (omega arith)
+pub returns-then-near-ne0-clause-first : goal.returns-then-near-ne0-clause-first
+returns-then-near-ne0-clause-first c =
+    let words = c.args.words.now in
+    subst (λ (n : ℕ). IsFirstMark words c.args.at n) (omega arith)
+    (first_found words c.args.at 0 c.window_down-near.result (λ j lt. absurd (omega (arith, lt)))
+    (window_here words c.args.at c.window_down-near.result c.window_down-near.ensures)
+    (omega (arith, c.if-near-ne0.true)) c.window_down-near.type_inv)

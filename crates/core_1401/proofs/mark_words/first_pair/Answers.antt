@@ -1,20 +1,19 @@
-use Rattle.std.proofs.Common.{arith, ◌+◌, ◌*◌}
+-- The first mark below either is in one of the windows of the places themselves.
+use Rattle.std.proofs.Common.{ℕ, arith, subst}
 use Rattle.std.proofs.lemmas.Nat.{or_lt}
-use Rattle.core_1401.proofs.MarkWordLemmas.{first_pair_found, no_more_pairs}
+use Rattle.core_1401.specs.MarkWords.{IsFirstPair}
+use Rattle.core_1401.proofs.MarkWordLemmas.{first_pair_found, window_here}
 use Rattle.core_1401.proofs.mark_words.first_pair.Goals as goal
 
-pub returns-then-word-ne0 : goal.returns-then-word-ne0
-returns-then-word-ne0 c =
-    let v = c.window_down.result in
-    let w = c.window_down-in-loop-turn.result in
+pub returns-then-near-ne0 : goal.returns-then-near-ne0
+returns-then-near-ne0 c =
+    let words = c.args.words.now in
+    let v = c.window_down-near_a.result in
+    let w = c.window_down-near_b.result in
     record {
-      first = first_pair_found c.args.words.now c.args.a c.args.b
-          (64 * c.loop-turn.turn) v w c.loop-turn.invariant c.window_down.ensures c.window_down-in-loop-turn.ensures
-          (omega (arith, c.if-word-ne0.true)) (or_lt 64 v w c.window_down.type_inv c.window_down-in-loop-turn.type_inv);
+      first = subst (λ (n : ℕ). IsFirstPair words c.args.a c.args.b n) (omega arith)
+          (first_pair_found words c.args.a c.args.b 0 v w (λ j lt. absurd (omega (arith, lt)))
+          (window_here words c.args.a v c.window_down-near_a.ensures)
+          (window_here words c.args.b w c.window_down-near_b.ensures) (omega (arith, c.if-near-ne0.true))
+          (or_lt 64 v w c.window_down-near_a.type_inv c.window_down-near_b.type_inv));
     }
-
-pub loop-turn-preserved : goal.loop-turn-preserved
-loop-turn-preserved c =
-    no_more_pairs c.args.words.now c.args.a c.args.b
-    (64 * c.loop-turn.turn) c.window_down.result c.window_down-in-loop-turn.result (64 * (c.loop-turn.turn + 1))
-    c.loop-turn.invariant c.window_down.ensures c.window_down-in-loop-turn.ensures c.if-word-ne0.false (omega arith)
