@@ -25,27 +25,38 @@ use Rattle.source_1401.specs.declared.operands.OperandField.TheVariants as field
 use Rattle.source_1401.specs.declared.operands.Operands.{Operands}
 use Rattle.source_1401.specs.declared.statement.Areas.{Areas}
 use Rattle.source_1401.specs.declared.statement.Span.{Span}
+use Rattle.source_1401.specs.Description.{describe}
+use Rattle.source_1401.specs.declared.address.Base.{Base}
+use Rattle.source_1401.specs.declared.address.Base.TheVariants as bases
+use Rattle.source_1401.specs.declared.description.Addressing.{Addressing}
+use Rattle.source_1401.specs.declared.description.Addressing.TheVariants as addressing
+use Rattle.source_1401.specs.declared.description.Contents.{Contents}
+use Rattle.source_1401.specs.declared.description.Contents.TheVariants as contents
+use Rattle.source_1401.specs.declared.description.Description.{Description}
+use Rattle.source_1401.specs.declared.description.Next.{Next}
+use Rattle.source_1401.specs.declared.description.Next.TheVariants as next
 use Rattle.source_1401.specs.declared.statement.Body.{Body}
-use Rattle.source_1401.specs.declared.statement.Body.TheVariants as bodies
 use Rattle.source_1401.specs.declared.statement.Statement.{Statement}
 use Rattle.source_1401.specs.declared.statement.Line.{Line}
 use Rattle.source_1401.specs.Operands.{count_of}
-use Rattle.autocoder_1401.specs.Assembly.{entry_by, entry_with, entry_in, image_of}
+use Rattle.autocoder_1401.specs.Assembly.{entry_in_row, entry_by, entry_with, entry_in, image_of}
 use Rattle.autocoder_1401.specs.Cells.{place_of, plain, with_word_mark, operand_codes, d_codes, instruction_cells}
 use Rattle.autocoder_1401.specs.Cells.{constant_codes, constant_cells, literal_cells, with_mark_at, with_field}
 use Rattle.autocoder_1401.specs.Cells.{area_cells}
-use Rattle.autocoder_1401.specs.Cells.{repeated, areas_cells, body_cells, statement_cells, numbered, cells_from}
+use Rattle.autocoder_1401.specs.Cells.{repeated, areas_cells, contents_cells, row_cells, body_cells, statement_cells}
+use Rattle.autocoder_1401.specs.Cells.{numbered, cells_from}
 use Rattle.autocoder_1401.specs.Cells.{fields_behind}
 use Rattle.autocoder_1401.specs.Characters.{char_with, characters_of, codes_in}
 use Rattle.autocoder_1401.specs.declared.characters.Characters.{Characters}
 use Rattle.autocoder_1401.specs.declared.fault.AsmKind.TheVariants as kinds
 use Rattle.autocoder_1401.specs.Placement.{Places, nothing_placed, instruction_length, constant_length, areas_length}
-use Rattle.autocoder_1401.specs.Placement.{pending, behind_literals, after_line, placed}
+use Rattle.autocoder_1401.specs.Placement.{contents_length, base_so_far, value_so_far, pending, behind_literals}
+use Rattle.autocoder_1401.specs.Placement.{after_line, placed}
 use Rattle.autocoder_1401.specs.PlacementLaws.{total}
 use Rattle.autocoder_1401.specs.Segments.{within, closed, goes_on, cut}
-use Rattle.autocoder_1401.specs.Values.{is_in_core, are_in_core, operand_value, operand_outside, places_outside}
-use Rattle.autocoder_1401.specs.Values.{literals_outside, body_outside, line_outside, first_outside_from, first_outside}
-use Rattle.autocoder_1401.specs.Values.{last_place}
+use Rattle.autocoder_1401.specs.Values.{base_value, address_value, is_in_core, are_in_core, operand_outside}
+use Rattle.autocoder_1401.specs.Values.{places_outside, literals_outside, next_outside, addresses_outside}
+use Rattle.autocoder_1401.specs.Values.{body_outside, line_outside, first_outside_from, first_outside, last_place}
 
 -- the sizes of core storage are addresses, or the one behind the last
 pub size_bound : (size : ℕ) → is_core_size size ≡ true → (0 < size) × (size ≤ 16000)
@@ -218,35 +229,42 @@ pub neither : (x y : Bool) → (x || y) ≡ false → (x ≡ false) × (y ≡ fa
 neither true y h = absurd (true≢false h)
 neither false y h = (refl, h)
 
+contents_below : (size : ℕ) (all this : Places) (made : Contents) (lines : List Line) → size ≤ 16000
+    → places_outside size this.next (contents_length made) ≡ false
+    → are_below size (numbered (place_of this.next) (contents_cells all this made lines)) ≡ true
+contents_below size all this contents.Nothing lines small inside = refl
+contents_below size all this (contents.Instruction instruction of) lines small inside =
+    let last = last_place this.next (instruction_length of) in
+    placed_below size this.next (instruction_length of) (instruction_cells all last instruction of) small inside
+    (instruction_few all last instruction of)
+contents_below size all this (contents.MarkedConstant constant) lines small inside =
+    placed_below size this.next (constant_length constant) (constant_cells true constant) small inside
+    (constant_few true constant)
+contents_below size all this (contents.Constant constant) lines small inside =
+    placed_below size this.next (constant_length constant) (constant_cells false constant) small inside
+    (constant_few false constant)
+contents_below size all this (contents.Space places) lines small inside = refl
+contents_below size all this (contents.Areas made) lines small inside =
+    placed_below size this.next (areas_length made) (areas_cells made lines) small inside (areas_few made lines)
+
+row_below : (size : ℕ) (all this : Places) (row : Description) (step : Next) (lines : List Line) → size ≤ 16000
+    → places_outside size this.next (contents_length row.contents) ≡ false → next_outside size this step ≡ false
+    → are_below size (numbered (place_of this.next) (row_cells all this row step lines)) ≡ true
+row_below size all this row next.Behind lines small places literals =
+    contents_below size all this row.contents lines small places
+row_below size all this row next.Literals lines small places literals = literals_below size this small literals
+row_below size all this row next.Value lines small places literals = refl
+
 body_below : (size : ℕ) (all this : Places) (body : Body) (lines : List Line) → size ≤ 16000
     → body_outside size all this body ≡ false
     → are_below size (numbered (place_of this.next) (body_cells all this body lines)) ≡ true
-body_below size all this bodies.Unknown lines small inside = refl
-body_below size all this (bodies.Instruction instruction of) lines small inside =
-    let here = last_place this.next (instruction_length of) in
-    let places = places_outside size this.next (instruction_length of) in
-    let a = operand_outside size all here of.a in
-    let b = operand_outside size all here of.b in
-    placed_below size this.next (instruction_length of) (instruction_cells all here instruction of) small
-    (neither places a (neither (places || a) b inside).0).0 (instruction_few all here instruction of)
-body_below size all this (bodies.MarkedConstant constant) lines small inside =
-    placed_below size this.next (constant_length constant) (constant_cells true constant) small inside
-    (constant_few true constant)
-body_below size all this (bodies.Constant constant) lines small inside =
-    placed_below size this.next (constant_length constant) (constant_cells false constant) small inside
-    (constant_few false constant)
-body_below size all this (bodies.Space places) lines small inside = refl
-body_below size all this (bodies.Areas areas) lines small inside =
-    placed_below size this.next (areas_length areas) (areas_cells areas lines) small inside (areas_few areas lines)
-body_below size all this (bodies.Field span) lines small inside = refl
-body_below size all this (bodies.Equate of) lines small inside = refl
-body_below size all this (bodies.Origin of) lines small inside = refl
-body_below size all this (bodies.Execute of) lines small inside =
-    literals_below size this small
-    (neither (literals_outside size this) (operand_outside size all (pos 0) of.a) inside).0
-body_below size all this (bodies.End of) lines small inside =
-    literals_below size this small
-    (neither (literals_outside size this) (operand_outside size all (pos 0) of.a) inside).0
+body_below size all this body lines small inside =
+    let row = describe body in
+    let places = places_outside size this.next (contents_length row.contents) in
+    let literals = next_outside size this row.next in
+    let parts = neither places literals
+    (neither (places || literals) (addresses_outside size all this row row.addressing) inside).0 in
+    row_below size all this row row.next lines small parts.0 parts.1
 
 line_below : (size : ℕ) (all this : Places) (line : Line) (lines : List Line) → size ≤ 16000
     → line_outside size all this line ≡ false
@@ -325,30 +343,42 @@ cut_inside size at cells (next ∷ more) small inside below =
         (list_all (is_inside size) (cut next.0 (next.1 ∷ []) more))
         (closed_inside size at cells small inside) (anew (λ some. omega (arith, low)) rest)
 
+-- an asterisk has no value where it stands for no place
+base_same : (all : Places) (base : Base) → base_value all (pos 0) base ≡ base_so_far all.values base
+base_same all (bases.Number number) = refl
+base_same all (bases.Symbol label) = refl
+base_same all bases.Here = refl
+
 -- the operand of END is in core
 entry_inside : (size : ℕ) (all : Places) (field : OperandField) → (0 < size) × (size ≤ 16000)
-    → operand_outside size all (pos 0) field ≡ false → place_of (operand_value all field) < size
+    → operand_outside size all (pos 0) field ≡ false → place_of (value_so_far all.values field) < size
 entry_inside size all fields.Absent bounds h = omega (arith, bounds.0)
 entry_inside size all fields.Malformed bounds h = omega (arith, bounds.0)
 entry_inside size all (fields.Operand (operands.Address address)) bounds h =
-    value_inside size (operand_value all (fields.Operand (operands.Address address))) bounds.1
-    (not-false (is_in_core size (operand_value all (fields.Operand (operands.Address address)))) h)
+    let value = value_so_far all.values (fields.Operand (operands.Address address)) in
+    let same : address_value all (pos 0) address ≡ value =
+    ap (λ (base : ℤ). base +ℤ address.adjustment) (base_same all address.base) in
+    value_inside size value bounds.1
+    (ap (is_in_core size) (sym same) ∙ not-false (is_in_core size (address_value all (pos 0) address)) h)
 entry_inside size all (fields.Operand (operands.Literal constant)) bounds h = omega (arith, bounds.0)
+
+row_entry : (size : ℕ) (all this : Places) (row : Description) (asked : Addressing) (behind : ℤ)
+    → (0 < size) × (size ≤ 16000) → addresses_outside size all this row asked ≡ false → place_of behind < size
+    → place_of (entry_in_row all asked behind) < size
+row_entry size all this row addressing.Nothing behind bounds h low = low
+row_entry size all this row (addressing.Addresses of) behind bounds h low = low
+row_entry size all this row (addressing.EarlierValue of) behind bounds h low = low
+row_entry size all this row (addressing.Value of) behind bounds h low = low
+row_entry size all this row (addressing.Entry of) behind bounds h low = entry_inside size all of.a bounds h
 
 body_entry : (size : ℕ) (all this : Places) (body : Body) (behind : ℤ) → (0 < size) × (size ≤ 16000)
     → body_outside size all this body ≡ false → place_of behind < size → place_of (entry_by all body behind) < size
-body_entry size all this bodies.Unknown behind bounds h low = low
-body_entry size all this (bodies.Instruction instruction of) behind bounds h low = low
-body_entry size all this (bodies.MarkedConstant constant) behind bounds h low = low
-body_entry size all this (bodies.Constant constant) behind bounds h low = low
-body_entry size all this (bodies.Space places) behind bounds h low = low
-body_entry size all this (bodies.Areas areas) behind bounds h low = low
-body_entry size all this (bodies.Field span) behind bounds h low = low
-body_entry size all this (bodies.Equate of) behind bounds h low = low
-body_entry size all this (bodies.Origin of) behind bounds h low = low
-body_entry size all this (bodies.Execute of) behind bounds h low = low
-body_entry size all this (bodies.End of) behind bounds h low =
-    entry_inside size all of.a bounds (neither (literals_outside size this) (operand_outside size all (pos 0) of.a) h).1
+body_entry size all this body behind bounds h low =
+    let row = describe body in
+    let places = places_outside size this.next (contents_length row.contents) in
+    let addresses = addresses_outside size all this row row.addressing in
+    row_entry size all this row row.addressing behind bounds
+    (neither (places || next_outside size this row.next) addresses h).1 low
 
 line_entry : (size : ℕ) (all this : Places) (line : Line) (behind : ℤ) → (0 < size) × (size ≤ 16000)
     → line_outside size all this line ≡ false → place_of behind < size

@@ -12,16 +12,24 @@ use Rattle.source_1401.specs.declared.operands.Operand.TheVariants as operands
 use Rattle.source_1401.specs.declared.operands.OperandField.{OperandField}
 use Rattle.source_1401.specs.declared.operands.OperandField.TheVariants as fields
 use Rattle.source_1401.specs.declared.operands.Operands.{Operands}
+use Rattle.source_1401.specs.Description.{describe, operands_in}
+use Rattle.source_1401.specs.declared.description.Addressing.{Addressing}
+use Rattle.source_1401.specs.declared.description.Addressing.TheVariants as addressing
+use Rattle.source_1401.specs.declared.description.AreaRole.{AreaRole}
+use Rattle.source_1401.specs.declared.description.AreaRole.TheVariants as areas
+use Rattle.source_1401.specs.declared.description.Description.{Description}
+use Rattle.source_1401.specs.declared.description.Next.{Next}
+use Rattle.source_1401.specs.declared.description.Next.TheVariants as next
 use Rattle.source_1401.specs.declared.statement.Body.{Body}
-use Rattle.source_1401.specs.declared.statement.Body.TheVariants as bodies
 use Rattle.source_1401.specs.declared.statement.Statement.{Statement}
 use Rattle.source_1401.specs.declared.statement.Line.{Line}
 use Rattle.autocoder_1401.specs.Characters.{characters_of, same_characters}
-use Rattle.autocoder_1401.specs.Placement.{Places, nothing_placed, pending, with_literal, with_operand, with_next}
-use Rattle.autocoder_1401.specs.Placement.{behind_body, with_label, label_value, after_line, placed, value_so_far}
-use Rattle.autocoder_1401.specs.Placement.{instruction_length}
-use Rattle.autocoder_1401.specs.PlacementLaws.{body_length, length_with, lengths_from, origin_in, origin_with}
-use Rattle.autocoder_1401.specs.PlacementLaws.{AreNoOrigins, literal_in, uses_in, uses_with, uses, with_use}
+use Rattle.autocoder_1401.specs.Placement.{Places, nothing_placed, pending, with_literal, with_operand, with_uses}
+use Rattle.autocoder_1401.specs.Placement.{with_areas, moved, behind_row, behind_body, with_label, label_value}
+use Rattle.autocoder_1401.specs.Placement.{after_line, placed, value_so_far}
+use Rattle.autocoder_1401.specs.PlacementLaws.{row_length, body_length, length_with, lengths_from, origin_by, origin_in}
+use Rattle.autocoder_1401.specs.PlacementLaws.{origin_with, AreNoOrigins, literal_in, uses_by, uses_in, uses_with, uses}
+use Rattle.autocoder_1401.specs.PlacementLaws.{with_use}
 use Rattle.autocoder_1401.specs.PlacementLaws.{IsPlacedInTurn}
 use Rattle.autocoder_1401.specs.declared.characters.Characters.{Characters}
 use Rattle.autocoder_1401.proofs.CoreLemmas.{behind_total}
@@ -47,21 +55,32 @@ operand_next this (fields.Operand (operands.Address address)) = refl
 operand_next this (fields.Operand (operands.Literal constant)) = literal_next this constant
 
 -- a body moves the next place by its length, but for an origin
+areas_next : (this : Places) (first : ℤ) (role : AreaRole) → (with_areas this first role).next ≡ this.next
+areas_next this first areas.Ends = refl
+areas_next this first (areas.Makes made) = refl
+areas_next this first (areas.Divides span) = refl
+
+uses_next : (this : Places) (asked : Addressing) → (with_uses this asked).next ≡ this.next
+uses_next this addressing.Nothing = refl
+uses_next this (addressing.Addresses of) = operand_next (with_operand this of.a) of.b ∙ operand_next this of.a
+uses_next this (addressing.EarlierValue of) = refl
+uses_next this (addressing.Value of) = refl
+uses_next this (addressing.Entry of) = refl
+
+row_next : (this : Places) (row : Description) → (behind_row this row).next ≡ (moved this row row.next).next
+row_next this row =
+    let on = moved this row row.next in
+    uses_next (with_areas on this.next row.areas) row.addressing ∙ areas_next on this.next row.areas
+
+moved_next : (this : Places) (row : Description) (step : Next) → origin_by step row.addressing ≡ None
+    → (moved this row step).next ≡ this.next +ℤ pos (row_length this row step)
+moved_next this row next.Behind none = refl
+moved_next this row next.Literals none = behind_total this.next (pending this)
+moved_next this row next.Value none = cc
+
 body_next : (this : Places) (body : Body) → origin_in body ≡ None
     → (behind_body this body).next ≡ this.next +ℤ pos (body_length this body)
-body_next this bodies.Unknown none = sym (+ℤ_idr this.next)
-body_next this (bodies.Instruction instruction of) none =
-    let moved = with_next this (this.next +ℤ pos (instruction_length of)) in
-    operand_next (with_operand moved of.a) of.b ∙ operand_next moved of.a
-body_next this (bodies.MarkedConstant constant) none = refl
-body_next this (bodies.Constant constant) none = refl
-body_next this (bodies.Space places) none = refl
-body_next this (bodies.Areas areas) none = refl
-body_next this (bodies.Field span) none = sym (+ℤ_idr this.next)
-body_next this (bodies.Equate of) none = sym (+ℤ_idr this.next)
-body_next this (bodies.Origin of) none = cc
-body_next this (bodies.Execute of) none = behind_total this.next (pending this)
-body_next this (bodies.End of) none = behind_total this.next (pending this)
+body_next this body none = row_next this (describe body) ∙ moved_next this (describe body) (describe body).next none
 
 -- a label leaves the next place and the literals
 label_next : (this : Places) (label : Option Label) (value : ℤ) → (with_label this label value).next ≡ this.next
@@ -107,19 +126,16 @@ origin_next : (this : Places) (line : Line) (of : Operands) → origin_with line
     → (after_line this line).next ≡ value_so_far this.values of.a
 origin_next this line of is = by line.statement is
   where
+    moved_to : (row : Description) (step : Next) → origin_by step row.addressing ≡ Some of
+        → (moved this row step).next ≡ value_so_far this.values of.a
+    moved_to row next.Behind h = cc
+    moved_to row next.Literals h = cc
+    moved_to row next.Value h =
+        let same : operands_in row.addressing ≡ of = cc in
+        ap (λ (given : Operands). value_so_far this.values given.a) same
+
     body : (given : Body) → origin_in given ≡ Some of → (behind_body this given).next ≡ value_so_far this.values of.a
-    body bodies.Unknown h = cc
-    body (bodies.Instruction instruction operands) h = cc
-    body (bodies.MarkedConstant constant) h = cc
-    body (bodies.Constant constant) h = cc
-    body (bodies.Space places) h = cc
-    body (bodies.Areas areas) h = cc
-    body (bodies.Field span) h = cc
-    body (bodies.Equate operands) h = cc
-    body (bodies.Origin operands) h =
-        let same : operands ≡ of = cc in ap (λ (given : Operands). value_so_far this.values given.a) same
-    body (bodies.Execute operands) h = cc
-    body (bodies.End operands) h = cc
+    body given h = row_next this (describe given) ∙ moved_to (describe given) (describe given).next h
 
     by : (statement : Option Statement) → origin_with statement ≡ Some of
         → (after_line this (record { bytes = line.bytes; statement = statement })).next ≡ value_so_far this.values of.a
@@ -154,22 +170,34 @@ uses_append : (used first second : List Characters)
 uses_append used [] second = refl
 uses_append used (literal ∷ first) second = uses_append (with_use used literal) first second
 
-body_use : (this : Places) (body : Body) → (behind_body this body).literals ≡ fold with_use this.literals (uses_in body)
-body_use this bodies.Unknown = refl
-body_use this (bodies.Instruction instruction of) =
-    let moved = with_next this (this.next +ℤ pos (instruction_length of)) in
-    operand_use (with_operand moved of.a) of.b
-    ∙ ap (λ (used : List Characters). fold with_use used (literal_in of.b)) (operand_use moved of.a)
+areas_literals : (this : Places) (first : ℤ) (role : AreaRole) → (with_areas this first role).literals ≡ this.literals
+areas_literals this first areas.Ends = refl
+areas_literals this first (areas.Makes made) = refl
+areas_literals this first (areas.Divides span) = refl
+
+moved_literals : (this : Places) (row : Description) (step : Next) → (moved this row step).literals ≡ this.literals
+moved_literals this row next.Behind = refl
+moved_literals this row next.Literals = refl
+moved_literals this row next.Value = refl
+
+uses_use : (this : Places) (asked : Addressing)
+    → (with_uses this asked).literals ≡ fold with_use this.literals (uses_by asked)
+uses_use this addressing.Nothing = refl
+uses_use this (addressing.Addresses of) =
+    operand_use (with_operand this of.a) of.b
+    ∙ ap (λ (used : List Characters). fold with_use used (literal_in of.b)) (operand_use this of.a)
     ∙ sym (uses_append this.literals (literal_in of.a) (literal_in of.b))
-body_use this (bodies.MarkedConstant constant) = refl
-body_use this (bodies.Constant constant) = refl
-body_use this (bodies.Space places) = refl
-body_use this (bodies.Areas areas) = refl
-body_use this (bodies.Field span) = refl
-body_use this (bodies.Equate of) = refl
-body_use this (bodies.Origin of) = refl
-body_use this (bodies.Execute of) = refl
-body_use this (bodies.End of) = refl
+uses_use this (addressing.EarlierValue of) = refl
+uses_use this (addressing.Value of) = refl
+uses_use this (addressing.Entry of) = refl
+
+body_use : (this : Places) (body : Body) → (behind_body this body).literals ≡ fold with_use this.literals (uses_in body)
+body_use this body =
+    let row = describe body in
+    let on = moved this row row.next in
+    uses_use (with_areas on this.next row.areas) row.addressing
+    ∙ ap (λ (used : List Characters). fold with_use used (uses_by row.addressing))
+    (areas_literals on this.next row.areas ∙ moved_literals this row row.next)
 
 line_use : (this : Places) (line : Line)
     → (after_line this line).literals ≡ fold with_use this.literals (uses_with line.statement)
@@ -216,20 +244,30 @@ operand_spelled this fields.Malformed so_far = so_far
 operand_spelled this (fields.Operand (operands.Address address)) so_far = so_far
 operand_spelled this (fields.Operand (operands.Literal constant)) so_far = literal_spelled this constant so_far
 
+areas_spelled : (this : Places) (first : ℤ) (role : AreaRole) → IsSpelled this → IsSpelled (with_areas this first role)
+areas_spelled this first areas.Ends so_far = so_far
+areas_spelled this first (areas.Makes made) so_far = so_far
+areas_spelled this first (areas.Divides span) so_far = so_far
+
+moved_spelled : (this : Places) (row : Description) (step : Next) → IsSpelled this → IsSpelled (moved this row step)
+moved_spelled this row next.Behind so_far = so_far
+moved_spelled this row next.Literals so_far = so_far
+moved_spelled this row next.Value so_far = so_far
+
+uses_spelled : (this : Places) (asked : Addressing) → IsSpelled this → IsSpelled (with_uses this asked)
+uses_spelled this addressing.Nothing so_far = so_far
+uses_spelled this (addressing.Addresses of) so_far =
+    operand_spelled (with_operand this of.a) of.b (operand_spelled this of.a so_far)
+uses_spelled this (addressing.EarlierValue of) so_far = so_far
+uses_spelled this (addressing.Value of) so_far = so_far
+uses_spelled this (addressing.Entry of) so_far = so_far
+
 body_spelled : (this : Places) (body : Body) → IsSpelled this → IsSpelled (behind_body this body)
-body_spelled this bodies.Unknown so_far = so_far
-body_spelled this (bodies.Instruction instruction of) so_far =
-    let moved = with_next this (this.next +ℤ pos (instruction_length of)) in
-    operand_spelled (with_operand moved of.a) of.b (operand_spelled moved of.a so_far)
-body_spelled this (bodies.MarkedConstant constant) so_far = so_far
-body_spelled this (bodies.Constant constant) so_far = so_far
-body_spelled this (bodies.Space places) so_far = so_far
-body_spelled this (bodies.Areas areas) so_far = so_far
-body_spelled this (bodies.Field span) so_far = so_far
-body_spelled this (bodies.Equate of) so_far = so_far
-body_spelled this (bodies.Origin of) so_far = so_far
-body_spelled this (bodies.Execute of) so_far = so_far
-body_spelled this (bodies.End of) so_far = so_far
+body_spelled this body so_far =
+    let row = describe body in
+    let on = moved this row row.next in
+    uses_spelled (with_areas on this.next row.areas) row.addressing
+    (areas_spelled on this.next row.areas (moved_spelled this row row.next so_far))
 
 line_spelled : (this : Places) (line : Line) → IsSpelled this → IsSpelled (after_line this line)
 line_spelled this line so_far = by line.statement

@@ -17,15 +17,22 @@ use Rattle.source_1401.specs.declared.label.Label.{Label}
 use Rattle.source_1401.specs.declared.operands.Operand.TheVariants as operands
 use Rattle.source_1401.specs.declared.operands.OperandField.{OperandField}
 use Rattle.source_1401.specs.declared.operands.OperandField.TheVariants as fields
+use Rattle.source_1401.specs.Description.{describe}
+use Rattle.source_1401.specs.declared.description.Addressing.{Addressing}
+use Rattle.source_1401.specs.declared.description.Addressing.TheVariants as addressing
+use Rattle.source_1401.specs.declared.description.AreaRole.{AreaRole}
+use Rattle.source_1401.specs.declared.description.AreaRole.TheVariants as areas
+use Rattle.source_1401.specs.declared.description.Description.{Description}
+use Rattle.source_1401.specs.declared.description.Next.{Next}
+use Rattle.source_1401.specs.declared.description.Next.TheVariants as next
 use Rattle.source_1401.specs.declared.statement.Body.{Body}
-use Rattle.source_1401.specs.declared.statement.Body.TheVariants as bodies
 use Rattle.source_1401.specs.declared.statement.Statement.{Statement}
 use Rattle.source_1401.specs.declared.statement.Line.{Line}
 use Rattle.autocoder_1401.specs.Characters.{characters_of, same_characters}
 use Rattle.autocoder_1401.specs.Cells.{literal_value}
-use Rattle.autocoder_1401.specs.Placement.{Places, pending, units_from, instruction_length, with_literal, with_operand}
-use Rattle.autocoder_1401.specs.Placement.{with_next, behind_body, label_value, with_label, after_line}
-use Rattle.autocoder_1401.specs.PlacementLaws.{total, places_in, places_with, with_use}
+use Rattle.autocoder_1401.specs.Placement.{Places, pending, units_from, with_literal, with_operand, with_uses}
+use Rattle.autocoder_1401.specs.Placement.{with_areas, moved, behind_body, label_value, with_label, after_line}
+use Rattle.autocoder_1401.specs.PlacementLaws.{total, places_by, places_in, places_with, with_use}
 use Rattle.autocoder_1401.specs.declared.characters.Characters.{Characters}
 use Rattle.autocoder_1401.proofs.CoreLemmas.{neither}
 
@@ -86,31 +93,36 @@ operand_grown this fields.Malformed = unchanged this
 operand_grown this (fields.Operand (operands.Address address)) = unchanged this
 operand_grown this (fields.Operand (operands.Literal constant)) = literal_grown this constant
 
+areas_grown : (this : Places) (first : ℤ) (role : AreaRole) → Grown this (with_areas this first role)
+areas_grown this first areas.Ends = unchanged this
+areas_grown this first (areas.Makes made) = record { literals = λ i v h. h; addresses = λ i v h. h }
+areas_grown this first (areas.Divides span) = unchanged this
+
+moved_grown : (this : Places) (row : Description) (step : Next) → Grown this (moved this row step)
+moved_grown this row next.Behind = record { literals = λ i v h. h; addresses = λ i v h. h }
+moved_grown this row next.Literals = record {
+  literals = λ i v h. h;
+  addresses = more_at this.addresses (units_from this.next (pending this));
+}
+moved_grown this row next.Value = record { literals = λ i v h. h; addresses = λ i v h. h }
+
+uses_grown : (this : Places) (asked : Addressing) → Grown this (with_uses this asked)
+uses_grown this addressing.Nothing = unchanged this
+uses_grown this (addressing.Addresses of) =
+    let first = with_operand this of.a in
+    grown_on this first (with_operand first of.b) (operand_grown this of.a) (operand_grown first of.b)
+uses_grown this (addressing.EarlierValue of) = unchanged this
+uses_grown this (addressing.Value of) = unchanged this
+uses_grown this (addressing.Entry of) = unchanged this
+
 body_grown : (this : Places) (body : Body) → Grown this (behind_body this body)
-body_grown this bodies.Unknown = unchanged this
-body_grown this (bodies.Instruction instruction of) =
-    let moved = with_next this (this.next +ℤ pos (instruction_length of)) in
-    let first = operand_grown moved of.a in
-    let second = operand_grown (with_operand moved of.a) of.b in
-    record {
-      literals = λ i v h. second.literals i v (first.literals i v h);
-      addresses = λ i v h. second.addresses i v (first.addresses i v h);
-    }
-body_grown this (bodies.MarkedConstant constant) = record { literals = λ i v h. h; addresses = λ i v h. h }
-body_grown this (bodies.Constant constant) = record { literals = λ i v h. h; addresses = λ i v h. h }
-body_grown this (bodies.Space places) = record { literals = λ i v h. h; addresses = λ i v h. h }
-body_grown this (bodies.Areas areas) = record { literals = λ i v h. h; addresses = λ i v h. h }
-body_grown this (bodies.Field span) = unchanged this
-body_grown this (bodies.Equate of) = unchanged this
-body_grown this (bodies.Origin of) = record { literals = λ i v h. h; addresses = λ i v h. h }
-body_grown this (bodies.Execute of) = record {
-  literals = λ i v h. h;
-  addresses = more_at this.addresses (units_from this.next (pending this));
-}
-body_grown this (bodies.End of) = record {
-  literals = λ i v h. h;
-  addresses = more_at this.addresses (units_from this.next (pending this));
-}
+body_grown this body =
+    let row = describe body in
+    let on = moved this row row.next in
+    let made = with_areas on this.next row.areas in
+    grown_on this made (with_uses made row.addressing)
+    (grown_on this on made (moved_grown this row row.next) (areas_grown on this.next row.areas))
+    (uses_grown made row.addressing)
 
 label_grown : (this : Places) (label : Option Label) (value : ℤ) → Grown this (with_label this label value)
 label_grown this None value = unchanged this
@@ -146,24 +158,56 @@ units_at from (first ∷ literals) (suc k) literal h =
     units_at (from +ℤ pos first.len) literals k literal h
     ∙ ap (λ (n : ℤ). Some (n +ℤ negsuc 0)) (+ℤ_assoc from (pos first.len) (pos (total (take (suc k) literals))))
 
+-- areas and uses leave the addresses
+areas_units : (this : Places) (first : ℤ) (role : AreaRole) → (with_areas this first role).addresses ≡ this.addresses
+areas_units this first areas.Ends = refl
+areas_units this first (areas.Makes made) = refl
+areas_units this first (areas.Divides span) = refl
+
+literal_units : (this : Places) (constant : Constant) → (with_literal this constant).addresses ≡ this.addresses
+literal_units this constant = by (list_any (same_characters (characters_of constant)) this.literals)
+  where
+    by : (b : Bool)
+        → (if b then this else record this {
+          literals = this.literals ++ characters_of constant ∷ [];
+          spellings =
+              this.spellings ++ constant ∷ [];
+        }).addresses
+        ≡ this.addresses
+    by true = refl
+    by false = refl
+
+operand_units : (this : Places) (field : OperandField) → (with_operand this field).addresses ≡ this.addresses
+operand_units this fields.Absent = refl
+operand_units this fields.Malformed = refl
+operand_units this (fields.Operand (operands.Address address)) = refl
+operand_units this (fields.Operand (operands.Literal constant)) = literal_units this constant
+
+uses_units : (this : Places) (asked : Addressing) → (with_uses this asked).addresses ≡ this.addresses
+uses_units this addressing.Nothing = refl
+uses_units this (addressing.Addresses of) = operand_units (with_operand this of.a) of.b ∙ operand_units this of.a
+uses_units this (addressing.EarlierValue of) = refl
+uses_units this (addressing.Value of) = refl
+uses_units this (addressing.Entry of) = refl
+
 -- EX and END place the literals that are used and not placed
 line_units : (this : Places) (line : Line) → places_with line.statement ≡ true
     → (after_line this line).addresses ≡ this.addresses ++ units_from this.next (pending this)
 line_units this line places = by line.statement places
   where
+    moved_units : (row : Description) (step : Next) → places_by step ≡ true
+        → (moved this row step).addresses ≡ this.addresses ++ units_from this.next (pending this)
+    moved_units row next.Behind h = cc
+    moved_units row next.Literals h = refl
+    moved_units row next.Value h = cc
+
     body : (given : Body) → places_in given ≡ true
         → (behind_body this given).addresses ≡ this.addresses ++ units_from this.next (pending this)
-    body bodies.Unknown h = cc
-    body (bodies.Instruction instruction of) h = cc
-    body (bodies.MarkedConstant constant) h = cc
-    body (bodies.Constant constant) h = cc
-    body (bodies.Space places) h = cc
-    body (bodies.Areas areas) h = cc
-    body (bodies.Field span) h = cc
-    body (bodies.Equate of) h = cc
-    body (bodies.Origin of) h = cc
-    body (bodies.Execute of) h = refl
-    body (bodies.End of) h = refl
+    body given h =
+        let row = describe given in
+        let on = moved this row row.next in
+        uses_units (with_areas on this.next row.areas) row.addressing ∙ areas_units on this.next row.areas
+        ∙ moved_units row row.next h
 
     label_units : (behind : Places) (label : Option Label) (value : ℤ)
         → (with_label behind label value).addresses ≡ behind.addresses

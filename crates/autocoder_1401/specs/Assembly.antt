@@ -4,18 +4,20 @@ use Rattle.bcd_1401.specs.declared.cell.Cell.{Cell}
 use Rattle.image_1401.specs.declared.image.Image.{Image}
 use Rattle.source_1401.specs.SourceLine.{lines_of}
 use Rattle.source_1401.specs.Statement.{line_of}
+use Rattle.source_1401.specs.Description.{describe}
+use Rattle.source_1401.specs.declared.description.Addressing.{Addressing}
+use Rattle.source_1401.specs.declared.description.Addressing.TheVariants as addressing
 use Rattle.source_1401.specs.declared.statement.Body.{Body}
-use Rattle.source_1401.specs.declared.statement.Body.TheVariants as bodies
 use Rattle.source_1401.specs.declared.statement.Statement.{Statement}
 use Rattle.source_1401.specs.declared.statement.Line.{Line}
 use Rattle.autocoder_1401.specs.Cells.{place_of, cells_from}
 use Rattle.autocoder_1401.specs.FirstFault.{first_fault, IsFaultless, IsFirstFault}
 use Rattle.autocoder_1401.specs.Laws.{IsFirstOutside}
 use Rattle.autocoder_1401.specs.Listing.{listing_of}
-use Rattle.autocoder_1401.specs.Placement.{Places, nothing_placed, placed}
+use Rattle.autocoder_1401.specs.Placement.{Places, nothing_placed, value_so_far, placed}
 use Rattle.autocoder_1401.specs.Segments.{segments_of}
 use Rattle.autocoder_1401.specs.Symbols.{declared_at}
-use Rattle.autocoder_1401.specs.Values.{operand_value, first_outside}
+use Rattle.autocoder_1401.specs.Values.{first_outside}
 use Rattle.autocoder_1401.specs.declared.assembly.Assembly.{Assembly}
 use Rattle.autocoder_1401.specs.declared.fault.AsmFault.{AsmFault}
 
@@ -24,18 +26,15 @@ abbrev pub lines_in : List ℕ → List Line
 lines_in source = map line_of (lines_of source)
 
 -- the value of END, else that of the END behind
+abbrev pub entry_in_row : Places → Addressing → ℤ → ℤ
+entry_in_row all addressing.Nothing behind = behind
+entry_in_row all (addressing.Addresses of) behind = behind
+entry_in_row all (addressing.EarlierValue of) behind = behind
+entry_in_row all (addressing.Value of) behind = behind
+entry_in_row all (addressing.Entry of) behind = value_so_far all.values of.a
+
 abbrev pub entry_by : Places → Body → ℤ → ℤ
-entry_by all bodies.Unknown behind = behind
-entry_by all (bodies.Instruction instruction of) behind = behind
-entry_by all (bodies.MarkedConstant constant) behind = behind
-entry_by all (bodies.Constant constant) behind = behind
-entry_by all (bodies.Space places) behind = behind
-entry_by all (bodies.Areas areas) behind = behind
-entry_by all (bodies.Field span) behind = behind
-entry_by all (bodies.Equate of) behind = behind
-entry_by all (bodies.Origin of) behind = behind
-entry_by all (bodies.Execute of) behind = behind
-entry_by all (bodies.End of) behind = operand_value all of.a
+entry_by all body behind = entry_in_row all (describe body).addressing behind
 
 abbrev pub entry_with : Places → Option Statement → ℤ → ℤ
 entry_with all None behind = behind

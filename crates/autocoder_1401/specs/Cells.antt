@@ -18,8 +18,15 @@ use Rattle.source_1401.specs.declared.operands.OperandField.TheVariants as field
 use Rattle.source_1401.specs.declared.operands.Operands.{Operands}
 use Rattle.source_1401.specs.declared.statement.Areas.{Areas}
 use Rattle.source_1401.specs.declared.statement.Span.{Span}
+use Rattle.source_1401.specs.Description.{describe}
+use Rattle.source_1401.specs.declared.description.AreaRole.{AreaRole}
+use Rattle.source_1401.specs.declared.description.AreaRole.TheVariants as areas
+use Rattle.source_1401.specs.declared.description.Contents.{Contents}
+use Rattle.source_1401.specs.declared.description.Contents.TheVariants as contents
+use Rattle.source_1401.specs.declared.description.Description.{Description}
+use Rattle.source_1401.specs.declared.description.Next.{Next}
+use Rattle.source_1401.specs.declared.description.Next.TheVariants as next
 use Rattle.source_1401.specs.declared.statement.Body.{Body}
-use Rattle.source_1401.specs.declared.statement.Body.TheVariants as bodies
 use Rattle.source_1401.specs.declared.statement.Statement.{Statement}
 use Rattle.source_1401.specs.declared.statement.Line.{Line}
 use Rattle.autocoder_1401.specs.Characters.{char_of, characters_of, codes_in, same_characters}
@@ -94,19 +101,14 @@ abbrev pub literal_cells : Characters → List Cell
 literal_cells literal = with_word_mark (codes_in literal)
 
 -- the fields directly behind areas, comments aside
+abbrev pub fields_by : AreaRole → List Span → List Span
+fields_by areas.Ends behind = []
+fields_by (areas.Makes made) behind = []
+fields_by (areas.Divides None) behind = behind
+fields_by (areas.Divides (Some span)) behind = span ∷ behind
+
 abbrev pub fields_of : Body → List Span → List Span
-fields_of bodies.Unknown behind = []
-fields_of (bodies.Instruction instruction operands) behind = []
-fields_of (bodies.MarkedConstant constant) behind = []
-fields_of (bodies.Constant constant) behind = []
-fields_of (bodies.Space places) behind = []
-fields_of (bodies.Areas areas) behind = []
-fields_of (bodies.Field None) behind = behind
-fields_of (bodies.Field (Some span)) behind = span ∷ behind
-fields_of (bodies.Equate operands) behind = []
-fields_of (bodies.Origin operands) behind = []
-fields_of (bodies.Execute operands) behind = []
-fields_of (bodies.End operands) behind = []
+fields_of body behind = fields_by (describe body).areas behind
 
 abbrev pub fields_with : Option Statement → List Span → List Span
 fields_with None behind = behind
@@ -137,20 +139,25 @@ abbrev pub areas_cells : Option Areas → List Line → List Cell
 areas_cells None lines = []
 areas_cells (Some areas) lines = repeated areas.count (area_cells areas.length (fields_behind lines))
 
+-- the cells of contents that begin at the next place, with these lines behind them
+abbrev pub contents_cells : Places → Places → Contents → List Line → List Cell
+contents_cells all this contents.Nothing lines = []
+contents_cells all this (contents.Instruction instruction of) lines =
+    instruction_cells all (last_place this.next (instruction_length of)) instruction of
+contents_cells all this (contents.MarkedConstant constant) lines = constant_cells true constant
+contents_cells all this (contents.Constant constant) lines = constant_cells false constant
+contents_cells all this (contents.Space places) lines = []
+contents_cells all this (contents.Areas made) lines = areas_cells made lines
+
+-- the cells that a statement places: its own, or literals
+abbrev pub row_cells : Places → Places → Description → Next → List Line → List Cell
+row_cells all this row next.Behind lines = contents_cells all this row.contents lines
+row_cells all this row next.Literals lines = flat_map literal_cells (pending this)
+row_cells all this row next.Value lines = []
+
 -- the cells that a body places, with these lines behind it
 abbrev pub body_cells : Places → Places → Body → List Line → List Cell
-body_cells all this bodies.Unknown lines = []
-body_cells all this (bodies.Instruction instruction of) lines =
-    instruction_cells all (last_place this.next (instruction_length of)) instruction of
-body_cells all this (bodies.MarkedConstant constant) lines = constant_cells true constant
-body_cells all this (bodies.Constant constant) lines = constant_cells false constant
-body_cells all this (bodies.Space places) lines = []
-body_cells all this (bodies.Areas areas) lines = areas_cells areas lines
-body_cells all this (bodies.Field span) lines = []
-body_cells all this (bodies.Equate of) lines = []
-body_cells all this (bodies.Origin of) lines = []
-body_cells all this (bodies.Execute of) lines = flat_map literal_cells (pending this)
-body_cells all this (bodies.End of) lines = flat_map literal_cells (pending this)
+body_cells all this body lines = row_cells all this (describe body) (describe body).next lines
 
 abbrev pub statement_cells : Places → Places → Option Statement → List Line → List Cell
 statement_cells all this None lines = []

@@ -14,8 +14,12 @@ use Rattle.source_1401.specs.declared.operands.OperandField.{OperandField}
 use Rattle.source_1401.specs.declared.operands.OperandField.TheVariants as fields
 use Rattle.source_1401.specs.declared.statement.Areas.{Areas}
 use Rattle.source_1401.specs.declared.statement.Span.{Span}
+use Rattle.source_1401.specs.Description.{describe}
+use Rattle.source_1401.specs.declared.description.Addressing.{Addressing}
+use Rattle.source_1401.specs.declared.description.Addressing.TheVariants as addressing
+use Rattle.source_1401.specs.declared.description.AreaRole.{AreaRole}
+use Rattle.source_1401.specs.declared.description.AreaRole.TheVariants as roles
 use Rattle.source_1401.specs.declared.statement.Body.{Body}
-use Rattle.source_1401.specs.declared.statement.Body.TheVariants as bodies
 use Rattle.source_1401.specs.declared.statement.Bytes.{Bytes}
 use Rattle.source_1401.specs.declared.statement.Bytes.TheVariants as bytes
 use Rattle.source_1401.specs.declared.statement.Statement.{Statement}
@@ -29,18 +33,13 @@ use Rattle.autocoder_1401.specs.declared.first_fault.Place.{Place}
 
 -- the length of the areas that a field behind these lines would divide: those of a DA, with nothing but its fields and
 -- comments behind it
+abbrev pub areas_by : Option ℕ → AreaRole → Option ℕ
+areas_by areas roles.Ends = None
+areas_by areas (roles.Makes made) = option_map (λ (of : Areas). of.length) made
+areas_by areas (roles.Divides span) = areas
+
 abbrev pub areas_with : Option ℕ → Body → Option ℕ
-areas_with areas bodies.Unknown = None
-areas_with areas (bodies.Instruction instruction operands) = None
-areas_with areas (bodies.MarkedConstant constant) = None
-areas_with areas (bodies.Constant constant) = None
-areas_with areas (bodies.Space places) = None
-areas_with areas (bodies.Areas made) = option_map (λ (of : Areas). of.length) made
-areas_with areas (bodies.Field span) = areas
-areas_with areas (bodies.Equate operands) = None
-areas_with areas (bodies.Origin operands) = None
-areas_with areas (bodies.Execute operands) = None
-areas_with areas (bodies.End operands) = None
+areas_with areas body = areas_by areas (describe body).areas
 
 abbrev pub areas_behind : Option ℕ → Line → Option ℕ
 areas_behind areas line =
@@ -55,19 +54,14 @@ abbrev pub place_behind : Place → Line → Place
 place_behind this line =
     record { number = this.number + 1; is_ended = this.is_ended || is_end line; areas = areas_behind this.areas line }
 
+abbrev pub is_field : AreaRole → Bool
+is_field roles.Ends = false
+is_field (roles.Makes made) = false
+is_field (roles.Divides span) = true
+
 -- a field divides areas
 abbrev pub is_field_of : Option ℕ → Body → Bool
-is_field_of areas bodies.Unknown = false
-is_field_of areas (bodies.Instruction instruction operands) = false
-is_field_of areas (bodies.MarkedConstant constant) = false
-is_field_of areas (bodies.Constant constant) = false
-is_field_of areas (bodies.Space places) = false
-is_field_of areas (bodies.Areas made) = false
-is_field_of areas (bodies.Field span) = is_some areas
-is_field_of areas (bodies.Equate operands) = false
-is_field_of areas (bodies.Origin operands) = false
-is_field_of areas (bodies.Execute operands) = false
-is_field_of areas (bodies.End operands) = false
+is_field_of areas body = is_field (describe body).areas && is_some areas
 
 abbrev pub is_absent : LabelField → Bool
 is_absent labels.Absent = true
@@ -85,17 +79,7 @@ double_label declared number (labels.Label label) = is_before number (declared l
 
 -- a field under no areas is no operation
 abbrev pub bad_operation : Option ℕ → Body → Bool
-bad_operation areas bodies.Unknown = true
-bad_operation areas (bodies.Instruction instruction operands) = false
-bad_operation areas (bodies.MarkedConstant constant) = false
-bad_operation areas (bodies.Constant constant) = false
-bad_operation areas (bodies.Space places) = false
-bad_operation areas (bodies.Areas made) = false
-bad_operation areas (bodies.Field span) = is_none areas
-bad_operation areas (bodies.Equate operands) = false
-bad_operation areas (bodies.Origin operands) = false
-bad_operation areas (bodies.Execute operands) = false
-bad_operation areas (bodies.End operands) = false
+bad_operation areas body = not (describe body).is_known || (is_field (describe body).areas && is_none areas)
 
 -- the symbol that an operand names
 abbrev pub symbol_in_base : Base → Option Label
@@ -118,19 +102,16 @@ abbrev pub is_undefined_before : Declared → ℕ → OperandField → Bool
 is_undefined_before declared number field =
     option_map_or (λ label. not (is_before number (declared label))) (symbol_in field) false
 
--- EQU and ORG take the labels of earlier lines alone
+-- some values take the labels of earlier lines alone
+abbrev pub undefined_in : Declared → ℕ → Addressing → Bool
+undefined_in declared number addressing.Nothing = false
+undefined_in declared number (addressing.Addresses of) = is_undefined declared of.a || is_undefined declared of.b
+undefined_in declared number (addressing.EarlierValue of) = is_undefined_before declared number of.a
+undefined_in declared number (addressing.Value of) = is_undefined declared of.a
+undefined_in declared number (addressing.Entry of) = is_undefined declared of.a
+
 abbrev pub undefined : Declared → ℕ → Body → Bool
-undefined declared number bodies.Unknown = false
-undefined declared number (bodies.Instruction instruction of) = is_undefined declared of.a || is_undefined declared of.b
-undefined declared number (bodies.MarkedConstant constant) = false
-undefined declared number (bodies.Constant constant) = false
-undefined declared number (bodies.Space places) = false
-undefined declared number (bodies.Areas made) = false
-undefined declared number (bodies.Field span) = false
-undefined declared number (bodies.Equate of) = is_undefined_before declared number of.a
-undefined declared number (bodies.Origin of) = is_undefined_before declared number of.a
-undefined declared number (bodies.Execute of) = is_undefined declared of.a
-undefined declared number (bodies.End of) = is_undefined declared of.a
+undefined declared number body = undefined_in declared number (describe body).addressing
 
 -- a field that ends behind its area
 abbrev pub is_past : Option ℕ → Option Span → Bool
@@ -138,18 +119,13 @@ is_past (Some length) (Some span) = nat_lt length span.last
 is_past (Some length) None = false
 is_past None span = false
 
+abbrev pub is_past_by : Option ℕ → AreaRole → Bool
+is_past_by areas roles.Ends = false
+is_past_by areas (roles.Makes made) = false
+is_past_by areas (roles.Divides span) = is_past areas span
+
 abbrev pub is_past_areas : Option ℕ → Body → Bool
-is_past_areas areas bodies.Unknown = false
-is_past_areas areas (bodies.Instruction instruction operands) = false
-is_past_areas areas (bodies.MarkedConstant constant) = false
-is_past_areas areas (bodies.Constant constant) = false
-is_past_areas areas (bodies.Space places) = false
-is_past_areas areas (bodies.Areas made) = false
-is_past_areas areas (bodies.Field span) = is_past areas span
-is_past_areas areas (bodies.Equate operands) = false
-is_past_areas areas (bodies.Origin operands) = false
-is_past_areas areas (bodies.Execute operands) = false
-is_past_areas areas (bodies.End operands) = false
+is_past_areas areas body = is_past_by areas (describe body).areas
 
 abbrev pub bad_operands : Option ℕ → Body → Bool
 bad_operands areas body = has_bad_operands body || is_past_areas areas body

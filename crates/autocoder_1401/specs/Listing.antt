@@ -1,6 +1,6 @@
 -- The lines of a listing (Autocoder, "Assembler Control"; their columns own).
 use Rattle.std.specs.Prelude.{ℕ, ◌+◌, ◌-◌, List, [], ◌∷◌, ◌++◌, length, map, take, drop, slice_index}
-use Rattle.std.specs.Prelude.{ℤ, pos, negsuc, ◌+ℤ◌, nat_abs, Option, Some, None, codes}
+use Rattle.std.specs.Prelude.{ℤ, nat_abs, Option, Some, None, codes}
 use Rattle.std.specs.List.{suffix_len}
 use Rattle.bcd_1401.specs.Graphic.{graphics}
 use Rattle.bcd_1401.specs.declared.cell.Cell.{Cell}
@@ -10,14 +10,18 @@ use Rattle.source_1401.specs.SourceLine.{padded, is_blank}
 use Rattle.source_1401.specs.Statement.{line_of}
 use Rattle.source_1401.specs.declared.constant.Constant.{Constant}
 use Rattle.source_1401.specs.declared.constant.Constant.TheVariants as constants
+use Rattle.source_1401.specs.Description.{describe}
+use Rattle.source_1401.specs.declared.description.Addressing.{Addressing}
+use Rattle.source_1401.specs.declared.description.Addressing.TheVariants as addressing
+use Rattle.source_1401.specs.declared.description.Next.{Next}
+use Rattle.source_1401.specs.declared.description.Next.TheVariants as next
+use Rattle.source_1401.specs.declared.label.Label.{Label}
 use Rattle.source_1401.specs.declared.statement.Body.{Body}
-use Rattle.source_1401.specs.declared.statement.Body.TheVariants as bodies
 use Rattle.source_1401.specs.declared.statement.Statement.{Statement}
 use Rattle.source_1401.specs.declared.statement.Line.{Line}
-use Rattle.autocoder_1401.specs.Cells.{body_cells, literal_cells}
+use Rattle.autocoder_1401.specs.Cells.{contents_cells, literal_cells}
 use Rattle.autocoder_1401.specs.Characters.{characters_of}
-use Rattle.autocoder_1401.specs.Placement.{Places, nothing_placed, value_so_far, behind_literal, after_line, placed}
-use Rattle.autocoder_1401.specs.Values.{operand_value}
+use Rattle.autocoder_1401.specs.Placement.{Places, nothing_placed, point_value, behind_literal, after_line, placed}
 
 -- the number of a line in at least four digits; four blanks for a line that isn't in the source
 unfoldable pub number_text : Option ℕ → List ℕ
@@ -64,48 +68,30 @@ literal_lines from (literal ∷ literals) =
     ∷ literal_lines (behind_literal from (characters_of literal)) literals
 
 -- how the literals were first written that a body places
+abbrev pub literals_by : Places → Next → List Constant
+literals_by this next.Behind = []
+literals_by this next.Literals = drop (length this.addresses) this.spellings
+literals_by this next.Value = []
+
 abbrev pub literals_at : Places → Body → List Constant
-literals_at this bodies.Unknown = []
-literals_at this (bodies.Instruction instruction of) = []
-literals_at this (bodies.MarkedConstant constant) = []
-literals_at this (bodies.Constant constant) = []
-literals_at this (bodies.Space places) = []
-literals_at this (bodies.Areas areas) = []
-literals_at this (bodies.Field span) = []
-literals_at this (bodies.Equate of) = []
-literals_at this (bodies.Origin of) = []
-literals_at this (bodies.Execute of) = drop (length this.addresses) this.spellings
-literals_at this (bodies.End of) = drop (length this.addresses) this.spellings
+literals_at this body = literals_by this (describe body).next
+
+-- the values of labels that an operand is looked up in: some are valued where they stand, the others by all labels
+abbrev pub values_for : Places → Places → Addressing → List (Label × ℤ)
+values_for all this addressing.Nothing = this.values
+values_for all this (addressing.Addresses of) = this.values
+values_for all this (addressing.EarlierValue of) = this.values
+values_for all this (addressing.Value of) = all.values
+values_for all this (addressing.Entry of) = all.values
 
 -- the address of a body: its first place, that of a field in the first area; the value of EQU, ORG, EX and END
 abbrev pub address_at : Places → Places → Body → ℤ
-address_at all this bodies.Unknown = this.next
-address_at all this (bodies.Instruction instruction of) = this.next
-address_at all this (bodies.MarkedConstant constant) = this.next
-address_at all this (bodies.Constant constant) = this.next
-address_at all this (bodies.Space places) = this.next
-address_at all this (bodies.Areas areas) = this.next
-address_at all this (bodies.Field None) = this.next
-address_at all this (bodies.Field (Some span)) = this.areas +ℤ pos span.first +ℤ negsuc 0
-address_at all this (bodies.Equate of) = value_so_far this.values of.a
-address_at all this (bodies.Origin of) = value_so_far this.values of.a
-address_at all this (bodies.Execute of) = operand_value all of.a
-address_at all this (bodies.End of) = operand_value all of.a
+address_at all this body =
+    let row = describe body in point_value (values_for all this row.addressing) this row row.shows
 
 -- the cells that the line of a body shows: those of an instruction, a constant or areas
 abbrev pub cells_at : Places → Places → Body → List Line → List Cell
-cells_at all this bodies.Unknown lines = []
-cells_at all this (bodies.Instruction instruction of) lines =
-    body_cells all this (bodies.Instruction instruction of) lines
-cells_at all this (bodies.MarkedConstant constant) lines = body_cells all this (bodies.MarkedConstant constant) lines
-cells_at all this (bodies.Constant constant) lines = body_cells all this (bodies.Constant constant) lines
-cells_at all this (bodies.Space places) lines = []
-cells_at all this (bodies.Areas areas) lines = body_cells all this (bodies.Areas areas) lines
-cells_at all this (bodies.Field span) lines = []
-cells_at all this (bodies.Equate of) lines = []
-cells_at all this (bodies.Origin of) lines = []
-cells_at all this (bodies.Execute of) lines = []
-cells_at all this (bodies.End of) lines = []
+cells_at all this body lines = contents_cells all this (describe body).contents lines
 
 -- how the literals were first written that a line places: before EX and END each has a line of its own
 abbrev pub literals_in : Places → Option Statement → List Constant

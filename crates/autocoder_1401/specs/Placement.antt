@@ -16,8 +16,19 @@ use Rattle.source_1401.specs.declared.operands.OperandField.{OperandField}
 use Rattle.source_1401.specs.declared.operands.OperandField.TheVariants as fields
 use Rattle.source_1401.specs.declared.operands.Operands.{Operands}
 use Rattle.source_1401.specs.declared.statement.Areas.{Areas}
+use Rattle.source_1401.specs.Description.{describe, operands_in}
+use Rattle.source_1401.specs.declared.description.Addressing.{Addressing}
+use Rattle.source_1401.specs.declared.description.Addressing.TheVariants as addressing
+use Rattle.source_1401.specs.declared.description.AreaRole.{AreaRole}
+use Rattle.source_1401.specs.declared.description.AreaRole.TheVariants as areas
+use Rattle.source_1401.specs.declared.description.Contents.{Contents}
+use Rattle.source_1401.specs.declared.description.Contents.TheVariants as contents
+use Rattle.source_1401.specs.declared.description.Description.{Description}
+use Rattle.source_1401.specs.declared.description.Next.{Next}
+use Rattle.source_1401.specs.declared.description.Next.TheVariants as next
+use Rattle.source_1401.specs.declared.description.Point.{Point}
+use Rattle.source_1401.specs.declared.description.Point.TheVariants as point
 use Rattle.source_1401.specs.declared.statement.Body.{Body}
-use Rattle.source_1401.specs.declared.statement.Body.TheVariants as bodies
 use Rattle.source_1401.specs.declared.statement.Statement.{Statement}
 use Rattle.source_1401.specs.declared.statement.Line.{Line}
 use Rattle.autocoder_1401.specs.Characters.{characters_of, same_characters}
@@ -25,8 +36,7 @@ use Rattle.autocoder_1401.specs.Symbols.{same_label}
 use Rattle.autocoder_1401.specs.declared.characters.Characters.{Characters}
 
 -- what is placed so far: the next place, the first place of the last areas, the labels' values, the literals in order
--- of
--- first use with what each was first written as, and the units places of those that are placed
+-- of first use with what each was first written as, and the units places of those that are placed
 pub record Places : Type 0 where
   pub next : ℤ
   pub areas : ℤ
@@ -51,19 +61,18 @@ abbrev pub areas_length : Option Areas → ℕ
 areas_length None = 0
 areas_length (Some areas) = areas.count * areas.length
 
--- how many places a body takes that places no literals
+-- how many places contents fill
+abbrev pub contents_length : Contents → ℕ
+contents_length contents.Nothing = 0
+contents_length (contents.Instruction instruction operands) = instruction_length operands
+contents_length (contents.MarkedConstant constant) = constant_length constant
+contents_length (contents.Constant constant) = constant_length constant
+contents_length (contents.Space places) = unwrap_or places 0
+contents_length (contents.Areas areas) = areas_length areas
+
+-- how many places a body takes, without the literals that it places
 abbrev pub length_of : Body → ℕ
-length_of bodies.Unknown = 0
-length_of (bodies.Instruction instruction operands) = instruction_length operands
-length_of (bodies.MarkedConstant constant) = constant_length constant
-length_of (bodies.Constant constant) = constant_length constant
-length_of (bodies.Space places) = unwrap_or places 0
-length_of (bodies.Areas areas) = areas_length areas
-length_of (bodies.Field span) = 0
-length_of (bodies.Equate operands) = 0
-length_of (bodies.Origin operands) = 0
-length_of (bodies.Execute operands) = 0
-length_of (bodies.End operands) = 0
+length_of body = contents_length (describe body).contents
 
 -- the value so far of what an address is counted from
 abbrev pub base_so_far : List (Label × ℤ) → Base → ℤ
@@ -71,7 +80,7 @@ base_so_far values (bases.Number number) = pos number
 base_so_far values (bases.Symbol label) = unwrap_or (lookup (same_label label) values) (pos 0)
 base_so_far values bases.Here = pos 0
 
--- the value of the operand of EQU or ORG
+-- the value of an operand by these values of labels
 abbrev pub value_so_far : List (Label × ℤ) → OperandField → ℤ
 value_so_far values fields.Absent = pos 0
 value_so_far values fields.Malformed = pos 0
@@ -123,37 +132,48 @@ with_pending this =
 abbrev pub with_next : Places → ℤ → Places
 with_next this next = record this { next = next }
 
--- what is placed behind a body
+-- the literals that addresses are
+abbrev pub with_uses : Places → Addressing → Places
+with_uses this addressing.Nothing = this
+with_uses this (addressing.Addresses of) = with_operand (with_operand this of.a) of.b
+with_uses this (addressing.EarlierValue of) = this
+with_uses this (addressing.Value of) = this
+with_uses this (addressing.Entry of) = this
+
+-- areas begin at this place
+abbrev pub with_areas : Places → ℤ → AreaRole → Places
+with_areas this first areas.Ends = this
+with_areas this first (areas.Makes made) = record this { areas = first }
+with_areas this first (areas.Divides span) = this
+
+-- the value of the operand by the values so far
+abbrev pub own_value : Places → Addressing → ℤ
+own_value this asked = value_so_far this.values (operands_in asked).a
+
+-- what becomes of the next place
+abbrev pub moved : Places → Description → Next → Places
+moved this row next.Behind = with_next this (this.next +ℤ pos (contents_length row.contents))
+moved this row next.Literals = with_pending this
+moved this row next.Value = with_next this (own_value this row.addressing)
+
+-- what is placed behind a statement
+abbrev pub behind_row : Places → Description → Places
+behind_row this row = with_uses (with_areas (moved this row row.next) this.next row.areas) row.addressing
+
 abbrev pub behind_body : Places → Body → Places
-behind_body this bodies.Unknown = this
-behind_body this (bodies.Instruction instruction operands) =
-    with_operand (with_operand (with_next this (this.next +ℤ pos (instruction_length operands))) operands.a) operands.b
-behind_body this (bodies.MarkedConstant constant) = with_next this (this.next +ℤ pos (constant_length constant))
-behind_body this (bodies.Constant constant) = with_next this (this.next +ℤ pos (constant_length constant))
-behind_body this (bodies.Space places) = with_next this (this.next +ℤ pos (unwrap_or places 0))
-behind_body this (bodies.Areas areas) = record this { areas = this.next; next = this.next +ℤ pos (areas_length areas) }
-behind_body this (bodies.Field span) = this
-behind_body this (bodies.Equate operands) = this
-behind_body this (bodies.Origin operands) = with_next this (value_so_far this.values operands.a)
-behind_body this (bodies.Execute operands) = with_pending this
-behind_body this (bodies.End operands) = with_pending this
+behind_body this body = behind_row this (describe body)
+
+-- what a statement's point stands for, with its operand by these values of labels
+abbrev pub point_value : List (Label × ℤ) → Places → Description → Point → ℤ
+point_value values this row point.First = this.next
+point_value values this row point.Last = this.next +ℤ pos (contents_length row.contents) +ℤ negsuc 0
+point_value values this row (point.InArea place) = this.areas +ℤ pos place +ℤ negsuc 0
+point_value values this row point.Value = value_so_far values (operands_in row.addressing).a
 
 -- the value of a label: the units place of a constant, the last place of DS, the last place of a field in the first
--- area,
--- the value of EQU, and else the first place
+-- area, the value of EQU, and else the first place
 abbrev pub label_value : Places → Body → ℤ
-label_value this bodies.Unknown = this.next
-label_value this (bodies.Instruction instruction operands) = this.next
-label_value this (bodies.MarkedConstant constant) = this.next +ℤ pos (constant_length constant) +ℤ negsuc 0
-label_value this (bodies.Constant constant) = this.next +ℤ pos (constant_length constant) +ℤ negsuc 0
-label_value this (bodies.Space places) = this.next +ℤ pos (unwrap_or places 0) +ℤ negsuc 0
-label_value this (bodies.Areas areas) = this.next
-label_value this (bodies.Field None) = this.next
-label_value this (bodies.Field (Some span)) = this.areas +ℤ pos span.last +ℤ negsuc 0
-label_value this (bodies.Equate operands) = value_so_far this.values operands.a
-label_value this (bodies.Origin operands) = this.next
-label_value this (bodies.Execute operands) = this.next
-label_value this (bodies.End operands) = this.next
+label_value this body = point_value this.values this (describe body) (describe body).names
 
 abbrev pub with_label : Places → Option Label → ℤ → Places
 with_label this None value = this

@@ -7,13 +7,18 @@ use Rattle.source_1401.specs.declared.operands.Operand.TheVariants as operands
 use Rattle.source_1401.specs.declared.operands.OperandField.{OperandField}
 use Rattle.source_1401.specs.declared.operands.OperandField.TheVariants as fields
 use Rattle.source_1401.specs.declared.operands.Operands.{Operands}
+use Rattle.source_1401.specs.Description.{describe, operands_in}
+use Rattle.source_1401.specs.declared.description.Addressing.{Addressing}
+use Rattle.source_1401.specs.declared.description.Addressing.TheVariants as addressing
+use Rattle.source_1401.specs.declared.description.Description.{Description}
+use Rattle.source_1401.specs.declared.description.Next.{Next}
+use Rattle.source_1401.specs.declared.description.Next.TheVariants as next
 use Rattle.source_1401.specs.declared.statement.Body.{Body}
-use Rattle.source_1401.specs.declared.statement.Body.TheVariants as bodies
 use Rattle.source_1401.specs.declared.statement.Statement.{Statement}
 use Rattle.source_1401.specs.declared.statement.Line.{Line}
 use Rattle.autocoder_1401.specs.Cells.{literal_value}
 use Rattle.autocoder_1401.specs.Characters.{characters_of, same_characters}
-use Rattle.autocoder_1401.specs.Placement.{Places, pending, length_of, value_so_far, after_line, placed}
+use Rattle.autocoder_1401.specs.Placement.{Places, pending, contents_length, value_so_far, after_line, placed}
 use Rattle.autocoder_1401.specs.declared.characters.Characters.{Characters}
 
 -- how many places literals take
@@ -22,18 +27,13 @@ total [] = 0
 total (literal ∷ literals) = literal.len + total literals
 
 -- how many places a body takes: EX and END those of the literals that they place
+abbrev pub row_length : Places → Description → Next → ℕ
+row_length this row next.Behind = contents_length row.contents
+row_length this row next.Literals = total (pending this)
+row_length this row next.Value = 0
+
 abbrev pub body_length : Places → Body → ℕ
-body_length this bodies.Unknown = 0
-body_length this (bodies.Instruction instruction of) = length_of (bodies.Instruction instruction of)
-body_length this (bodies.MarkedConstant constant) = length_of (bodies.MarkedConstant constant)
-body_length this (bodies.Constant constant) = length_of (bodies.Constant constant)
-body_length this (bodies.Space places) = length_of (bodies.Space places)
-body_length this (bodies.Areas areas) = length_of (bodies.Areas areas)
-body_length this (bodies.Field span) = 0
-body_length this (bodies.Equate of) = 0
-body_length this (bodies.Origin of) = 0
-body_length this (bodies.Execute of) = total (pending this)
-body_length this (bodies.End of) = total (pending this)
+body_length this body = row_length this (describe body) (describe body).next
 
 abbrev pub length_with : Places → Option Statement → ℕ
 length_with this None = 0
@@ -45,18 +45,13 @@ lengths_from this [] = 0
 lengths_from this (line ∷ lines) = length_with this line.statement + lengths_from (after_line this line) lines
 
 -- the operand of an origin
+abbrev pub origin_by : Next → Addressing → Option Operands
+origin_by next.Behind asked = None
+origin_by next.Literals asked = None
+origin_by next.Value asked = Some (operands_in asked)
+
 abbrev pub origin_in : Body → Option Operands
-origin_in bodies.Unknown = None
-origin_in (bodies.Instruction instruction of) = None
-origin_in (bodies.MarkedConstant constant) = None
-origin_in (bodies.Constant constant) = None
-origin_in (bodies.Space places) = None
-origin_in (bodies.Areas areas) = None
-origin_in (bodies.Field span) = None
-origin_in (bodies.Equate of) = None
-origin_in (bodies.Origin of) = Some of
-origin_in (bodies.Execute of) = None
-origin_in (bodies.End of) = None
+origin_in body = origin_by (describe body).next (describe body).addressing
 
 abbrev pub origin_with : Option Statement → Option Operands
 origin_with None = None
@@ -68,18 +63,13 @@ AreNoOrigins [] = Unit {0}
 AreNoOrigins (line ∷ lines) = (origin_with line.statement ≡ None) × AreNoOrigins lines
 
 -- EX and END place literals
+abbrev pub places_by : Next → Bool
+places_by next.Behind = false
+places_by next.Literals = true
+places_by next.Value = false
+
 abbrev pub places_in : Body → Bool
-places_in bodies.Unknown = false
-places_in (bodies.Instruction instruction of) = false
-places_in (bodies.MarkedConstant constant) = false
-places_in (bodies.Constant constant) = false
-places_in (bodies.Space places) = false
-places_in (bodies.Areas areas) = false
-places_in (bodies.Field span) = false
-places_in (bodies.Equate of) = false
-places_in (bodies.Origin of) = false
-places_in (bodies.Execute of) = true
-places_in (bodies.End of) = true
+places_in body = places_by (describe body).next
 
 abbrev pub places_with : Option Statement → Bool
 places_with None = false
@@ -93,18 +83,15 @@ literal_in (fields.Operand (operands.Address address)) = []
 literal_in (fields.Operand (operands.Literal constant)) = characters_of constant ∷ []
 
 -- the literals that a body uses
+abbrev pub uses_by : Addressing → List Characters
+uses_by addressing.Nothing = []
+uses_by (addressing.Addresses of) = literal_in of.a ++ literal_in of.b
+uses_by (addressing.EarlierValue of) = []
+uses_by (addressing.Value of) = []
+uses_by (addressing.Entry of) = []
+
 abbrev pub uses_in : Body → List Characters
-uses_in bodies.Unknown = []
-uses_in (bodies.Instruction instruction of) = literal_in of.a ++ literal_in of.b
-uses_in (bodies.MarkedConstant constant) = []
-uses_in (bodies.Constant constant) = []
-uses_in (bodies.Space places) = []
-uses_in (bodies.Areas areas) = []
-uses_in (bodies.Field span) = []
-uses_in (bodies.Equate of) = []
-uses_in (bodies.Origin of) = []
-uses_in (bodies.Execute of) = []
-uses_in (bodies.End of) = []
+uses_in body = uses_by (describe body).addressing
 
 abbrev pub uses_with : Option Statement → List Characters
 uses_with None = []

@@ -9,11 +9,16 @@ use Rattle.source_1401.specs.declared.address.Base.TheVariants as bases
 use Rattle.source_1401.specs.declared.operands.Operand.TheVariants as operands
 use Rattle.source_1401.specs.declared.operands.OperandField.{OperandField}
 use Rattle.source_1401.specs.declared.operands.OperandField.TheVariants as fields
+use Rattle.source_1401.specs.Description.{describe}
+use Rattle.source_1401.specs.declared.description.Addressing.{Addressing}
+use Rattle.source_1401.specs.declared.description.Addressing.TheVariants as addressing
+use Rattle.source_1401.specs.declared.description.Description.{Description}
+use Rattle.source_1401.specs.declared.description.Next.{Next}
+use Rattle.source_1401.specs.declared.description.Next.TheVariants as next
 use Rattle.source_1401.specs.declared.statement.Body.{Body}
-use Rattle.source_1401.specs.declared.statement.Body.TheVariants as bodies
 use Rattle.source_1401.specs.declared.statement.Statement.{Statement}
 use Rattle.source_1401.specs.declared.statement.Line.{Line}
-use Rattle.autocoder_1401.specs.Placement.{Places, nothing_placed, instruction_length, length_of, pending}
+use Rattle.autocoder_1401.specs.Placement.{Places, nothing_placed, contents_length, pending}
 use Rattle.autocoder_1401.specs.Placement.{behind_literals, value_so_far, after_line, placed}
 use Rattle.autocoder_1401.specs.Symbols.{same_label}
 use Rattle.autocoder_1401.specs.declared.fault.AsmKind.TheVariants as kinds
@@ -28,13 +33,6 @@ base_value all here bases.Here = here
 -- the value of an address before indexing
 abbrev pub address_value : Places → ℤ → Address → ℤ
 address_value all here address = base_value all here address.base +ℤ address.adjustment
-
--- the value of the operand of EX or END
-abbrev pub operand_value : Places → OperandField → ℤ
-operand_value all fields.Absent = pos 0
-operand_value all fields.Malformed = pos 0
-operand_value all (fields.Operand (operands.Address address)) = address_value all (pos 0) address
-operand_value all (fields.Operand (operands.Literal constant)) = pos 0
 
 -- a value is the address of a place of core storage of this size
 abbrev pub is_in_core : ℕ → ℤ → Bool
@@ -65,25 +63,37 @@ abbrev pub literals_outside : ℕ → Places → Bool
 literals_outside size this =
     nat_lt 0 (length (pending this)) && not (are_in_core size this.next (behind_literals this.next (pending this)))
 
--- a place of a body that isn't in core, or a value; that of ORG may be the core's size
+-- literals that are placed here and aren't in core
+abbrev pub next_outside : ℕ → Places → Next → Bool
+next_outside size this next.Behind = false
+next_outside size this next.Literals = literals_outside size this
+next_outside size this next.Value = false
+
+-- a value that isn't in core; the next place may be the one behind the last
+abbrev pub value_outside : ℕ → ℤ → Next → Bool
+value_outside size value next.Behind = not (is_in_core size value)
+value_outside size value next.Literals = not (is_in_core size value)
+value_outside size value next.Value = not (are_in_core size value value)
+
+-- an address or a value that isn't in core
+abbrev pub addresses_outside : ℕ → Places → Places → Description → Addressing → Bool
+addresses_outside size all this row addressing.Nothing = false
+addresses_outside size all this row (addressing.Addresses of) =
+    let last = last_place this.next (contents_length row.contents) in
+    operand_outside size all last of.a || operand_outside size all last of.b
+addresses_outside size all this row (addressing.EarlierValue of) =
+    value_outside size (value_so_far this.values of.a) row.next
+addresses_outside size all this row (addressing.Value of) = operand_outside size all (pos 0) of.a
+addresses_outside size all this row (addressing.Entry of) = operand_outside size all (pos 0) of.a
+
+-- a place of a statement that isn't in core, a literal that it places, or a value
+abbrev pub row_outside : ℕ → Places → Places → Description → Bool
+row_outside size all this row =
+    places_outside size this.next (contents_length row.contents) || next_outside size this row.next
+    || addresses_outside size all this row row.addressing
+
 abbrev pub body_outside : ℕ → Places → Places → Body → Bool
-body_outside size all this bodies.Unknown = false
-body_outside size all this (bodies.Instruction instruction of) =
-    let here = last_place this.next (instruction_length of) in
-    places_outside size this.next (instruction_length of) || operand_outside size all here of.a
-    || operand_outside size all here of.b
-body_outside size all this (bodies.MarkedConstant constant) =
-    places_outside size this.next (length_of (bodies.MarkedConstant constant))
-body_outside size all this (bodies.Constant constant) =
-    places_outside size this.next (length_of (bodies.Constant constant))
-body_outside size all this (bodies.Space places) = places_outside size this.next (length_of (bodies.Space places))
-body_outside size all this (bodies.Areas areas) = places_outside size this.next (length_of (bodies.Areas areas))
-body_outside size all this (bodies.Field span) = false
-body_outside size all this (bodies.Equate of) = not (is_in_core size (value_so_far this.values of.a))
-body_outside size all this (bodies.Origin of) =
-    not (are_in_core size (value_so_far this.values of.a) (value_so_far this.values of.a))
-body_outside size all this (bodies.Execute of) = literals_outside size this || operand_outside size all (pos 0) of.a
-body_outside size all this (bodies.End of) = literals_outside size this || operand_outside size all (pos 0) of.a
+body_outside size all this body = row_outside size all this (describe body)
 
 abbrev pub line_outside : ℕ → Places → Places → Line → Bool
 line_outside size all this line =

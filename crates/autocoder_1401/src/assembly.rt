@@ -23,7 +23,7 @@ use crate::segments::emit;
 use crate::symbols::declared;
 use crate::values::first_outside;
 use image_1401::{Image, Segments};
-use source_1401::{Body, Line, Statement};
+use source_1401::{Addressing, Line, Statement};
 use std::alloc::Global;
 
 /// The first line with a fault, and its lowest kind.
@@ -62,15 +62,15 @@ fn entry(all: &Placing, lines: &[Line]) -> Result<i64, AsmFault>
     ensures err { IfErr result IsMemory }
 {
     for line in lines {
-        if let Some(
-            Statement {
-                body: Body::End(operands),
-                ..
-            },
-        ) = line.statement
-        {
-            let value = all.operand_value(operands.a)?;
-            return Ok(value);
+        let Some(Statement { body, .. }) = line.statement else {
+            continue;
+        };
+        match body.describe().addressing {
+            Addressing::Entry(operands) => return all.value_so_far(operands.a),
+            Addressing::Nothing
+            | Addressing::Addresses(_)
+            | Addressing::EarlierValue(_)
+            | Addressing::Value(_) => {},
         }
     }
     Ok(0)

@@ -7,7 +7,7 @@ ghost use Rattle.autocoder_1401.specs.Characters.{char_with};
 ghost use Rattle.autocoder_1401.specs.Cells.{place_of, plain, with_word_mark, with_index, literal_value, operand_codes};
 ghost use Rattle.autocoder_1401.specs.Cells.{d_codes, operands_cells, instruction_cells, constant_cells, literal_cells};
 ghost use Rattle.autocoder_1401.specs.Cells.{fields_behind, with_mark_at, with_field, repeated, areas_cells};
-ghost use Rattle.autocoder_1401.specs.Cells.{body_cells, statement_cells};
+ghost use Rattle.autocoder_1401.specs.Cells.{contents_cells, row_cells, statement_cells};
 ghost use Rattle.autocoder_1401.specs.View.{places_of};
 
 use crate::characters::{Characters, char_of, char_with};
@@ -17,7 +17,8 @@ use crate::values::last_place;
 use bcd_1401::{Cell, Char};
 use core_1401::{ADDRESSES, encode};
 use source_1401::{
-    Address, Areas, Body, Constant, Instruction, Line, Operand, OperandField, Operands, Statement,
+    Address, AreaRole, Areas, Constant, Contents, Description, Instruction, Line, Next, Operand,
+    OperandField, Operands, Statement,
 };
 use std::alloc::Global;
 
@@ -228,10 +229,10 @@ fn mark_fields(area: &mut [Cell], lines: &[Line])
         let Some(Statement { body, .. }) = line.statement else {
             continue;
         };
-        match body {
-            Body::Field(Some(span)) => mark(area, usize::from(span.first).saturating_sub(1)),
-            Body::Field(None) => {},
-            _ => return,
+        match body.describe().areas {
+            AreaRole::Divides(Some(span)) => mark(area, usize::from(span.first).saturating_sub(1)),
+            AreaRole::Divides(None) => {},
+            AreaRole::Ends | AreaRole::Makes(_) => return,
         }
     }
 }
@@ -270,50 +271,67 @@ fn put_repeated(count: u8, area: &[Cell], out: &mut Vec<Cell>) -> Result<(), Asm
     Ok(())
 }
 
-/// Puts the cells of a body that stands here, with these lines behind it.
-pub(crate) fn put_body(
+/// Puts the cells of contents that begin at the next place, with these lines behind them.
+pub(crate) fn put_contents(
     alloc: Global,
     all: &Placing,
-    here: &Placing,
-    body: Body,
+    so_far: &Placing,
+    contents: Contents,
     lines: &[Line],
     out: &mut Vec<Cell>,
 ) -> Result<(), AsmFault>
-    ensures ok { OnOk result
-        (out.new.items ≡ out.old.items ++ body_cells (places_of all.now) (places_of here.now) body lines.now) }
+    ensures ok { OnOk result (out.new.items
+        ≡ out.old.items ++ contents_cells (places_of all.now) (places_of so_far.now) contents lines.now) }
     ensures err { IfErr result IsMemory }
 {
-    match body {
-        Body::Instruction(instruction, operands) => {
-            let last = last_place(here.next, instruction_length(operands))?;
+    match contents {
+        Contents::Instruction(instruction, operands) => {
+            let last = last_place(so_far.next, instruction_length(operands))?;
             all.put_instruction(last, instruction, operands, out)
         },
-        Body::MarkedConstant(constant) => put_constant(constant, true, out),
-        Body::Constant(constant) => put_constant(constant, false, out),
-        Body::Areas(areas) => put_areas(alloc, areas, lines, out),
-        Body::Execute(_) | Body::End(_) => put_literals(here.pending(), out),
-        Body::Unknown | Body::Space(_) | Body::Field(_) | Body::Equate(_) | Body::Origin(_) => {
-            Ok(())
-        },
+        Contents::MarkedConstant(constant) => put_constant(constant, true, out),
+        Contents::Constant(constant) => put_constant(constant, false, out),
+        Contents::Areas(areas) => put_areas(alloc, areas, lines, out),
+        Contents::Nothing | Contents::Space(_) => Ok(()),
     }
 }
 
-/// The cells that a line places which stands here, with these lines behind it.
+/// Puts the cells of a statement for which this is placed so far, with these lines behind it.
+pub(crate) fn put_row(
+    alloc: Global,
+    all: &Placing,
+    so_far: &Placing,
+    row: Description,
+    lines: &[Line],
+    out: &mut Vec<Cell>,
+) -> Result<(), AsmFault>
+    ensures ok { OnOk result (out.new.items
+        ≡ out.old.items ++ row_cells (places_of all.now) (places_of so_far.now) row row.next lines.now) }
+    ensures err { IfErr result IsMemory }
+{
+    match row.next {
+        Next::Behind => put_contents(alloc, all, so_far, row.contents, lines, out),
+        Next::Literals => put_literals(so_far.pending(), out),
+        Next::Value => Ok(()),
+    }
+}
+
+/// The cells that a line places for which this is placed so far, with these lines behind it.
 pub(crate) fn cells_of(
     alloc: Global,
     all: &Placing,
-    here: &Placing,
+    so_far: &Placing,
     line: &Line,
     lines: &[Line],
 ) -> Result<Vec<Cell>, AsmFault>
     ensures ok { IfOk result
-        (λ cells. cells.items ≡ statement_cells (places_of all.now) (places_of here.now) line.now.statement lines.now) }
+        (λ cells. cells.items ≡ statement_cells (places_of all.now) (places_of so_far.now) line.now.statement lines.now) }
     ensures err { IfErr result IsMemory }
 {
     let mut out = Vec::new(alloc);
     let Some(Statement { body, .. }) = line.statement else {
         return Ok(out);
     };
-    put_body(alloc, all, here, body, lines, &mut out)?;
+    put_row(alloc, all, so_far, body.describe(), lines, &mut out)?;
     Ok(out)
 }

@@ -11,7 +11,8 @@ ghost use Rattle.autocoder_1401.specs.FirstFault.{IsFirstFault};
 use crate::fault::{AsmFault, AsmKind};
 use crate::symbols::Labels;
 use source_1401::{
-    Address, Base, Body, Bytes, Label, LabelField, Line, Operand, OperandField, Statement,
+    Addressing, AreaRole, Base, Body, Bytes, Label, LabelField, Line, Operand, OperandField,
+    Statement,
 };
 
 /// What stands before a line.
@@ -50,10 +51,10 @@ impl Place {
         ensures { result ≡ areas_behind self.areas line.now }
     {
         match line.statement {
-            Some(Statement { body, .. }) => match body {
-                Body::Areas(Some(areas)) => Some(areas.length),
-                Body::Field(_) => self.areas,
-                _ => None,
+            Some(Statement { body, .. }) => match body.describe().areas {
+                AreaRole::Makes(Some(areas)) => Some(areas.length),
+                AreaRole::Makes(None) | AreaRole::Ends => None,
+                AreaRole::Divides(_) => self.areas,
             },
             None => self.areas,
         }
@@ -63,7 +64,7 @@ impl Place {
     fn is_field(self, body: Body) -> bool
         ensures { result ≡ is_field_of self.areas body }
     {
-        matches!(body, Body::Field(_)) && self.areas.is_some()
+        matches!(body.describe().areas, AreaRole::Divides(_)) && self.areas.is_some()
     }
 
     /// Whether the label is bad, or a field of areas has none.
@@ -78,20 +79,18 @@ impl Place {
     fn has_bad_operation(self, body: Body) -> bool
         ensures { result ≡ bad_operation self.areas body }
     {
-        match body {
-            Body::Unknown => true,
-            Body::Field(_) => self.areas.is_none(),
-            _ => false,
-        }
+        let row = body.describe();
+        !row.is_known || (matches!(row.areas, AreaRole::Divides(_)) && self.areas.is_none())
     }
 
     /// Whether a field ends behind its area.
     fn is_past_areas(self, body: Body) -> bool
         ensures { result ≡ is_past_areas self.areas body }
     {
-        match (body, self.areas) {
-            (Body::Field(Some(span)), Some(length)) => span.last > length,
-            _ => false,
+        match (self.areas, body.describe().areas) {
+            (Some(length), AreaRole::Divides(Some(span))) => span.last > length,
+            (Some(_), AreaRole::Divides(None) | AreaRole::Ends | AreaRole::Makes(_)) | (None, _) =>
+                false,
         }
     }
 
@@ -128,15 +127,13 @@ fn symbol_in(field: OperandField) -> Option<Label>
     ensures { result ≡ symbol_in field }
 {
     match field {
-        OperandField::Operand(
-            Operand::Address(
-                Address {
-                    base: Base::Symbol(label),
-                    ..
-                },
-            ),
-        ) => Some(label),
-        _ => None,
+        OperandField::Operand(Operand::Address(address)) => match address.base {
+            Base::Symbol(label) => Some(label),
+            Base::Number(_) | Base::Here => None,
+        },
+        OperandField::Operand(Operand::Literal(_))
+        | OperandField::Absent
+        | OperandField::Malformed => None,
     }
 }
 
@@ -164,15 +161,15 @@ fn is_undefined_before(labels: &Labels, number: u64, field: OperandField) -> boo
 fn has_undefined(labels: &Labels, number: u64, body: Body) -> bool
     ensures { result ≡ undefined (get same_label labels.now) number body }
 {
-    match body {
-        Body::Instruction(_, operands) => {
+    match body.describe().addressing {
+        Addressing::Nothing => false,
+        Addressing::Addresses(operands) => {
             is_undefined(labels, operands.a) || is_undefined(labels, operands.b)
         },
-        Body::Equate(operands) | Body::Origin(operands) => {
-            is_undefined_before(labels, number, operands.a)
+        Addressing::EarlierValue(operands) => is_undefined_before(labels, number, operands.a),
+        Addressing::Value(operands) | Addressing::Entry(operands) => {
+            is_undefined(labels, operands.a)
         },
-        Body::Execute(operands) | Body::End(operands) => is_undefined(labels, operands.a),
-        _ => false,
     }
 }
 

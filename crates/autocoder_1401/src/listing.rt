@@ -12,14 +12,14 @@ ghost use Rattle.autocoder_1401.specs.Listing.{literals_in, line_for, listing_fr
 ghost use Rattle.autocoder_1401.specs.Placement.{nothing_placed, after_line};
 ghost use Rattle.autocoder_1401.specs.View.{places_of};
 
-use crate::cells::{put_body, put_constant};
+use crate::cells::{put_constant, put_contents};
 use crate::characters::Characters;
 use crate::fault::AsmFault;
 use crate::placing::{Placing, plus};
 use crate::printing::{cut_last_blanks, put_address, put_characters, put_number, put_spelling};
 use crate::segments::lines_behind;
 use bcd_1401::Cell;
-use source_1401::{Body, Constant, Line, Statement, split_line};
+use source_1401::{Addressing, Body, Constant, Line, Next, Statement, split_line};
 use std::alloc::Global;
 use std::marker::Model;
 
@@ -144,17 +144,9 @@ impl Placing {
     fn literals_at(&self, body: Body) -> &[Constant]
         ensures { result.now ≡ literals_at (places_of self.now) body }
     {
-        match body {
-            Body::Execute(_) | Body::End(_) => self.pending_spellings(),
-            Body::Unknown
-            | Body::Instruction(..)
-            | Body::MarkedConstant(_)
-            | Body::Constant(_)
-            | Body::Space(_)
-            | Body::Areas(_)
-            | Body::Field(_)
-            | Body::Equate(_)
-            | Body::Origin(_) => &[],
+        match body.describe().next {
+            Next::Literals => self.pending_spellings(),
+            Next::Behind | Next::Value => &[],
         }
     }
 
@@ -163,17 +155,12 @@ impl Placing {
         ensures value { IfOk result (λ at. at ≡ address_at (places_of all.now) (places_of self.now) body) }
         ensures err { IfErr result IsMemory }
     {
-        match body {
-            Body::Field(Some(span)) => plus(plus(self.areas, i64::from(span.first))?, -1),
-            Body::Equate(operands) | Body::Origin(operands) => self.value_so_far(operands.a),
-            Body::Execute(operands) | Body::End(operands) => all.operand_value(operands.a),
-            Body::Unknown
-            | Body::Instruction(..)
-            | Body::MarkedConstant(_)
-            | Body::Constant(_)
-            | Body::Space(_)
-            | Body::Areas(_)
-            | Body::Field(None) => Ok(self.next),
+        let row = body.describe();
+        match row.addressing {
+            Addressing::Value(_) | Addressing::Entry(_) => self.point_value(all, row, row.shows),
+            Addressing::Nothing | Addressing::Addresses(_) | Addressing::EarlierValue(_) => {
+                self.point_value(self, row, row.shows)
+            },
         }
     }
 
@@ -190,17 +177,8 @@ impl Placing {
         ensures err { IfErr result IsMemory }
     {
         let mut cells = Vec::new(alloc);
-        match body {
-            Body::Instruction(..) | Body::MarkedConstant(_) | Body::Constant(_) | Body::Areas(_) =>
-                put_body(alloc, all, self, body, lines, &mut cells)?,
-            Body::Unknown
-            | Body::Space(_)
-            | Body::Field(_)
-            | Body::Equate(_)
-            | Body::Origin(_)
-            | Body::Execute(_)
-            | Body::End(_) => {},
-        }
+        let contents = body.describe().contents;
+        put_contents(alloc, all, self, contents, lines, &mut cells)?;
         Ok(cells)
     }
 

@@ -5,10 +5,10 @@ ghost use Rattle.source_1401.specs.Statement.{well_formed};
 ghost use Rattle.autocoder_1401.specs.Characters.{same_characters};
 ghost use Rattle.autocoder_1401.specs.Fault.{IsMemory};
 ghost use Rattle.autocoder_1401.specs.Symbols.{same_label};
-ghost use Rattle.autocoder_1401.specs.Placement.{nothing_placed, with_literal, with_operand, with_pending, behind_body};
+ghost use Rattle.autocoder_1401.specs.Placement.{nothing_placed, with_literal, with_operand, with_pending, with_uses};
 ghost use Rattle.autocoder_1401.specs.Placement.{pending, behind_literals, units_from, instruction_length};
-ghost use Rattle.autocoder_1401.specs.Placement.{constant_length, length_of, base_so_far, value_so_far, label_value};
-ghost use Rattle.autocoder_1401.specs.Placement.{with_label, after_line, placed};
+ghost use Rattle.autocoder_1401.specs.Placement.{constant_length, contents_length, base_so_far, value_so_far};
+ghost use Rattle.autocoder_1401.specs.Placement.{point_value, moved, behind_row, with_label, after_line, placed};
 ghost use Rattle.autocoder_1401.specs.View.{places_of};
 ghost use Rattle.source_1401.specs.Operands.{count_of};
 
@@ -16,7 +16,8 @@ use crate::characters::Characters;
 use crate::fault::AsmFault;
 use indexmap::{IndexMap, IndexSet};
 use source_1401::{
-    Base, Body, Constant, Label, LabelField, Line, Operand, OperandField, Operands, Statement,
+    Addressing, AreaRole, Base, Constant, Contents, Description, Label, LabelField, Line, Next,
+    Operand, OperandField, Operands, Point, Statement,
 };
 use std::alloc::Global;
 
@@ -80,23 +81,18 @@ fn constant_length(constant: Option<Constant>) -> u32
     }
 }
 
-/// How many places a body takes that places no literals.
-pub(crate) fn length_of(body: Body) -> u32
-    ensures { result ≡ length_of body }
+/// How many places contents fill.
+pub(crate) fn contents_length(contents: Contents) -> u32
+    ensures { result ≡ contents_length contents }
 {
-    match body {
-        Body::Instruction(_, operands) => instruction_length(operands),
-        Body::MarkedConstant(constant) | Body::Constant(constant) => constant_length(constant),
-        Body::Space(Some(places)) => u32::from(places),
-        Body::Areas(Some(areas)) => u32::from(areas.count) * u32::from(areas.length),
-        Body::Space(None)
-        | Body::Areas(None)
-        | Body::Unknown
-        | Body::Field(_)
-        | Body::Equate(_)
-        | Body::Origin(_)
-        | Body::Execute(_)
-        | Body::End(_) => 0,
+    match contents {
+        Contents::Nothing | Contents::Space(None) | Contents::Areas(None) => 0,
+        Contents::Instruction(_, operands) => instruction_length(operands),
+        Contents::MarkedConstant(constant) | Contents::Constant(constant) => {
+            constant_length(constant)
+        },
+        Contents::Space(Some(places)) => u32::from(places),
+        Contents::Areas(Some(areas)) => u32::from(areas.count) * u32::from(areas.length),
     }
 }
 
@@ -176,7 +172,7 @@ impl Placing {
         }
     }
 
-    /// The value of the operand of EQU or ORG.
+    /// The value of an operand by the values so far.
     pub(crate) fn value_so_far(&self, field: OperandField) -> Result<i64, AsmFault>
         ensures value { IfOk result (λ value. value ≡ value_so_far (places_of self.now).values field) }
         ensures err { IfErr result IsMemory }
@@ -192,24 +188,25 @@ impl Placing {
         }
     }
 
-    /// The value of a label that stands before a body.
-    fn label_value(&self, body: Body) -> Result<i64, AsmFault>
-        ensures value { IfOk result (λ value. value ≡ label_value (places_of self.now) body) }
+    /// What a statement's point stands for, with its operand by the values of labels that are given.
+    pub(crate) fn point_value(
+        &self,
+        values: &Placing,
+        row: Description,
+        point: Point,
+    ) -> Result<i64, AsmFault>
+        ensures value { IfOk result
+            (λ value. value ≡ point_value (places_of values.now).values (places_of self.now) row point) }
         ensures err { IfErr result IsMemory }
     {
-        match body {
-            Body::MarkedConstant(_) | Body::Constant(_) | Body::Space(_) => {
-                plus(plus(self.next, i64::from(length_of(body)))?, -1)
-            },
-            Body::Field(Some(span)) => plus(plus(self.areas, i64::from(span.last))?, -1),
-            Body::Equate(operands) => self.value_so_far(operands.a),
-            Body::Field(None)
-            | Body::Unknown
-            | Body::Instruction(..)
-            | Body::Areas(_)
-            | Body::Origin(_)
-            | Body::Execute(_)
-            | Body::End(_) => Ok(self.next),
+        match point {
+            Point::First => Ok(self.next),
+            Point::Last => plus(
+                plus(self.next, i64::from(contents_length(row.contents)))?,
+                -1,
+            ),
+            Point::InArea(place) => plus(plus(self.areas, i64::from(place))?, -1),
+            Point::Value => values.value_so_far(row.addressing.operands().a),
         }
     }
 
@@ -262,29 +259,51 @@ impl Placing {
         Ok(())
     }
 
-    /// Goes on behind a body, and notes and places its literals.
-    fn pass(&mut self, body: Body) -> Result<(), AsmFault>
-        ensures ok { OnOk result (places_of self.new ≡ behind_body (places_of self.old) body) }
+    /// Moves the next place on, and places the literals used so far where the statement does.
+    fn move_on(&mut self, row: Description) -> Result<(), AsmFault>
+        ensures ok { OnOk result (places_of self.new ≡ moved (places_of self.old) row row.next) }
         ensures err { IfErr result IsMemory }
     {
-        match body {
-            Body::Instruction(_, operands) => {
-                self.next = plus(self.next, i64::from(instruction_length(operands)))?;
+        match row.next {
+            Next::Behind => {
+                self.next = plus(self.next, i64::from(contents_length(row.contents)))?;
+            },
+            Next::Literals => self.place_pending()?,
+            Next::Value => self.next = self.value_so_far(row.addressing.operands().a)?,
+        }
+        Ok(())
+    }
+
+    /// Notes the literals that addresses are.
+    fn note_uses(&mut self, addressing: Addressing) -> Result<(), AsmFault>
+        ensures ok { OnOk result (places_of self.new ≡ with_uses (places_of self.old) addressing) }
+        ensures err { IfErr result IsMemory }
+    {
+        match addressing {
+            Addressing::Addresses(operands) => {
                 self.note_operand(operands.a)?;
                 self.note_operand(operands.b)?;
             },
-            Body::MarkedConstant(_) | Body::Constant(_) | Body::Space(_) => {
-                self.next = plus(self.next, i64::from(length_of(body)))?;
-            },
-            Body::Areas(_) => {
-                self.areas = self.next;
-                self.next = plus(self.next, i64::from(length_of(body)))?;
-            },
-            Body::Origin(operands) => self.next = self.value_so_far(operands.a)?,
-            Body::Execute(_) | Body::End(_) => self.place_pending()?,
-            Body::Unknown | Body::Field(_) | Body::Equate(_) => {},
+            Addressing::Nothing
+            | Addressing::EarlierValue(_)
+            | Addressing::Value(_)
+            | Addressing::Entry(_) => {},
         }
         Ok(())
+    }
+
+    /// Goes on behind a statement, and notes and places its literals.
+    fn pass(&mut self, row: Description) -> Result<(), AsmFault>
+        ensures ok { OnOk result (places_of self.new ≡ behind_row (places_of self.old) row) }
+        ensures err { IfErr result IsMemory }
+    {
+        let first = self.next;
+        self.move_on(row)?;
+        match row.areas {
+            AreaRole::Makes(_) => self.areas = first,
+            AreaRole::Ends | AreaRole::Divides(_) => {},
+        }
+        self.note_uses(row.addressing)
     }
 
     /// Places a line.
@@ -295,8 +314,9 @@ impl Placing {
         let Some(Statement { label, body }) = line.statement else {
             return Ok(());
         };
-        let value = self.label_value(body)?;
-        self.pass(body)?;
+        let row = body.describe();
+        let value = self.point_value(self, row, row.names)?;
+        self.pass(row)?;
         self.give(label, value)?;
         Ok(())
     }

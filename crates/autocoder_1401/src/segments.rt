@@ -105,41 +105,41 @@ impl Builder {
         Ok(())
     }
 
-    /// Puts the cells of a line that stands here, with these lines behind it, and places it.
+    /// Puts the cells of a line, with these lines behind it, and places it.
     fn put_line(
         &mut self,
         alloc: Global,
         all: &Placing,
-        here: &mut Placing,
+        so_far: &mut Placing,
         line: &Line,
         behind: &[Line],
     ) -> Result<(), AsmFault>
         ensures built { OnOk result ((rest : List (ℕ × ACell)) → built self.new rest ≡ built self.old
-            (numbered (place_of (places_of here.old).next)
-            (statement_cells (places_of all.now) (places_of here.old) line.now.statement behind.now) ++ rest)) }
-        ensures placed { OnOk result (places_of here.new ≡ after_line (places_of here.old) line.now) }
+            (numbered (place_of (places_of so_far.old).next)
+            (statement_cells (places_of all.now) (places_of so_far.old) line.now.statement behind.now) ++ rest)) }
+        ensures placed { OnOk result (places_of so_far.new ≡ after_line (places_of so_far.old) line.now) }
         ensures err { IfErr result IsMemory }
     {
-        let cells = cells_of(alloc, all, here, line, behind)?;
-        self.put_all(here.address(), &cells)?;
-        here.place(line)?;
+        let cells = cells_of(alloc, all, so_far, line, behind)?;
+        self.put_all(so_far.address(), &cells)?;
+        so_far.place(line)?;
         Ok(())
     }
 
-    /// Puts the cells of lines, the first of which stands here, and places them.
+    /// Puts the cells of lines, and places them.
     fn put_lines(
         &mut self,
         alloc: Global,
         all: &Placing,
-        here: &mut Placing,
+        so_far: &mut Placing,
         lines: &[Line],
     ) -> Result<(), AsmFault>
         ensures ok { OnOk result (built self.new []
-            ≡ built self.old (cells_from (places_of all.now) (places_of here.old) lines.now)) }
+            ≡ built self.old (cells_from (places_of all.now) (places_of so_far.old) lines.now)) }
         ensures err { IfErr result IsMemory }
     {
         for (i, line) in lines.iter().enumerate() {
-            self.put_line(alloc, all, here, line, lines_behind(lines, i))?;
+            self.put_line(alloc, all, so_far, line, lines_behind(lines, i))?;
         }
         Ok(())
     }

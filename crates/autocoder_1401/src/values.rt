@@ -1,17 +1,17 @@
 //! The values of addresses, and what of a line isn't in core.
 ghost use Rattle.std.specs.Prelude.{◌≡◌, ◌<◌, ◌^◌, length, IfOk, IfErr};
-ghost use Rattle.source_1401.specs.declared.statement.Body.TheVariants.{Instruction as AnInstruction};
 ghost use Rattle.autocoder_1401.specs.Fault.{IsMemory};
 ghost use Rattle.autocoder_1401.specs.Placement.{nothing_placed};
-ghost use Rattle.autocoder_1401.specs.Values.{base_value, address_value, operand_value, is_in_core, are_in_core};
-ghost use Rattle.autocoder_1401.specs.Values.{operand_outside, places_outside, last_place, literals_outside};
-ghost use Rattle.autocoder_1401.specs.Values.{body_outside, line_outside, first_outside_from};
+ghost use Rattle.autocoder_1401.specs.Values.{base_value, address_value, is_in_core, are_in_core, operand_outside};
+ghost use Rattle.autocoder_1401.specs.Values.{places_outside, last_place, literals_outside, next_outside};
+ghost use Rattle.autocoder_1401.specs.Values.{value_outside, addresses_outside, row_outside, line_outside};
+ghost use Rattle.autocoder_1401.specs.Values.{first_outside_from};
 ghost use Rattle.autocoder_1401.specs.View.{places_of};
 
 use crate::fault::{AsmFault, AsmKind};
-use crate::placing::{Placing, behind_literals, instruction_length, length_of, plus};
+use crate::placing::{Placing, behind_literals, contents_length, plus};
 use source_1401::{
-    Address, Base, Body, Instruction, Line, Operand, OperandField, Operands, Statement,
+    Address, Addressing, Base, Description, Line, Next, Operand, OperandField, Statement,
 };
 use std::alloc::Global;
 
@@ -27,6 +27,16 @@ fn are_in_core(size: u16, first: i64, behind: i64) -> bool
     ensures { result ≡ are_in_core size first behind }
 {
     first >= 0 && behind <= i64::from(size)
+}
+
+/// Whether a value isn't in core. The next place may be the one behind the last.
+fn is_value_outside(size: u16, value: i64, next: Next) -> bool
+    ensures { result ≡ value_outside size value next }
+{
+    match next {
+        Next::Behind | Next::Literals => !is_in_core(size, value),
+        Next::Value => !are_in_core(size, value, value),
+    }
 }
 
 /// The last of the places of a length from the first on.
@@ -70,22 +80,6 @@ impl Placing {
         Ok(value)
     }
 
-    /// The value of the operand of EX or END, once all is placed.
-    pub(crate) fn operand_value(&self, field: OperandField) -> Result<i64, AsmFault>
-        ensures value { IfOk result (λ value. value ≡ operand_value (places_of self.now) field) }
-        ensures err { IfErr result IsMemory }
-    {
-        match field {
-            OperandField::Operand(Operand::Address(address)) => {
-                let value = self.address_value(0, address)?;
-                Ok(value)
-            },
-            OperandField::Operand(Operand::Literal(_))
-            | OperandField::Absent
-            | OperandField::Malformed => Ok(0),
-        }
-    }
-
     /// Whether an operand is an address whose value isn't in core.
     fn is_operand_outside(
         &self,
@@ -117,54 +111,57 @@ impl Placing {
         Ok(!literals.is_empty() && !are_in_core(size, self.next, behind))
     }
 
-    /// Whether a place of an instruction here isn't in core, or an address that it names, by the values of all labels.
-    fn is_instruction_outside(
+    /// Whether literals that a statement here places aren't in core.
+    fn is_next_outside(&self, size: u16, next: Next) -> Result<bool, AsmFault>
+        ensures value { IfOk result (λ outside. outside ≡ next_outside size (places_of self.now) next) }
+        ensures err { IfErr result IsMemory }
+    {
+        match next {
+            Next::Literals => self.are_literals_outside(size),
+            Next::Behind | Next::Value => Ok(false),
+        }
+    }
+
+    /// Whether an address or a value of a statement here isn't in core, by the values of all labels.
+    fn are_addresses_outside(
         &self,
         size: u16,
         all: &Placing,
-        instruction: Instruction,
-        operands: Operands,
+        row: Description,
     ) -> Result<bool, AsmFault>
         ensures value { IfOk result (λ outside. outside
-            ≡ body_outside size (places_of all.now) (places_of self.now) (AnInstruction instruction operands)) }
+            ≡ addresses_outside size (places_of all.now) (places_of self.now) row row.addressing) }
         ensures err { IfErr result IsMemory }
     {
-        let length = instruction_length(operands);
-        let here = last_place(self.next, length)?;
-        let places = are_places_outside(size, self.next, length)?;
-        let a = all.is_operand_outside(size, here, operands.a)?;
-        let b = all.is_operand_outside(size, here, operands.b)?;
-        Ok(places || a || b)
+        match row.addressing {
+            Addressing::Nothing => Ok(false),
+            Addressing::Addresses(operands) => {
+                let last = last_place(self.next, contents_length(row.contents))?;
+                let a = all.is_operand_outside(size, last, operands.a)?;
+                let b = all.is_operand_outside(size, last, operands.b)?;
+                Ok(a || b)
+            },
+            Addressing::EarlierValue(operands) => {
+                let value = self.value_so_far(operands.a)?;
+                Ok(is_value_outside(size, value, row.next))
+            },
+            Addressing::Value(operands) | Addressing::Entry(operands) => {
+                all.is_operand_outside(size, 0, operands.a)
+            },
+        }
     }
 
-    /// Whether a place of a body here isn't in core, or an address that it names, by the values of all labels.
-    fn is_body_outside(&self, size: u16, all: &Placing, body: Body) -> Result<bool, AsmFault>
+    /// Whether a place of a statement here isn't in core, a literal that it places, or an address or a value, by the
+    /// values of all labels.
+    fn is_row_outside(&self, size: u16, all: &Placing, row: Description) -> Result<bool, AsmFault>
         ensures value { IfOk result
-            (λ outside. outside ≡ body_outside size (places_of all.now) (places_of self.now) body) }
+            (λ outside. outside ≡ row_outside size (places_of all.now) (places_of self.now) row) }
         ensures err { IfErr result IsMemory }
     {
-        match body {
-            Body::Instruction(instruction, operands) => {
-                self.is_instruction_outside(size, all, instruction, operands)
-            },
-            Body::MarkedConstant(_) | Body::Constant(_) | Body::Space(_) | Body::Areas(_) => {
-                are_places_outside(size, self.next, length_of(body))
-            },
-            Body::Equate(operands) => {
-                let value = self.value_so_far(operands.a)?;
-                Ok(!is_in_core(size, value))
-            },
-            Body::Origin(operands) => {
-                let value = self.value_so_far(operands.a)?;
-                Ok(!are_in_core(size, value, value))
-            },
-            Body::Execute(operands) | Body::End(operands) => {
-                let literals = self.are_literals_outside(size)?;
-                let address = all.is_operand_outside(size, 0, operands.a)?;
-                Ok(literals || address)
-            },
-            Body::Unknown | Body::Field(_) => Ok(false),
-        }
+        let places = are_places_outside(size, self.next, contents_length(row.contents))?;
+        let literals = self.is_next_outside(size, row.next)?;
+        let addresses = self.are_addresses_outside(size, all, row)?;
+        Ok(places || literals || addresses)
     }
 
     /// Whether something of a line here isn't in core.
@@ -175,7 +172,7 @@ impl Placing {
     {
         match line.statement {
             Some(Statement { body, .. }) => {
-                let outside = self.is_body_outside(size, all, body)?;
+                let outside = self.is_row_outside(size, all, body.describe())?;
                 Ok(outside)
             },
             None => Ok(false),

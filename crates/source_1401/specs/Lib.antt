@@ -1,5 +1,6 @@
 pub mod Address
 pub mod Constant
+pub mod Description
 pub mod Label
 pub mod Mnemonic
 pub mod Numbers

@@ -4,6 +4,8 @@ use Rattle.std.specs.Prelude.{◌∷◌, take, drop, Option, None, Some, is_some
 use Rattle.std.specs.Option.{option_map}
 use Rattle.source_1401.specs.Address.{address_of}
 use Rattle.source_1401.specs.Constant.{constant_of}
+use Rattle.source_1401.specs.declared.address.Base.{Base}
+use Rattle.source_1401.specs.declared.address.Base.TheVariants as bases
 use Rattle.source_1401.specs.declared.mnemonic.DCharacter.{DCharacter}
 use Rattle.source_1401.specs.declared.mnemonic.DCharacter.TheVariants as d
 use Rattle.source_1401.specs.declared.mnemonic.Form.{Form}
@@ -131,3 +133,23 @@ operands_of form columns =
 -- operands that aren't as the instruction asks
 abbrev pub has_malformed : Operands → Bool
 has_malformed this = not this.is_whole || is_malformed this.a || is_malformed this.b
+
+-- an asterisk is no value
+abbrev pub is_here : Base → Bool
+is_here (bases.Number number) = false
+is_here (bases.Symbol label) = false
+is_here bases.Here = true
+
+-- an address without asterisk and index register
+abbrev pub is_plain : Operand → Bool
+is_plain (operands.Address address) = (address.index == 0) && not (is_here address.base)
+is_plain (operands.Literal constant) = false
+
+abbrev pub is_plain_field : OperandField → Bool
+is_plain_field fields.Absent = false
+is_plain_field fields.Malformed = false
+is_plain_field (fields.Operand operand) = is_plain operand
+
+-- operands that are one such address
+abbrev pub is_value : Operands → Bool
+is_value this = this.is_whole && is_plain_field this.a

@@ -1,6 +1,6 @@
 -- What a line says, without its neighbours (Autocoder, "Coding Sheet", "Declarative Operations", "Assembler Control").
 use Rattle.std.specs.Prelude.{ℕ, ◌==◌, nat_lt, Bool, true, false, not, ◌&&◌, if◌then◌else◌, List, length, take, drop}
-use Rattle.std.specs.Prelude.{Option, None, Some, is_none}
+use Rattle.std.specs.Prelude.{Option, None, Some}
 use Rattle.std.specs.Option.{option_map, option_and_then}
 use Rattle.std.specs.List.{position_or_len}
 use Rattle.source_1401.specs.SourceLine.{columns_of, columns_in, is_comment, has_foreign_bytes}
@@ -9,9 +9,7 @@ use Rattle.source_1401.specs.Mnemonic.{operation_of}
 use Rattle.source_1401.specs.Numbers.{number_between}
 use Rattle.source_1401.specs.Constant.{constant_of}
 use Rattle.source_1401.specs.Operands.{operand_in, behind_operand, lone_operand, operand_behind_comma, operands_of}
-use Rattle.source_1401.specs.Operands.{has_malformed}
-use Rattle.source_1401.specs.declared.address.Base.{Base}
-use Rattle.source_1401.specs.declared.address.Base.TheVariants as bases
+use Rattle.source_1401.specs.Description.{describe, is_required, is_forbidden, is_entry}
 use Rattle.source_1401.specs.declared.label.Label.{Label}
 use Rattle.source_1401.specs.declared.label.LabelField.{LabelField}
 use Rattle.source_1401.specs.declared.label.LabelField.TheVariants as labels
@@ -19,11 +17,6 @@ use Rattle.source_1401.specs.declared.mnemonic.DCharacter.TheVariants as d
 use Rattle.source_1401.specs.declared.mnemonic.Form.{Form}
 use Rattle.source_1401.specs.declared.mnemonic.Operation.{Operation}
 use Rattle.source_1401.specs.declared.mnemonic.Operation.TheVariants as operations
-use Rattle.source_1401.specs.declared.operands.Operand.{Operand}
-use Rattle.source_1401.specs.declared.operands.Operand.TheVariants as operands
-use Rattle.source_1401.specs.declared.operands.OperandField.{OperandField}
-use Rattle.source_1401.specs.declared.operands.OperandField.TheVariants as fields
-use Rattle.source_1401.specs.declared.operands.Operands.{Operands}
 use Rattle.source_1401.specs.declared.statement.Areas.{Areas}
 use Rattle.source_1401.specs.declared.statement.Span.{Span}
 use Rattle.source_1401.specs.declared.statement.Body.{Body}
@@ -110,67 +103,17 @@ line_with len columns =
 abbrev pub line_of : List ℕ → Line
 line_of line = line_with (length line) (columns_of line)
 
--- an asterisk is no value
-abbrev pub is_here : Base → Bool
-is_here (bases.Number number) = false
-is_here (bases.Symbol label) = false
-is_here bases.Here = true
-
--- an address without asterisk and index register
-abbrev pub is_plain : Operand → Bool
-is_plain (operands.Address address) = (address.index == 0) && not (is_here address.base)
-is_plain (operands.Literal constant) = false
-
-abbrev pub is_plain_field : OperandField → Bool
-is_plain_field fields.Absent = false
-is_plain_field fields.Malformed = false
-is_plain_field (fields.Operand operand) = is_plain operand
-
--- operands that are one such address
-abbrev pub is_value : Operands → Bool
-is_value this = this.is_whole && is_plain_field this.a
-
 -- operands that aren't as the operation asks, whatever stands around the line
 abbrev pub has_bad_operands : Body → Bool
-has_bad_operands bodies.Unknown = false
-has_bad_operands (bodies.Instruction instruction operands) = has_malformed operands
-has_bad_operands (bodies.MarkedConstant constant) = is_none constant
-has_bad_operands (bodies.Constant constant) = is_none constant
-has_bad_operands (bodies.Space places) = is_none places
-has_bad_operands (bodies.Areas areas) = is_none areas
-has_bad_operands (bodies.Field span) = is_none span
-has_bad_operands (bodies.Equate operands) = not (is_value operands)
-has_bad_operands (bodies.Origin operands) = not (is_value operands)
-has_bad_operands (bodies.Execute operands) = not (is_value operands)
-has_bad_operands (bodies.End operands) = not (is_value operands)
+has_bad_operands body = not (describe body).is_well_formed
 
 -- EQU needs a label
 abbrev pub needs_label : Body → Bool
-needs_label bodies.Unknown = false
-needs_label (bodies.Instruction instruction operands) = false
-needs_label (bodies.MarkedConstant constant) = false
-needs_label (bodies.Constant constant) = false
-needs_label (bodies.Space places) = false
-needs_label (bodies.Areas areas) = false
-needs_label (bodies.Field span) = false
-needs_label (bodies.Equate operands) = true
-needs_label (bodies.Origin operands) = false
-needs_label (bodies.Execute operands) = false
-needs_label (bodies.End operands) = false
+needs_label body = is_required (describe body).label
 
 -- ORG, EX and END have none
 abbrev pub takes_label : Body → Bool
-takes_label bodies.Unknown = true
-takes_label (bodies.Instruction instruction operands) = true
-takes_label (bodies.MarkedConstant constant) = true
-takes_label (bodies.Constant constant) = true
-takes_label (bodies.Space places) = true
-takes_label (bodies.Areas areas) = true
-takes_label (bodies.Field span) = true
-takes_label (bodies.Equate operands) = true
-takes_label (bodies.Origin operands) = false
-takes_label (bodies.Execute operands) = false
-takes_label (bodies.End operands) = false
+takes_label body = not (is_forbidden (describe body).label)
 
 abbrev pub is_bad_label : LabelField → Body → Bool
 is_bad_label labels.Absent body = needs_label body
@@ -191,17 +134,7 @@ abbrev pub label_of_line : Line → Option Label
 label_of_line this = option_and_then (λ (statement : Statement). well_formed statement.label) this.statement
 
 abbrev pub is_end_body : Body → Bool
-is_end_body bodies.Unknown = false
-is_end_body (bodies.Instruction instruction operands) = false
-is_end_body (bodies.MarkedConstant constant) = false
-is_end_body (bodies.Constant constant) = false
-is_end_body (bodies.Space places) = false
-is_end_body (bodies.Areas areas) = false
-is_end_body (bodies.Field span) = false
-is_end_body (bodies.Equate operands) = false
-is_end_body (bodies.Origin operands) = false
-is_end_body (bodies.Execute operands) = false
-is_end_body (bodies.End operands) = true
+is_end_body body = is_entry (describe body).addressing
 
 abbrev pub is_end_statement : Option Statement → Bool
 is_end_statement None = false

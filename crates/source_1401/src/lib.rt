@@ -14,6 +14,7 @@
 pub mod address;
 pub mod columns;
 pub mod constant;
+pub mod description;
 pub mod label;
 pub mod lines;
 pub mod mnemonic;
@@ -24,6 +25,7 @@ pub mod statement;
 pub use address::{Address, Base};
 pub use columns::COLUMNS;
 pub use constant::{Constant, TEXT_LENGTH, Text};
+pub use description::{Addressing, AreaRole, Contents, Description, LabelRule, Next, Point};
 pub use label::{LABEL_LENGTH, Label, LabelField};
 pub use lines::split_line;
 pub use mnemonic::{DCharacter, Form, Instruction, Operation};

@@ -3,8 +3,9 @@ ghost use Rattle.std.specs.Prelude.{◌≡◌, ◌≤◌, false, length};
 ghost use Rattle.source_1401.specs.Operands.{is_ended, operand_len, operand_in, behind_operand, lone_operand};
 ghost use Rattle.source_1401.specs.Operands.{operand_behind_comma, operand_of, field_of, first_operand, second_operand};
 ghost use Rattle.source_1401.specs.Operands.{lone_d, d_at, d_of, count_of, is_malformed, operands_of, has_malformed};
+ghost use Rattle.source_1401.specs.Operands.{is_plain, is_value};
 
-use crate::address::Address;
+use crate::address::{Address, Base};
 use crate::constant::Constant;
 use crate::mnemonic::{DCharacter, Form};
 
@@ -220,5 +221,29 @@ impl Operands {
         ensures { result ≡ has_malformed self }
     {
         !self.is_whole || self.a.is_malformed() || self.b.is_malformed()
+    }
+
+    /// Whether they are one address that says a value: no literal, no asterisk, no index register.
+    pub(crate) fn are_value(self) -> bool
+        ensures { result ≡ is_value self }
+    {
+        match self.a {
+            OperandField::Operand(operand) => self.is_whole && operand.is_plain(),
+            OperandField::Absent | OperandField::Malformed => false,
+        }
+    }
+}
+
+impl Operand {
+    /// Whether it is an address without an asterisk and an index register.
+    fn is_plain(self) -> bool
+        ensures { result ≡ is_plain self }
+    {
+        match self {
+            Operand::Address(Address { base, index, .. }) => {
+                index == 0 && !matches!(base, Base::Here)
+            },
+            Operand::Literal(_) => false,
+        }
     }
 }

@@ -4,16 +4,16 @@ ghost use Rattle.std.specs.List.{position_or_len};
 ghost use Rattle.source_1401.specs.Numbers.{number_between};
 ghost use Rattle.source_1401.specs.Statement.{most_places};
 ghost use Rattle.source_1401.specs.Statement.{is_x, areas_of, span_of, body_with, body_of, statement_of, bytes_with};
-ghost use Rattle.source_1401.specs.Statement.{line_of, is_plain, is_value, has_bad_operands, has_bad_label};
+ghost use Rattle.source_1401.specs.Statement.{line_of, has_bad_operands, has_bad_label};
 ghost use Rattle.source_1401.specs.Statement.{label_of_line, is_end};
 
-use crate::address::{Address, Base};
 use crate::columns::{COLUMNS, columns_in, columns_of, has_foreign_bytes, is_comment};
 use crate::constant::Constant;
+use crate::description::{Addressing, LabelRule};
 use crate::label::{Label, LabelField};
 use crate::mnemonic::{DCharacter, Form, Instruction, Operation};
 use crate::numbers::number_between;
-use crate::operands::{Operand, OperandField, Operands, lone_operand, two_operands};
+use crate::operands::{Operands, lone_operand, two_operands};
 
 /// Areas of blanks: DA.
 #[derive(Clone, Copy, Debug, PartialEq, Eq)]
@@ -176,46 +176,6 @@ impl Body {
             None => Body::Unknown,
         }
     }
-
-    /// Whether the operands aren't as the operation asks, whatever stands around the line.
-    fn has_bad_operands(self) -> bool
-        ensures { result ≡ has_bad_operands self }
-    {
-        match self {
-            Body::Unknown => false,
-            Body::Instruction(_, operands) => operands.are_malformed(),
-            Body::MarkedConstant(constant) | Body::Constant(constant) => constant.is_none(),
-            Body::Space(places) => places.is_none(),
-            Body::Areas(areas) => areas.is_none(),
-            Body::Field(span) => span.is_none(),
-            Body::Equate(operands)
-            | Body::Origin(operands)
-            | Body::Execute(operands)
-            | Body::End(operands) => !is_value(operands),
-        }
-    }
-}
-
-/// Whether an address has no asterisk and no index register.
-fn is_plain(operand: Operand) -> bool
-    ensures { result ≡ is_plain operand }
-{
-    match operand {
-        Operand::Address(Address { base, index, .. }) => {
-            index == 0 && !matches!(base, Base::Here)
-        },
-        Operand::Literal(_) => false,
-    }
-}
-
-/// Whether the operands are one address that says a value: no literal, no asterisk, no index register.
-fn is_value(operands: Operands) -> bool
-    ensures { result ≡ is_value operands }
-{
-    match operands.a {
-        OperandField::Operand(operand) => operands.is_whole && is_plain(operand),
-        OperandField::Absent | OperandField::Malformed => false,
-    }
 }
 
 impl Statement {
@@ -234,11 +194,12 @@ impl Statement {
     pub fn has_bad_label(self) -> bool
         ensures { result ≡ has_bad_label self }
     {
-        match (self.label, self.body) {
-            (LabelField::Malformed, _) => true,
-            (LabelField::Absent, Body::Equate(_)) => true,
-            (LabelField::Label(_), Body::Origin(_) | Body::Execute(_) | Body::End(_)) => true,
-            (LabelField::Absent | LabelField::Label(_), _) => false,
+        match (self.label, self.body.describe().label) {
+            (LabelField::Malformed, _)
+            | (LabelField::Absent, LabelRule::Required)
+            | (LabelField::Label(_), LabelRule::Forbidden) => true,
+            (LabelField::Absent, LabelRule::Optional | LabelRule::Forbidden)
+            | (LabelField::Label(_), LabelRule::Optional | LabelRule::Required) => false,
         }
     }
 
@@ -247,7 +208,7 @@ impl Statement {
     pub fn has_bad_operands(self) -> bool
         ensures { result ≡ has_bad_operands self.body }
     {
-        self.body.has_bad_operands()
+        !self.body.describe().is_well_formed
     }
 }
 
@@ -286,13 +247,10 @@ impl Line {
     pub fn is_end(&self) -> bool
         ensures { result ≡ is_end self.now }
     {
-        matches!(
-            self.statement,
-            Some(Statement {
-                body: Body::End(_),
-                ..
-            })
-        )
+        match self.statement {
+            Some(statement) => matches!(statement.body.describe().addressing, Addressing::Entry(_)),
+            None => false,
+        }
     }
 }
 

@@ -7,5 +7,5 @@ use Rattle.autocoder_1401.proofs.segments.Builder.put_lines.Given as goal
 
 abbrev pub invariant-loop-i : goal.invariant-loop-i
 invariant-loop-i l =
-    built l.self (cells_from (places_of l.all) (places_of l.here) (drop l.i l.lines))
-    ≡ built l.initial.self (cells_from (places_of l.all) (places_of l.initial.here) l.lines)
+    built l.self (cells_from (places_of l.all) (places_of l.so_far) (drop l.i l.lines))
+    ≡ built l.initial.self (cells_from (places_of l.all) (places_of l.initial.so_far) l.lines)

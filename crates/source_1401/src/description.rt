@@ -1,0 +1,231 @@
+//! The table of the kinds of statement: a row for each kind, a column for each thing that the assembler asks of one.
+//!
+//! A new kind of statement is a new row. What the assembler does with a statement, it does by the columns.
+ghost use Rattle.std.specs.Prelude.{◌≡◌};
+ghost use Rattle.source_1401.specs.Description.{describe, operands_in};
+
+use crate::constant::Constant;
+use crate::mnemonic::Instruction;
+use crate::operands::{OperandField, Operands};
+use crate::statement::{Areas, Body, Span};
+
+/// Whether a statement has a label.
+#[derive(Clone, Copy, Debug, PartialEq, Eq)]
+pub enum LabelRule {
+    /// It may have one. Whether a field of areas has one is asked where it is known to be one.
+    Optional,
+    /// It must have one.
+    Required,
+    /// It must not.
+    Forbidden,
+}
+
+/// A place or a value that a statement has.
+#[derive(Clone, Copy, Debug, PartialEq, Eq)]
+pub enum Point {
+    /// Its first place: the next one, where it takes none.
+    First,
+    /// Its last place.
+    Last,
+    /// This place, counted from 1, of the first of the areas above it.
+    InArea(u16),
+    /// The value of its operand.
+    Value,
+}
+
+/// The operands in which a label may stand, and which labels that may be.
+#[derive(Clone, Copy, Debug, PartialEq, Eq)]
+pub enum Addressing {
+    /// There are none.
+    Nothing,
+    /// Addresses and literals of an instruction, with the label of any line.
+    Addresses(Operands),
+    /// A value, with the label of an earlier line.
+    EarlierValue(Operands),
+    /// A value, with the label of any line.
+    Value(Operands),
+    /// The same, and it is the address at which the program begins: the source ends here.
+    Entry(Operands),
+}
+
+/// What becomes of the next place.
+#[derive(Clone, Copy, Debug, PartialEq, Eq)]
+pub enum Next {
+    /// It is the one behind the statement's places.
+    Behind,
+    /// The literals used so far are placed, and it is the one behind them.
+    Literals,
+    /// It is the value of the operand.
+    Value,
+}
+
+/// What a statement is to areas (DA).
+#[derive(Clone, Copy, Debug, PartialEq, Eq)]
+pub enum AreaRole {
+    /// Below it there are no fields of areas.
+    Ends,
+    /// It makes areas. Without a value its operands don't say them.
+    Makes(Option<Areas>),
+    /// It is a field of the areas above it. Without a value its operands don't say its places.
+    Divides(Option<Span>),
+}
+
+/// What fills a statement's places.
+#[derive(Clone, Copy, Debug, PartialEq, Eq)]
+pub enum Contents {
+    /// It has no places.
+    Nothing,
+    /// An instruction.
+    Instruction(Instruction, Operands),
+    /// A constant, with a word mark at its high place.
+    MarkedConstant(Option<Constant>),
+    /// A constant without a word mark.
+    Constant(Option<Constant>),
+    /// What stood there before.
+    Space(Option<u16>),
+    /// Blanks, with the word marks of areas and their fields.
+    Areas(Option<Areas>),
+}
+
+/// What the assembler asks of a statement: a row of the table.
+#[derive(Clone, Copy, Debug, PartialEq, Eq)]
+pub struct Description {
+    /// Whether the operation is known.
+    pub is_known: bool,
+    /// Whether the operands are as the operation asks, whatever stands around the line.
+    pub is_well_formed: bool,
+    /// Whether it has a label.
+    pub label: LabelRule,
+    /// What its label stands for.
+    pub names: Point,
+    /// The address that the listing shows.
+    pub shows: Point,
+    /// The operands in which a label may stand.
+    pub addressing: Addressing,
+    /// What becomes of the next place.
+    pub next: Next,
+    /// What it is to areas.
+    pub areas: AreaRole,
+    /// What fills its places.
+    pub contents: Contents,
+}
+
+/// What a row says in the columns that it doesn't name.
+const PLAIN: Description = Description {
+    is_known: true,
+    is_well_formed: true,
+    label: LabelRule::Optional,
+    names: Point::First,
+    shows: Point::First,
+    addressing: Addressing::Nothing,
+    next: Next::Behind,
+    areas: AreaRole::Ends,
+    contents: Contents::Nothing,
+};
+
+impl Body {
+    /// The row of the statement.
+    pub fn describe(self) -> Description
+        ensures { result ≡ describe self }
+    {
+        match self {
+            Body::Unknown => Description {
+                is_known: false,
+                ..PLAIN
+            },
+            Body::Instruction(instruction, operands) => Description {
+                is_well_formed: !operands.are_malformed(),
+                addressing: Addressing::Addresses(operands),
+                contents: Contents::Instruction(instruction, operands),
+                ..PLAIN
+            },
+            Body::MarkedConstant(constant) => Description {
+                is_well_formed: constant.is_some(),
+                names: Point::Last,
+                contents: Contents::MarkedConstant(constant),
+                ..PLAIN
+            },
+            Body::Constant(constant) => Description {
+                is_well_formed: constant.is_some(),
+                names: Point::Last,
+                contents: Contents::Constant(constant),
+                ..PLAIN
+            },
+            Body::Space(places) => Description {
+                is_well_formed: places.is_some(),
+                names: Point::Last,
+                contents: Contents::Space(places),
+                ..PLAIN
+            },
+            Body::Areas(areas) => Description {
+                is_well_formed: areas.is_some(),
+                areas: AreaRole::Makes(areas),
+                contents: Contents::Areas(areas),
+                ..PLAIN
+            },
+            Body::Field(None) => Description {
+                is_well_formed: false,
+                areas: AreaRole::Divides(None),
+                ..PLAIN
+            },
+            Body::Field(Some(span)) => Description {
+                names: Point::InArea(span.last),
+                shows: Point::InArea(span.first),
+                areas: AreaRole::Divides(Some(span)),
+                ..PLAIN
+            },
+            Body::Equate(operands) => Description {
+                is_well_formed: operands.are_value(),
+                label: LabelRule::Required,
+                names: Point::Value,
+                shows: Point::Value,
+                addressing: Addressing::EarlierValue(operands),
+                ..PLAIN
+            },
+            Body::Origin(operands) => Description {
+                is_well_formed: operands.are_value(),
+                label: LabelRule::Forbidden,
+                shows: Point::Value,
+                addressing: Addressing::EarlierValue(operands),
+                next: Next::Value,
+                ..PLAIN
+            },
+            Body::Execute(operands) => Description {
+                is_well_formed: operands.are_value(),
+                label: LabelRule::Forbidden,
+                shows: Point::Value,
+                addressing: Addressing::Value(operands),
+                next: Next::Literals,
+                ..PLAIN
+            },
+            Body::End(operands) => Description {
+                is_well_formed: operands.are_value(),
+                label: LabelRule::Forbidden,
+                shows: Point::Value,
+                addressing: Addressing::Entry(operands),
+                next: Next::Literals,
+                ..PLAIN
+            },
+        }
+    }
+}
+
+impl Addressing {
+    /// The operands; none of them where there are none.
+    pub fn operands(self) -> Operands
+        ensures { result ≡ operands_in self }
+    {
+        match self {
+            Addressing::Nothing => Operands {
+                a: OperandField::Absent,
+                b: OperandField::Absent,
+                d: None,
+                is_whole: true,
+            },
+            Addressing::Addresses(operands)
+            | Addressing::EarlierValue(operands)
+            | Addressing::Value(operands)
+            | Addressing::Entry(operands) => operands,
+        }
+    }
+}
