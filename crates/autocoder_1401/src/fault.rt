@@ -3,67 +3,55 @@ ghost use Rattle.std.specs.Prelude.{◌≡◌};
 ghost use Rattle.autocoder_1401.specs.declared.fault.AsmKind.TheVariants.{Memory};
 
 use std::alloc::{AllocError, AllocFailed};
-use std::fmt;
+use thiserror::Error;
 
 /// The kinds of a fault, the lowest first. Kinds 2 to 8, 10 and 11 are looked for over the whole source first; only a
 /// source without any of them is placed, and then looked at for kind 9.
-#[derive(Clone, Copy, Debug, PartialEq, Eq)]
+#[derive(Clone, Copy, Debug, PartialEq, Eq, Error)]
 pub enum AsmKind {
     /// 1: memory was refused, or the source has more than 4,294,967,295 lines.
+    #[error("1 MEMORY")]
     Memory,
     /// 2: a line has more than 80 bytes.
+    #[error("2 LONG LINE")]
     LongLine,
     /// 3: a byte can't stand in its column.
+    #[error("3 GRAPHIC")]
     Graphic,
     /// 4: columns 6 to 15 hold no label, or lack one, or hold one where there is none.
+    #[error("4 LABEL")]
     Label,
     /// 5: an earlier line has the same label.
+    #[error("5 DOUBLE LABEL")]
     DoubleLabel,
     /// 6: columns 16 to 20 hold no operation, or a field stands under no areas.
+    #[error("6 OPERATION")]
     Operation,
     /// 7: a symbol is the label of no line, or for EQU and ORG of no earlier one.
+    #[error("7 UNDEFINED")]
     Undefined,
     /// 8: the operands aren't as the operation asks.
+    #[error("8 OPERAND")]
     Operand,
     /// 9: a place or an address isn't in core.
+    #[error("9 OUT OF CORE")]
     OutOfCore,
     /// 10: there is no END.
+    #[error("10 NO END")]
     NoEnd,
     /// 11: a line behind END is no comment.
+    #[error("11 AFTER END")]
     AfterEnd,
 }
 
-impl fmt::Display for AsmKind {
-    fn fmt<W: fmt::Write>(&self, f: &mut fmt::Formatter<W>) -> fmt::Result {
-        f.write_str(match self {
-            AsmKind::Memory => "1 MEMORY",
-            AsmKind::LongLine => "2 LONG LINE",
-            AsmKind::Graphic => "3 GRAPHIC",
-            AsmKind::Label => "4 LABEL",
-            AsmKind::DoubleLabel => "5 DOUBLE LABEL",
-            AsmKind::Operation => "6 OPERATION",
-            AsmKind::Undefined => "7 UNDEFINED",
-            AsmKind::Operand => "8 OPERAND",
-            AsmKind::OutOfCore => "9 OUT OF CORE",
-            AsmKind::NoEnd => "10 NO END",
-            AsmKind::AfterEnd => "11 AFTER END",
-        })
-    }
-}
-
 /// The first line with a fault, counted from 1, and its lowest kind. With Memory the line is 0.
-#[derive(Clone, Copy, Debug, PartialEq, Eq)]
+#[derive(Clone, Copy, Debug, PartialEq, Eq, Error)]
+#[error("line {line}: {kind}")]
 pub struct AsmFault {
     /// The line.
     pub line: u64,
     /// What is wrong with it.
     pub kind: AsmKind,
-}
-
-impl fmt::Display for AsmFault {
-    fn fmt<W: fmt::Write>(&self, f: &mut fmt::Formatter<W>) -> fmt::Result {
-        write!(f, "line {}: {}", self.line, self.kind)
-    }
 }
 
 impl AsmFault {

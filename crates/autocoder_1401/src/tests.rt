@@ -234,3 +234,24 @@ fn the_place_behind_the_last_takes_an_end_alone(rt: HostRuntime) {
         assert_eq!(rt; fault(&rt, source, size), fault_of);
     }
 }
+
+#[test]
+fn a_fault_shows_its_line_its_number_and_its_name(rt: HostRuntime) -> Result<(), Fail> {
+    for (kind, text) in [
+        (AsmKind::Memory, "line 7: 1 MEMORY"),
+        (AsmKind::LongLine, "line 7: 2 LONG LINE"),
+        (AsmKind::Graphic, "line 7: 3 GRAPHIC"),
+        (AsmKind::Label, "line 7: 4 LABEL"),
+        (AsmKind::DoubleLabel, "line 7: 5 DOUBLE LABEL"),
+        (AsmKind::Operation, "line 7: 6 OPERATION"),
+        (AsmKind::Undefined, "line 7: 7 UNDEFINED"),
+        (AsmKind::Operand, "line 7: 8 OPERAND"),
+        (AsmKind::OutOfCore, "line 7: 9 OUT OF CORE"),
+        (AsmKind::NoEnd, "line 7: 10 NO END"),
+        (AsmKind::AfterEnd, "line 7: 11 AFTER END"),
+    ] {
+        let shown = format!(in rt.alloc(); "{}", AsmFault { line: 7, kind })?;
+        assert_eq!(rt; shown.as_str(), text);
+    }
+    Ok(())
+}

@@ -1,6 +1,6 @@
 //! What a line is answered.
 ghost use Rattle.std.specs.Prelude.{◌≡◌, IfOk, Some};
-ghost use Rattle.console_1401.specs.ReplyText.{bytes_of, glance_fault_text, room_fault_text};
+ghost use Rattle.console_1401.specs.ReplyText.{bytes_of};
 
 use command_1401::Answer;
 use room_1401::{Glance, GlanceFault, RoomFault};
@@ -31,33 +31,12 @@ pub(crate) fn reply_bytes(alloc: Global, reply: Reply) -> Result<Vec<u8>, AllocE
 {
     let mut bytes = match reply {
         Reply::Answer(answer) => reply_text(alloc, &answer)?,
-        Reply::RoomFault(fault) => Vec::from_slice(alloc, room_fault_reply(fault))?,
+        Reply::RoomFault(fault) => Vec::from_slice(alloc, fault.text().as_bytes())?,
         Reply::Glance(glance) => glance_text(alloc, glance.after, glance.cell)?,
-        Reply::GlanceFault(fault) => Vec::from_slice(alloc, glance_fault_reply(fault))?,
+        Reply::GlanceFault(fault) => Vec::from_slice(alloc, fault.text().as_bytes())?,
         Reply::LineFault(fault) => Vec::from_slice(alloc, fault_text(fault))?,
         Reply::Bye => Vec::from_slice(alloc, b"BYE")?,
     };
     bytes.push(b'\n')?;
     Ok(bytes)
-}
-
-/// The text of a room's fault.
-fn room_fault_reply(fault: RoomFault) -> &'static [u8]
-    ensures { result.now ≡ room_fault_text fault }
-{
-    match fault {
-        RoomFault::Memory => b"FAULT 1 MEMORY",
-        RoomFault::JournalFull => b"FAULT 2 JOURNAL FULL",
-        RoomFault::NoReading => b"FAULT 3 NO READING",
-    }
-}
-
-/// The text of a glance's fault.
-fn glance_fault_reply(fault: GlanceFault) -> &'static [u8]
-    ensures { result.now ≡ glance_fault_text fault }
-{
-    match fault {
-        GlanceFault::Range => b"GLANCE FAULT 1 RANGE",
-        GlanceFault::Gone => b"GLANCE FAULT 2 GONE",
-    }
 }

@@ -13,13 +13,16 @@ use std::net::{TcpListener, TcpStream};
 use std::sync::Wait;
 use std::thread;
 use std::thread::{JoinHandle, Scope, Threads};
+use thiserror::Error;
 
 /// Why a room stopped listening before each of its seats had a console.
-#[derive(Clone, Copy, Debug, PartialEq, Eq)]
+#[derive(Clone, Copy, Debug, PartialEq, Eq, Error)]
 pub enum ServeFault {
     /// 1: a connection couldn't be accepted.
+    #[error("accept failed")]
     Accept,
     /// 2: a thread was refused, or the memory to keep account of the threads.
+    #[error("thread refused")]
     Thread,
 }
 

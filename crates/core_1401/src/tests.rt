@@ -223,3 +223,15 @@ fn each_field_is_as_long_as_a_walk_finds_it(rt: HostRuntime) -> Result<(), Fail>
     }
     Ok(())
 }
+
+#[test]
+fn each_fault_has_its_text(rt: HostRuntime) -> Result<(), Fail> {
+    for (fault, text) in [
+        (CoreFault::Memory, "memory refused"),
+        (CoreFault::Size, "size refused"),
+    ] {
+        let shown = format!(in rt.alloc(); "{fault}")?;
+        assert_eq!(rt; shown.as_str(), text);
+    }
+    Ok(())
+}

@@ -4,9 +4,10 @@ ghost use Rattle.cpu_1401.specs.Stop.{stop_number, stop_name};
 
 use fields_1401::FieldStop;
 use std::fmt;
+use thiserror::Error;
 
 /// Why the machine stops, by its number. All but the first two leave the machine as it was before the instruction.
-#[derive(Clone, Copy, Debug, PartialEq, Eq)]
+#[derive(Clone, Copy, Debug, PartialEq, Eq, Error)]
 pub enum Stop {
     /// 1: as many instructions as were asked for were carried out.
     Limit = 1,

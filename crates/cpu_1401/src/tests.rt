@@ -4,6 +4,7 @@ use crate::{Machine, Ran, Stop};
 use bcd_1401::{Cell, Char};
 use core_1401::CoreFault;
 use devices_1401::Card;
+use fields_1401::FieldStop;
 use std::process::Abort;
 use std::test::Fail;
 
@@ -346,6 +347,15 @@ fn each_stop_writes_its_name(rt: HostRuntime) -> Result<(), Fail> {
     ] {
         let written = format!(in rt.alloc(); "{stop}")?;
         assert_eq!(rt; written.as_str(), name);
+    }
+    Ok(())
+}
+
+#[test]
+fn a_fields_stop_writes_the_name_of_its_stop(rt: HostRuntime) -> Result<(), Fail> {
+    for field in [FieldStop::Address, FieldStop::Overlap] {
+        let written = format!(in rt.alloc(); "{field}")?;
+        assert_eq!(rt; written.as_str(), Stop::from(field).name());
     }
     Ok(())
 }

@@ -1,5 +1,7 @@
 //! What an operation on fields leaves beside the core, and why it can't be carried out.
 
+use thiserror::Error;
+
 /// What an operation on fields leaves beside the core.
 #[derive(Clone, Copy, Debug, PartialEq, Eq)]
 pub struct Done {
@@ -17,11 +19,14 @@ pub struct Done {
     pub high: bool,
 }
 
-/// Why an operation on fields can't be carried out, in the order of the refusals. The core is as it was.
-#[derive(Clone, Copy, Debug, PartialEq, Eq)]
+/// Why an operation on fields can't be carried out, in the order of the refusals. The core is as it was. Each is
+/// shown by the name of its stop.
+#[derive(Clone, Copy, Debug, PartialEq, Eq, Error)]
 pub enum FieldStop {
     /// 1: a place that it needs isn't in core, or a field that it needs has no word mark.
+    #[error("ADDRESS")]
     Address,
     /// 2: the fields overlap where they may not.
+    #[error("OVERLAP")]
     Overlap,
 }

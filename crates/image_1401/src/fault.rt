@@ -1,30 +1,23 @@
 //! Why a text is no image.
 
-use std::fmt;
+use thiserror::Error;
 
 /// Why a text is read as no image, by number. The first wrong line decides; memory comes last.
-#[derive(Clone, Copy, Debug, PartialEq, Eq)]
+#[derive(Clone, Copy, Debug, PartialEq, Eq, Error)]
 pub enum ImageFault {
     /// 1: the memory for the image was refused.
+    #[error("1 MEMORY")]
     Memory,
     /// 2: the first line is no header, or names a size that an image doesn't have.
+    #[error("2 HEADER")]
     Header,
     /// 3: a line is neither a segment nor the end, or something stands behind the end.
+    #[error("3 RECORD")]
     BadRecord,
     /// 4: a segment or the entry doesn't lie in core storage of the image's size.
+    #[error("4 RANGE")]
     Range,
     /// 5: the text ends before its last line does.
+    #[error("5 TRUNCATED")]
     Truncated,
-}
-
-impl fmt::Display for ImageFault {
-    fn fmt<W: fmt::Write>(&self, f: &mut fmt::Formatter<W>) -> fmt::Result {
-        f.write_str(match self {
-            ImageFault::Memory => "1 MEMORY",
-            ImageFault::Header => "2 HEADER",
-            ImageFault::BadRecord => "3 RECORD",
-            ImageFault::Range => "4 RANGE",
-            ImageFault::Truncated => "5 TRUNCATED",
-        })
-    }
 }

@@ -1,5 +1,6 @@
 pub mod Account
 pub mod Closing
+pub mod FaultText
 pub mod History
 pub mod Journal
 pub mod Opening

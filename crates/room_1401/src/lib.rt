@@ -46,6 +46,8 @@ pub use seat::{Glance, Seat, Told};
 pub use shared_room::SharedRoom;
 
 #[cfg(test)]
+mod fault_tests;
+#[cfg(test)]
 mod shared_room_tests;
 #[cfg(test)]
 mod tests;

@@ -180,11 +180,5 @@ pub fn glance_text(alloc: Global, after: u64, cell: Cell) -> Result<Vec<u8>, All
 pub fn fault_text(fault: LineFault) -> &'static [u8]
     ensures { result.now ≡ fault_text fault }
 {
-    match fault {
-        LineFault::Word => b"ERROR 1 WORD",
-        LineFault::Number => b"ERROR 2 NUMBER",
-        LineFault::Graphic => b"ERROR 3 GRAPHIC",
-        LineFault::Length => b"ERROR 4 LENGTH",
-        LineFault::Extra => b"ERROR 5 EXTRA",
-    }
+    fault.text().as_bytes()
 }

@@ -2,6 +2,7 @@
 ghost use Rattle.std.specs.Prelude.{◌≡◌, ℕ};
 ghost use Rattle.text_1401.specs.declared.line.Line.{Line};
 ghost use Rattle.notation_1401.specs.Cells.{cells_of, spelled};
+ghost use Rattle.text_1401.specs.AnswerText.{fault_text};
 ghost use Rattle.text_1401.specs.ConsoleLine.{if_cells, ended, deposit_of, examine_of, start_of};
 ghost use Rattle.text_1401.specs.ConsoleLine.{switch_said, feed_of, run_of, glance_of, said_with, said_in_words};
 ghost use Rattle.text_1401.specs.ConsoleLine.{said_by};
@@ -13,6 +14,7 @@ use command_1401::Command;
 use core_1401::Cells;
 use devices_1401::Card;
 use notation_1401::{CellsFault, read_cells};
+use thiserror::Error;
 
 /// How many bytes a line has at the most.
 pub const LINE_LIMIT: usize = 200;
@@ -31,7 +33,8 @@ pub enum Line {
 }
 
 /// Why a line says nothing that the console knows: the first fault from left to right.
-#[derive(Clone, Copy, Debug, PartialEq, Eq)]
+#[derive(Clone, Copy, Debug, PartialEq, Eq, Error)]
+#[error("{}", self.text())]
 pub enum LineFault {
     /// 1: a word that isn't known.
     Word,
@@ -43,6 +46,21 @@ pub enum LineFault {
     Length,
     /// 5: something follows where the line should end.
     Extra,
+}
+
+impl LineFault {
+    /// The number and the name, as the console replies them.
+    pub fn text(self) -> &'static str
+        ensures { result.now ≡ fault_text self }
+    {
+        match self {
+            LineFault::Word => "ERROR 1 WORD",
+            LineFault::Number => "ERROR 2 NUMBER",
+            LineFault::Graphic => "ERROR 3 GRAPHIC",
+            LineFault::Length => "ERROR 4 LENGTH",
+            LineFault::Extra => "ERROR 5 EXTRA",
+        }
+    }
 }
 
 /// What a line says: at most 200 bytes, without the line feed that ends it.

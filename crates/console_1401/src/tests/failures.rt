@@ -1,7 +1,7 @@
 //! Reads and writes that fail.
 ghost use Rattle.std.specs.Prelude.{Some};
 
-use crate::{Failed, FromReader, SessionEnd, Sink, Source, ToWriter, session};
+use crate::{Failed, FromReader, ServeFault, SessionEnd, Sink, Source, ToWriter, session};
 use room_1401::Room;
 use std::test::Fail;
 
@@ -143,6 +143,20 @@ fn each_byte_is_read(rt: HostRuntime) -> Result<(), Fail> {
         assert_eq!(rt; reader.next_byte(), Ok(Some(byte)), "{byte}");
         assert_eq!(rt; reader.next_byte(), Ok(None), "{byte}");
         assert!(rt; !reader.has_failed(), "{byte}");
+    }
+    Ok(())
+}
+
+#[test]
+fn each_failure_has_its_text(rt: HostRuntime) -> Result<(), Fail> {
+    let failed = format!(in rt.alloc(); "{Failed}")?;
+    assert_eq!(rt; failed.as_str(), "a read or a write failed");
+    for (fault, text) in [
+        (ServeFault::Accept, "accept failed"),
+        (ServeFault::Thread, "thread refused"),
+    ] {
+        let shown = format!(in rt.alloc(); "{fault}")?;
+        assert_eq!(rt; shown.as_str(), text);
     }
     Ok(())
 }

@@ -1,9 +1,10 @@
 //! Lines and what they say.
 
 use super::marked_zero_and_k;
-use crate::{LINE_LIMIT, Line, LineFault, parse_line};
+use crate::{LINE_LIMIT, Line, LineFault, fault_text, parse_line};
 use command_1401::Command;
 use cpu_1401::SwitchName;
+use std::test::Fail;
 
 #[test]
 fn a_deposit_has_its_cells(rt: HostRuntime) {
@@ -125,4 +126,20 @@ fn a_card_has_80_columns_at_the_most(rt: HostRuntime) {
     assert_eq!(rt; parse_line(&line), Err(LineFault::Length));
     line[84] = b'9' + 128;
     assert_eq!(rt; parse_line(&line), Err(LineFault::Graphic));
+}
+
+#[test]
+fn each_fault_has_its_text(rt: HostRuntime) -> Result<(), Fail> {
+    for (fault, text) in [
+        (LineFault::Word, "ERROR 1 WORD"),
+        (LineFault::Number, "ERROR 2 NUMBER"),
+        (LineFault::Graphic, "ERROR 3 GRAPHIC"),
+        (LineFault::Length, "ERROR 4 LENGTH"),
+        (LineFault::Extra, "ERROR 5 EXTRA"),
+    ] {
+        let shown = format!(in rt.alloc(); "{fault}")?;
+        assert_eq!(rt; shown.as_str(), text);
+        assert_eq!(rt; fault_text(fault), text.as_bytes(), "{text}");
+    }
+    Ok(())
 }
