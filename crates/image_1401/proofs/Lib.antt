@@ -1,4 +1,3 @@
-pub mod CellsLemmas
 pub mod ContentsLemmas
 pub mod LineLemmas
 pub mod NumberLemmas

@@ -12,7 +12,8 @@ use Rattle.std.proofs.lemmas.List.Folds.{list_all-append}
 use Rattle.std.proofs.lemmas.List.Sums.{fold_push}
 use Rattle.std.proofs.Math.Nat.{pow-succ'}
 use Rattle.image_1401.specs.ImageText.{number_text}
-use Rattle.image_1401.specs.Reading.{is_digit, value_of, number_in, number_at}
+use Rattle.notation_1401.specs.Digits.{is_digit, number_in, value_of}
+use Rattle.image_1401.specs.Reading.{number_at}
 
 -- the last digit, and in front of it those of the tenth part
 pub number_text-last : (digits number : ℕ) → 0 < digits → number_text digits number

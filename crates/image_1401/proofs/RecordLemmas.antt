@@ -14,12 +14,14 @@ use Rattle.image_1401.specs.declared.image.Segment.{Segment}
 use Rattle.image_1401.specs.declared.version.Version.{Version}
 use Rattle.image_1401.specs.declared.version.Version.TheVariants.{One, Two}
 use Rattle.image_1401.specs.Version.{name_of, address_digits, has_size}
-use Rattle.image_1401.specs.ImageText.{number_text, cells_text, header_text, segment_text, end_text, is_character}
+use Rattle.notation_1401.specs.Cells.{cells_text}
+use Rattle.notation_1401.specs.Digits.{number_in}
+use Rattle.image_1401.specs.ImageText.{number_text, header_text, segment_text, end_text, is_character}
 use Rattle.image_1401.specs.ImageText.{is_segment}
-use Rattle.image_1401.specs.Reading.{◌>>=◌, behind, number_in, number_at, cells_in, if_few, few_cells_in, header_with}
+use Rattle.image_1401.specs.Reading.{◌>>=◌, behind, number_at, few_cells_in, header_with}
 use Rattle.image_1401.specs.Reading.{in_version, header_in, segment_in, end_in}
 use Rattle.image_1401.proofs.NumberLemmas.{first_half, second_half, both, number_takes, number_again}
-use Rattle.image_1401.proofs.SpellingLemmas.{behind_takes, behind_again, cells_takes, cells_again}
+use Rattle.image_1401.proofs.SpellingLemmas.{behind_takes, behind_again, few_cells_takes, few_cells_again}
 
 -- the value of a step that wasn't missed
 pub record Step {A B : Type 0} (o : Option A) (f : A → Option B) (y : B) : Type 0 where
@@ -170,7 +172,7 @@ regroup address count cells = simp append_assoc
 
 pub segment_takes : (version : Version) (line : List ℕ) (segment : Segment) → segment_in version line ≡ Some segment
     → IsSegmentLine version line segment
-unfolding segment_in segment_text few_cells_in
+unfolding segment_in segment_text
 segment_takes version line segment h =
     let digits = address_digits version in
     let a = step (number_at digits line) _ segment h in
@@ -178,15 +180,13 @@ segment_takes version line segment h =
     let n = step (number_at 2 b.value) _ segment b.then_is in
     let d = step (behind (codes " ") n.value.1) _ segment n.then_is in
     let e = step (few_cells_in d.value) _ segment d.then_is in
-    let all = step (cells_in d.value) if_few e.value e.is in
     let good = made_segment (length e.value == n.value.0) a.value.0 e.value segment e.then_is in
-    let few = cond_some (nat_le 1 (length all.value) && nat_le (length all.value) 40) all.value e.value all.then_is in
-    let cells_are : all.value ≡ segment.cells = few.1 ∙ good.2 in
-    let spelled = cells_takes d.value all.value all.is in
+    let cells_are : e.value ≡ segment.cells = good.2 in
+    let found = few_cells_takes d.value e.value e.is in
     let count : n.value.0 ≡ length segment.cells = sym (eqb-true _ _ good.0) ∙ ap length good.2 in
     let front = number_takes digits line a.value a.is in
     let middle = number_takes 2 b.value n.value n.is in
-    let cells_text_is : d.value ≡ cells_text segment.cells = spelled.text_is ∙ ap cells_text cells_are in
+    let cells_text_is : d.value ≡ cells_text segment.cells = found.spells.text_is ∙ ap cells_text cells_are in
     let last : n.value.1 ≡ 32 ∷ cells_text segment.cells = behind_takes (codes " ") n.value.1 d.value d.is
     ∙ ap (λ (rest : List ℕ). 32 ∷ rest) cells_text_is in
     let third : b.value ≡ number_text 2 (length segment.cells) ++ (32 ∷ cells_text segment.cells) = middle.parts
@@ -206,18 +206,9 @@ segment_takes version line segment h =
           (cells_text segment.cells);
       cells =
           subst (λ (cells : List Cell). nat_le 1 (length cells) && nat_le (length cells) 40
-          && list_all is_character cells ≡ true) cells_are (both _ _ few.0 spelled.own);
+          && list_all is_character cells ≡ true) cells_are (both _ _ found.few found.spells.own);
       address = subst (λ k. k < 10 ^ digits) good.1 front.small;
     }
-
-few_again : (cells : List Cell) → nat_le 1 (length cells) && nat_le (length cells) 40 ≡ true → if_few cells ≡ Some cells
-few_again cells few = rw few
-
-few_cells_again : (cells : List Cell) → nat_le 1 (length cells) && nat_le (length cells) 40 ≡ true
-    → list_all is_character cells ≡ true → few_cells_in (cells_text cells) ≡ Some cells
-unfolding few_cells_in
-few_cells_again cells few own =
-    ap (λ (all : Option (List Cell)). all >>= if_few) (cells_again cells own) ∙ few_again cells few
 
 few_bound : (cells : List Cell) → nat_le 1 (length cells) && nat_le (length cells) 40 ≡ true → length cells < 10 ^ 2
 few_bound cells few =

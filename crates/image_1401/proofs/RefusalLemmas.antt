@@ -18,8 +18,8 @@ use Rattle.image_1401.specs.Refusal.{IsNoRecord, HasFault, unfinished, no_record
 use Rattle.image_1401.specs.Refusal.{behind_the_end, further_on, HasTextFault, no_header_yet, no_header}
 use Rattle.image_1401.specs.Refusal.{behind_the_header, IsRefused}
 use Rattle.image_1401.proofs.LineLemmas.{parts_of-some}
-use Rattle.image_1401.proofs.RecordLemmas.{header_takes, header_again, segment_takes, segment_again, end_takes, end_small}
-use Rattle.image_1401.proofs.RecordLemmas.{end_again}
+use Rattle.image_1401.proofs.RecordLemmas.{header_takes, header_again, segment_takes, segment_again, end_takes}
+use Rattle.image_1401.proofs.RecordLemmas.{end_small, end_again}
 use Rattle.image_1401.proofs.TextLemmas.{same_Ok_image, image_takes, image_again, has_texts}
 
 missed : {A : Type 0} (found : Option A) (x : A) → found ≡ None → found ≡ Some x → ⊥

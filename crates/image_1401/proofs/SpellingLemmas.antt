@@ -1,19 +1,26 @@
 -- Cells by their graphics, written and read.
-use Rattle.std.proofs.Common.{◌≡◌, ℕ, ◌==◌, Bool, true, false, cond, List, [], ◌∷◌, ◌++◌, length, take, drop}
-use Rattle.std.proofs.Common.{slice_index, Option, Some, None, refl, sym, ap, subst, ◌∙◌}
-use Rattle.std.specs.Prelude.{position}
+use Rattle.std.proofs.Common.{◌≡◌, ℕ, ◌==◌, ◌≤◌, ◌&&◌, nat_le, Bool, true, false, if◌then◌else◌, List, [], ◌∷◌}
+use Rattle.std.proofs.Common.{◌++◌, length, take, drop, map, slice_index, Option, Some, None, is_some, Result, Ok, Err}
+use Rattle.std.proofs.Common.{refl, sym, ap, subst, ◌∙◌}
+use Rattle.std.specs.Prelude.{filter_map, position}
 use Rattle.std.specs.Option.{option_map}
 use Rattle.std.specs.List.{flat_map, list_all}
+use Rattle.std.specs.Result.{result_ok}
 use Rattle.std.specs.Str.{bytes_eq}
-use Rattle.std.proofs.lemmas.Bool.{eqb-true, eq-eqb, false≢true}
-use Rattle.std.proofs.lemmas.List.{take_at, drop_at, take-append-drop}
+use Rattle.std.proofs.lemmas.Bool.{eqb-true, eq-eqb, leb-true, false≢true}
+use Rattle.std.proofs.lemmas.List.{take_all, take_at, drop_at, take-append-drop, length-map}
 use Rattle.std.proofs.lemmas.List.Quantifiers.{position-Some}
 use Rattle.std.proofs.lemmas.Option.{cond_some, same_Some}
 use Rattle.std.proofs.lemmas.Slice.Eq.{bytes_eq-Decides}
 use Rattle.bcd_1401.specs.declared.cell.Cell.{Cell}
 use Rattle.bcd_1401.specs.Graphic.{graphics}
-use Rattle.image_1401.specs.ImageText.{cell_text, cells_text, is_char, is_character}
-use Rattle.image_1401.specs.Reading.{behind, cell_in, in_front, cells_in}
+use Rattle.notation_1401.specs.declared.fault.CellsFault.{CellsFault}
+use Rattle.notation_1401.specs.declared.fault.CellsFault.TheVariants.{Graphic, Length}
+use Rattle.notation_1401.specs.Cells.{cell_of, cell_text, cells_of, cells_text, spelled}
+use Rattle.notation_1401.proofs.SpelledLemmas.{cells_of-some}
+use Rattle.image_1401.specs.declared.image.Segment.{Segment}
+use Rattle.image_1401.specs.ImageText.{is_char, is_character, is_segment}
+use Rattle.image_1401.specs.Reading.{behind, few_cells_in}
 use Rattle.image_1401.proofs.NumberLemmas.{both, first_half, second_half}
 
 -- the text begins with these bytes
@@ -48,7 +55,7 @@ found_char mark (Some char) cell h =
 own_from : (place : Option ℕ) (char : ℕ) → place ≡ Some char → is_char place char ≡ true
 own_from place char h = rw h (eq-eqb char char refl)
 
-pub cell_takes : (mark : Bool) (byte : ℕ) (cell : Cell) → cell_in mark byte ≡ Some cell → IsRead mark byte cell
+pub cell_takes : (mark : Bool) (byte : ℕ) (cell : Cell) → cell_of mark byte ≡ Some cell → IsRead mark byte cell
 cell_takes mark byte cell h =
     let found = found_char mark (position (λ each. each == byte) graphics) cell h in
     let at = position-Some (λ each. each == byte) graphics cell.char 0 found.0 in
@@ -66,7 +73,7 @@ place_from None char h = absurd (false≢true h)
 place_from (Some found) char h = ap Some (eqb-true found char h)
 
 -- a cell by its graphic is read again
-pub cell_again : (cell : Cell) → is_character cell ≡ true → cell_in cell.mark (slice_index graphics cell.char)
+pub cell_again : (cell : Cell) → is_character cell ≡ true → cell_of cell.mark (slice_index graphics cell.char)
     ≡ Some cell
 cell_again cell own =
     let place = place_from (position (λ each. each == slice_index graphics cell.char) graphics) cell.char own in
@@ -91,27 +98,6 @@ pub record Spells (text : List ℕ) (cells : List Cell) : Type 0 where
   pub text_is : text ≡ cells_text cells
   pub own : list_all is_character cells ≡ true
 
-pub record Front (cell : Option Cell) (more : Option (List Cell)) (cells : List Cell) : Type 0 where
-  pub first : Cell
-  pub rest : List Cell
-  pub first_is : cell ≡ Some first
-  pub rest_is : more ≡ Some rest
-  pub cells_is : cells ≡ first ∷ rest
-
-front_of : (cell : Option Cell) (more : Option (List Cell)) (cells : List Cell) → in_front cell more ≡ Some cells
-    → Front cell more cells
-front_of None more cells h = absurd cc
-front_of (Some first) None cells h = absurd cc
-front_of (Some first) (Some rest) cells h =
-    record {
-      first = first;
-      rest = rest;
-      first_is = refl;
-      rest_is = refl;
-      cells_is = sym (same_Some (first
-          ∷ rest) cells h);
-    }
-
 plain_text : (cell : Cell) → cell.mark ≡ false → cell_text cell ≡ slice_index graphics cell.char ∷ []
 plain_text cell h = rw h
 
@@ -119,87 +105,144 @@ marked_text : (cell : Cell) → cell.mark ≡ true → cell_text cell ≡ 126 �
 marked_text cell h = rw h
 
 -- one plain cell in front of others
-plain_front : (byte : ℕ) (text : List ℕ) (more : Option (List Cell)) (cells : List Cell)
-    → in_front (cell_in false byte) more ≡ Some cells
-    → ((rest : List Cell) → more ≡ Some rest → Spells text rest) → Spells (byte ∷ text) cells
+plain_front : (byte : ℕ) (text : List ℕ) (more : List (Option Cell)) (cells : List Cell)
+    → cell_of false byte ∷ more ≡ map Some cells
+    → ((rest : List Cell) → more ≡ map Some rest → Spells text rest) → Spells (byte ∷ text) cells
 unfolding cells_text
-plain_front byte text more cells h others =
-    let front = front_of (cell_in false byte) more cells h in
-    let one = cell_takes false byte front.first front.first_is in
-    let behind = others front.rest front.rest_is in
-    rw front.cells_is (record {
+plain_front byte text more [] h others = absurd cc
+plain_front byte text more (cell ∷ cells) h others =
+    let first : cell_of false byte ≡ Some cell = cc in
+    let one = cell_takes false byte cell first in
+    let behind = others cells cc in
+    record {
       text_is =
           ap (λ (rest : List ℕ). byte ∷ rest) behind.text_is
-          ∙ ap (λ n. n ∷ flat_map cell_text front.rest) (sym one.graphic)
-          ∙ ap (λ (first : List ℕ). first
-          ++ flat_map cell_text front.rest) (sym (plain_text front.first one.mark_is));
+          ∙ ap (λ n. n ∷ flat_map cell_text cells) (sym one.graphic)
+          ∙ ap (λ (first : List ℕ). first ++ flat_map cell_text cells) (sym (plain_text cell one.mark_is));
       own = both _ _ one.own behind.own;
-    })
+    }
 
-marked_front : (byte : ℕ) (text : List ℕ) (more : Option (List Cell)) (cells : List Cell)
-    → in_front (cell_in true byte) more ≡ Some cells
-    → ((rest : List Cell) → more ≡ Some rest → Spells text rest) → Spells (126 ∷ byte ∷ text) cells
+marked_front : (byte : ℕ) (text : List ℕ) (more : List (Option Cell)) (cells : List Cell)
+    → cell_of true byte ∷ more ≡ map Some cells
+    → ((rest : List Cell) → more ≡ map Some rest → Spells text rest) → Spells (126 ∷ byte ∷ text) cells
 unfolding cells_text
-marked_front byte text more cells h others =
-    let front = front_of (cell_in true byte) more cells h in
-    let one = cell_takes true byte front.first front.first_is in
-    let behind = others front.rest front.rest_is in
-    rw front.cells_is (record {
+marked_front byte text more [] h others = absurd cc
+marked_front byte text more (cell ∷ cells) h others =
+    let first : cell_of true byte ≡ Some cell = cc in
+    let one = cell_takes true byte cell first in
+    let behind = others cells cc in
+    record {
       text_is =
           ap (λ (rest : List ℕ). 126 ∷ byte ∷ rest) behind.text_is
-          ∙ ap (λ n. 126 ∷ n ∷ flat_map cell_text front.rest) (sym one.graphic)
-          ∙ ap (λ (first : List ℕ). first
-          ++ flat_map cell_text front.rest) (sym (marked_text front.first one.mark_is));
+          ∙ ap (λ n. 126 ∷ n ∷ flat_map cell_text cells) (sym one.graphic)
+          ∙ ap (λ (first : List ℕ). first ++ flat_map cell_text cells) (sym (marked_text cell one.mark_is));
       own = both _ _ one.own behind.own;
-    })
+    }
 
-by_tilde : (is_tilde : Bool) (byte next : ℕ) (text : List ℕ) (short long : Option (List Cell)) (cells : List Cell)
+by_tilde : (is_tilde : Bool) (byte next : ℕ) (text : List ℕ) (short long : List (Option Cell)) (cells : List Cell)
     → (byte == 126) ≡ is_tilde
-    → cond {A = Option (List Cell)} is_tilde (in_front (cell_in true next) short) (in_front (cell_in false byte) long)
-    ≡ Some cells
-    → ((rest : List Cell) → short ≡ Some rest → Spells text rest)
-    → ((rest : List Cell) → long ≡ Some rest → Spells (next ∷ text) rest) → Spells (byte ∷ next ∷ text) cells
+    → (if is_tilde then cell_of true next ∷ short else cell_of false byte ∷ long) ≡ map Some cells
+    → ((rest : List Cell) → short ≡ map Some rest → Spells text rest)
+    → ((rest : List Cell) → long ≡ map Some rest → Spells (next ∷ text) rest) → Spells (byte ∷ next ∷ text) cells
 by_tilde true byte next text short long cells e h few more =
     let tilde : byte ≡ 126 = eqb-true byte 126 e in
     subst (λ n. Spells (n ∷ next ∷ text) cells) (sym tilde) (marked_front next text short cells h few)
 by_tilde false byte next text short long cells e h few more = plain_front byte (next ∷ text) long cells h more
 
-nothing : (rest : List Cell) → ◌≡◌ {A = Option (List Cell)} (Some []) (Some rest) → Spells [] rest
+nothing : (rest : List Cell) → ◌≡◌ {A = List (Option Cell)} [] (map Some rest) → Spells [] rest
 unfolding cells_text
-nothing rest h = rw (← same_Some [] rest h) (record { text_is = refl; own = refl })
+nothing [] h = record { text_is = refl; own = refl }
+nothing (cell ∷ rest) h = absurd cc
 
-pub cells_takes : (text : List ℕ) (cells : List Cell) → cells_in text ≡ Some cells → Spells text cells
-unfolding cells_in
-cells_takes [] cells h = nothing cells h
-cells_takes (byte ∷ []) cells h = plain_front byte [] (Some []) cells h nothing
-cells_takes (byte ∷ next ∷ text) cells h =
-    by_tilde (byte == 126) byte next text (cells_in text) (cells_in (next
-    ∷ text)) cells refl h (λ rest e. cells_takes text rest e) (λ rest e. cells_takes (next ∷ text) rest e)
+all_spelled : (text : List ℕ) (cells : List Cell) → spelled text ≡ map Some cells → Spells text cells
+unfolding spelled
+all_spelled [] cells h = nothing cells h
+all_spelled (byte ∷ []) cells h = plain_front byte [] [] cells h nothing
+all_spelled (byte ∷ next ∷ text) cells h =
+    by_tilde (byte == 126) byte next text (spelled text) (spelled (next ∷ text)) cells refl h
+    (λ rest e. all_spelled text rest e) (λ rest e. all_spelled (next ∷ text) rest e)
+
+-- cells that are all there are those that come out
+all_there : (found : List (Option Cell)) → list_all is_some found ≡ true
+    → found ≡ map Some (filter_map (λ cell. cell) found)
+all_there [] all = refl
+all_there (None ∷ found) all = absurd (false≢true all)
+all_there (Some cell ∷ found) all = ap (λ (more : List (Option Cell)). Some cell ∷ more) (all_there found all)
+
+-- both tests are passed where cells are read
+tests_passed : (all few : Bool) (found cells : List Cell)
+    → (if all then (if few then Ok found else Err Length) else Err Graphic) ≡ Ok cells
+    → ((all ≡ true) × (few ≡ true)) × (found ≡ cells)
+tests_passed true true found cells h = ((refl, refl), cc)
+tests_passed true false found cells h = absurd cc
+tests_passed false few found cells h = absurd cc
+
+found_in : (read : Result (List Cell) CellsFault) (cells : List Cell) → result_ok read ≡ Some cells → read ≡ Ok cells
+found_in (Ok found) cells h = ap Ok (same_Some found cells h)
+found_in (Err why) cells h = absurd cc
+
+-- 1 to 40 cells that are read are spelled so
+pub record SpellsFew (text : List ℕ) (cells : List Cell) : Type 0 where
+  pub few : nat_le 1 (length cells) && nat_le (length cells) 40 ≡ true
+  pub spells : Spells text cells
+
+cells_takes : (text : List ℕ) (cells : List Cell) → cells_of (spelled text) ≡ Ok cells → SpellsFew text cells
+unfolding cells_of
+cells_takes text cells h =
+    let found : List (Option Cell) = spelled text in
+    let few = nat_le 1 (length found) && nat_le (length found) 40 in
+    let passed = tests_passed (list_all is_some (take 40 found)) few (filter_map (λ cell. cell) found) cells h in
+    let most : length found ≤ 40 = leb-true _ _ (second_half (nat_le 1 (length found)) _ passed.0.1) in
+    let whole : take 40 found ≡ found = take_all 40 found most in
+    let there : list_all is_some found ≡ true = ap (list_all is_some) (sym whole) ∙ passed.0.0 in
+    let found_is : found ≡ map Some cells = all_there found there ∙ ap (map Some) passed.1 in
+    let count : length found ≡ length cells = ap length found_is ∙ length-map cells Some in
+    record {
+      few = subst (λ n. nat_le 1 n && nat_le n 40 ≡ true) count passed.0.1;
+      spells = all_spelled text cells found_is;
+    }
+
+pub few_cells_takes : (text : List ℕ) (cells : List Cell) → few_cells_in text ≡ Some cells → SpellsFew text cells
+few_cells_takes text cells h = cells_takes text cells (found_in (cells_of (spelled text)) cells h)
 
 -- a cell in front of a text
-plain_again : (byte : ℕ) (text : List ℕ) → (byte == 126) ≡ false → cells_in (byte ∷ text)
-    ≡ in_front (cell_in false byte) (cells_in text)
-unfolding cells_in
+plain_again : (byte : ℕ) (text : List ℕ) → (byte == 126) ≡ false → spelled (byte ∷ text)
+    ≡ cell_of false byte ∷ spelled text
+unfolding spelled
 plain_again byte [] plain = refl
 plain_again byte (next ∷ text) plain = rw plain
 
 one_again : (mark : Bool) (cell : Cell) (text : List ℕ) → cell.mark ≡ mark → is_character cell ≡ true
-    → cells_in (cell_text cell ++ text) ≡ in_front (Some cell) (cells_in text)
-unfolding cells_in
+    → spelled (cell_text cell ++ text) ≡ Some cell ∷ spelled text
+unfolding spelled
 one_again true cell text marked own =
-    ap (λ (front : List ℕ). cells_in (front ++ text)) (marked_text cell marked)
-    ∙ ap (λ found. in_front found (cells_in text)) (subst (λ mark. cell_in mark (slice_index graphics cell.char)
+    ap (λ (front : List ℕ). spelled (front ++ text)) (marked_text cell marked)
+    ∙ ap (λ found. found ∷ spelled text) (subst (λ mark. cell_of mark (slice_index graphics cell.char)
     ≡ Some cell) marked (cell_again cell own))
 one_again false cell text plain own =
-    ap (λ (front : List ℕ). cells_in (front ++ text)) (plain_text cell plain)
+    ap (λ (front : List ℕ). spelled (front ++ text)) (plain_text cell plain)
     ∙ plain_again (slice_index graphics cell.char) text (no_tilde cell (slice_index graphics cell.char == 126) refl own)
-    ∙ ap (λ found. in_front found (cells_in text)) (subst (λ mark. cell_in mark (slice_index graphics cell.char)
+    ∙ ap (λ found. found ∷ spelled text) (subst (λ mark. cell_of mark (slice_index graphics cell.char)
     ≡ Some cell) plain (cell_again cell own))
 
 -- cells that are written are read again
-pub cells_again : (cells : List Cell) → list_all is_character cells ≡ true → cells_in (cells_text cells) ≡ Some cells
-unfolding cells_text cells_in
-cells_again [] own = refl
-cells_again (cell ∷ cells) own =
+all_again : (cells : List Cell) → list_all is_character cells ≡ true → spelled (cells_text cells) ≡ map Some cells
+unfolding cells_text spelled
+all_again [] own = refl
+all_again (cell ∷ cells) own =
     one_again cell.mark cell (flat_map cell_text cells) refl (first_half _ _ own)
-    ∙ ap (in_front (Some cell)) (cells_again cells (second_half (is_character cell) _ own))
+    ∙ ap (λ (more : List (Option Cell)). Some cell ∷ more)
+    (all_again cells (second_half (is_character cell) _ own))
+
+pub few_cells_again : (cells : List Cell) → nat_le 1 (length cells) && nat_le (length cells) 40 ≡ true
+    → list_all is_character cells ≡ true → few_cells_in (cells_text cells) ≡ Some cells
+few_cells_again cells few own =
+    let some : 1 ≤ length cells = leb-true _ _ (first_half _ (nat_le (length cells) 40) few) in
+    let most : length cells ≤ 40 = leb-true _ _ (second_half (nat_le 1 (length cells)) _ few) in
+    ap result_ok (ap cells_of (all_again cells own) ∙ cells_of-some cells some most)
+
+-- cells that are read again are characters, 1 to 40 of them
+pub is_segment_again : (segment : Segment) → cells_of (spelled (cells_text segment.cells)) ≡ Ok segment.cells
+    → is_segment segment ≡ true
+is_segment_again segment h =
+    let found = cells_takes (cells_text segment.cells) segment.cells h in both _ _ found.few found.spells.own

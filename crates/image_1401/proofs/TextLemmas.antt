@@ -20,10 +20,12 @@ use Rattle.image_1401.specs.declared.image.Segment.{Segment}
 use Rattle.image_1401.specs.declared.version.Version.{Version}
 use Rattle.image_1401.specs.declared.version.Version.TheVariants.{One, Two}
 use Rattle.image_1401.specs.Image.{is_inside}
-use Rattle.image_1401.specs.ImageText.{number_text, cell_text, cells_text, header_text, segment_text, end_text, line_of}
+use Rattle.notation_1401.specs.Cells.{cell_text, cells_text}
+use Rattle.notation_1401.specs.Digits.{is_digit}
+use Rattle.image_1401.specs.ImageText.{number_text, header_text, segment_text, end_text, line_of}
 use Rattle.image_1401.specs.ImageText.{segments_text, image_text, is_char, is_character, is_segment, HasText, HasTexts}
 use Rattle.image_1401.specs.ImageText.{IsTextOf}
-use Rattle.image_1401.specs.Reading.{is_digit, segment_in, end_in, header_in, parts_of, is_done, Contents}
+use Rattle.image_1401.specs.Reading.{segment_in, end_in, header_in, parts_of, is_done, Contents}
 use Rattle.image_1401.specs.Reading.{with_segments, entry_alone, entry_by, contents_by, contents_in, image_of, image_by}
 use Rattle.image_1401.specs.Reading.{image_in}
 use Rattle.image_1401.specs.Version.{name_of, address_digits, most_places, has_size}

@@ -1,10 +1,11 @@
 -- The text of an image (own).
-use Rattle.std.specs.Prelude.{◌≡◌, ◌≤◌, ℕ, zero, suc, ◌+◌, ◌/◌, ◌%◌, ◌==◌, Bool, true, false, Option, None, Some, position}
-use Rattle.std.specs.Prelude.{Result, Ok, Err, ◌&&◌, if◌then◌else◌, List, [], ◌∷◌, ◌++◌, length, slice_index, nat_le}
+use Rattle.std.specs.Prelude.{◌≡◌, ◌≤◌, ℕ, zero, suc, ◌+◌, ◌/◌, ◌%◌, ◌==◌, Bool, true, false, Option, None, Some}
+use Rattle.std.specs.Prelude.{position, Result, Ok, Err, ◌&&◌, List, [], ◌∷◌, ◌++◌, length, slice_index, nat_le}
 use Rattle.std.specs.Prelude.{nat_lt, codes}
 use Rattle.std.specs.List.{flat_map, list_all}
 use Rattle.bcd_1401.specs.declared.cell.Cell.{Cell}
 use Rattle.bcd_1401.specs.Graphic.{graphics}
+use Rattle.notation_1401.specs.Cells.{cells_text}
 use Rattle.image_1401.specs.declared.fault.ImageFault.{ImageFault}
 use Rattle.image_1401.specs.declared.fault.ImageFault.TheVariants.{Memory, Header, BadRecord, Range, Truncated}
 use Rattle.image_1401.specs.declared.image.Image.{Image}
@@ -18,14 +19,6 @@ use Rattle.image_1401.specs.Version.{name_of, address_digits, most_places, has_s
 unfoldable pub number_text : ℕ → ℕ → List ℕ
 number_text zero number = []
 number_text (suc places) number = number_text places (number / 10) ++ (48 + number % 10) ∷ []
-
--- a cell by its graphic, with a tilde in front of it where it has a word mark
-abbrev pub cell_text : Cell → List ℕ
-cell_text cell = if cell.mark then 126 ∷ slice_index graphics cell.char ∷ [] else slice_index graphics cell.char ∷ []
-
--- cells, one behind the other
-unfoldable pub cells_text : List Cell → List ℕ
-cells_text cells = flat_map cell_text cells
 
 -- the first line: the version, and the size
 unfoldable pub header_text : Version → ℕ → List ℕ

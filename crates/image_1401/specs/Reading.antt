@@ -1,12 +1,14 @@
 -- Reading the text of an image from left to right (own): each part is a value and what stands behind it.
-use Rattle.std.specs.Prelude.{◌≡◌, ℕ, ◌+◌, ◌-◌, ◌*◌, ◌==◌, nat_le, nat_lt, Bool, true, false, ◌&&◌, if◌then◌else◌, List}
-use Rattle.std.specs.Prelude.{[], ◌∷◌, ◌++◌, length, take, drop, fold, position, Option, None, Some, Result, Ok, Err}
+use Rattle.std.specs.Prelude.{◌≡◌, ℕ, ◌==◌, nat_le, nat_lt, Bool, true, false, ◌&&◌, if◌then◌else◌, List}
+use Rattle.std.specs.Prelude.{[], ◌∷◌, ◌++◌, length, take, drop, Option, None, Some, Result, Ok, Err}
 use Rattle.std.specs.Prelude.{IsOk, option_and_then, codes}
 use Rattle.std.specs.Option.{option_map, option_or}
-use Rattle.std.specs.List.{list_all, slice_split}
+use Rattle.std.specs.Result.{result_ok}
+use Rattle.std.specs.List.{slice_split}
 use Rattle.std.specs.Str.{bytes_eq}
 use Rattle.bcd_1401.specs.declared.cell.Cell.{Cell}
-use Rattle.bcd_1401.specs.Graphic.{graphics}
+use Rattle.notation_1401.specs.Cells.{cells_of, spelled}
+use Rattle.notation_1401.specs.Digits.{number_in}
 use Rattle.image_1401.specs.declared.fault.ImageFault.{ImageFault}
 use Rattle.image_1401.specs.declared.fault.ImageFault.TheVariants.{Memory, Header, BadRecord, Range, Truncated}
 use Rattle.image_1401.specs.declared.image.Image.{Image}
@@ -25,18 +27,6 @@ o >>= f = option_and_then f o
 abbrev pub behind : List ℕ → List ℕ → Option (List ℕ)
 behind front text = if bytes_eq (take (length front) text) front then Some (drop (length front) text) else None
 
--- the digits 0 to 9 are the bytes 48 to 57
-abbrev pub is_digit : ℕ → Bool
-is_digit byte = nat_le 48 byte && nat_le byte 57
-
--- the number that digits stand for, highest first
-abbrev pub value_of : List ℕ → ℕ
-value_of digits = fold (λ number digit. 10 * number + (digit - 48)) 0 digits
-
--- a number that is all of the text
-unfoldable pub number_in : List ℕ → Option ℕ
-number_in digits = if list_all is_digit digits then Some (value_of digits) else None
-
 -- a number of this many digits at the front
 unfoldable pub number_at : ℕ → List ℕ → Option (ℕ × List ℕ)
 number_at places text =
@@ -44,30 +34,9 @@ number_at places text =
     then option_map (λ number. (number, drop places text)) (number_in (take places text))
     else None
 
--- the cell with this graphic
-abbrev pub cell_in : Bool → ℕ → Option Cell
-cell_in mark byte = option_map (λ char. record { char = char; mark = mark }) (position (λ each. each == byte) graphics)
-
--- a cell in front of others
-abbrev pub in_front : Option Cell → Option (List Cell) → Option (List Cell)
-in_front cell cells = cell >>= λ first. option_map (λ more. first ∷ more) cells
-
--- the cells that all of the text spells, a tilde in front of each one with a word mark
-unfoldable pub cells_in : List ℕ → Option (List Cell)
-cells_in [] = Some []
-cells_in (byte ∷ []) = in_front (cell_in false byte) (Some [])
-cells_in (byte ∷ next ∷ text) =
-    if byte == 126
-    then in_front (cell_in true next) (cells_in text)
-    else in_front (cell_in false byte) (cells_in (next ∷ text))
-
--- 1 to 40 of them
-abbrev pub if_few : List Cell → Option (List Cell)
-if_few cells = if nat_le 1 (length cells) && nat_le (length cells) 40 then Some cells else None
-
 -- the 1 to 40 cells that all of the text spells
-unfoldable pub few_cells_in : List ℕ → Option (List Cell)
-few_cells_in text = cells_in text >>= if_few
+abbrev pub few_cells_in : List ℕ → Option (List Cell)
+few_cells_in text = result_ok (cells_of (spelled text))
 
 -- the size that a header of this version names
 unfoldable pub header_with : Version → List ℕ → Option ℕ

@@ -4,7 +4,7 @@ ghost use Rattle.std.specs.Prelude.{if◌then◌else◌, IfOk, IfErr, MatchOptio
 ghost use Rattle.std.specs.Option.{option_map};
 ghost use Rattle.image_1401.specs.ImageText.{HasTexts, IsTextOf, IsOrMemory};
 ghost use Rattle.image_1401.specs.Refusal.{IsRefused};
-ghost use Rattle.image_1401.specs.Reading.{cell_in, cells_in, in_front, few_cells_in, number_in, number_at};
+ghost use Rattle.image_1401.specs.Reading.{number_at};
 ghost use Rattle.image_1401.specs.Reading.{header_with, in_version, header_in, segment_in, end_in};
 ghost use Rattle.image_1401.specs.Reading.{parts_of, entry_by, contents_in, image_of, image_in, as_segment, Gives};
 ghost use Rattle.image_1401.specs.Reading.{IsOfText, inside_of};
@@ -13,8 +13,8 @@ use crate::fault::ImageFault;
 use crate::image::{Image, Segment, Segments};
 use crate::version::Version;
 use crate::writing::COUNT_DIGITS;
-use bcd_1401::{Cell, Char};
-use core_1401::{Cells, MOST_CELLS};
+use core_1401::Cells;
+use notation_1401::{read_cells, read_digits};
 use std::alloc::Global;
 
 /// The image of a text.
@@ -176,7 +176,7 @@ fn segment(version: Version, line: &[u8]) -> Option<Spelled>
     let (address, text) = split_number(line, version.address_digits())?;
     let text = text.strip_prefix(b" ")?;
     let (count, text) = split_number(text, COUNT_DIGITS)?;
-    let cells = cells(text.strip_prefix(b" ")?)?;
+    let cells = read_cells(text.strip_prefix(b" ")?).ok()?;
     if cells.as_slice().len() as u32 == count {
         Some(Spelled { address, cells })
     } else {
@@ -205,61 +205,5 @@ fn split_number(text: &[u8], digits: usize) -> Option<(u32, &[u8])>
         return None;
     }
     let (digits, rest) = text.split_at(digits);
-    Some((number(digits)?, rest))
-}
-
-/// The number that digits stand for, if all of them are digits.
-#[tactic(auto, unfolding(crate::specs::Reading::number_in))]
-fn number(digits: &[u8]) -> Option<u32>
-    requires { length digits.now ≤ 5 }
-    ensures { result ≡ number_in digits.now }
-{
-    let mut number = 0;
-    for digit in digits {
-        if !digit.is_ascii_digit() {
-            return None;
-        }
-        number = 10 * number + u32::from(*digit - b'0');
-    }
-    Some(number)
-}
-
-/// The 1 to 40 cells that a text spells.
-#[tactic(auto, unfolding(crate::specs::Reading::few_cells_in))]
-fn cells(text: &[u8]) -> Option<Cells>
-    ensures { result ≡ few_cells_in text.now }
-{
-    let mut cells = [Cell::BLANK; MOST_CELLS];
-    let mut count = 0;
-    let mut rest = text;
-    while let Some((cell, behind)) = split_cell(rest) {
-        if count == MOST_CELLS {
-            return None;
-        }
-        cells[count] = cell?;
-        count += 1;
-        rest = behind;
-    }
-    Cells::from_slice(&cells[..count])
-}
-
-/// The first cell that a text spells, which is none where a graphic is missed, and what stands behind it; none at the
-/// end of the text.
-#[tactic(auto, unfolding(crate::specs::Reading::cells_in))]
-fn split_cell(text: &[u8]) -> Option<(Option<Cell>, &[u8])>
-    ensures { MatchOption result (text.now ≡ []) (λ first.
-        (cells_in text.now ≡ in_front first.0 (cells_in first.1.now)) × (length first.1.now < length text.now)) }
-{
-    match text {
-        [] => None,
-        [b'~', graphic, rest @ ..] => Some((cell(true, *graphic), rest)),
-        [graphic, rest @ ..] => Some((cell(false, *graphic), rest)),
-    }
-}
-
-/// The cell with this graphic, if it is one.
-fn cell(mark: bool, graphic: u8) -> Option<Cell>
-    ensures { result ≡ cell_in mark graphic }
-{
-    Char::from_graphic(graphic).map(|char| Cell { char, mark })
+    Some((read_digits(digits)?, rest))
 }

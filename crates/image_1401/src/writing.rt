@@ -2,12 +2,12 @@
 ghost use Rattle.std.specs.Prelude.{◌≡◌, ◌++◌, true, length, IfOk, OnOk};
 ghost use Rattle.std.specs.List.{flat_map, list_all};
 ghost use Rattle.image_1401.specs.Image.{IsInCore};
-ghost use Rattle.image_1401.specs.ImageText.{number_text, cell_text, cells_text, header_text, segment_text, end_text};
-ghost use Rattle.image_1401.specs.ImageText.{segments_text, image_text, written_text, line_of, is_character, is_segment, IsTextOf};
+ghost use Rattle.image_1401.specs.ImageText.{number_text, header_text, segment_text, end_text, segments_text};
+ghost use Rattle.image_1401.specs.ImageText.{image_text, written_text, line_of, is_segment, IsTextOf};
 
 use crate::image::{Image, Segment};
 use crate::version::Version;
-use bcd_1401::Cell;
+use notation_1401::put_cells;
 use std::alloc::{AllocError, Global};
 
 /// How many digits a segment's count of cells has.
@@ -67,12 +67,12 @@ fn put_segment(text: &mut Vec<u8>, version: Version, segment: &Segment) -> Resul
     ensures text { OnOk result (text.new.items ≡ text.old.items ++ line_of (segment_text version segment.now)) }
     ensures cells { OnOk result (is_segment segment.now ≡ true) }
 {
-    let cells = segment.cells.as_slice();
+    let count = segment.cells.as_slice().len();
     put_number(text, version.address_digits(), segment.address)?;
     text.push(b' ')?;
-    put_number(text, COUNT_DIGITS, cells.len() as u16)?;
+    put_number(text, COUNT_DIGITS, count as u16)?;
     text.push(b' ')?;
-    put_cells(text, cells)?;
+    put_cells(text, &segment.cells)?;
     text.push(b'\n')?;
     Ok(())
 }
@@ -97,30 +97,5 @@ fn put_number(text: &mut Vec<u8>, digits: usize, number: u16) -> Result<(), Allo
         put_number(text, digits - 1, number / 10)?;
         text.push(b'0' + (number % 10) as u8)?;
     }
-    Ok(())
-}
-
-/// Adds cells, one behind the other.
-#[tactic(auto, unfolding(crate::specs::ImageText::cells_text))]
-fn put_cells(text: &mut Vec<u8>, cells: &[Cell]) -> Result<(), AllocError>
-    ensures text { OnOk result (text.new.items ≡ text.old.items ++ cells_text cells.now) }
-    ensures characters { OnOk result (list_all is_character cells.now ≡ true) }
-{
-    for cell in cells {
-        put_cell(text, *cell)?;
-    }
-    Ok(())
-}
-
-/// Adds a cell by its graphic, with a tilde in front of it where it has a word mark.
-fn put_cell(text: &mut Vec<u8>, cell: Cell) -> Result<(), AllocError>
-    ensures text { OnOk result (text.new.items ≡ text.old.items ++ cell_text cell) }
-    ensures character { is_character cell ≡ true }
-{
-    let graphic = cell.char.graphic();
-    if cell.mark {
-        text.push(b'~')?;
-    }
-    text.push(graphic)?;
     Ok(())
 }

@@ -69,7 +69,17 @@ registers_have_their_widths : AllRead ((
       ++ codes " HOPPER=000 STACKER=000 PAPER=000 FORM=0001 LINE=01",
 ) ∷ (
   answer.Regs
-      (record power_on { i = 41; a = 56; b = 15999; unequal = true; low = true; hopper = 3; paper = 500; form = 8; line = 40 }),
+      (record power_on {
+        i = 41;
+        a = 56;
+        b = 15999;
+        unequal = true;
+        low = true;
+        hopper = 3;
+        paper = 500;
+        form = 8;
+        line = 40;
+      }),
   codes "I=00041 A=00056 B=15999 UNEQUAL=1 LOW=1 HIGH=0 OVERFLOW=0 SWITCHES=-------"
       ++ codes " HOPPER=003 STACKER=000 PAPER=500 FORM=0008 LINE=40",
 ) ∷ (
