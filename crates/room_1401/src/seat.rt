@@ -1,14 +1,15 @@
 //! A seat: what one operator holds of a shared room.
-ghost use Rattle.std.specs.Prelude.{◌≡◌, ◌+◌, ◌<◌, ◌≤◌, ◌↔◌, true, ltb, length, IfOk, OnOk, OnErr, if◌then◌else◌};
+ghost use Rattle.std.specs.Prelude.{◌≡◌, ◌+◌, ◌<◌, ◌≤◌, ◌↔◌, true, ltb, length, IfOk, IfSome, OnOk, OnErr};
+ghost use Rattle.std.specs.Prelude.{if◌then◌else◌};
 ghost use mathlib.Core.List.{IsPrefix};
 ghost use Rattle.room_1401.specs.Journal.{most_entries};
 ghost use Rattle.room_1401.specs.Replay.{cell_after};
 ghost use Rattle.room_1401.specs.Seen.{own};
 
 use crate::fault::GlanceFault;
-use crate::history::Front;
+use crate::history::{Front, Reached};
 use crate::naming::Naming;
-use crate::rule::{RoomReader, look};
+use crate::rule::{RoomReader, Sees};
 use bcd_1401::Cell;
 use core::mem::replace_with;
 use std::marker::Model;
@@ -21,6 +22,42 @@ pub struct Glance {
     pub after: u64,
     /// The cell that stands there then.
     pub cell: Cell,
+}
+
+/// A cell as it is published.
+#[derive(Drop)]
+struct PublishedCell {
+    /// After how many commands.
+    count: u64,
+    /// The cell.
+    cell: Cell,
+    /// After which commands.
+    front: Reached,
+}
+
+/// Reads a cell of the published machine; `None` once nothing is published any more.
+fn read_published<J: Naming>(
+    reader: RoomReader<J>,
+    address: u16,
+) -> (RoomReader<J>, Option<PublishedCell>)
+    requires { address < J.size }
+    ensures book { IfSome result.1 (λ found. found.front.book ≡ J.book) }
+    ensures count { IfSome result.1 (λ found. found.count ≡ length found.front.log) }
+    ensures bound { IfSome result.1 (λ found. found.count ≤ most_entries) }
+    ensures cell { IfSome result.1 (λ found. found.cell ≡ cell_after J.size found.front.log address) }
+{
+    match reader.enter_as::<Sees<J>>() {
+        Ok(reading) => {
+            let shown = reading.get();
+            let found = PublishedCell {
+                count: shown.count,
+                cell: shown.machine.core().get(address),
+                front: shown.front.again(),
+            };
+            (reading.leave(), Some(found))
+        }
+        Err(reader) => (reader, None),
+    }
 }
 
 /// A note of what a seat has seen, for another seat of the same room. Contracts see those commands, oldest first.
@@ -167,7 +204,7 @@ impl<J: Naming> Seat<J> {
         if address >= self.size {
             return Err(GlanceFault::Range);
         }
-        let Some(found) = replace_with(&mut self.reader, address, look::<J>) else {
+        let Some(found) = replace_with(&mut self.reader, address, read_published::<J>) else {
             return Err(GlanceFault::Gone);
         };
         if found.count < self.front.len() {
