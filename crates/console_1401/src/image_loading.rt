@@ -5,11 +5,9 @@ ghost use Rattle.image_1401.specs.Image.{is_inside};
 ghost use Rattle.room_1401.specs.Journal.{answer_to, entry, is_full, refusal_of};
 ghost use Rattle.console_1401.specs.ImageLoading.{segment_entry, start_entry, load_entries, WentOnByFewer};
 
+use crate::sessions::OWN_SEAT;
 use image_1401::{Image, Segment};
 use room_1401::{Answer, Command, Room, RoomFault};
-
-/// The seat of a console that shares its room with nobody.
-const SEAT: u8 = 0;
 
 /// Loads an image: the console deposits each segment in order, and sets the I register to the entry. Each command is
 /// recorded as one of seat 0, answered `Done`.
@@ -49,7 +47,7 @@ fn deposit(room: &mut Room, segment: &Segment) -> Result<(), RoomFault>
         address: segment.address,
         cells: segment.cells,
     };
-    match room.carry(SEAT, command) {
+    match room.carry(OWN_SEAT, command) {
         Ok(_) => Ok(()),
         Err(fault) => Err(fault),
     }
@@ -66,7 +64,7 @@ fn start(room: &mut Room, address: u16) -> Result<(), RoomFault>
 {
     // The machine has as many places as the room says.
     let _machine = room.machine();
-    match room.carry(SEAT, Command::SetI { address }) {
+    match room.carry(OWN_SEAT, Command::SetI { address }) {
         Ok(_) => Ok(()),
         Err(fault) => Err(fault),
     }

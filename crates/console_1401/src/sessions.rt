@@ -13,8 +13,8 @@ use room_1401::{Glance, GlanceFault, Room};
 use std::alloc::Global;
 use text_1401::{Line, LineFault};
 
-/// The seat of a console that isn't shared.
-const OWN_SEAT: u8 = 0;
+/// The seat of a console that shares its room with nobody.
+pub(crate) const OWN_SEAT: u8 = 0;
 
 impl Responder for Room {
     ghost responds = { RoomResponds };
