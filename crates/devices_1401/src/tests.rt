@@ -152,17 +152,17 @@ fn a_card_has_its_columns(rt: HostRuntime) {
 #[test]
 fn each_fault_has_the_name_of_its_stop_or_refusal(rt: HostRuntime) -> Result<(), Fail> {
     for (fault, name) in [
-        (format!(in rt.alloc(); "{HopperFull}"), "HOPPER"),
-        (format!(in rt.alloc(); "{ReaderEmpty}"), "READER"),
-        (format!(in rt.alloc(); "{StackerFull}"), "STACKER"),
-        (format!(in rt.alloc(); "{FormsFull}"), "FORMS"),
-        (format!(in rt.alloc(); "{}", ControlFault::DChar), "DCHAR"),
+        (format!(in rt.alloc(); "{HopperFull}")?, "HOPPER"),
+        (format!(in rt.alloc(); "{ReaderEmpty}")?, "READER"),
+        (format!(in rt.alloc(); "{StackerFull}")?, "STACKER"),
+        (format!(in rt.alloc(); "{FormsFull}")?, "FORMS"),
+        (format!(in rt.alloc(); "{}", ControlFault::DChar)?, "DCHAR"),
         (
-            format!(in rt.alloc(); "{}", ControlFault::Carriage),
+            format!(in rt.alloc(); "{}", ControlFault::Carriage)?,
             "CARRIAGE",
         ),
     ] {
-        assert_eq!(rt; fault?.as_str(), name);
+        assert_eq!(rt; fault.as_str(), name);
     }
     Ok(())
 }

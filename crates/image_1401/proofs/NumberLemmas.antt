@@ -4,7 +4,7 @@ use Rattle.std.proofs.Common.{◌++◌, length, take, drop, get_or, zero, suc, O
 use Rattle.std.proofs.Common.{subst, ◌∙◌, arith, length-append, length-take}
 use Rattle.std.specs.Option.{option_map}
 use Rattle.std.specs.List.{list_all}
-use Rattle.std.proofs.lemmas.Bool.{leb-true, le-leb, false≢true}
+use Rattle.std.proofs.lemmas.Bool.{and_from, and_parts, leb-true, le-leb}
 use Rattle.std.proofs.lemmas.Bool.Decides.{nat_tests}
 use Rattle.std.proofs.lemmas.Option.{cond_some, same_Some}
 use Rattle.std.proofs.lemmas.List.{take_more, take_all, take_at, drop_at, take-append-drop, length_push}
@@ -37,9 +37,6 @@ length-number_text (suc digits) number =
       length-number_text digits (number / 10),
     )
 
-pub both : (a b : Bool) → a ≡ true → b ≡ true → (a && b) ≡ true
-both a b p q = rw (p, q)
-
 last_is_digit : (number : ℕ) → list_all is_digit ((48 + number % 10) ∷ []) ≡ true
 last_is_digit number = grind (arith, nat_tests)
 
@@ -48,7 +45,7 @@ unfolding number_text
 digits-number_text zero number = refl
 digits-number_text (suc digits) number =
     list_all-append is_digit (number_text digits (number / 10)) ((48 + number % 10) ∷ [])
-    ∙ both _ _ (digits-number_text digits (number / 10)) (last_is_digit number)
+    ∙ and_from _ _ (digits-number_text digits (number / 10)) (last_is_digit number)
 
 value_of-push : (digits : List ℕ) (digit : ℕ) → value_of (digits ++ digit ∷ []) ≡ 10 * value_of digits + (digit - 48)
 value_of-push digits digit = fold_push (λ number digit. 10 * number + (digit - 48)) 0 digits digit
@@ -61,14 +58,6 @@ value_of-number_text (suc digits) number small =
     let tenth : number / 10 < 10 ^ digits = omega (arith, tens_more digits) in
     value_of-push (number_text digits (number / 10)) (48 + number % 10)
     ∙ omega (arith, value_of-number_text digits (number / 10) tenth)
-
-pub first_half : (a b : Bool) → (a && b) ≡ true → a ≡ true
-first_half true b h = refl
-first_half false b h = absurd (false≢true h)
-
-pub second_half : (a b : Bool) → (a && b) ≡ true → b ≡ true
-second_half true b h = h
-second_half false b h = absurd (false≢true h)
 
 -- what digits are
 pub record AreDigits (digits : ℕ) (text : List ℕ) : Type 0 where
@@ -103,10 +92,10 @@ are_digits (suc digits) text len all =
     ∙ take_more text digits 0 (omega arith) in
     let split : (list_all is_digit front && list_all is_digit (last ∷ []))
     ≡ true = sym (list_all-append is_digit front (last ∷ [])) ∙ (ap (list_all is_digit) (sym parts) ∙ all) in
-    let bounds = digit_bounds last (second_half (list_all is_digit front) _ split) in
+    let bounds = digit_bounds last (and_parts (list_all is_digit front) _ split).1 in
     let so_far =
-    are_digits digits front (omega (arith, length-take digits text)) (first_half _ (list_all is_digit (last
-    ∷ [])) split) in
+    are_digits digits front (omega (arith, length-take digits text)) (and_parts _ (list_all is_digit (last
+    ∷ [])) split).0 in
     subst (AreDigits (suc digits)) (sym parts) (digits_push digits front last so_far bounds.0 bounds.1)
 
 -- a number that is read stands at the front, in its digits

@@ -4,7 +4,7 @@ use Rattle.std.proofs.Common.{Option, Some, None, refl, sym, ap, subst, ◌∙�
 use Rattle.std.specs.Prelude.{codes, nat_le}
 use Rattle.std.specs.Option.{option_or}
 use Rattle.std.specs.List.{list_all}
-use Rattle.std.proofs.lemmas.Bool.{eqb-true, eq-eqb, leb-true}
+use Rattle.std.proofs.lemmas.Bool.{and_from, and_parts, eqb-true, eq-eqb, leb-true}
 use Rattle.std.proofs.lemmas.Bool.Decides.{nat_tests}
 use Rattle.std.proofs.lemmas.List.{append-nil, append_assoc, nil_from_length}
 use Rattle.std.proofs.lemmas.Option.{cond_some, same_Some}
@@ -20,7 +20,7 @@ use Rattle.image_1401.specs.ImageText.{number_text, header_text, segment_text, e
 use Rattle.image_1401.specs.ImageText.{is_segment}
 use Rattle.image_1401.specs.Reading.{◌>>=◌, behind, number_at, few_cells_in, header_with}
 use Rattle.image_1401.specs.Reading.{in_version, header_in, segment_in, end_in}
-use Rattle.image_1401.proofs.NumberLemmas.{first_half, second_half, both, number_takes, number_again}
+use Rattle.image_1401.proofs.NumberLemmas.{number_takes, number_again}
 use Rattle.image_1401.proofs.SpellingLemmas.{behind_takes, behind_again, few_cells_takes, few_cells_again}
 
 -- the value of a step that wasn't missed
@@ -35,7 +35,7 @@ step (Some x) f y h = record { value = x; is = refl; then_is = h }
 
 -- a size has no more digits than the version writes
 pub size_bound : (version : Version) (size : ℕ) → has_size version size ≡ true → size < 10 ^ address_digits version
-size_bound One size h = let most : size ≤ 4000 = leb-true _ _ (second_half (is_core_size size) _ h) in omega arith
+size_bound One size h = let most : size ≤ 4000 = leb-true _ _ (and_parts (is_core_size size) _ h).1 in omega arith
 size_bound Two size h = grind (arith, nat_tests)
 
 -- a header
@@ -53,13 +53,13 @@ header_with_takes version line size h =
     let done : number.value.1
     ≡ [] =
     nil_from_length number.value.1
-    (let few : length number.value.1 ≤ 0 = leb-true _ _ (first_half _ _ good.0) in omega arith) in
+    (let few : length number.value.1 ≤ 0 = leb-true _ _ (and_parts _ _ good.0).0 in omega arith) in
     let whole : name.value ≡ number_text (address_digits version) size = digits.parts
     ∙ (ap (λ (rest : List ℕ). number_text (address_digits version) number.value.0 ++ rest) done
     ∙ (append-nil _ ∙ ap (number_text (address_digits version)) good.1)) in (
       named ∙ ap (λ (rest : List ℕ). name_of version ++ rest) whole,
       ap (has_size version) (sym good.1)
-          ∙ second_half _ _ good.0,
+          ∙ (and_parts _ _ good.0).1,
     )
 
 header_with_again : (version : Version) (size : ℕ) → has_size version size ≡ true
@@ -206,13 +206,13 @@ segment_takes version line segment h =
           (cells_text segment.cells);
       cells =
           subst (λ (cells : List Cell). nat_le 1 (length cells) && nat_le (length cells) 40
-          && list_all is_character cells ≡ true) cells_are (both _ _ found.few found.spells.own);
+          && list_all is_character cells ≡ true) cells_are (and_from _ _ found.few found.spells.own);
       address = subst (λ k. k < 10 ^ digits) good.1 front.small;
     }
 
 few_bound : (cells : List Cell) → nat_le 1 (length cells) && nat_le (length cells) 40 ≡ true → length cells < 10 ^ 2
 few_bound cells few =
-    let most : length cells ≤ 40 = leb-true _ _ (second_half (nat_le 1 (length cells)) _ few) in omega arith
+    let most : length cells ≤ 40 = leb-true _ _ (and_parts (nat_le 1 (length cells)) _ few).1 in omega arith
 
 -- a segment's line that is written is read again
 pub segment_again : (version : Version) (segment : Segment) → is_segment segment ≡ true
@@ -221,8 +221,8 @@ unfolding segment_in segment_text
 segment_again version segment good small =
     let digits = address_digits version in
     let count = length segment.cells in
-    let few = first_half _ (list_all is_character segment.cells) good in
-    let own = second_half (nat_le 1 count && nat_le count 40) _ good in
+    let few = (and_parts _ (list_all is_character segment.cells) good).0 in
+    let own = (and_parts (nat_le 1 count && nat_le count 40) _ good).1 in
     let cells = cells_text segment.cells in
     let behind_address : List ℕ = 32 ∷ (number_text 2 count ++ (32 ∷ cells)) in
     let line_is = regroup (number_text digits segment.address) (number_text 2 count) cells in

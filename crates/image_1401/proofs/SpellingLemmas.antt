@@ -7,7 +7,7 @@ use Rattle.std.specs.Option.{option_map}
 use Rattle.std.specs.List.{flat_map, list_all}
 use Rattle.std.specs.Result.{result_ok}
 use Rattle.std.specs.Str.{bytes_eq}
-use Rattle.std.proofs.lemmas.Bool.{eqb-true, eq-eqb, leb-true, false≢true}
+use Rattle.std.proofs.lemmas.Bool.{and_from, and_parts, eqb-true, eq-eqb, leb-true, false≢true}
 use Rattle.std.proofs.lemmas.List.{take_all, take_at, drop_at, take-append-drop, length-map}
 use Rattle.std.proofs.lemmas.List.Quantifiers.{position-Some}
 use Rattle.std.proofs.lemmas.Option.{cond_some, same_Some}
@@ -21,7 +21,6 @@ use Rattle.notation_1401.proofs.SpelledLemmas.{cells_of-some}
 use Rattle.image_1401.specs.declared.image.Segment.{Segment}
 use Rattle.image_1401.specs.ImageText.{is_char, is_character, is_segment}
 use Rattle.image_1401.specs.Reading.{behind, few_cells_in}
-use Rattle.image_1401.proofs.NumberLemmas.{both, first_half, second_half}
 
 -- the text begins with these bytes
 pub behind_takes : (front text rest : List ℕ) → behind front text ≡ Some rest → text ≡ front ++ rest
@@ -104,40 +103,38 @@ plain_text cell h = rw h
 marked_text : (cell : Cell) → cell.mark ≡ true → cell_text cell ≡ 126 ∷ slice_index graphics cell.char ∷ []
 marked_text cell h = rw h
 
--- one plain cell in front of others
-plain_front : (byte : ℕ) (text : List ℕ) (more : List (Option Cell)) (cells : List Cell)
-    → cell_of false byte ∷ more ≡ map Some cells
-    → ((rest : List Cell) → more ≡ map Some rest → Spells text rest) → Spells (byte ∷ text) cells
+-- one cell in front of others
+one_front : (front : List ℕ) (found : Option Cell) (text : List ℕ) (more : List (Option Cell)) (cells : List Cell)
+    → ((cell : Cell) → found ≡ Some cell → (front ≡ cell_text cell) × (is_character cell ≡ true))
+    → found ∷ more ≡ map Some cells
+    → ((rest : List Cell) → more ≡ map Some rest → Spells text rest) → Spells (front ++ text) cells
 unfolding cells_text
-plain_front byte text more [] h others = absurd cc
-plain_front byte text more (cell ∷ cells) h others =
-    let first : cell_of false byte ≡ Some cell = cc in
-    let one = cell_takes false byte cell first in
+one_front front found text more [] is h others = absurd cc
+one_front front found text more (cell ∷ cells) is h others =
+    let one = is cell cc in
     let behind = others cells cc in
     record {
       text_is =
-          ap (λ (rest : List ℕ). byte ∷ rest) behind.text_is
-          ∙ ap (λ n. n ∷ flat_map cell_text cells) (sym one.graphic)
-          ∙ ap (λ (first : List ℕ). first ++ flat_map cell_text cells) (sym (plain_text cell one.mark_is));
-      own = both _ _ one.own behind.own;
+          ap (λ (rest : List ℕ). front ++ rest) behind.text_is
+          ∙ ap (λ (first : List ℕ). first ++ flat_map cell_text cells) one.0;
+      own = and_from _ _ one.1 behind.own;
     }
+
+plain_front : (byte : ℕ) (text : List ℕ) (more : List (Option Cell)) (cells : List Cell)
+    → cell_of false byte ∷ more ≡ map Some cells
+    → ((rest : List Cell) → more ≡ map Some rest → Spells text rest) → Spells (byte ∷ text) cells
+plain_front byte text more cells =
+    one_front (byte ∷ []) (cell_of false byte) text more cells
+    (λ cell e. let one = cell_takes false byte cell e in
+    (ap (λ n. n ∷ []) (sym one.graphic) ∙ sym (plain_text cell one.mark_is), one.own))
 
 marked_front : (byte : ℕ) (text : List ℕ) (more : List (Option Cell)) (cells : List Cell)
     → cell_of true byte ∷ more ≡ map Some cells
     → ((rest : List Cell) → more ≡ map Some rest → Spells text rest) → Spells (126 ∷ byte ∷ text) cells
-unfolding cells_text
-marked_front byte text more [] h others = absurd cc
-marked_front byte text more (cell ∷ cells) h others =
-    let first : cell_of true byte ≡ Some cell = cc in
-    let one = cell_takes true byte cell first in
-    let behind = others cells cc in
-    record {
-      text_is =
-          ap (λ (rest : List ℕ). 126 ∷ byte ∷ rest) behind.text_is
-          ∙ ap (λ n. 126 ∷ n ∷ flat_map cell_text cells) (sym one.graphic)
-          ∙ ap (λ (first : List ℕ). first ++ flat_map cell_text cells) (sym (marked_text cell one.mark_is));
-      own = both _ _ one.own behind.own;
-    }
+marked_front byte text more cells =
+    one_front (126 ∷ byte ∷ []) (cell_of true byte) text more cells
+    (λ cell e. let one = cell_takes true byte cell e in
+    (ap (λ n. 126 ∷ n ∷ []) (sym one.graphic) ∙ sym (marked_text cell one.mark_is), one.own))
 
 by_tilde : (is_tilde : Bool) (byte next : ℕ) (text : List ℕ) (short long : List (Option Cell)) (cells : List Cell)
     → (byte == 126) ≡ is_tilde
@@ -192,7 +189,7 @@ cells_takes text cells h =
     let found : List (Option Cell) = spelled text in
     let few = nat_le 1 (length found) && nat_le (length found) 40 in
     let passed = tests_passed (list_all is_some (take 40 found)) few (filter_map (λ cell. cell) found) cells h in
-    let most : length found ≤ 40 = leb-true _ _ (second_half (nat_le 1 (length found)) _ passed.0.1) in
+    let most : length found ≤ 40 = leb-true _ _ (and_parts (nat_le 1 (length found)) _ passed.0.1).1 in
     let whole : take 40 found ≡ found = take_all 40 found most in
     let there : list_all is_some found ≡ true = ap (list_all is_some) (sym whole) ∙ passed.0.0 in
     let found_is : found ≡ map Some cells = all_there found there ∙ ap (map Some) passed.1 in
@@ -230,19 +227,19 @@ all_again : (cells : List Cell) → list_all is_character cells ≡ true → spe
 unfolding cells_text spelled
 all_again [] own = refl
 all_again (cell ∷ cells) own =
-    one_again cell.mark cell (flat_map cell_text cells) refl (first_half _ _ own)
+    one_again cell.mark cell (flat_map cell_text cells) refl (and_parts _ _ own).0
     ∙ ap (λ (more : List (Option Cell)). Some cell ∷ more)
-    (all_again cells (second_half (is_character cell) _ own))
+    (all_again cells (and_parts (is_character cell) _ own).1)
 
 pub few_cells_again : (cells : List Cell) → nat_le 1 (length cells) && nat_le (length cells) 40 ≡ true
     → list_all is_character cells ≡ true → few_cells_in (cells_text cells) ≡ Some cells
 few_cells_again cells few own =
-    let some : 1 ≤ length cells = leb-true _ _ (first_half _ (nat_le (length cells) 40) few) in
-    let most : length cells ≤ 40 = leb-true _ _ (second_half (nat_le 1 (length cells)) _ few) in
+    let some : 1 ≤ length cells = leb-true _ _ (and_parts _ (nat_le (length cells) 40) few).0 in
+    let most : length cells ≤ 40 = leb-true _ _ (and_parts (nat_le 1 (length cells)) _ few).1 in
     ap result_ok (ap cells_of (all_again cells own) ∙ cells_of-some cells some most)
 
 -- cells that are read again are characters, 1 to 40 of them
 pub is_segment_again : (segment : Segment) → cells_of (spelled (cells_text segment.cells)) ≡ Ok segment.cells
     → is_segment segment ≡ true
 is_segment_again segment h =
-    let found = cells_takes (cells_text segment.cells) segment.cells h in both _ _ found.few found.spells.own
+    let found = cells_takes (cells_text segment.cells) segment.cells h in and_from _ _ found.few found.spells.own

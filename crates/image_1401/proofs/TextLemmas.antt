@@ -4,7 +4,7 @@ use Rattle.std.proofs.Common.{length, slice_index, Option, Some, None, Result, O
 use Rattle.std.proofs.Common.{arith}
 use Rattle.std.specs.Prelude.{codes, not, nat_le, nat_lt, position, if◌then◌else◌}
 use Rattle.std.specs.List.{list_all, flat_map, join_with_byte, All}
-use Rattle.std.proofs.lemmas.Bool.{eqb-true, le-leb, leb-true, ltb-true, false≢true}
+use Rattle.std.proofs.lemmas.Bool.{and_from, and_parts, eqb-true, le-leb, leb-true, ltb-true, false≢true}
 use Rattle.std.proofs.lemmas.Bool.Decides.{nat_tests}
 use Rattle.std.proofs.lemmas.List.{append-nil, append_assoc}
 use Rattle.std.proofs.lemmas.List.Folds.{list_all-append}
@@ -30,7 +30,7 @@ use Rattle.image_1401.specs.Reading.{with_segments, entry_alone, entry_by, conte
 use Rattle.image_1401.specs.Reading.{image_in}
 use Rattle.image_1401.specs.Version.{name_of, address_digits, most_places, has_size}
 use Rattle.image_1401.proofs.ContentsLemmas.{contents_in-line, image_in-line}
-use Rattle.image_1401.proofs.NumberLemmas.{both, first_half, second_half, digits-number_text}
+use Rattle.image_1401.proofs.NumberLemmas.{digits-number_text}
 use Rattle.image_1401.proofs.RecordLemmas.{size_bound, header_takes, header_again, segment_takes, segment_again}
 use Rattle.image_1401.proofs.RecordLemmas.{end_takes, end_again, end_is_no_segment}
 
@@ -50,13 +50,13 @@ digit_goes_on byte h = grind (arith, nat_tests)
 digits_go_on : (digits : List ℕ) → list_all is_digit digits ≡ true → IsLine digits
 digits_go_on [] h = refl
 digits_go_on (digit ∷ digits) h =
-    both _ _ (digit_goes_on digit (first_half _ _ h)) (digits_go_on digits (second_half (is_digit digit) _ h))
+    and_from _ _ (digit_goes_on digit (and_parts _ _ h).0) (digits_go_on digits (and_parts (is_digit digit) _ h).1)
 
 number_goes_on : (digits number : ℕ) → IsLine (number_text digits number)
 number_goes_on digits number = digits_go_on (number_text digits number) (digits-number_text digits number)
 
 lines_go_on : (front back : List ℕ) → IsLine front → IsLine back → IsLine (front ++ back)
-lines_go_on front back p q = list_all-append goes_on front back ∙ both _ _ p q
+lines_go_on front back p q = list_all-append goes_on front back ∙ and_from _ _ p q
 
 no_graphic : position (λ each. each == 10) graphics ≡ None
 unfolding graphics
@@ -73,16 +73,16 @@ graphic_goes_on cell true e own =
 
 cell_goes_on : (mark : Bool) (cell : Cell) → cell.mark ≡ mark → is_character cell ≡ true → IsLine (cell_text cell)
 cell_goes_on true cell e own =
-    rw e (both _ _ (graphic_goes_on cell (slice_index graphics cell.char == 10) refl own) refl)
+    rw e (and_from _ _ (graphic_goes_on cell (slice_index graphics cell.char == 10) refl own) refl)
 cell_goes_on false cell e own =
-    rw e (both _ _ (graphic_goes_on cell (slice_index graphics cell.char == 10) refl own) refl)
+    rw e (and_from _ _ (graphic_goes_on cell (slice_index graphics cell.char == 10) refl own) refl)
 
 cells_go_on : (cells : List Cell) → list_all is_character cells ≡ true → IsLine (cells_text cells)
 unfolding cells_text
 cells_go_on [] own = refl
 cells_go_on (cell ∷ cells) own =
-    lines_go_on (cell_text cell) (flat_map cell_text cells) (cell_goes_on cell.mark cell refl (first_half _ _ own))
-    (cells_go_on cells (second_half (is_character cell) _ own))
+    lines_go_on (cell_text cell) (flat_map cell_text cells) (cell_goes_on cell.mark cell refl (and_parts _ _ own).0)
+    (cells_go_on cells (and_parts (is_character cell) _ own).1)
 
 name_goes_on : (version : Version) → IsLine (name_of version)
 name_goes_on One = refl
@@ -145,14 +145,14 @@ same_Ok_image x y h = cc
 -- the versions differ in their sizes alone
 pub has_texts : (version : Version) (image : Image) → HasText version image → HasTexts image
 has_texts One image has =
-    let made : is_core_size image.size ≡ true = first_half _ _ has.size in
+    let made : is_core_size image.size ≡ true = (and_parts _ _ has.size).0 in
     let newest : HasText Two image =
     record { size = made; cells = has.cells; segments = has.segments; start = has.start } in
     record { newest = newest; oldest = λ small. has }
 has_texts Two image has = record {
   newest = has;
   oldest = λ small. record {
-    size = both _ _ has.size (le-leb image.size most_places small);
+    size = and_from _ _ has.size (le-leb image.size most_places small);
     cells = has.cells;
     segments = has.segments;
     start = has.start;
@@ -174,8 +174,8 @@ address_bound : (version : Version) (size : ℕ) (segment : Segment) → has_siz
 address_bound version size segment h good inside =
     let below = size_bound version size h in
     let end : segment.address + length segment.cells ≤ size = leb-true _ _ inside in
-    let few = first_half _ (list_all is_character segment.cells) good in
-    let some : 1 ≤ length segment.cells = leb-true _ _ (first_half _ (nat_le (length segment.cells) 40) few) in
+    let few = (and_parts _ (list_all is_character segment.cells) good).0 in
+    let some : 1 ≤ length segment.cells = leb-true _ _ (and_parts _ (nat_le (length segment.cells) 40) few).0 in
     omega arith
 
 end_again-parts : (version : Version) (size start : ℕ) → has_size version size ≡ true → nat_lt start size ≡ true
@@ -195,9 +195,9 @@ unfolding segments_text
 contents_again version size [] start h good inside entry = end_again-parts version size start h entry
 contents_again version size (segment ∷ segments) start h good inside entry =
     let line = segment_text version segment in
-    let one = first_half _ _ good in
-    let lies = first_half _ _ inside in
-    let own = second_half (nat_le 1 (length segment.cells) && nat_le (length segment.cells) 40) _ one in
+    let one = (and_parts _ _ good).0 in
+    let lies = (and_parts _ _ inside).0 in
+    let own = (and_parts (nat_le 1 (length segment.cells) && nat_le (length segment.cells) 40) _ one).1 in
     let behind : List ℕ = contents_text version (segments, start) in
     let whole : contents_text version (segment ∷ segments, start) ≡ line_of line
     ++ behind =
@@ -206,8 +206,8 @@ contents_again version size (segment ∷ segments) start h good inside entry =
     let parts : parts_of (contents_text version (segment ∷ segments, start)) ≡ line
     ∷ parts_of behind = ap parts_of whole ∙ parts_of-line line behind (segment_goes_on version segment own) in
     let more =
-    contents_again version size segments start h (second_half (is_segment segment) _ good)
-    (second_half (is_inside size segment) _ inside) entry in
+    contents_again version size segments start h (and_parts (is_segment segment) _ good).1
+    (and_parts (is_inside size segment) _ inside).1 entry in
     let first = contents_in-line version size line behind in
     let found = segment_again version segment one (address_bound version size segment h one lies) in
     ap (contents_in version size) parts ∙ first ∙ rw (found, lies, more)
@@ -308,8 +308,8 @@ by_segment version size line next parts (Some segment) more contents e h others 
     subst (AreContents version size (line ∷ next ∷ parts)) (sym front.2) (record {
       good =
           record {
-            cells = both _ _ one.cells rest.good.cells;
-            segments = both _ _ lies.0 rest.good.segments;
+            cells = and_from _ _ one.cells rest.good.cells;
+            segments = and_from _ _ lies.0 rest.good.segments;
             start =
                 rest.good.start;
           };

@@ -1,3 +1,4 @@
 pub mod DigitLemmas
+pub mod MissingLemmas
 pub mod NumberLemmas
 pub mod SpelledLemmas

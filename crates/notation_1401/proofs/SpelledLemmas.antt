@@ -2,7 +2,7 @@
 use Rattle.std.proofs.Common.{◌≡◌, ℕ, ◌==◌, ◌<◌, ◌≤◌, ◌&&◌, Bool, true, false, nat_le, if◌then◌else◌, List, [], ◌∷◌}
 use Rattle.std.proofs.Common.{◌++◌, length, take, get_or, map, Option, None, Some, Result, Ok, Err, is_some, refl, ap}
 use Rattle.std.proofs.Common.{subst, ◌∙◌, arith, length-append}
-use Rattle.std.proofs.lemmas.Bool.{eqb-true, false≢true}
+use Rattle.std.proofs.lemmas.Bool.{and_parts, eqb-true, false≢true}
 use Rattle.bcd_1401.specs.Graphic.{graphics}
 use Rattle.std.specs.Prelude.{filter_map, position, slice_index, OnOk}
 use Rattle.std.specs.Option.{ok_or}
@@ -14,14 +14,7 @@ use Rattle.std.proofs.lemmas.Bool.Decides.{nat_tests}
 use Rattle.bcd_1401.specs.declared.cell.Cell.{Cell}
 use Rattle.notation_1401.specs.declared.fault.CellsFault.TheVariants.{Graphic, Length}
 use Rattle.notation_1401.specs.Cells.{cell_of, cell_text, cells_of, cells_text, spelled}
-
-all_there : (cells : List Cell) → list_all is_some (map Some cells) ≡ true
-all_there [] = refl
-all_there (cell ∷ cells) = all_there cells
-
-the_cells : (cells : List Cell) → filter_map (λ cell. cell) (map Some cells) ≡ cells
-the_cells [] = refl
-the_cells (cell ∷ cells) = ap (λ more. cell ∷ more) (the_cells cells)
+use Rattle.notation_1401.proofs.MissingLemmas.{all_there, missed, taken_all, taken_first, the_values}
 
 counted : (enough : Bool) (cells : List Cell)
     → (if enough then Ok cells else Err Length) ≡ ok_or (if enough then Some cells else None) Length
@@ -35,23 +28,14 @@ pub cells_of-all : (cells : List Cell) → length cells ≤ 40
 unfolding cells_of
 cells_of-all cells few =
     let many = length-map cells Some in
-    let first : take 40 (map Some cells) ≡ map Some cells = take_all 40 (map Some cells) (omega arith) in
-    rw (append-nil, first, all_there, the_cells, many)
+    rw (append-nil, taken_all 40 cells few, all_there, the_values, many)
     (counted (nat_le 1 (length cells) && nat_le (length cells) 40) cells)
 
 -- before the fortieth cell a graphic is missed
 pub cells_of-missed : (cells : List Cell) (more : List (Option Cell)) → length cells < 40
     → cells_of (map Some cells ++ None ∷ more) ≡ Err Graphic
 unfolding cells_of
-cells_of-missed cells more few =
-    let all : List (Option Cell) = map Some cells ++ None ∷ more in
-    let many = length-map cells Some in
-    let there : get_or (take 40 all) (length cells) None ≡ None =
-    get_or-take 40 all (length cells) None few ∙ get_or_at (map Some cells) None more None (length cells) many in
-    let missed : list_all is_some (take 40 all) ≡ false =
-    list_all_at is_some (take 40 all) (length cells) None
-    (omega (arith, length-take 40 all, length-append (map Some cells) (None ∷ more))) (ap is_some there) in
-    rw missed
+cells_of-missed cells more few = rw (missed 40 cells more few)
 
 -- there is something behind the fortieth cell
 pub cells_of-long : (cells : List Cell) (cell : Option Cell) (more : List (Option Cell)) → length cells ≡ 40
@@ -59,9 +43,8 @@ pub cells_of-long : (cells : List Cell) (cell : Option Cell) (more : List (Optio
 unfolding cells_of
 cells_of-long cells cell more forty =
     let many = length-map cells Some in
-    let first : take 40 (map Some cells ++ cell ∷ more) ≡ map Some cells =
-    take_at (map Some cells) (cell ∷ more) 40 (many ∙ forty) in
-    rw (first, all_there) (grind (arith, nat_tests, length-append (map Some cells) (cell ∷ more)))
+    rw (taken_first 40 cells (cell ∷ more) forty, all_there)
+    (grind (arith, nat_tests, length-append (map Some cells) (cell ∷ more)))
 
 -- a tilde is no graphic
 no_tilde : (byte : ℕ) (is_tilde : Bool) → (byte == 126) ≡ is_tilde → is_some (cell_of false byte) ≡ true
@@ -71,15 +54,6 @@ no_tilde byte false e there = refl
 no_tilde byte true e there =
     absurd (false≢true (subst (λ n. is_some (cell_of false n) ≡ true) (eqb-true byte 126 e) there))
 
--- both parts of a test that passes
-pub second : (a b : Bool) → (a && b) ≡ true → b ≡ true
-second true b h = h
-second false b h = absurd (false≢true h)
-
-pub first : (a b : Bool) → (a && b) ≡ true → a ≡ true
-first true b h = refl
-first false b h = absurd (false≢true h)
-
 -- one cell in front, by whether a tilde stands before it
 cell_in_front : (is_tilde : Bool) (cell marked : Option Cell) (more more' longer longer' back : List (Option Cell))
     → (list_all is_some more ≡ true → more' ≡ more ++ back)
@@ -88,9 +62,9 @@ cell_in_front : (is_tilde : Bool) (cell marked : Option Cell) (more more' longer
     → (if is_tilde then marked ∷ more' else cell ∷ longer')
     ≡ (if is_tilde then marked ∷ more else cell ∷ longer) ++ back
 cell_in_front true cell marked more more' longer longer' back short long all =
-    ap (λ rest. marked ∷ rest) (short (second _ _ all))
+    ap (λ rest. marked ∷ rest) (short (and_parts _ _ all).1)
 cell_in_front false cell marked more more' longer longer' back short long all =
-    ap (λ rest. cell ∷ rest) (long (second _ _ all))
+    ap (λ rest. cell ∷ rest) (long (and_parts _ _ all).1)
 
 -- behind a text that spells cells alone another text spells its own
 pub spelled-append : (front back : List ℕ) → list_all is_some (spelled front) ≡ true
@@ -99,7 +73,7 @@ unfolding spelled
 spelled-append [] back all = refl
 spelled-append (byte ∷ []) [] all = refl
 spelled-append (byte ∷ []) (next ∷ more) all =
-    let plain : (byte == 126) ≡ false = no_tilde byte (byte == 126) refl (first _ _ all) in rw plain
+    let plain : (byte == 126) ≡ false = no_tilde byte (byte == 126) refl (and_parts _ _ all).0 in rw plain
 spelled-append (byte ∷ next ∷ more) back all =
     cell_in_front (byte == 126) (cell_of false byte) (cell_of true next) (spelled more) (spelled (more ++ back))
     (spelled (next ∷ more)) (spelled (next ∷ (more ++ back))) (spelled back) (spelled-append more back)
@@ -110,8 +84,7 @@ pub cells_of-some : (cells : List Cell) → 1 ≤ length cells → length cells 
 unfolding cells_of
 cells_of-some cells some few =
     let many = length-map cells Some in
-    let whole : take 40 (map Some cells) ≡ map Some cells = take_all 40 (map Some cells) (omega arith) in
-    rw (whole, all_there, the_cells) (grind (arith, nat_tests))
+    rw (taken_all 40 cells few, all_there, the_values) (grind (arith, nat_tests))
 
 -- a cell by its parts
 own_again : (mark : Bool) (char : ℕ) → position (λ each. each == slice_index graphics char) graphics ≡ Some char

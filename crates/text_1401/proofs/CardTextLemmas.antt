@@ -18,48 +18,31 @@ use Rattle.devices_1401.specs.declared.card.Card.{Card}
 use Rattle.command_1401.specs.declared.command.Command.TheVariants as command
 use Rattle.text_1401.specs.declared.line.Line.TheVariants.{Command}
 use Rattle.text_1401.specs.declared.line.LineFault.TheVariants.{Graphic, Length}
+use Rattle.notation_1401.proofs.MissingLemmas.{all_there, missed, taken_all, taken_first, the_values}
 use Rattle.text_1401.specs.CardText.{char_of, chars_of, card_of, card_with, graphics_of, trimmed}
 use Rattle.text_1401.specs.ConsoleLine.{feed_of}
-
-all_there : (chars : List ℕ) → list_all is_some (map Some chars) ≡ true
-all_there [] = refl
-all_there (char ∷ chars) = all_there chars
-
-the_chars : (chars : List ℕ) → filter_map (λ char. char) (map Some chars) ≡ chars
-the_chars [] = refl
-the_chars (char ∷ chars) = ap (λ more. char ∷ more) (the_chars chars)
 
 -- characters that are there, 80 at the most
 pub card_of-all : (chars : List ℕ) → length chars ≤ 80 → card_of (map Some chars) ≡ Ok (card_with chars)
 unfolding card_of
 card_of-all chars few =
     let many = length-map chars Some in
-    let whole : take 80 (map Some chars) ≡ map Some chars = take_all 80 (map Some chars) (omega arith) in
-    rw (whole, all_there, the_chars) (grind (arith, nat_tests))
+    rw (taken_all 80 chars few, all_there, the_values) (grind (arith, nat_tests))
 
 -- before the eightieth character a graphic is missed
 pub card_of-missed : (chars : List ℕ) (more : List (Option ℕ)) → length chars < 80
     → card_of (map Some chars ++ None ∷ more) ≡ Err Graphic
 unfolding card_of
-card_of-missed chars more few =
-    let all : List (Option ℕ) = map Some chars ++ None ∷ more in
-    let many = length-map chars Some in
-    let there : get_or (take 80 all) (length chars) None ≡ None =
-    get_or-take 80 all (length chars) None few ∙ get_or_at (map Some chars) None more None (length chars) many in
-    let missed : list_all is_some (take 80 all) ≡ false =
-    list_all_at is_some (take 80 all) (length chars) None
-    (omega (arith, length-take 80 all, length-append (map Some chars) (None ∷ more))) (ap is_some there) in
-    rw missed
+card_of-missed chars more few = rw (missed 80 chars more few)
 
--- there is something behind the eightieth character
+-- something follows the eightieth character
 pub card_of-long : (chars : List ℕ) (char : Option ℕ) (more : List (Option ℕ)) → length chars ≡ 80
     → card_of (map Some chars ++ char ∷ more) ≡ Err Length
 unfolding card_of
 card_of-long chars char more eighty =
     let many = length-map chars Some in
-    let first : take 80 (map Some chars ++ char ∷ more) ≡ map Some chars =
-    take_at (map Some chars) (char ∷ more) 80 (many ∙ eighty) in
-    rw (first, all_there) (grind (arith, nat_tests, length-append (map Some chars) (char ∷ more)))
+    rw (taken_first 80 chars (char ∷ more) eighty, all_there)
+    (grind (arith, nat_tests, length-append (map Some chars) (char ∷ more)))
 
 -- a text by one of its bytes
 pub chars_of-split : (text : List ℕ) (i byte : ℕ) → i < length text → byte ≡ get_or text i 0

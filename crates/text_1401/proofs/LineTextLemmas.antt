@@ -2,7 +2,7 @@
 use Rattle.std.proofs.Common.{◌≡◌, ℕ, zero, suc, ◌^◌, ◌-◌, ◌<◌, ◌≤◌, ◌==◌, ◌&&◌, Bool, true, false, List, [], ◌∷◌, ◌++◌}
 use Rattle.std.proofs.Common.{length, drop, map, replicate, Option, None, Some, refl, sym, ◌∙◌, ap, subst, arith, inl}
 use Rattle.std.proofs.Common.{inr, length-append}
-use Rattle.std.proofs.lemmas.Bool.{cases_lt, eqb-true}
+use Rattle.std.proofs.lemmas.Bool.{and_parts, cases_lt, eqb-true}
 use Rattle.std.proofs.lemmas.Bool.Decides.{nat_tests}
 use Rattle.std.proofs.lemmas.List.Elements.{All-nil, All-cons, All-head, All-tail}
 use Rattle.std.specs.List.{list_all, flat_map}
@@ -33,7 +33,7 @@ use Rattle.notation_1401.specs.Cells.{cell_text, cells_text}
 use Rattle.text_1401.specs.Words.{word_in, behind_word, name_of, keyword_of, number_of, address_of, count_of}
 use Rattle.text_1401.specs.Words.{letter_of, switch_named, switch_of, setting_of}
 use Rattle.text_1401.proofs.CardTextLemmas.{card_of-all, graphics_again}
-use Rattle.notation_1401.proofs.SpelledLemmas.{second, first, cell_again, spelled-append, cells_of-some}
+use Rattle.notation_1401.proofs.SpelledLemmas.{cell_again, spelled-append, cells_of-some}
 use Rattle.text_1401.proofs.WordLemmas.{Stands, IsNumeral, in_word, numeral, word_in-typed, behind_word-typed}
 use Rattle.text_1401.proofs.WordLemmas.{word_in-blanks, behind_word-blanks}
 
@@ -220,8 +220,8 @@ one_of_them : (n char : ℕ) → char < n → all_have n ≡ true → has_own_gr
 unfolding all_have
 one_of_them zero char below all = absurd (omega arith)
 one_of_them (suc n) char below all = elim (cases_lt char n) [
-  | inl less ↦ one_of_them n char less (second _ _ all)
-  | inr not_less ↦ let same : n ≡ char = omega arith in subst (λ c. has_own_graphic c ≡ true) same (first _ _ all)
+  | inl less ↦ one_of_them n char less (and_parts _ _ all).1
+  | inr not_less ↦ let same : n ≡ char = omega arith in subst (λ c. has_own_graphic c ≡ true) same (and_parts _ _ all).0
 ]
 
 found_is : (o : Option ℕ) (char : ℕ) → found o char ≡ true → o ≡ Some char

@@ -3,7 +3,7 @@ use Rattle.std.proofs.Common.{◌≡◌, ℕ, zero, suc, ◌+◌, ◌-◌, ◌*�
 use Rattle.std.proofs.Common.{cond, List, [], ◌∷◌, ◌++◌, length, drop, replicate, refl, ap, arith, inl, inr}
 use Rattle.std.proofs.Common.{length-append}
 use Rattle.std.proofs.Math.ListN.{drop_of_length-le}
-use Rattle.std.proofs.lemmas.Bool.{cases_lt}
+use Rattle.std.proofs.lemmas.Bool.{and_parts, cases_lt}
 use Rattle.std.proofs.lemmas.Bool.Decides.{nat_tests}
 use Rattle.std.proofs.lemmas.Fmt.{decimal_digit, decimal_step, decimal_nonempty}
 use Rattle.std.proofs.lemmas.List.{length-replicate, take_at}
@@ -20,7 +20,6 @@ use Rattle.text_1401.specs.LineText.Part.{Numeral}
 use Rattle.text_1401.specs.Words.{most_digits}
 use Rattle.text_1401.specs.Words.{is_blank, without_blanks, word_in, behind_word, number_of}
 use Rattle.notation_1401.specs.Digits.{is_digit, value_of}
-use Rattle.notation_1401.proofs.SpelledLemmas.{first, second}
 
 -- whether a byte is a part of a word
 abbrev pub in_word : ℕ → Bool
@@ -31,8 +30,8 @@ passing : (q : ℕ → Bool) (xs ys : List ℕ) → list_all q xs ≡ true → p
     → prefix_len q (xs ++ ys) ≡ length xs
 passing q [] ys all none = none
 passing q (x ∷ xs) ys all none =
-    let here : q x ≡ true = first (q x) (list_all q xs) all in
-    let more : prefix_len q (xs ++ ys) ≡ length xs = passing q xs ys (second (q x) (list_all q xs) all) none in
+    let here : q x ≡ true = (and_parts (q x) (list_all q xs) all).0 in
+    let more : prefix_len q (xs ++ ys) ≡ length xs = passing q xs ys (and_parts (q x) (list_all q xs) all).1 none in
     rw here (omega (arith, more))
 
 all_blank : (n : ℕ) → list_all is_blank (replicate n blank) ≡ true
@@ -48,7 +47,7 @@ word_first : (word rest : List ℕ) → 0 < length word → list_all in_word wor
     → prefix_len is_blank (word ++ rest) ≡ 0
 word_first [] rest some all = absurd (omega arith)
 word_first (byte ∷ word) rest some all =
-    let here : not (byte == blank) ≡ true = first _ _ all in no_blank (byte == blank) _ here
+    let here : not (byte == blank) ≡ true = (and_parts _ _ all).0 in no_blank (byte == blank) _ here
 
 -- where a word ends
 parted : (rest : List ℕ) → IsParted rest → prefix_len in_word rest ≡ 0
@@ -140,8 +139,8 @@ digit_in_word byte h = grind (arith, nat_tests)
 digits_in_word : (word : List ℕ) → list_all is_digit word ≡ true → list_all in_word word ≡ true
 digits_in_word [] all = refl
 digits_in_word (byte ∷ word) all =
-    let here : in_word byte ≡ true = digit_in_word byte (first _ _ all) in
-    let more : list_all in_word word ≡ true = digits_in_word word (second _ _ all) in
+    let here : in_word byte ≡ true = digit_in_word byte (and_parts _ _ all).0 in
+    let more : list_all in_word word ≡ true = digits_in_word word (and_parts _ _ all).1 in
     rw (here, more) refl
 
 -- A word is this number.
