@@ -1,62 +1,10 @@
-//! Whole sessions by theme: the lines, then the replies, worked out by hand.
+//! The program's edge: the command line, what each subcommand reads and writes, and what it answers a failure.
 
-mod arithmetic;
 mod assembling;
-mod branches;
-mod cards;
 mod command_line;
-mod editing;
 mod faults;
-mod glances;
 mod loading;
-mod moves;
-mod programs;
 mod recorder;
-mod refusals;
 mod running;
 mod serving;
-mod storage;
 mod wiring;
-
-use console_1401::{FromReader, SessionEnd, ToWriter, session};
-use room_1401::Room;
-use std::alloc::Global;
-use std::process::Abort;
-
-/// Answers the lines in a new room of 4,000 places, and compares the replies, how the session ends, and how many
-/// commands the journal has.
-fn expect_session(
-    rt: &impl Abort,
-    alloc: Global,
-    lines: &str,
-    replies: &str,
-    end: SessionEnd,
-    entries: usize,
-) {
-    expect_session_in(rt, alloc, 4_000, lines, replies, end, entries);
-}
-
-/// The same in a new room of any size.
-fn expect_session_in(
-    rt: &impl Abort,
-    alloc: Global,
-    size: u16,
-    lines: &str,
-    replies: &str,
-    end: SessionEnd,
-    entries: usize,
-) {
-    let mut room = Room::power_on(alloc, size).expect(rt, "a room");
-    let mut reader = FromReader::new(lines.as_bytes());
-    let mut writer = ToWriter::new(Vec::new(alloc));
-    let ended = session(alloc, &mut room, &mut reader, &mut writer);
-    let written = writer.into_inner();
-    assert_eq!(rt; written.as_slice(), replies.as_bytes(), "{lines}");
-    assert_eq!(rt; ended, end, "{lines}");
-    assert_eq!(rt; room.journal().len(), entries, "{lines}");
-}
-
-/// The same for lines that end with the input.
-fn expect_replies(rt: &impl Abort, alloc: Global, lines: &str, replies: &str, entries: usize) {
-    expect_session(rt, alloc, lines, replies, SessionEnd::EndOfInput, entries);
-}
