@@ -5,7 +5,7 @@ use Rattle.std.proofs.Common.{is_some, Result, Ok, Err, refl, sym, ap, ◌∙◌
 use Rattle.std.specs.Prelude.{All, IfOk, IfSome, filter_map, position, fold, slice_index}
 use Rattle.std.specs.List.{list_all}
 use Rattle.std.specs.Option.{option_map}
-use Rattle.std.proofs.lemmas.Bool.{leb-true, ltb-true}
+use Rattle.std.proofs.lemmas.Bool.{and_parts, leb-true, ltb-true}
 use Rattle.std.proofs.lemmas.Bool.Decides.{nat_tests}
 use Rattle.std.proofs.lemmas.List.{length-replicate, take_all}
 use Rattle.std.proofs.lemmas.List.Elements.{All-nil, All-cons, All-head, All-tail, All-append, All-replicate}
@@ -19,7 +19,6 @@ use Rattle.notation_1401.specs.Cells.{cell_of, cells_of, most_cells, spelled, ti
 use Rattle.notation_1401.specs.Digits.{is_digit, value_of}
 use Rattle.notation_1401.specs.declared.fault.CellsFault.{CellsFault}
 use Rattle.notation_1401.specs.declared.fault.CellsFault.TheVariants as cells_fault
-use Rattle.notation_1401.proofs.SpelledLemmas.{first, second}
 use Rattle.command_1401.specs.declared.command.Command.TheVariants as command
 use Rattle.text_1401.specs.declared.line.Line.{Line}
 use Rattle.text_1401.specs.declared.line.Line.TheVariants.{Empty, Command, Glance, Quit}
@@ -83,10 +82,10 @@ value_below : (digits : List ℕ) (front : ℕ) → list_all is_digit digits ≡
     → fold (λ number digit. 10 * number + (digit - 48)) front digits < (front + 1) * 10 ^ length digits
 value_below [] front all = omega arith
 value_below (digit ∷ digits) front all =
-    let is = first (is_digit digit) (list_all is_digit digits) all in
+    let is = (and_parts (is_digit digit) (list_all is_digit digits) all).0 in
     one_digit_more (fold (λ number digit. 10 * number + (digit - 48)) front (digit ∷ digits)) front digit
     (10 ^ length digits) (10 ^ length (digit ∷ digits)) (digit_low digit is) (digit_high digit is)
-    (value_below digits (10 * front + (digit - 48)) (second (is_digit digit) _ all)) (pow-succ' 10 (length digits))
+    (value_below digits (10 * front + (digit - 48)) ((and_parts (is_digit digit) _ all).1)) (pow-succ' 10 (length digits))
 
 number_below : (word : List ℕ) (number : ℕ) → number_of word ≡ Ok number → number < 10 ^ most_digits
 unfolding number_of
@@ -94,10 +93,10 @@ number_below word number is =
     let p = passed (nat_le 1 (length word) && nat_le (length word) most_digits && list_all is_digit word) (value_of word)
     number Number is in
     let counted = nat_le 1 (length word) && nat_le (length word) most_digits in
-    let digits : list_all is_digit word ≡ true = second counted (list_all is_digit word) p.0 in
-    let tests : counted ≡ true = first counted (list_all is_digit word) p.0 in
+    let digits : list_all is_digit word ≡ true = (and_parts counted (list_all is_digit word) p.0).1 in
+    let tests : counted ≡ true = (and_parts counted (list_all is_digit word) p.0).0 in
     let few : length word ≤ most_digits =
-    leb-true (length word) most_digits (second (nat_le 1 (length word)) (nat_le (length word) most_digits) tests) in
+    leb-true (length word) most_digits ((and_parts (nat_le 1 (length word)) (nat_le (length word) most_digits) tests).1) in
     let below : value_of word < (0 + 1) * 10 ^ length word = value_below word 0 digits in
     let power : 10 ^ length word ≤ 10 ^ most_digits = pow-le-pow_right (omega arith) few in
     omega (arith, p.1, below, power)
@@ -211,8 +210,8 @@ few_cells text cells is =
     (nat_le 1 (length all) && nat_le (length all) most_cells) (filter_map (λ each. each) all) cells is in
     let enough = nat_le 1 (length all) in
     let counted = nat_le (length all) most_cells in
-    let some : 1 ≤ length all = leb-true 1 (length all) (first enough counted p.1) in
-    let few : length all ≤ most_cells = leb-true (length all) most_cells (second enough counted p.1) in
+    let some : 1 ≤ length all = leb-true 1 (length all) ((and_parts enough counted p.1).0) in
+    let few : length all ≤ most_cells = leb-true (length all) most_cells ((and_parts enough counted p.1).1) in
     let many = as_many all (whole_if most_cells all few p.0) in
     let same : length cells ≡ length all = sym (ap length p.2) ∙ many in
     let each : All (λ (cell : Cell). cell.char < 64) cells =
