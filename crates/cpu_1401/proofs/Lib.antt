@@ -1,3 +1,4 @@
+pub mod AreaLemmas
 mod BranchExamples
 mod CompareExamples
 mod CardsExamples

@@ -1,6 +1,7 @@
 //! Cards read and punched, lines printed, and the carriage controlled.
-ghost use Rattle.std.specs.Prelude.{◌≡◌, ◌+◌, ◌^◌, ◌<◌, ◌≤◌, true, false, IsSome, length};
+ghost use Rattle.std.specs.Prelude.{◌≡◌, ℕ, ◌+◌, ◌^◌, ◌<◌, ◌≤◌, true, false, IsSome, length, slice_index_or};
 ghost use Rattle.core_1401.specs.Address.{addresses};
+ghost use Rattle.core_1401.specs.Storage.{cell_at};
 ghost use Rattle.devices_1401.specs.Carriage.{controlled};
 ghost use Rattle.devices_1401.specs.Devices.{is_full};
 ghost use Rattle.cpu_1401.specs.CardsAndPrinter.{after_cards, after_control, after_line, after_work, has_d, hindrance};
@@ -175,6 +176,11 @@ pub(crate) fn put_chars(core: &mut Core, at: u16, chars: &[Char])
     requires fits { at + length chars.now < 2 ^ 16 }
     ensures value { core.new ≡ with_chars_from core.old at chars.now }
     ensures size { length core.new ≡ length core.old }
+
+    // Each character stands at its place. The places below and all word marks stay as they were.
+    ensures each { (i : ℕ) → i < length chars.now → (cell_at core.new (at + i)).char ≡ slice_index_or chars.now i 0 }
+    ensures below { (k : ℕ) → k < at → cell_at core.new k ≡ cell_at core.old k }
+    ensures marks { (k : ℕ) → (cell_at core.new k).mark ≡ (cell_at core.old k).mark }
 {
     for (i, char) in chars.iter().enumerate() {
         core.put_char(at + i as u16, *char);

@@ -1,7 +1,8 @@
 //! The load key, and what an operator does at the devices.
-ghost use Rattle.std.specs.Prelude.{◌≡◌, ◌==◌, not, is_ok, length, slice_get, if◌then◌else◌};
+ghost use Rattle.std.specs.Prelude.{ℕ, ◌≡◌, ◌+◌, ◌<◌, ◌==◌, not, is_ok, length, slice_get, slice_index_or, IfOk, IfSome, if◌then◌else◌};
 ghost use Rattle.devices_1401.specs.Devices.{after_card, after_line, fed, is_full};
-ghost use Rattle.cpu_1401.specs.CardsAndPrinter.{load, with_devices};
+ghost use Rattle.core_1401.specs.Storage.{cell_at};
+ghost use Rattle.cpu_1401.specs.CardsAndPrinter.{card_columns, load, read_area, with_devices};
 
 use crate::areas::READ_AREA;
 use crate::device_steps::put_chars;
@@ -19,6 +20,12 @@ impl Machine {
     pub fn load_key(&mut self) -> Result<(), ReaderEmpty>
         ensures loaded { is_ok result ≡ not (length self.old.devices.hopper == 0) }
         ensures state { self.new ≡ load self.old }
+
+        // The card stands in the read area, and its first place alone has a word mark there.
+        ensures chars { IfSome (slice_get self.old.devices.hopper 0) (λ card. (i : ℕ) → i < card_columns →
+            (cell_at self.new.storage (read_area + i)).char ≡ slice_index_or card.0 i 0) }
+        ensures marks { IfOk result (λ done. (i : ℕ) → i < card_columns →
+            (cell_at self.new.storage (read_area + i)).mark ≡ (i == 0)) }
         ensures size { length self.new.storage ≡ length self.old.storage }
     {
         let size = self.core.size();

@@ -1,6 +1,6 @@
 //! Address registers stored.
-ghost use Rattle.std.specs.Prelude.{◌≡◌, ◌+◌, ◌<◌, ◌≤◌, length};
-ghost use Rattle.core_1401.specs.Address.{addresses};
+ghost use Rattle.std.specs.Prelude.{◌≡◌, ◌+◌, ◌-◌, ◌<◌, ◌≤◌, length};
+ghost use Rattle.core_1401.specs.Address.{addresses, value_at};
 ghost use Rattle.cpu_1401.specs.RegisterStep.{after_store, stored};
 
 use crate::instruction::Instruction;
@@ -38,6 +38,9 @@ fn put_address(core: &mut Core, at: u16, address: u16)
     requires address { address < addresses }
     ensures value { core.new ≡ stored core.old at address }
     ensures size { length core.new ≡ length core.old }
+
+    // What is stored is read again as this address.
+    ensures again { value_at core.new (at - 2) ≡ address }
 {
     let [hundreds, tens, units] = encode(address);
     let zone = core.get(at - 1).char.zone();
