@@ -35,30 +35,14 @@ impl Machine {
         ensures size { length self.new.storage ≡ length self.old.storage }
     {
         let machine = &*self;
-        if let Some(said) = machine.kept.find(&machine.core, machine.i) {
-            let operation = said.operation;
-            let this = machine.instruction(said);
-            return self.perform(operation, this);
-        }
-        self.step_anew()
-    }
-
-    /// Carries out an instruction that isn't kept, as a step does.
-    #[inline(never)]
-    #[tactic(auto, using(crate::proofs::DecodedLemmas::says_step))]
-    fn step_anew(&mut self) -> Option<Stop>
-        ensures stop { result ≡ (step self.old).stop }
-        ensures state { self.new ≡ (step self.old).state }
-        ensures unchanged { IfSome result (λ why. why ≢ Stop.Halt → self.new ≡ self.old) }
-        ensures limit { result ≢ Some Stop.Limit }
-        ensures size { length self.new.storage ≡ length self.old.storage }
-    {
-        let said = match self.decode_anew() {
-            Ok(said) => said,
-            Err(stop) => return Some(stop),
+        let fetched = match machine.kept.find(&machine.core, machine.i) {
+            Some(said) => (said.operation, machine.instruction(said)),
+            None => match self.decode_anew() {
+                Ok(said) => (said.operation, self.instruction(&said)),
+                Err(stop) => return Some(stop),
+            },
         };
-        let this = self.instruction(&said);
-        self.perform(said.operation, this)
+        self.perform(fetched.0, fetched.1)
     }
 
     /// Decodes the instruction at the I register and keeps it, or says why it can't be carried out.

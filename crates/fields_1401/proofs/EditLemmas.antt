@@ -1,22 +1,27 @@
 -- The places of a control word, and what they take.
-use Rattle.std.proofs.Common.{◌≡◌, ℕ, ◌+◌, ◌-◌, ◌<◌, ◌≤◌, ◌⊎◌, ◌==◌, Bool, true, false, List, Option, Some, None, min}
+use Rattle.std.proofs.Common.{◌≡◌, ◌≢◌, bit_and, ◌/◌, ◌%◌, ◌^◌, set, ℕ, ◌+◌, ◌-◌, ◌<◌, ◌≤◌, ◌⊎◌, ◌==◌, Bool, true, false, List, Option, Some, None, min}
 use Rattle.std.proofs.Common.{length, get_or, map, drop, cond, ap, sym, ◌∙◌, inl, inr, arith}
 use Rattle.std.specs.List.{count_by, range_with_len}
-use Rattle.std.specs.Prelude.{not, nat_lt, ◌&&◌}
+use Rattle.std.specs.Prelude.{not, nat_lt, ◌&&◌, ◌||◌, if◌then◌else◌}
 use Rattle.std.proofs.lemmas.Bool.{cases_lt, cases_Bool, lt-ltb, le-ltb, and_from, and_left, and_right, cond-true}
 use Rattle.std.proofs.lemmas.Bool.{cond-false}
 use Rattle.std.proofs.lemmas.Bool.Decides.{nat_tests}
 use Rattle.std.proofs.lemmas.List.FromFn.{get_or-map-range_with_len, length-map-range_with_len}
-use Rattle.std.proofs.lemmas.List.Sums.{sum_by-drop_more, position_or_len_is, suffix_len_is}
-use Rattle.core_1401.specs.Storage.{Storage, cell_at}
-use Rattle.fields_1401.specs.Across.{chars_across, units_unzoned}
+use Rattle.std.proofs.lemmas.List.Sums.{sum_by-drop_more, position_or_len_is, suffix_len_is, fails_before_first}
+use Rattle.bcd_1401.specs.declared.cell.Cell.{Cell}
+use Rattle.core_1401.specs.Storage.{Storage, cell_at, with_char}
+use Rattle.fields_1401.specs.Across.{chars_across, units_unzoned, char_to}
 use Rattle.fields_1401.specs.Edit.{is_replaceable, taken_from, taken_by, replaceable_in, replaceable_behind}
 use Rattle.fields_1401.specs.Edit.{is_significant, before_significant, limit_of, is_suppressed, is_shared, shown}
-use Rattle.fields_1401.specs.Edit.{shown_at, edited, taken_down}
-use Rattle.fields_1401.specs.Places.{is_within}
+use Rattle.fields_1401.specs.Edit.{shown_at, edited, taken_down, unsuppressed_at, unsuppressed, without_zero}
+use Rattle.fields_1401.specs.Edit.{suppressed_to}
+use Rattle.fields_1401.specs.Edit.{taken_char, kept_char, is_left_over, is_sign_char, is_sign_blanked}
+use Rattle.fields_1401.specs.Places.{is_within, with_chars, with_all_chars, chars_of}
 use Rattle.fields_1401.specs.declared.sign.Sign.{Sign}
 use Rattle.fields_1401.specs.Suppress.{zero_char}
 use Rattle.fields_1401.proofs.AcrossLemmas.{length-unzoned_across, unzoned_down_is}
+use Rattle.fields_1401.proofs.LendingLemmas.{lent_at_first, char_lent, lent-set}
+use Rattle.fields_1401.proofs.PlacesLemmas.{cell_at-with_chars, length-with_chars, with_chars_changed, with_chars_same}
 
 -- a place is one of those from it on, where it is replaceable
 pub replaceable_here : (word : List ℕ) (i : ℕ) → i < length word → is_replaceable (get_or word i 0) ≡ true
@@ -104,28 +109,98 @@ pub length-edited : (word digits : List ℕ) (sign : Sign) → length (edited wo
 unfolding edited
 length-edited word digits sign = length-map-range_with_len (shown_at word digits sign) 0 (length word)
 
--- what a place shows, by what the rules go by
-pub shown_place : (word digits : List ℕ) (sign : Sign) (j t replaceable behind : ℕ) (suppressed : Bool)
-    (taken : Option ℕ) (own : ℕ) → j < length word
-    → t ≡ length digits → replaceable ≡ replaceable_in word → behind ≡ replaceable_behind word j → suppressed
-    ≡ is_suppressed word digits j
-    → taken ≡ taken_from digits own behind → own ≡ get_or word j 0
-    → shown t replaceable sign behind suppressed taken own ≡ get_or (edited word digits sign) j 0
-unfolding edited
-shown_place word digits sign j t replaceable behind suppressed taken own within e_t e_replaceable e_behind e_suppressed
-    e_taken e_own =
-    let takes : taken ≡ taken_by word digits j = e_taken ∙ ap (λ k. taken_from digits k behind) e_own
-    ∙ ap (taken_from digits (get_or word j 0)) e_behind in
-    ap (λ k. shown k replaceable sign behind suppressed taken own) e_t
-    ∙ ap (λ k. shown (length digits) k sign behind suppressed taken own) e_replaceable
-    ∙ ap (λ k. shown (length digits) (replaceable_in word) sign k suppressed taken own) e_behind
-    ∙ ap (λ (test : Bool). shown (length digits) (replaceable_in word) sign
-    (replaceable_behind word j) test taken own) e_suppressed
-    ∙ ap (λ (o : Option ℕ). shown (length digits) (replaceable_in word) sign (replaceable_behind word j)
-    (is_suppressed word digits j) o own) takes
-    ∙ ap (λ k. shown (length digits) (replaceable_in word) sign (replaceable_behind word j)
-    (is_suppressed word digits j) (taken_by word digits j) k) e_own
-    ∙ sym (get_or-map-range_with_len (shown_at word digits sign) 0 (length word) j j 0 within (omega arith))
+-- what a place shows before anything is suppressed, by what the rules go by
+pub shown_place : (word digits : List ℕ) (sign : Sign) (j t replaceable behind : ℕ) (taken : Option ℕ) (own : ℕ)
+    → j < length word → t ≡ length digits → replaceable ≡ replaceable_in word → behind ≡ replaceable_behind word j
+    → taken ≡ taken_by word digits j → own ≡ get_or word j 0
+    → shown t replaceable sign behind false taken own ≡ get_or (unsuppressed word digits sign) j 0
+unfolding unsuppressed
+shown_place word digits sign j t replaceable behind taken own within e_t e_replaceable e_behind e_taken e_own =
+    ap (λ k. shown k replaceable sign behind false taken own) e_t
+    ∙ ap (λ k. shown (length digits) k sign behind false taken own) e_replaceable
+    ∙ ap (λ k. shown (length digits) (replaceable_in word) sign k false taken own) e_behind
+    ∙ ap (λ (o : Option ℕ). shown (length digits) (replaceable_in word) sign (replaceable_behind word j) false o own)
+    e_taken
+    ∙ ap (λ k. shown (length digits) (replaceable_in word) sign (replaceable_behind word j) false
+    (taken_by word digits j) k) e_own
+    ∙ sym (get_or-map-range_with_len (unsuppressed_at word digits sign) 0 (length word) j j 0 within (omega arith))
+
+-- as many characters as the control word has
+pub length-unsuppressed : (word digits : List ℕ) (sign : Sign) → length (unsuppressed word digits sign) ≡ length word
+unfolding unsuppressed
+length-unsuppressed word digits sign = length-map-range_with_len (unsuppressed_at word digits sign) 0 (length word)
+
+-- what a place takes, by its own character and by those right of it
+pub takes_here : (word digits : List ℕ) (j own behind : ℕ) (taken : Option ℕ) → own ≡ get_or word j 0
+    → behind ≡ replaceable_behind word j → taken ≡ taken_from digits own behind → taken ≡ taken_by word digits j
+takes_here word digits j own behind taken e_own e_behind e_taken =
+    e_taken ∙ ap (λ k. taken_from digits k behind) e_own ∙ ap (taken_from digits (get_or word j 0)) e_behind
+
+-- what is suppressed of a character that was taken and isn't significant, and of one of the control word
+taken_suppressed : (char : ℕ) → is_significant (Some char) ≡ false
+    → taken_char true char ≡ without_zero (taken_char false char)
+taken_suppressed char none = grind (arith, nat_tests)
+
+abbrev kept_by : Bool → Bool → Bool → Bool → ℕ → ℕ
+kept_by left behind part suppressed own =
+    if is_replaceable own || (own == 48 || ((own == 27 && (left || (behind || suppressed))) || part)) then 0 else own
+
+kept_suppressed : (left behind part : Bool) (own : ℕ) → kept_by left behind part true own
+    ≡ without_zero (kept_by left behind part false own)
+kept_suppressed true true true own = grind (arith, nat_tests)
+kept_suppressed true true false own = grind (arith, nat_tests)
+kept_suppressed true false true own = grind (arith, nat_tests)
+kept_suppressed true false false own = grind (arith, nat_tests)
+kept_suppressed false true true own = grind (arith, nat_tests)
+kept_suppressed false true false own = grind (arith, nat_tests)
+kept_suppressed false false true own = grind (arith, nat_tests)
+kept_suppressed false false false own = grind (arith, nat_tests)
+
+pub suppressed_shown : (t replaceable : ℕ) (sign : Sign) (behind own : ℕ) (taken : Option ℕ)
+    → is_significant taken ≡ false
+    → shown t replaceable sign behind true taken own ≡ without_zero (shown t replaceable sign behind false taken own)
+suppressed_shown t replaceable sign behind own (Some char) none = taken_suppressed char none
+suppressed_shown t replaceable sign behind own None none =
+    kept_suppressed (is_left_over t replaceable behind) (behind == 0)
+    (is_sign_char own && is_sign_blanked sign behind) own
+
+-- no place left of the first significant one is significant
+pub none_significant : (word digits : List ℕ) (j : ℕ) → j < length word → j < before_significant word digits
+    → is_significant (taken_by word digits j) ≡ false
+unfolding before_significant
+none_significant word digits j within before =
+    let places = map (taken_by word digits) (range_with_len 0 (length word)) in
+    sym (ap is_significant (get_or-map-range_with_len (taken_by word digits) 0 (length word) j j None within
+    (omega arith))) ∙ fails_before_first is_significant places j None before
+
+-- the places suppressed, from the left, are edited
+pub shown_again : (word digits : List ℕ) (sign : Sign) (j count : ℕ) → j < length word
+    → count ≡ min (before_significant word digits) (limit_of word)
+    → (if nat_lt j count then without_zero (get_or (unsuppressed word digits sign) j 0)
+    else get_or (unsuppressed word digits sign) j 0) ≡ get_or (edited word digits sign) j 0
+unfolding edited unsuppressed
+shown_again word digits sign j count within e =
+    let taken = taken_by word digits j in
+    let place : Bool → ℕ = λ test. shown (length digits) (replaceable_in word) sign (replaceable_behind word j) test
+    taken (get_or word j 0) in
+    let before = get_or (unsuppressed word digits sign) j 0 in
+    let plain : before ≡ place false =
+    get_or-map-range_with_len (unsuppressed_at word digits sign) 0 (length word) j j 0 within (omega arith) in
+    let full : get_or (edited word digits sign) j 0 ≡ place (is_suppressed word digits j) =
+    get_or-map-range_with_len (shown_at word digits sign) 0 (length word) j j 0 within (omega arith) in
+    let test : nat_lt j count ≡ is_suppressed word digits j =
+    ap (nat_lt j) e ∙ left_of_both j (before_significant word digits) (limit_of word) in
+    elim (cases_lt j count) [
+      | inl lt ↦
+          let on : nat_lt j count ≡ true = lt-ltb j count lt in
+          let none = none_significant word digits j within (omega arith) in
+          ap (λ b. if b then without_zero before else before) on ∙ ap without_zero plain
+          ∙ sym (suppressed_shown (length digits) (replaceable_in word) sign (replaceable_behind word j)
+          (get_or word j 0) taken none) ∙ ap place (sym on ∙ test) ∙ sym full
+      | inr le ↦
+          let off : nat_lt j count ≡ false = le-ltb j count le in
+          ap (λ b. if b then without_zero before else before) off ∙ plain ∙ ap place (sym off ∙ test) ∙ sym full
+    ]
 
 -- those from a place on, where it is one of them or it isn't
 pub replaceable_more : (word : List ℕ) (j own behind from : ℕ) → j < length word → own ≡ get_or word j 0 → behind
@@ -164,3 +239,71 @@ taken_down_is s chars a t own behind in_core above same =
           (and_left (is_replaceable own) (nat_lt behind t) fails)
           ∙ takes_none digits own behind t size (inl fails)
     ]
+
+-- a place that isn't the next one is on the same side of it
+one_further : (j i : ℕ) → j ≢ i → nat_lt j (i + 1) ≡ nat_lt j i
+one_further j i other = grind (arith, nat_tests)
+
+-- the bits of the two characters that may be replaced
+pub replaceable_bit : (char : ℕ) → char < 64 → (bit_and (1025 / 2 ^ char) 1 == 1) ≡ is_replaceable char
+replaceable_bit char fits =
+    sym (get_or-map-range_with_len (λ n. bit_and (1025 / 2 ^ n) 1 == 1) 0 64 char char false fits (omega arith))
+    ∙ get_or-map-range_with_len is_replaceable 0 64 char char false fits (omega arith)
+
+-- the characters lent are those written before, with the zeros and commas of i places from the left suppressed
+abbrev pub AreSuppressed : Storage → List ℕ → ℕ → ℕ → ℕ → Type 0
+AreSuppressed old chars b n i =
+    (before : Storage) → (char_of : ℕ → ℕ) → old ≡ with_chars before b n char_of
+    → with_all_chars old chars ≡ with_chars before b n (suppressed_to char_of n i)
+
+pub none_suppressed : (old : Storage) (chars : List ℕ) (b n : ℕ) → chars ≡ chars_of old → AreSuppressed old chars b n 0
+none_suppressed old chars b n lent before char_of e =
+    lent_at_first old chars lent ∙ e
+    ∙ with_chars_same before b n char_of (suppressed_to char_of n 0)
+    (λ i lt. sym (ap (λ (t : Bool). if t then without_zero (char_of i) else char_of i)
+    (le-ltb (n - 1 - i) 0 (omega arith))))
+
+pub one_suppressed : (old : Storage) (chars new : List ℕ) (b n i at char put : ℕ) → b < length old → i < n → n ≤ b + 1
+    → length chars ≡ length old → at ≡ b - (n - 1 - i) → char ≡ get_or chars at 0 → put ≡ without_zero char
+    → new ≡ set chars at put → AreSuppressed old chars b n i → AreSuppressed old new b n (i + 1)
+one_suppressed old chars new b n i at char put b_in within above size e_at read shows made so_far before char_of e =
+    let k : ℕ = n - 1 - i in
+    let last : n - 1 - k ≡ i = omega arith in
+    let f : ℕ → ℕ = suppressed_to char_of n i in
+    let g : ℕ → ℕ = suppressed_to char_of n (i + 1) in
+    let in_before : b < length before = omega (arith, b_in, ap length e, length-with_chars before b n char_of) in
+    let was : char ≡ char_of k =
+    read ∙ ap (λ (q : ℕ). get_or chars q 0) e_at ∙ char_lent old chars (b - k) 0 (omega (arith, b_in)) size
+    ∙ ap (λ (s : Storage). (cell_at s (b - k)).char) (so_far before char_of e)
+    ∙ ap (λ (cell : Cell). cell.char) (cell_at-with_chars before b n f k in_before (omega (arith, above))
+    (omega (arith, within)))
+    ∙ ap (λ (t : Bool). if t then without_zero (char_of k) else char_of k)
+    (ap (λ (m : ℕ). nat_lt m i) last ∙ le-ltb i i (omega arith)) in
+    let here : g k ≡ put =
+    ap (λ (t : Bool). if t then without_zero (char_of k) else char_of k)
+    (ap (λ (m : ℕ). nat_lt m (i + 1)) last ∙ lt-ltb i (i + 1) (omega arith))
+    ∙ ap without_zero (sym was) ∙ sym shows in
+    ap (with_all_chars old) made
+    ∙ ap (λ (q : ℕ). with_all_chars old (set chars q put)) e_at
+    ∙ lent-set old chars (b - k) put (omega (arith, b_in)) size
+    ∙ ap (λ (s : Storage). with_char s (b - k) put) (so_far before char_of e)
+    ∙ with_chars_changed before b n k put f g in_before (omega (arith, above)) (omega (arith, within)) here
+    (λ u lt other. ap (λ (t : Bool). if t then without_zero (char_of u) else char_of u)
+    (one_further (n - 1 - u) i (omega (arith, lt, other, within))))
+
+-- so the control word is edited
+pub edited_again : (s : Storage) (b n : ℕ) (word digits : List ℕ) (sign : Sign) (count : ℕ) → length word ≡ n
+    → count ≡ min (before_significant word digits) (limit_of word)
+    → with_chars s b n (suppressed_to (char_to (unsuppressed word digits sign)) n count)
+    ≡ with_chars s b n (char_to (edited word digits sign))
+edited_again s b n word digits sign count size e =
+    let plain : List ℕ = unsuppressed word digits sign in
+    let full : List ℕ = edited word digits sign in
+    let plain_size : length plain ≡ n = length-unsuppressed word digits sign ∙ size in
+    let full_size : length full ≡ n = length-edited word digits sign ∙ size in
+    with_chars_same s b n (suppressed_to (char_to plain) n count) (char_to full) (λ i lt.
+    let j : ℕ = n - 1 - i in
+    ap (λ (p : ℕ). if nat_lt j count then without_zero (get_or plain p 0) else get_or plain p 0)
+    (omega (arith, plain_size))
+    ∙ shown_again word digits sign j count (omega (arith, size, lt)) e
+    ∙ ap (λ (p : ℕ). get_or full p 0) (omega (arith, full_size)))

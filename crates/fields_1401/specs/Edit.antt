@@ -131,6 +131,23 @@ shown_at word digits sign i =
     shown (length digits) (replaceable_in word) sign (replaceable_behind word i) (is_suppressed word digits i)
     (taken_by word digits i) (slice_index word i)
 
+-- what place i shows before zeros and commas are suppressed, and all places from left to right
+abbrev pub unsuppressed_at : List ℕ → List ℕ → Sign → ℕ → ℕ
+unsuppressed_at word digits sign i =
+    shown (length digits) (replaceable_in word) sign (replaceable_behind word i) false (taken_by word digits i)
+    (slice_index word i)
+
+unfoldable pub unsuppressed : List ℕ → List ℕ → Sign → List ℕ
+unsuppressed word digits sign = map (unsuppressed_at word digits sign) (range_with_len 0 (length word))
+
+-- what a suppressed place shows of such a character: no zero and no comma
+abbrev pub without_zero : ℕ → ℕ
+without_zero char = if char == zero_char || char == comma_char then blank_char else char
+
+-- what the i-th of n places from the units shows, where so many from the left are suppressed
+abbrev pub suppressed_to : (ℕ → ℕ) → ℕ → ℕ → ℕ → ℕ
+suppressed_to char_of n count i = if nat_lt (n - 1 - i) count then without_zero (char_of i) else char_of i
+
 -- the control word edited with the characters of A that it takes, the units without their zone, under A's sign
 unfoldable pub edited : List ℕ → List ℕ → Sign → List ℕ
 edited word digits sign = map (shown_at word digits sign) (range_with_len 0 (length word))

@@ -1,11 +1,11 @@
 //! The control word of an edit: its places, and what they take of the A field.
-ghost use Rattle.std.specs.Prelude.{◌≡◌, ◌+◌, ◌<◌, ◌≤◌, false, length, min, Option, Some, None, Ok, Err, IfOk, IfErr};
+ghost use Rattle.std.specs.Prelude.{◌≡◌, ◌+◌, ◌<◌, ◌≤◌, false, length, Option, Some, None, Ok, Err, IfOk, IfErr};
 ghost use Rattle.std.specs.Prelude.{IfSome};
 ghost use Rattle.core_1401.specs.Address.{addresses};
 ghost use Rattle.core_1401.specs.Field.{field_len_of};
-ghost use Rattle.fields_1401.specs.Across.{chars_across, units_unzoned};
-ghost use Rattle.fields_1401.specs.Edit.{is_replaceable, replaceable_in, taken_from, taken_down, is_significant};
-ghost use Rattle.fields_1401.specs.Edit.{before_significant, limit_of, taken_at, is_shared, edit_lengths_at};
+ghost use Rattle.fields_1401.specs.Across.{chars_across};
+ghost use Rattle.fields_1401.specs.Edit.{is_replaceable, replaceable_in, taken_down, is_significant};
+ghost use Rattle.fields_1401.specs.Edit.{limit_of, taken_at, is_shared, edit_lengths_at};
 ghost use Rattle.fields_1401.specs.Refusal.{used_len_of};
 
 use crate::across::{char_across, unzoned_down};
@@ -16,6 +16,9 @@ use crate::refusals::share_place;
 use crate::suppression::ZERO;
 use bcd_1401::Char;
 use core_1401::Core;
+
+/// The codes of a blank and of a zero, as bits.
+const REPLACEABLE: u64 = 1 | (1 << 10);
 
 /// The control word of an edit that isn't refused, and the places of A that it takes.
 #[derive(Clone, Copy)]
@@ -80,15 +83,8 @@ impl ControlWord {
         })
     }
 
-    /// What a place with this character takes of the A field, by how many replaceable places stand right of it.
-    pub(crate) fn takes(self, core: &Core, own: Char, behind: u16) -> Option<Char>
-        requires { self.a < length core.now }
-        ensures { result ≡ taken_from (units_unzoned (chars_across core.now self.a self.taken)) own behind }
-    {
-        self.takes_of(core.chars(), own, behind)
-    }
-
-    /// The same of the characters by address.
+    /// What a place with this character takes of the A field, by how many replaceable places stand right of it: of the
+    /// characters by address.
     #[inline(always)]
     pub(crate) fn takes_of(self, chars: &[Char], own: Char, behind: u16) -> Option<Char>
         requires { self.a < length chars.now }
@@ -100,55 +96,18 @@ impl ControlWord {
             None
         }
     }
-
-    /// How many places, from the left, suppress zeros and commas: those left of the first significant one that aren't
-    /// right of the last zero of the control word.
-    pub(crate) fn suppressing(self, core: &Core) -> u16
-        requires a { self.a < length core.now }
-        requires b { self.b < length core.now }
-        requires replaceable { self.replaceable ≡ replaceable_in (chars_across core.now self.b self.len) }
-        ensures { let word = chars_across core.now self.b self.len in
-            let digits = units_unzoned (chars_across core.now self.a self.taken) in
-            result ≡ min (before_significant word digits) (limit_of word) }
-    {
-        self.before_significant(core)
-            .min(limit(core, self.b, self.len))
-    }
-
-    /// How many places stand left of the first that takes a character other than zero and blank: all, where none
-    /// does.
-    fn before_significant(self, core: &Core) -> u16
-        requires a { self.a < length core.now }
-        requires b { self.b < length core.now }
-        requires replaceable { self.replaceable ≡ replaceable_in (chars_across core.now self.b self.len) }
-        ensures { let word = chars_across core.now self.b self.len in
-            let digits = units_unzoned (chars_across core.now self.a self.taken) in
-            result ≡ before_significant word digits }
-    {
-        let mut behind = self.replaceable;
-        for i in 0..self.len {
-            let own = char_across(core, self.b, self.len, i);
-            if is_replaceable(own) {
-                behind -= 1;
-            }
-            if is_significant(self.takes(core, own, behind)) {
-                return i;
-            }
-        }
-        self.len
-    }
 }
 
 /// Whether a character of the control word may be replaced by one of A: a blank or a zero.
+#[inline(always)]
 pub(crate) fn is_replaceable(char: Char) -> bool
     ensures { result ≡ is_replaceable char }
 {
-    let code = char.code();
-    code == 0 || code == ZERO
+    (REPLACEABLE >> char.code()) & 1 == 1
 }
 
 /// Whether what a place took is a character other than zero and blank.
-fn is_significant(taken: Option<Char>) -> bool
+pub(crate) fn is_significant(taken: Option<Char>) -> bool
     ensures { result ≡ is_significant taken }
 {
     match taken {
@@ -194,7 +153,7 @@ fn taken_len(core: &Core, a: u16, replaceable: u16) -> Option<u16>
 
 /// How many of n places that end at an address there are up to and including the last zero: none, where there is no
 /// zero.
-fn limit(core: &Core, at: u16, n: u16) -> u16
+pub(crate) fn limit(core: &Core, at: u16, n: u16) -> u16
     requires at { at < length core.now }
     requires n { n ≤ at + 1 }
     ensures { result ≡ limit_of (chars_across core.now at n) }

@@ -1,16 +1,18 @@
 //! A field edited by the control word in the B field.
-ghost use Rattle.std.specs.Prelude.{◌≡◌, ◌+◌, ◌<◌, length, min, nat_lt, IfSome, OnOk};
+ghost use Rattle.std.specs.Prelude.{◌≡◌, ℕ, ◌+◌, ◌<◌, ◌≤◌, false, length, IfSome, OnOk};
 ghost use Rattle.core_1401.specs.Address.{addresses};
 ghost use Rattle.core_1401.specs.Field.{field_len_of};
+ghost use Rattle.core_1401.specs.Storage.{Storage};
 ghost use Rattle.fields_1401.specs.Across.{chars_across, units_unzoned, with_across, char_to, IsUnmarked};
 ghost use Rattle.fields_1401.specs.Across.{IsSameOutside};
-ghost use Rattle.fields_1401.specs.Edit.{replaceable_in, before_significant, limit_of, is_left_over, is_comma_blanked};
-ghost use Rattle.fields_1401.specs.Edit.{is_sign_char, is_sign_blanked, is_blanked, taken_char, kept_char, shown};
-ghost use Rattle.fields_1401.specs.Edit.{edited, sign_at, taken_at, edit_at, IsPlain, ShowsWithBlanks};
+ghost use Rattle.fields_1401.specs.Edit.{replaceable_in, before_significant, is_left_over, is_comma_blanked};
+ghost use Rattle.fields_1401.specs.Edit.{is_sign_char, is_sign_blanked, is_blanked, kept_char, shown, unsuppressed};
+ghost use Rattle.fields_1401.specs.Edit.{edited, sign_at, taken_at, edit_at, suppressed_to, without_zero, IsPlain};
+ghost use Rattle.fields_1401.specs.Edit.{ShowsWithBlanks};
 ghost use Rattle.fields_1401.specs.Outcome.{CarriesOut};
 ghost use Rattle.fields_1401.specs.Places.{with_chars};
 
-use crate::control_word::{ControlWord, is_replaceable};
+use crate::control_word::{ControlWord, is_replaceable, is_significant, limit};
 use crate::done::{Done, FieldStop};
 use crate::registers::{below, registers};
 use crate::sign::Sign;
@@ -40,17 +42,6 @@ struct Rules {
     replaceable: u16,
     /// The sign of the A field.
     sign: Sign,
-    /// How many places, from the left, suppress zeros and commas.
-    suppressing: u16,
-}
-
-/// A place of a control word.
-#[derive(Clone, Copy)]
-struct Spot {
-    /// The place, counted from the left.
-    place: u16,
-    /// How many replaceable places stand right of it.
-    behind: u16,
 }
 
 /// Edits the A field by the control word in the B field (A24-1403, "Move Characters and Edit"). From the right, the
@@ -81,7 +72,6 @@ pub fn edit(core: &mut Core, a: u16, b: u16) -> Result<Done, FieldStop>
         taken: word.taken,
         replaceable: word.replaceable,
         sign: Sign::of_units(core.get(a).char),
-        suppressing: word.suppressing(core),
     };
     put_edited(core, word, rules);
     Ok(registers(below(a, word.taken), below(b, word.len)))
@@ -94,130 +84,139 @@ fn put_edited(core: &mut Core, word: ControlWord, rules: Rules)
     requires taken { rules.taken ≡ word.taken }
     requires replaceable { rules.replaceable ≡ replaceable_in (chars_across core.old word.b word.len) }
     requires sign { rules.sign ≡ sign_at core.old word.a }
-    requires suppressing { let control = chars_across core.old word.b word.len in
-        let digits = units_unzoned (chars_across core.old word.a word.taken) in
-        rules.suppressing ≡ min (before_significant control digits) (limit_of control) }
     ensures put { let control = chars_across core.old word.b word.len in
         let digits = units_unzoned (chars_across core.old word.a word.taken) in
         core.new ≡ with_across core.old word.b (edited control digits (sign_at core.old word.a)) }
     ensures size { length core.new ≡ length core.old }
 {
-    put_shown(core, word, rules);
+    let limit = limit(core, word.b, word.len);
+    let significant = put_unsuppressed(core, word, rules);
+    suppress_places(core, word, significant.min(limit));
     core.clear_marks(word.b, word.len);
 }
 
-/// Puts what each place shows. Word marks stay.
+/// Puts what each place shows before zeros and commas are suppressed, from the right, and counts the places left of the
+/// first significant one. Word marks stay.
 #[inline(always)]
-fn put_shown(core: &mut Core, word: ControlWord, rules: Rules)
+fn put_unsuppressed(core: &mut Core, word: ControlWord, rules: Rules) -> u16
     requires a { word.a < length core.old }
     requires b { word.b < length core.old }
     requires taken { rules.taken ≡ word.taken }
     requires replaceable { rules.replaceable ≡ replaceable_in (chars_across core.old word.b word.len) }
     requires sign { rules.sign ≡ sign_at core.old word.a }
-    requires suppressing { let control = chars_across core.old word.b word.len in
-        let digits = units_unzoned (chars_across core.old word.a word.taken) in
-        rules.suppressing ≡ min (before_significant control digits) (limit_of control) }
     ensures put { let control = chars_across core.old word.b word.len in
         let digits = units_unzoned (chars_across core.old word.a word.taken) in
-        let shown = edited control digits (sign_at core.old word.a) in
+        let shown = unsuppressed control digits (sign_at core.old word.a) in
         core.new ≡ with_chars core.old word.b word.len (char_to shown) }
+    ensures significant { let control = chars_across core.old word.b word.len in
+        let digits = units_unzoned (chars_across core.old word.a word.taken) in
+        result ≡ before_significant control digits }
+    ensures most { result ≤ word.len }
     ensures size { length core.new ≡ length core.old }
 {
     let chars = core.chars_mut();
     let mut behind = 0;
+    let mut significant = word.len;
     for i in 0..word.len {
         let at = usize::from(word.b - i);
         let own = char_at(chars, at);
-        let spot = Spot {
-            place: word.len - 1 - i,
-            behind,
-        };
-        let char = rules.shown(spot, word.takes_of(chars, own, behind), own);
+        if is_significant(word.takes_of(chars, own, behind)) {
+            significant = word.len - 1 - i;
+        }
+        let char = rules.shown(behind, word.takes_of(chars, own, behind), own);
         put_char(chars, at, char);
         if is_replaceable(own) {
             behind += 1;
         }
     }
+    significant
+}
+
+/// Suppresses the zeros and commas of this many places of the control word, from the left.
+#[inline(always)]
+fn suppress_places(core: &mut Core, word: ControlWord, count: u16)
+    requires b { word.b < length core.old }
+    requires count { count ≤ word.len }
+    ensures suppressed { (before : Storage) → (char_of : ℕ → ℕ) → core.old ≡ with_chars before word.b word.len char_of
+        → core.new ≡ with_chars before word.b word.len (suppressed_to char_of word.len count) }
+    ensures size { length core.new ≡ length core.old }
+{
+    let low = usize::from(word.b + 1 - word.len);
+    let chars = core.chars_mut();
+    for i in 0..usize::from(count) {
+        let char = char_at(chars, low + i);
+        put_char(chars, low + i, without_zero(char));
+    }
+}
+
+/// A character of a place that is suppressed.
+#[inline(always)]
+fn without_zero(char: Char) -> Char
+    ensures { result ≡ without_zero char }
+{
+    if char.code() == ZERO || char.code() == COMMA {
+        Char::BLANK
+    } else {
+        char
+    }
 }
 
 impl Rules {
-    /// What a place shows, by what it took of A and by its own character.
-    fn shown(self, spot: Spot, taken: Option<Char>, own: Char) -> Char
-        ensures { let suppressed = nat_lt spot.place self.suppressing in
-            result ≡ shown self.taken self.replaceable self.sign spot.behind suppressed taken own }
+    /// What a place shows before zeros and commas are suppressed, by how many replaceable places stand right of it, by
+    /// what it took of A and by its own character.
+    fn shown(self, behind: u16, taken: Option<Char>, own: Char) -> Char
+        ensures { result ≡ shown self.taken self.replaceable self.sign behind false taken own }
     {
         match taken {
-            Some(char) => self.taken_char(spot, char),
-            None => self.kept_char(spot, own),
-        }
-    }
-
-    /// A character that was taken: a zero may be suppressed.
-    fn taken_char(self, spot: Spot, char: Char) -> Char
-        ensures { result ≡ taken_char (nat_lt spot.place self.suppressing) char }
-    {
-        if char.code() == ZERO && self.is_suppressed(spot) {
-            Char::BLANK
-        } else {
-            char
+            Some(char) => char,
+            None => self.kept_char(behind, own),
         }
     }
 
     /// A character of the control word that took none of A.
-    fn kept_char(self, spot: Spot, own: Char) -> Char
-        ensures { let suppressed = nat_lt spot.place self.suppressing in
-            result ≡ kept_char self.taken self.replaceable self.sign spot.behind suppressed own }
+    fn kept_char(self, behind: u16, own: Char) -> Char
+        ensures { result ≡ kept_char self.taken self.replaceable self.sign behind false own }
     {
-        if self.is_blanked(spot, own) {
+        if self.is_blanked(behind, own) {
             Char::BLANK
         } else {
             own
         }
     }
 
-    /// Whether a character of the control word becomes blank.
-    fn is_blanked(self, spot: Spot, own: Char) -> bool
-        ensures { let suppressed = nat_lt spot.place self.suppressing in
-            result ≡ is_blanked self.taken self.replaceable self.sign spot.behind suppressed own }
+    /// Whether a character of the control word becomes blank though nothing is suppressed.
+    fn is_blanked(self, behind: u16, own: Char) -> bool
+        ensures { result ≡ is_blanked self.taken self.replaceable self.sign behind false own }
     {
         is_replaceable(own)
             || own.code() == AMPERSAND
-            || (own.code() == COMMA && self.is_comma_blanked(spot))
-            || (is_sign_char(own) && self.is_sign_blanked(spot))
+            || (own.code() == COMMA && self.is_comma_blanked(behind))
+            || (is_sign_char(own) && self.is_sign_blanked(behind))
     }
 
-    /// Whether a comma becomes blank: with what is left over, behind all replaceable places, and where zeros are
-    /// suppressed.
-    fn is_comma_blanked(self, spot: Spot) -> bool
-        ensures { let suppressed = nat_lt spot.place self.suppressing in
-            result ≡ is_comma_blanked self.taken self.replaceable spot.behind suppressed }
+    /// Whether a comma becomes blank: with what is left over, and behind all replaceable places.
+    fn is_comma_blanked(self, behind: u16) -> bool
+        ensures { result ≡ is_comma_blanked self.taken self.replaceable behind false }
     {
-        self.is_left_over(spot) || spot.behind == 0 || self.is_suppressed(spot)
+        self.is_left_over(behind) || behind == 0
     }
 
     /// Whether a part of a sign becomes blank: behind all replaceable places, unless A is minus.
-    fn is_sign_blanked(self, spot: Spot) -> bool
-        ensures { result ≡ is_sign_blanked self.sign spot.behind }
+    fn is_sign_blanked(self, behind: u16) -> bool
+        ensures { result ≡ is_sign_blanked self.sign behind }
     {
         match self.sign {
-            Sign::Plus => spot.behind == 0,
+            Sign::Plus => behind == 0,
             Sign::Minus => false,
         }
     }
 
     /// Whether the characters of A were too few for the replaceable places, and all places that took one stand right
-    /// of this.
-    fn is_left_over(self, spot: Spot) -> bool
-        ensures { result ≡ is_left_over self.taken self.replaceable spot.behind }
+    /// of a place with this many replaceable ones right of it.
+    fn is_left_over(self, behind: u16) -> bool
+        ensures { result ≡ is_left_over self.taken self.replaceable behind }
     {
-        self.taken < self.replaceable && self.taken <= spot.behind
-    }
-
-    /// Whether zeros and commas are suppressed at a place.
-    fn is_suppressed(self, spot: Spot) -> bool
-        ensures { result ≡ nat_lt spot.place self.suppressing }
-    {
-        spot.place < self.suppressing
+        self.taken < self.replaceable && self.taken <= behind
     }
 }
 
