@@ -1,7 +1,7 @@
 """The calls of the crates that take memory, each with each growth of memory refused in turn.
 
-The program growth_trial makes each call, tells a refusal, and makes the call again: what it tells besides must be what it
-tells where nothing is refused. Its trials end with the whole journal and the whole machine."""
+The program growth_trial makes each call, tells a refusal, and makes the call again: what it tells besides must be what
+it tells where nothing is refused. Its trials end with the whole journal and the whole machine."""
 import shutil
 import subprocess
 import tempfile
@@ -157,6 +157,10 @@ def calls():
 
 
 def least(refusing, call, attempt, ends, known):
-    """Makes a trial for each growth, and tells where they are fewer than were known."""
+    """Makes a trial for each growth, and tells where they are fewer than were known, or where one that meets no refusal
+    tells of one."""
+    ample = whole(call, b"".join(SESSION) if call in ("session", "attend") else b"")
+    refused = [line for line in ample if line.startswith((b"refused", b"FAULT 1", b"END Memory")) or b"Thread" in line]
+    tell(f"the call {call} with ample memory", "" if ample and not refused else f"{refused}")
     number = refusing.each(f"the call {call}", attempt, ends) - 1
     tell(f"the call {call}: {number} growths", "" if number >= known else f"there are {known} at least")

@@ -197,3 +197,17 @@ fn a_large_image_is_written_as_it_was_read(rt: HostRuntime) -> Result<(), Fail> 
     assert!(rt; again == text);
     Ok(())
 }
+
+#[test]
+fn each_fault_is_told_by_its_number_and_name(rt: HostRuntime) -> Result<(), Fail> {
+    for (fault, text) in [
+        (ImageFault::Memory, "1 MEMORY"),
+        (ImageFault::Header, "2 HEADER"),
+        (ImageFault::BadRecord, "3 RECORD"),
+        (ImageFault::Range, "4 RANGE"),
+        (ImageFault::Truncated, "5 TRUNCATED"),
+    ] {
+        assert_eq!(rt; format!(in rt.alloc(); "{fault}")?.as_str(), text);
+    }
+    Ok(())
+}
