@@ -60,9 +60,9 @@ def replies(lines):
     return run([PROGRAM, "console"], b"".join(lines)).stdout.splitlines(keepends=True)
 
 
-def without(lines, place):
+def without(lines, place, ample=replies):
     """The replies where the command at this place is refused for memory: the others are those without it."""
-    rest = replies((*lines[:place], *lines[place + 1 :]))
+    rest = ample((*lines[:place], *lines[place + 1 :]))
     return [*rest[:place], b"FAULT 1 MEMORY\n", *rest[place:]]
 
 

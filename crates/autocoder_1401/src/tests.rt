@@ -191,6 +191,31 @@ fn the_first_line_with_a_fault_is_named(rt: HostRuntime) {
 }
 
 #[test]
+fn a_sum_beyond_any_core_is_out_of_core(rt: HostRuntime) {
+    let source = b"               B    99999+99999\n               END  0";
+    for size in [1_400, 16_000] {
+        assert_eq!(rt; fault(&rt, source, size), Some((1, AsmKind::OutOfCore)));
+    }
+}
+
+#[test]
+fn a_source_may_have_70_000_lines(rt: HostRuntime) -> Result<(), Fail> {
+    let mut source = Vec::new(rt.alloc());
+    for _ in 1..70_000 {
+        source.extend_from_slice(b"     * A COMMENT\n")?;
+    }
+    let comments = source.len();
+    source.extend_from_slice(b"               END  0\n")?;
+    let Assembly { listing, .. } = assemble(rt.alloc(), source.as_slice(), 4_000)?;
+    assert_eq!(rt; listing.as_slice().len(), 70_000);
+    source.truncate(comments);
+    source.extend_from_slice(b"               ZZZ\n")?;
+    let named = fault(&rt, source.as_slice(), 4_000);
+    assert_eq!(rt; named, Some((70_000, AsmKind::Operation)));
+    Ok(())
+}
+
+#[test]
 fn the_place_behind_the_last_takes_an_end_alone(rt: HostRuntime) {
     for (source, size, fault_of) in [
         (

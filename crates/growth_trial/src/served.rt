@@ -1,0 +1,73 @@
+//! A room that listens for two consoles.
+ghost use Rattle.std.specs.Prelude.{◌≡◌};
+
+use crate::shown::{show_bytes, show_room};
+use console_1401::OpenDoor;
+use room_1401::{Naming, Opened, SharedRoom};
+use std::alloc::Global;
+use std::io;
+use std::io::{Read, Write};
+use std::marker::Brand;
+use std::net::{Ipv4Addr, Net, Shutdown, TcpListener, TcpStream};
+use std::sync::Wait;
+use std::thread::Threads;
+
+/// What each console sends before the room listens.
+const LINES: &str = "EXAMINE 0\nQUIT\n";
+
+/// A connection to the listener that has sent its lines, and sends nothing more.
+fn send_lines<R: Net<Listener = TcpListener, Stream = TcpStream>>(
+    rt: &R,
+    listener: &TcpListener,
+) -> io::Result<TcpStream> {
+    let mut stream = TcpStream::connect(rt, listener.local_addr()?)?;
+    stream.write_all(LINES.as_bytes())?;
+    stream.shutdown(Shutdown::Write)?;
+    Ok(stream)
+}
+
+/// Prints all that was sent back on a connection, or that it was reset.
+fn show_replies(rt: &impl Print, stream: &mut TcpStream) -> io::Result<()> {
+    let mut bytes = [0; 100];
+    for _ in 0..100 {
+        match stream.read(&mut bytes) {
+            Ok(0) => break,
+            Ok(count) => show_bytes(rt, &bytes[..count.min(100)])?,
+            Err(_) => return println!(rt; "END by a reset"),
+        }
+    }
+    println!(rt; "END")
+}
+
+/// Serves the two, and prints their replies, how the service ended, and what stands then.
+fn operate<
+    J: Naming + Send + Sync,
+    R: Threads + Wait + Print + Sync + Net<Listener = TcpListener, Stream = TcpStream>,
+>(rt: &R, alloc: Global, opened: Opened) -> io::Result<()>
+    requires history { opened.book ≡ J.book }
+    requires ledger { (opened.ledger ≡ J.name) × (opened.parts ≡ J.parts) × (J.parts ≡ J.seats) }
+    requires named { (4000 ≡ J.size) × (2 ≡ J.seats) }
+{
+    let (room, seats) = match SharedRoom::<J, &R>::power_on(rt, alloc, 4_000, 2, opened) {
+        Ok(made) => made,
+        Err(fault) => return println!(rt; "refused {fault:?} at power-on"),
+    };
+    let listener = TcpListener::bind(rt, (Ipv4Addr::LOCALHOST, 0))?;
+    let mut one = send_lines(rt, &listener)?;
+    let mut two = send_lines(rt, &listener)?;
+    println!(rt; "BEGIN")?;
+    let served = console_1401::serve(alloc, rt, room, seats, &listener, &OpenDoor);
+    drop(listener);
+    println!(rt; "CONSOLES {} {:?}", served.consoles, served.fault)?;
+    show_replies(rt, &mut one)?;
+    show_replies(rt, &mut two)?;
+    show_room(rt, &served.room)
+}
+
+/// Two consoles that have sent their lines before the room listens.
+pub fn serve<R: Threads + Wait + Print + Sync + Net<Listener = TcpListener, Stream = TcpStream>>(
+    rt: &R,
+    alloc: Global,
+) -> io::Result<()> {
+    operate::<Brand, _>(rt, alloc, Opened::new(2))
+}

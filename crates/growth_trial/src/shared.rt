@@ -1,0 +1,134 @@
+//! A room that operators share.
+ghost use Rattle.std.specs.Prelude.{◌≡◌};
+
+use crate::recorded::COMMANDS;
+use crate::shown::show_room;
+use room_1401::{Command, Naming, Opened, RoomFault, Seat, SharedRoom, StartFault};
+use std::alloc::Global;
+use std::io;
+use std::marker::Brand;
+use std::sync::Wait;
+use text_1401::{Line, parse_line};
+
+/// Why a room isn't made.
+fn fault_of<J: Naming, R: Wait>(
+    rt: &R,
+    alloc: Global,
+    size: u16,
+    seats: u8,
+    opened: Opened,
+) -> Option<StartFault>
+    requires history { opened.book ≡ J.book }
+    requires ledger { (opened.ledger ≡ J.name) × (opened.parts ≡ J.parts) × (J.parts ≡ J.seats) }
+    requires named { (size ≡ J.size) × (seats ≡ J.seats) }
+{
+    SharedRoom::<J, &R>::power_on(rt, alloc, size, seats, opened).err()
+}
+
+/// What is asked for: sizes and numbers of seats that there are none of, and each number of seats that there is.
+const ASKED: [(u16, u8); 11] = [
+    (4_001, 0),
+    (4_000, 0),
+    (4_000, 9),
+    (4_000, 1),
+    (4_000, 2),
+    (4_000, 3),
+    (4_000, 4),
+    (4_000, 5),
+    (4_000, 6),
+    (4_000, 7),
+    (4_000, 8),
+];
+
+/// Rooms of all these, each asked for a second time where it was refused.
+pub fn power_on(rt: &(impl Print + Wait), alloc: Global) -> io::Result<()> {
+    for (size, seats) in ASKED {
+        for _ in 0..2 {
+            match fault_of::<Brand, _>(rt, alloc, size, seats, Opened::new(seats)) {
+                Some(StartFault::Memory) => println!(rt; "refused Memory")?,
+                Some(StartFault::NoReader) => println!(rt; "refused NoReader")?,
+                fault => {
+                    println!(rt; "{size} {seats} {fault:?}")?;
+                    break;
+                }
+            }
+        }
+    }
+    Ok(())
+}
+
+/// Has a seat's command carried out, and a second time where it was refused.
+fn give<J: Naming, R: Wait + Print>(
+    rt: &R,
+    room: &SharedRoom<J, &R>,
+    seat: &mut Seat<J>,
+    command: &Command,
+) -> io::Result<()> {
+    for _ in 0..2 {
+        match room.command(rt, seat, *command) {
+            Ok(answer) => {
+                return println!(rt; "seat {} made {}: {answer:?}", seat.number(), seat.made());
+            }
+            Err(RoomFault::Memory) => {
+                println!(rt; "refused Memory {} {}", seat.number(), seat.made())?;
+            }
+            Err(fault) => return println!(rt; "{fault:?}"),
+        }
+    }
+    Ok(())
+}
+
+/// A line's command is given by each seat in turn, which then glances.
+fn give_each<J: Naming, R: Wait + Print>(
+    rt: &R,
+    room: &SharedRoom<J, &R>,
+    seats: &mut [Seat<J>],
+    line: &str,
+) -> io::Result<()> {
+    let Ok(Line::Command(command)) = parse_line(line.as_bytes()) else {
+        return println!(rt; "no command: {line}");
+    };
+    for seat in seats.iter_mut() {
+        give(rt, room, seat, &command)?;
+        match seat.glance(500) {
+            Ok(glance) => println!(rt; "seat {} glances {glance:?}", seat.number())?,
+            Err(fault) => println!(rt; "{fault:?}")?,
+        }
+    }
+    Ok(())
+}
+
+/// Two operators give commands in turn. False where the room was refused.
+fn operate<J: Naming, R: Wait + Print>(rt: &R, alloc: Global, opened: Opened) -> io::Result<bool>
+    requires history { opened.book ≡ J.book }
+    requires ledger { (opened.ledger ≡ J.name) × (opened.parts ≡ J.parts) × (J.parts ≡ J.seats) }
+    requires named { (4000 ≡ J.size) × (2 ≡ J.seats) }
+{
+    let (room, mut seats) = match SharedRoom::<J, &R>::power_on(rt, alloc, 4_000, 2, opened) {
+        Ok(made) => made,
+        Err(fault) => {
+            println!(rt; "refused {fault:?} at power-on")?;
+            return Ok(false);
+        }
+    };
+    for _ in 0..5 {
+        for line in COMMANDS {
+            give_each(rt, &room, seats.as_mut_slice(), line)?;
+        }
+    }
+    match room.close(seats) {
+        Ok(room) => show_room(rt, &room)?,
+        Err(_) => println!(rt; "not closed")?,
+    }
+    Ok(true)
+}
+
+/// Commands of two seats, and what stands when the room is closed.
+pub fn command(rt: &(impl Wait + Print), alloc: Global) -> io::Result<()> {
+    for _ in 0..2 {
+        if operate::<Brand, _>(rt, alloc, Opened::new(2))? {
+            break;
+        }
+    }
+    Ok(())
+}
