@@ -1,8 +1,8 @@
 -- What stands in an area of storage once characters were put there, and an address once it was stored.
-use Rattle.std.proofs.Common.{◌≡◌, ◌≢◌, ℕ, ◌+◌, ◌-◌, ◌<◌, ◌≤◌, ◌==◌, suc, zero, Bool, true, false, List, [], ◌∷◌, length}
+use Rattle.std.proofs.Common.{◌≡◌, ◌≢◌, ℕ, ◌+◌, ◌<◌, ◌≤◌, ◌==◌, suc, zero, Bool, true, false, List, [], ◌∷◌, length}
 use Rattle.std.proofs.Common.{drop, if◌then◌else◌}
 use Rattle.std.proofs.Common.{get_or, refl, sym, ◌∙◌, ap, inl, inr, arith}
-use Rattle.std.proofs.lemmas.Bool.{cases_eq, cases_lt}
+use Rattle.std.proofs.lemmas.Bool.{cases_eq}
 use Rattle.std.proofs.lemmas.Bool.Decides.{nat_tests}
 use Rattle.std.proofs.lemmas.List.{at_drop_all, get_or-set_other, get_or-set_same, length-set}
 use Rattle.std.proofs.lemmas.List.FromFn.{get_or-map-range_with_len}
@@ -79,7 +79,8 @@ cleared_mark storage k size first last =
     let in_core : k < length storage = omega (arith, size, last) in
     let within : is_within 80 80 k ≡ true = grind (arith, nat_tests) in
     ap (λ (c : Cell). c.mark)
-    (get_or-map-range_with_len (written_cell storage 80 80 (λ i. blank)) 0 (length storage) k k blank in_core (omega arith))
+    (get_or-map-range_with_len (written_cell storage 80 80 (λ i. blank)) 0 (length storage) k k blank in_core
+    (omega arith))
     ∙ ap (λ (inside : Bool). (if inside then blank else cell_at storage k).mark) within
 
 no_zero : (i : ℕ) → (suc i == 0) ≡ false

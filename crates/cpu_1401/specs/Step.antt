@@ -1,6 +1,6 @@
 -- One step of the machine: the checks in their order, then what the operation does (A24-1403, the descriptions of the
 -- instructions; the order of the checks is own).
-use Rattle.std.specs.Prelude.{ℕ, ◌==◌, true, false, Option, None, Some, if◌then◌else◌}
+use Rattle.std.specs.Prelude.{ℕ, ◌==◌, false, Option, None, Some, if◌then◌else◌}
 use Rattle.core_1401.specs.Storage.{cell_at}
 use Rattle.devices_1401.specs.Carriage.{controlled}
 use Rattle.fields_1401.specs.Arithmetic.{sum_at, difference_at, zero_sum_at, zero_difference_at}

@@ -9,5 +9,11 @@ returns-clause-marks c = λ i within.
     ap (λ (s : Storage). (cell_at s (1 + i)).mark) c.put_mark.ensures
     ∙ first_marked c.self.inside.core c.clear.new.self c.put_chars.new.core i c.clear.ensures.value
     (omega (arith, c.size-size.ensures.value, c.size-size.ensures.least))
-    (omega (arith, c.size-size.ensures.value, c.size-size.ensures.least, c.clear.ensures.size, c.put_chars.ensures.size))
+    (omega (
+      arith,
+      c.size-size.ensures.value,
+      c.size-size.ensures.least,
+      c.clear.ensures.size,
+      c.put_chars.ensures.size,
+    ))
     c.put_chars.ensures.marks within
