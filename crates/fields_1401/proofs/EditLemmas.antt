@@ -1,5 +1,5 @@
 -- The places of a control word, and what they take.
-use Rattle.std.proofs.Common.{◌≡◌, ◌≢◌, bit_and, ◌/◌, ◌%◌, ◌^◌, set, ℕ, ◌+◌, ◌-◌, ◌<◌, ◌≤◌, ◌⊎◌, ◌==◌, Bool, true, false, List, Option, Some, None, min}
+use Rattle.std.proofs.Common.{◌≡◌, ◌≢◌, bit_and, ◌/◌, ◌^◌, set, ℕ, ◌+◌, ◌-◌, ◌<◌, ◌≤◌, ◌⊎◌, ◌==◌, Bool, true, false, List, Option, Some, None, min}
 use Rattle.std.proofs.Common.{length, get_or, map, drop, cond, ap, sym, ◌∙◌, inl, inr, arith}
 use Rattle.std.specs.List.{count_by, range_with_len}
 use Rattle.std.specs.Prelude.{not, nat_lt, ◌&&◌, ◌||◌, if◌then◌else◌}
@@ -15,7 +15,7 @@ use Rattle.fields_1401.specs.Edit.{is_replaceable, taken_from, taken_by, replace
 use Rattle.fields_1401.specs.Edit.{is_significant, before_significant, limit_of, is_suppressed, is_shared, shown}
 use Rattle.fields_1401.specs.Edit.{shown_at, edited, taken_down, unsuppressed_at, unsuppressed, without_zero}
 use Rattle.fields_1401.specs.Edit.{suppressed_to}
-use Rattle.fields_1401.specs.Edit.{taken_char, kept_char, is_left_over, is_sign_char, is_sign_blanked}
+use Rattle.fields_1401.specs.Edit.{taken_char, is_left_over, is_sign_char, is_sign_blanked}
 use Rattle.fields_1401.specs.Places.{is_within, with_chars, with_all_chars, chars_of}
 use Rattle.fields_1401.specs.declared.sign.Sign.{Sign}
 use Rattle.fields_1401.specs.Suppress.{zero_char}
@@ -79,20 +79,6 @@ pub limit_is : (word : List ℕ) (n : ℕ) → n ≤ length word
 unfolding limit_of
 limit_is word n le none here =
     let behind = suffix_len_is (λ char. not (char == zero_char)) word n 0 le none here in
-    omega arith
-
--- those behind a place, where it was one of them or it wasn't
-pub replaceable_passed : (word : List ℕ) (i own from behind : ℕ) → i < length word → own ≡ get_or word i 0 → from
-    ≡ count_by is_replaceable (drop i word)
-    → ((is_replaceable own ≡ true) × (behind ≡ from - 1)) ⊎ ((is_replaceable own ≡ false) × (behind ≡ from)) → behind
-    ≡ replaceable_behind word i
-replaceable_passed word i own from behind within e so_far (inl was) =
-    let here = replaceable_here word i within (sym (ap is_replaceable e) ∙ was.0) in
-    let less = was.1 in
-    omega arith
-replaceable_passed word i own from behind within e so_far (inr was) =
-    let here = replaceable_beyond word i within (sym (ap is_replaceable e) ∙ was.0) in
-    let same = was.1 in
     omega arith
 
 -- left of both is left of the lesser

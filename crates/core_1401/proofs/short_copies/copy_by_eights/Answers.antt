@@ -1,5 +1,5 @@
 -- The first eight and the last eight are all of them.
-use Rattle.std.proofs.Common.{◌≡◌, ℕ, ◌+◌, ◌-◌, List, slice_index_or, inl, inr, arith, ap, ◌∙◌}
+use Rattle.std.proofs.Common.{ℕ, ◌+◌, ◌-◌, List, slice_index_or, inl, inr, arith, ap, ◌∙◌}
 use Rattle.std.proofs.lemmas.Bool.{cases_lt}
 use Rattle.core_1401.proofs.short_copies.copy_by_eights.Goals as goal
 

@@ -1,5 +1,5 @@
 -- The bit of a code tells.
-use Rattle.std.proofs.Common.{◌∙◌, ◌==◌, ◌/◌, ◌^◌, ◌≡◌, ℕ, ap, bit_and}
+use Rattle.std.proofs.Common.{◌∙◌, ap}
 use Rattle.fields_1401.specs.Edit.{is_replaceable}
 use Rattle.fields_1401.proofs.EditLemmas.{replaceable_bit}
 use Rattle.fields_1401.proofs.control_word.is_replaceable.Goals as goal

@@ -1,8 +1,7 @@
 -- What each place shows was put, zeros and commas suppressed, and the word marks cleared.
-use Rattle.std.proofs.Common.{◌≡◌, ℕ, ◌-◌, length, ap, sym, ◌∙◌, arith, min}
+use Rattle.std.proofs.Common.{ℕ, ◌-◌, ap, ◌∙◌, arith, min}
 use Rattle.fields_1401.specs.Across.{chars_across, units_unzoned, char_to}
-use Rattle.fields_1401.specs.Edit.{edited, unsuppressed, sign_at, suppressed_to, before_significant, limit_of}
-use Rattle.fields_1401.specs.Places.{with_chars}
+use Rattle.fields_1401.specs.Edit.{edited, unsuppressed, sign_at, before_significant}
 use Rattle.fields_1401.proofs.AcrossLemmas.{length-across, across_cleared}
 use Rattle.fields_1401.proofs.EditLemmas.{length-edited, edited_again}
 use Rattle.fields_1401.proofs.editing.put_edited.Goals as goal

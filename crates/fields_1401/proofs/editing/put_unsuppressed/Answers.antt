@@ -1,5 +1,5 @@
 -- Each step writes one place more; what it reads of A and of the control word is as it was.
-use Rattle.std.proofs.Common.{◌≡◌, ◌-◌, length, get_or, set, drop, sym, ◌∙◌, ap, inl, inr, arith, subst, ℕ, true, false}
+use Rattle.std.proofs.Common.{◌≡◌, ◌-◌, length, get_or, set, drop, sym, ◌∙◌, ap, inl, inr, arith, ℕ, true, false}
 use Rattle.std.proofs.lemmas.Bool.{cases_eq}
 use Rattle.std.proofs.lemmas.List.{length-set, drop_all}
 use Rattle.std.specs.List.{count_by}
