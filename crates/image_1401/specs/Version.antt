@@ -14,7 +14,7 @@ abbrev pub address_digits : Version → ℕ
 address_digits One = 4
 address_digits Two = 5
 
--- how many places an image of version 1 has at the most
+-- the most places that an image of version 1 has
 abbrev pub most_places : ℕ
 most_places = 4000
 
