@@ -49,14 +49,14 @@ deposited storage address cells = take address storage ++ cells ++ drop (address
 abbrev pub examined : Storage → ℕ → ℕ → List Cell
 examined storage address count = take count (drop address storage)
 
--- cells put at an address and the ones above it, where all of these places are in core
+-- cells put at an address and the ones above it, if all of these places are in core
 abbrev pub deposit : ℕ → List Cell → State → Carried
 deposit address cells s =
     if are_in_core s.storage address (length cells)
     then change_to (record s { storage = deposited s.storage address cells })
     else refuse Address s
 
--- the cells from an address on are shown, where all of these places are in core
+-- the cells from an address on are shown, if all of these places are in core
 abbrev pub show_cells : Storage → ℕ → ℕ → Answer
 show_cells storage address count =
     if are_in_core storage address count then Cells (examined storage address count) else Refused Address
@@ -70,11 +70,11 @@ examine storage address count =
 abbrev pub set_i : ℕ → State → Carried
 set_i address s = if is_in_core s.storage address then change_to (record s { i = address }) else refuse Address s
 
--- a card put behind those in the hopper, where it has room for one more
+-- a card added to the hopper, if it has room for one more
 abbrev pub feed : Card → State → Carried
 feed card s = if is_full s.devices.hopper then refuse Hopper s else change_to (with_devices (fed s.devices card) s)
 
--- the load key, where there is a card in the hopper
+-- the load key, if there is a card in the hopper
 abbrev pub load_key : State → Carried
 load_key s = if length s.devices.hopper == 0 then refuse Reader s else change_to (load s)
 
@@ -82,7 +82,7 @@ load_key s = if length s.devices.hopper == 0 then refuse Reader s else change_to
 abbrev pub run_answer : Finished → Carried
 run_answer run = record { state = run.state; answer = Ran run.steps run.stop run.state.i }
 
--- a run, where the limit is one that a run has
+-- a run, if the limit is one that a run has
 abbrev pub run : ℕ → State → Carried
 run limit s = if nat_le 1 limit && nat_le limit most_steps then run_answer (run_for limit s) else refuse Limit s
 

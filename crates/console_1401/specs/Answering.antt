@@ -12,7 +12,7 @@ use Rattle.console_1401.specs.Sink.{AppendsPart}
 use Rattle.console_1401.specs.Text.{said_finished}
 use Rattle.console_1401.specs.Limits.{kept_bytes}
 
--- how what stands behind a console responds to a line: `responds before said reply after` says that from before it may
+-- how a console's responder answers a line: `responds before said reply after` says that from before it may
 -- be answered so, and leave after
 abbrev pub Response : Type 0 → Type 1
 Response S = S → Said → Option Reply → S → Type 0
@@ -24,8 +24,8 @@ AnsweredAll {S} responds before (said ∷ lines) written after =
     (middle : S) × (reply : Option Reply) × (rest : List ℕ) × responds before said reply middle
     × (written ≡ bytes_of reply ++ rest) × AnsweredAll responds middle lines rest after
 
--- what was written of a reply: all of it where the session goes on or ended with QUIT, a part where a write failed,
--- nothing where its memory was refused
+-- what was written of a reply: all of it if the session goes on or ended with QUIT, a part if a write failed,
+-- nothing if its memory was refused
 abbrev pub Wrote : Option SessionEnd → Said → Option (List ℕ) → Option (List ℕ) → Option Reply → Type 0
 Wrote None said old new reply = (said ≢ Ok Quit) × Appends old new (bytes_of reply)
 Wrote (Some end.Quit) said old new reply = (said ≡ Ok Quit) × Appends old new (bytes_of reply)
@@ -42,12 +42,12 @@ pub record AnswersLine {S : Type 0} (responds : Response S) (next : Option Sessi
   pub responded : responds before said reply after
   pub wrote : Wrote next said old new reply
 
--- how a session ends where its last line was answered so
+-- how a session ends if its last line was answered so
 abbrev pub end_after : Option SessionEnd → SessionEnd
 end_after None = end.EndOfInput
 end_after (Some last) = last
 
--- at the end of input an unfinished line is answered, where it has a byte
+-- at the end of input an unfinished line is answered, if it has a byte
 abbrev pub AnswersLast : {S : Type 0} → Response S → SessionEnd → List ℕ → S → S → Option (List ℕ) → Option (List ℕ)
     → Type 0
 AnswersLast responds last [] before after old new = (last ≡ end.EndOfInput) × (after ≡ before) × Keeps old new

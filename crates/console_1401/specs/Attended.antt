@@ -22,7 +22,7 @@ pub record Replied : Type 0 where
   pub said : Said
   pub reply : Option Reply
 
--- the command that a line gives, where it gives one
+-- the command that a line gives, if it gives one
 abbrev pub command_in : Said → List Command
 command_in (Ok line.Empty) = []
 command_in (Ok (line.Command command)) = command ∷ []
@@ -30,7 +30,7 @@ command_in (Ok (line.Glance address)) = []
 command_in (Ok line.Quit) = []
 command_in (Err fault) = []
 
--- the machine's answer in a reply, where there is one; a fault of the room is none
+-- the machine's answer in a reply, if there is one; a fault of the room is none
 abbrev pub answer_in : Option Reply → List Answer
 answer_in None = []
 answer_in (Some (reply.Answer answer)) = answer ∷ []
@@ -56,7 +56,7 @@ Stand size seat before (carried ∷ more) list =
 abbrev pub Between : List Pair → List Pair → (List Pair → Type 0) → Type 0
 Between before after P = (list : List Pair) × IsPrefix before list × IsPrefix list after × P list
 
--- why the room took no command: where its journal was full, the seat has then seen all of its 100,000 and no more
+-- why the room took no command: if its journal was full, the seat has then seen all of its 100,000 and no more
 abbrev pub RoomRefused : List Pair → RoomFault → Type 0
 RoomRefused after Memory = Unit {0}
 RoomRefused after JournalFull = length after ≡ most_entries

@@ -15,7 +15,7 @@ text_of_reply (reply.GlanceFault fault) = glance_fault_text fault
 text_of_reply (reply.LineFault fault) = fault_text fault
 text_of_reply reply.Bye = codes "BYE"
 
--- the bytes of a reply, where there is one: its text and a line feed
+-- the bytes of a reply, if there is one: its text and a line feed
 abbrev pub bytes_of : Option Reply → List ℕ
 bytes_of None = []
 bytes_of (Some given) = text_of_reply given ++ line_feed ∷ []

@@ -34,12 +34,12 @@ without_return line =
 abbrev pub said_finished : List ℕ → Said
 said_finished line = said_by (without_return line)
 
--- after the end of input an unfinished line counts, where it has a byte; a carriage return stays
+-- after the end of input an unfinished line counts, if it has a byte; a carriage return stays
 abbrev pub last_said : List ℕ → List Said
 last_said [] = []
 last_said (byte ∷ bytes) = said_by (byte ∷ bytes) ∷ []
 
--- what the lines of a text say, where its end is the end of input (true) and where it isn't
+-- what the lines of a text say, if its end is the end of input (true) and if it isn't
 abbrev pub lines_of : Bool → List ℕ → List Said
 lines_of false text = map said_finished (cut_of text).finished
 lines_of true text = map said_finished (cut_of text).finished ++ last_said (cut_of text).rest

@@ -25,7 +25,7 @@ command_reply size journal command memory_refused =
     if is_full journal then reply.RoomFault JournalFull
     else (if memory_refused then reply.RoomFault Memory else reply.Answer (answer_to size journal command))
 
--- what a glance is answered after these entries: how many there are, and the cell that stands at the address; or that
+-- what a glance is answered after these entries: how many there are, and the cell at the address; or that
 -- the address isn't in core
 abbrev pub glance_reply : ℕ → List Entry → ℕ → Reply
 glance_reply size journal address =
@@ -52,7 +52,7 @@ journal_with size journal (Ok (line.Glance address)) memory_refused = journal
 journal_with size journal (Ok line.Quit) memory_refused = journal
 journal_with size journal (Err fault) memory_refused = journal
 
--- how many spare entries a line takes at the most
+-- the most spare entries that a line takes
 abbrev pub entries_of : Said → ℕ
 entries_of (Ok line.Empty) = 0
 entries_of (Ok (line.Command command)) = 1

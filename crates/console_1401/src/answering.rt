@@ -14,7 +14,7 @@ use crate::source::Source;
 use std::alloc::Global;
 use text_1401::{Line, LineFault, parse_line};
 
-/// How many bytes a session reads at the most.
+/// The most bytes that a session reads.
 const MOST_BYTES: u32 = 16_777_216;
 
 /// The line without one carriage return at its end.

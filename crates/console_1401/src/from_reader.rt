@@ -52,11 +52,11 @@ impl<R: Read> Source for FromReader<R> {
     }
 }
 
-/// What a read of one byte gave: that byte, or none where nothing was read.
+/// What a read of one byte gave: that byte, or `None` at the end.
 ///
 /// # Errors
 ///
-/// Exactly where the read failed.
+/// Exactly if the read failed.
 fn byte_read(read: Result<usize, io::Error>, byte: u8) -> Result<Option<u8>, Failed>
     ensures { MatchResult read (λ n. result ≡ Ok (if n == 0 then None else Some byte)) (λ _. IsErr result) }
 {

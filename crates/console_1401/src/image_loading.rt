@@ -14,8 +14,8 @@ use room_1401::{Answer, Command, Room, RoomFault};
 ///
 /// # Errors
 ///
-/// `JournalFull` where the commands before have filled the journal, or `Memory` where there is no room for one more of
-/// them. Those before are carried out and recorded.
+/// `JournalFull` if earlier commands have filled the journal, or `Memory` if there is no room for one more of these.
+/// Those before it are carried out and recorded.
 pub fn put_image(room: &mut Room, image: &Image) -> Result<(), RoomFault>
     requires size { image.now.size ≡ room.old.size }
     requires segments { list_all (is_inside image.now.size) image.now.segments ≡ true }

@@ -8,14 +8,14 @@
 //! ```
 #![tactic(auto)]
 
-// where bytes come from and go to, and how a read or a write fails
+// sources and sinks of bytes, and how a read or a write fails
 pub mod failure;
 pub mod from_reader;
 pub mod sink;
 pub mod source;
 pub mod to_writer;
 
-// a line's bytes, what stands behind the console, and the reply
+// a line's bytes, what carries it out, and the reply
 mod line_buffer;
 mod reply;
 mod responder;

@@ -4,7 +4,7 @@ ghost use Rattle.console_1401.specs.Limits.{kept_bytes};
 
 use std::marker::Model;
 
-/// How many bytes of a line are kept: as many as it has at the most, a carriage return, and one more, which says that
+/// How many bytes of a line are kept: the most that it has, a carriage return, and one more, which says that
 /// it is too long.
 const KEPT_BYTES: usize = 202;
 
@@ -52,7 +52,7 @@ impl LineBuffer {
         self.number
     }
 
-    /// One byte more, which is dropped where as many as can be are kept.
+    /// Adds a byte, or drops it if the buffer is full.
     pub(crate) fn push(&mut self, byte: u8)
         ensures { self.new ≡ take kept_bytes (self.old ++ byte ∷ []) }
     {

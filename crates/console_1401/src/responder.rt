@@ -1,4 +1,4 @@
-//! What stands behind a console.
+//! What carries out the lines of a console.
 ghost use Rattle.std.specs.Prelude.{◌≡◌, Option};
 ghost use Rattle.console_1401.specs.declared.reply.Reply.{Reply};
 ghost use Rattle.text_1401.specs.ConsoleLine.{Said};
@@ -6,7 +6,7 @@ ghost use Rattle.text_1401.specs.ConsoleLine.{Said};
 use crate::reply::Reply;
 use text_1401::{Line, LineFault};
 
-/// What stands behind a console and carries out its lines: a room, or a seat of one that is shared.
+/// Carries out the lines of a console: a room, or a seat of a shared one.
 pub(crate) trait Responder {
     // From the first, this line may be replied to so, and leave the second.
     ghost responds: { Self → Said → Option Reply → Self → Type 0 };

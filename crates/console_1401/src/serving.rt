@@ -33,7 +33,7 @@ pub struct Served {
     pub room: Room,
     /// How many consoles were attended.
     pub consoles: u8,
-    /// Why there were fewer consoles than seats, where there were.
+    /// Why there were fewer consoles than seats, if so.
     pub fault: Option<ServeFault>,
 }
 
@@ -46,7 +46,7 @@ struct Consoles<J: Naming> {
 }
 
 /// Listens until each seat has a console, the first connection at the first seat, and attends each console in a thread
-/// of its own. When all of them have ended, the room is closed; or it is abandoned, where a seat was lost with a thread
+/// of its own. When all of them have ended, the room is closed; or it is abandoned, if a seat was lost with a thread
 /// that was refused. After a fault no more connections are accepted, and the consoles that there are go on to the end.
 pub fn serve<
     J: Naming + Send + Sync,
@@ -82,7 +82,7 @@ pub fn serve<
     }
 }
 
-/// Closes a room, or abandons it where not all of its seats are back.
+/// Closes a room, or abandons it if not all of its seats are back.
 fn end_room<J: Naming, H: Wait + Drop>(room: SharedRoom<J, H>, seats: Vec<Seat<J>>) -> Room
     requires { J.parts ≡ J.seats }
     ensures size { result.size ≡ J.size }
@@ -225,7 +225,7 @@ fn attend_stream<J: Naming, H: Wait + Drop, R: Wait, D: Door>(
     stream: TcpStream,
     door: &D,
 ) -> Seat<J> {
-    // A reply is sent at once. Where the system won't, it is only later.
+    // Replies are sent at once. If the system refuses this, they only come later.
     let _sent_at_once = stream.set_nodelay(true);
     let mut reader = FromReader::new(&stream);
     let mut writer = ToWriter::new(&stream);

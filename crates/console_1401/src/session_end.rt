@@ -9,10 +9,10 @@ pub enum SessionEnd {
     EndOfInput,
     /// 3: a read failed.
     Read,
-    /// 4: a write failed, or took nothing; the command stands in the journal.
+    /// 4: a write failed, or took nothing; the command is in the journal.
     Write,
     /// 5: 16,777,216 bytes were read, and the last didn't end a line QUIT.
     Bound,
-    /// 6: the memory for a reply was refused; the command stands in the journal.
+    /// 6: the memory for a reply was refused; the command is in the journal.
     Memory,
 }

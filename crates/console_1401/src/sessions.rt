@@ -62,7 +62,7 @@ pub fn session<R: Source, W: Sink>(
     ensures session { SessionDid Answered result (R.left reader.old) (R.left reader.new)
         (W.received writer.old) (W.received writer.new) room.old room.new }
 
-    // A session says that a read or a write failed only where it did.
+    // A session reports a failed read or write only if one failed.
     ensures read { result ≡ SessionEnd.Read → IsTrue (R.has_failed reader.new) }
     ensures write { result ≡ SessionEnd.Write → IsTrue (W.has_failed writer.new) }
 

@@ -1,4 +1,4 @@
-//! Where a console's replies go.
+//! The sink of a console's replies.
 ghost use Rattle.std.specs.Prelude.{◌≡◌, ◌<◌, ◌≤◌, ℕ, Bool, false, IsTrue, List, length, take, IfOk, OnOk, OnErr};
 ghost use Rattle.std.specs.Prelude.{Option};
 ghost use Rattle.std.specs.Io.KnownBytes.{Appends, Keeps};
@@ -8,7 +8,7 @@ use crate::failure::Failed;
 
 /// Receives bytes, as many at a time as it likes, until a write fails.
 pub trait Sink {
-    // The bytes that it has received, where they are known.
+    // The bytes that it has received, if they are known.
     ghost received: { Self → Option (List ℕ) };
 
     // Whether a write has failed.
@@ -34,7 +34,7 @@ pub trait Sink {
 ///
 /// # Errors
 ///
-/// Where a write has failed or fails, or takes nothing.
+/// If a write has failed or fails, or takes nothing.
 pub fn put_all<W: Sink>(writer: &mut W, bytes: &[u8]) -> Result<(), Failed>
     ensures ok { OnOk result (Appends (W.received writer.old) (W.received writer.new) bytes.now) }
     ensures part { OnErr result (AppendsPart (W.received writer.old) (W.received writer.new) bytes.now) }

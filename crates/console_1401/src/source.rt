@@ -1,4 +1,4 @@
-//! Where a console's bytes come from.
+//! The source of a console's bytes.
 ghost use Rattle.std.specs.Prelude.{◌≡◌, ℕ, Bool, false, IsTrue, List, Ok, None, IfOk, OnOk, OnErr, Option};
 ghost use Rattle.std.specs.Prelude.{option_to_list};
 ghost use Rattle.std.specs.Io.KnownBytes.{Consumes, IsAtEnd, Keeps};
@@ -7,7 +7,7 @@ use crate::failure::Failed;
 
 /// Gives bytes, one after the other, until a read fails.
 pub trait Source {
-    // The bytes that it will give from here on, where they are known.
+    // The bytes that it will give from here on, if they are known.
     ghost left: { Self → Option (List ℕ) };
 
     // Whether a read has failed.

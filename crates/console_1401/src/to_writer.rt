@@ -55,7 +55,7 @@ impl<W: Write> Sink for ToWriter<W> {
 ///
 /// # Errors
 ///
-/// Exactly where the write failed, or took none of some bytes.
+/// Exactly if the write failed, or took none of some bytes.
 fn bytes_written(write: Result<usize, io::Error>, given: usize) -> Result<usize, Failed>
     ensures ok { IfOk write (λ n. (n ≡ 0 → given ≡ 0) → result ≡ Ok n) }
     ensures none { IfOk write (λ n. n ≡ 0 → given ≢ 0 → IsErr result) }

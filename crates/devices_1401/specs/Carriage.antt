@@ -17,7 +17,8 @@ forms = 10000
 abbrev pub positions : ℕ
 positions = lines_of_form * forms
 
--- where the carriage stands, as 66 times the form and the line less one, and the movement that waits for the next print
+-- the position of the carriage, as 66 times the form and the line less one, and the movement that waits for the next
+-- print
 pub record Carriage : Type 0 where
   pub position : ℕ
   pub pending : Option Control
@@ -42,12 +43,12 @@ is_at_line line position = position % lines_of_form + 1 == line
 abbrev pub lines_to : ℕ → ℕ → ℕ
 lines_to position line = 1 + position_or_len (λ k. is_at_line line (position + k)) (range_with_len 1 lines_of_form)
 
--- where a movement brings the carriage
+-- the position to which a movement brings the carriage
 unfoldable pub moved : Control → ℕ → ℕ
 moved (Space k) position = (position + k) % positions
 moved (Skip line) position = (position + lines_to position line) % positions
 
--- the carriage after a print: the pending movement is done and cleared, or one space where none is pending
+-- the carriage after a print: the pending movement is done and cleared, or one space if none is pending
 abbrev pub after_print : Carriage → Carriage
 after_print carriage =
     record { position = moved (unwrap_or carriage.pending (Space 1)) carriage.position; pending = None }
@@ -67,12 +68,12 @@ asked_for immediate carriage (Err fault) = Err fault
 unfoldable pub controlled : Carriage → ℕ → Result Carriage ControlFault
 controlled carriage char = asked_for (is_immediate char) carriage (movement_of char)
 
--- whether the carriage stands at a line, if there is one
+-- whether the carriage is at a line, if there is one
 abbrev pub stands_at : Carriage → Option ℕ → Bool
 stands_at carriage None = false
 stands_at carriage (Some line) = line_of carriage == line
 
--- whether the carriage stands at a channel's hole
+-- whether the carriage is at a channel's hole
 abbrev pub is_at_channel : Carriage → ℕ → Bool
 is_at_channel carriage channel = stands_at carriage (line_of_channel channel)
 

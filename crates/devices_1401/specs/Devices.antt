@@ -18,7 +18,7 @@ pub record Devices : Type 0 where
 abbrev pub no_cards : Devices
 no_cards = record { hopper = []; stacker = []; paper = []; carriage = first_line }
 
--- how many cards the hopper and the stacker hold, and how many printed lines wait to be taken, at the most
+-- the most cards that the hopper and the stacker hold, and the most printed lines that wait to be taken
 abbrev pub most_held : ℕ
 most_held = 500
 
@@ -26,19 +26,19 @@ most_held = 500
 abbrev pub is_full : {X : Type 0} → List X → Bool
 is_full xs = nat_le most_held (length xs)
 
--- a card put behind those in the hopper
+-- a card added to the hopper, after those in it
 abbrev pub fed : Devices → Card → Devices
 fed devices card = record devices { hopper = devices.hopper ++ card ∷ [] }
 
--- a card punched behind those in the stacker
+-- a card punched into the stacker, after those in it
 abbrev pub punched : Devices → Card → Devices
 punched devices card = record devices { stacker = devices.stacker ++ card ∷ [] }
 
--- the line that is printed where the carriage stands
+-- the line that is printed at the carriage's position
 abbrev pub line_at : Carriage → List ℕ → PrintLine
 line_at carriage text = record { form = form_of carriage; line = line_of carriage; text = text }
 
--- a line printed behind those on the paper, and the carriage moved
+-- a line printed after those on the paper, and the carriage moved
 abbrev pub printed : Devices → List ℕ → Devices
 printed devices text = record devices {
   paper = devices.paper ++ line_at devices.carriage text ∷ [];

@@ -12,7 +12,7 @@ const COLUMNS: usize = 80;
 pub struct Card(pub [Char; 80]);
 
 impl Card {
-    /// The card with these columns, each a number of twelve bits; none where one of them is that of no character.
+    /// The card with these columns, each a number of twelve bits; `None` if one of them is no character's.
     pub fn from_columns(columns: &[u16; 80]) -> Option<Card>
         ensures card { IfSome result (λ card. columns_of card ≡ columns.now) }
         ensures none { IfNone result (NoCard columns.now) }

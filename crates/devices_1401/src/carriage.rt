@@ -1,4 +1,4 @@
-//! Where the carriage goes: forms of 66 lines, spaces and skips.
+//! The movement of the carriage: forms of 66 lines, spaces and skips.
 ghost use Rattle.std.specs.Prelude.{◌≡◌, ◌+◌, ◌<◌, ◌≤◌};
 ghost use Rattle.devices_1401.specs.Carriage.{lines_of_form, positions, lines_to, moved, IsMovedOn};
 ghost use Rattle.devices_1401.specs.Movement.{control_of};
@@ -11,7 +11,7 @@ pub(crate) const LINES_OF_FORM: u32 = 66;
 /// How many positions the carriage has: the lines of 10,000 forms.
 pub(crate) const POSITIONS: u32 = 660_000;
 
-/// How many lines a skip moves from a position to a line, 1 to 66: that of this form where it is greater than the
+/// How many lines a skip moves from a position to a line, 1 to 66: that of this form if it is greater than the
 /// present one, else that of the next form.
 fn lines_to(position: u32, line: u32) -> u32
     requires position { position < positions }
@@ -29,7 +29,7 @@ fn lines_to(position: u32, line: u32) -> u32
     }
 }
 
-/// Where a movement brings the carriage: from 1 to 66 lines on.
+/// How far a movement brings the carriage: 1 to 66 lines.
 #[tactic(auto, unfolding(crate::specs::Carriage::moved))]
 pub(crate) fn moved(position: u32, movement: Movement) -> u32
     requires { position < positions }

@@ -56,7 +56,7 @@ impl Spaces {
 }
 
 impl Hole {
-    /// The hole of a channel; none where the tape has no hole for it.
+    /// The hole of a channel; `None` if the tape has no hole for it.
     pub(crate) fn of_channel(channel: u8) -> Option<Hole>
         ensures { line_of_channel channel ≡ option_map line_of_hole result }
     {
@@ -87,7 +87,7 @@ impl Control {
     ///
     /// # Errors
     ///
-    /// `DChar` where it asks for nothing; `Carriage` where it asks for a skip to a channel without a hole.
+    /// `DChar` if it asks for nothing; `Carriage` if it asks for a skip to a channel without a hole.
     pub(crate) fn of(char: Char) -> Result<Control, ControlFault>
         ensures ok { IfOk result (λ control. movement_of char ≡ Ok (control_of control.movement)) }
         ensures immediate { IfOk result (λ control. control.immediate ≡ is_immediate char) }

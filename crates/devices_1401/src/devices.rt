@@ -16,7 +16,7 @@ use circular_buffer::HeapCircularBuffer;
 use std::alloc::{AllocError, Global};
 use std::marker::Model;
 
-/// How many cards the hopper and the stacker hold, and how many printed lines wait to be taken, at the most.
+/// The most cards that the hopper and the stacker hold, and the most printed lines that wait to be taken.
 pub const MOST_HELD: usize = 500;
 
 /// The card reader, the punch and the printer. Contracts see the cards and the printed lines as lists, each oldest
@@ -56,7 +56,7 @@ impl Devices {
     ///
     /// # Errors
     ///
-    /// Where there is no room for the cards and the lines.
+    /// If there is no memory for the cards and the lines.
     pub fn power_on(alloc: Global) -> Result<Devices, AllocError>
         ensures { IfOk result (λ devices. devices ≡ no_cards) }
     {
@@ -69,11 +69,11 @@ impl Devices {
         })
     }
 
-    /// Puts a card behind those in the hopper.
+    /// Adds a card to the hopper, after those in it.
     ///
     /// # Errors
     ///
-    /// Where the hopper holds 500 cards.
+    /// If the hopper holds 500 cards.
     pub fn feed(&mut self, card: Card) -> Result<(), HopperFull>
         ensures refused { is_ok result ≡ not (is_full self.old.hopper) }
         ensures devices { self.new ≡ (if is_ok result then fed self.old card else self.old) }
@@ -88,7 +88,7 @@ impl Devices {
     ///
     /// # Errors
     ///
-    /// Where the hopper is empty.
+    /// If the hopper is empty.
     pub fn read(&mut self) -> Result<Card, ReaderEmpty>
         ensures card { result_ok result ≡ slice_get self.old.hopper 0 }
         ensures devices { self.new ≡ after_read self.old }
@@ -99,11 +99,11 @@ impl Devices {
         }
     }
 
-    /// Puts a card behind those in the stacker.
+    /// Adds a card to the stacker, after those in it.
     ///
     /// # Errors
     ///
-    /// Where the stacker holds 500 cards.
+    /// If the stacker holds 500 cards.
     pub fn punch(&mut self, card: Card) -> Result<(), StackerFull>
         ensures refused { is_ok result ≡ not (is_full self.old.stacker) }
         ensures devices { self.new ≡ (if is_ok result then punched self.old card else self.old) }
@@ -114,20 +114,20 @@ impl Devices {
         }
     }
 
-    /// Prints a line where the carriage stands, and moves the carriage by the pending movement, which is cleared, or
-    /// by one line where none is pending.
+    /// Prints a line at the carriage's position, and moves the carriage by the pending movement, which is cleared, or
+    /// by one line if none is pending.
     ///
     /// # Errors
     ///
-    /// Where 500 printed lines wait to be taken.
+    /// If 500 printed lines wait to be taken.
     pub fn print(&mut self, text: [Char; 132]) -> Result<(), FormsFull>
         ensures refused { is_ok result ≡ not (is_full self.old.paper) }
         ensures devices { self.new ≡ (if is_ok result then printed self.old text else self.old) }
 
-        // The next line stands from 1 to 66 lines further on, unless the carriage is moved in between.
+        // The next line is printed 1 to 66 lines further on, unless the carriage is moved in between.
         ensures on { OnOk result (IsMovedOn self.old.carriage.position self.new.carriage.position) }
 
-        // Where nothing is pending, each line stands one below the line before, and on the next form after 66 of them.
+        // If nothing is pending, each line is one below the line before, and on the next form after 66 of them.
         ensures count { OnOk result (self.old.carriage.pending ≡ None
             → self.new.carriage ≡ record { position = (self.old.carriage.position + 1) % positions; pending = None }) }
     {
@@ -147,7 +147,7 @@ impl Devices {
         }
     }
 
-    /// Takes the oldest card of the stacker; none where it is empty.
+    /// Takes the oldest card of the stacker; `None` if it is empty.
     pub fn take_card(&mut self) -> Option<Card>
         ensures card { result ≡ slice_get self.old.stacker 0 }
         ensures devices { self.new ≡ after_card self.old }
@@ -155,7 +155,7 @@ impl Devices {
         self.stacker.pop_front()
     }
 
-    /// Takes the oldest line of the paper; none where there is none.
+    /// Takes the oldest line of the paper; `None` if there is none.
     pub fn take_line(&mut self) -> Option<PrintLine>
         ensures line { result ≡ slice_get self.old.paper 0 }
         ensures devices { self.new ≡ after_line self.old }
@@ -168,7 +168,7 @@ impl Devices {
     ///
     /// # Errors
     ///
-    /// `DChar` where the character asks for nothing; `Carriage` where it asks for a skip to a channel without a hole.
+    /// `DChar` if the character asks for nothing; `Carriage` if it asks for a skip to a channel without a hole.
     #[tactic(auto, unfolding(crate::specs::Carriage::controlled))]
     pub fn control(&mut self, char: Char) -> Result<(), ControlFault>
         ensures ok { OnOk result (controlled self.old.carriage char ≡ Ok self.new.carriage) }
@@ -185,7 +185,7 @@ impl Devices {
         Ok(())
     }
 
-    /// Whether the carriage stands at the line of a channel's hole; never where the channel has no hole.
+    /// Whether the carriage is at the line of a channel's hole; false if the channel has no hole.
     pub fn at_channel(&self, channel: u8) -> bool
         ensures { result ≡ is_at_channel self.now.carriage channel }
     {
@@ -195,7 +195,7 @@ impl Devices {
         }
     }
 
-    /// How many cards are in the hopper, 500 at the most.
+    /// How many cards are in the hopper, at most 500.
     pub fn hopper(&self) -> u16
         ensures value { result ≡ length self.now.hopper }
         ensures bound { result ≤ most_held }
@@ -203,7 +203,7 @@ impl Devices {
         self.hopper.len() as u16
     }
 
-    /// How many cards are in the stacker, 500 at the most.
+    /// How many cards are in the stacker, at most 500.
     pub fn stacker(&self) -> u16
         ensures value { result ≡ length self.now.stacker }
         ensures bound { result ≤ most_held }
@@ -211,7 +211,7 @@ impl Devices {
         self.stacker.len() as u16
     }
 
-    /// How many printed lines wait to be taken, 500 at the most.
+    /// How many printed lines wait to be taken, at most 500.
     pub fn paper(&self) -> u16
         ensures value { result ≡ length self.now.paper }
         ensures bound { result ≤ most_held }
@@ -219,7 +219,7 @@ impl Devices {
         self.paper.len() as u16
     }
 
-    /// The form at which the carriage stands, 1 to 9,999, and 0 after that.
+    /// The form at the carriage, 1 to 9,999, and 0 after that.
     pub fn form(&self) -> u16
         ensures value { result ≡ form_of self.now.carriage }
         ensures bound { result < 10000 }

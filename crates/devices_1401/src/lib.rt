@@ -5,7 +5,7 @@
 //! let mut devices = Devices::power_on(alloc)?;
 //! devices.feed(card)?;
 //! let card = devices.read()?;                     // the first card of the hopper
-//! devices.print(text)?;                           // at the line where the carriage stands
+//! devices.print(text)?;                           // at the carriage's line
 //! let line = devices.take_line();                 // the oldest, with its form and line
 //! ```
 #![tactic(auto)]

@@ -2,7 +2,7 @@
 
 use bcd_1401::Char;
 
-/// A printed line, and where on the paper it stands.
+/// A printed line, and its position on the paper.
 #[derive(Clone, Copy, Debug, PartialEq, Eq)]
 pub struct PrintLine {
     /// The form, 1 to 9,999, and 0 after that.

@@ -1,4 +1,4 @@
--- Where the parts of an image lie (own).
+-- The places of the parts of an image (own).
 use Rattle.std.specs.Prelude.{◌≡◌, ℕ, ◌+◌, Bool, true, length, nat_le, nat_lt}
 use Rattle.std.specs.List.{list_all}
 use Rattle.core_1401.specs.Storage.{is_core_size}

@@ -1,4 +1,4 @@
--- Reading the text of an image from left to right (own): each part is a value and what stands behind it.
+-- Reading the text of an image from left to right (own): each part is a value and what follows it.
 use Rattle.std.specs.Prelude.{◌≡◌, ℕ, ◌==◌, nat_le, nat_lt, Bool, true, false, ◌&&◌, if◌then◌else◌, List}
 use Rattle.std.specs.Prelude.{[], ◌∷◌, ◌++◌, length, take, drop, Option, None, Some, Result, Ok, Err}
 use Rattle.std.specs.Prelude.{IsOk, option_and_then, codes}
@@ -23,7 +23,7 @@ infixl 10 ◌>>=◌
 abbrev pub ◌>>=◌ : {A B : Type 0} → Option A → (A → Option B) → Option B
 o >>= f = option_and_then f o
 
--- what stands behind these bytes, where the text begins with them
+-- what follows these bytes, if the text begins with them
 abbrev pub behind : List ℕ → List ℕ → Option (List ℕ)
 behind front text = if bytes_eq (take (length front) text) front then Some (drop (length front) text) else None
 
@@ -78,7 +78,7 @@ end_in version line = do
   start ← number_at (address_digits version) text
   if nat_le (length start.1) 0 then Some start.0 else None
 
--- the parts of a text between its line feeds: its lines, and last what stands behind the last line feed
+-- the parts of a text between its line feeds: its lines, and last what follows the last line feed
 abbrev pub parts_of : List ℕ → List (List ℕ)
 parts_of text = slice_split (λ byte. byte == 10) text
 
@@ -103,20 +103,20 @@ abbrev pub entry_alone : Result ℕ ImageFault → Result Contents ImageFault
 entry_alone (Ok start) = Ok ([], start)
 entry_alone (Err fault) = Err fault
 
--- by the entry that a line names, if it does, and what is left behind that line
+-- by the entry that a line names, if it does, and what is left after that line
 abbrev pub entry_by : ℕ → Option ℕ → List (List ℕ) → Result ℕ ImageFault
 entry_by size None parts = Err BadRecord
 entry_by size (Some start) parts =
     if nat_lt start size then (if is_done parts then Ok start else Err BadRecord) else Err Range
 
--- by the segment that a line is, if it is one, what is read behind it, and what is read where it isn't
+-- by the segment that a line is, if it is one, what is read after it, and what is read if it isn't
 abbrev pub contents_by : ℕ → Option Segment → Result Contents ImageFault → Result ℕ ImageFault
     → Result Contents ImageFault
 contents_by size (Some segment) more entry =
     if is_inside size segment then with_segments (segment ∷ []) more else Err Range
 contents_by size None more entry = entry_alone entry
 
--- behind the header
+-- after the header
 unfoldable pub contents_in : Version → ℕ → List (List ℕ) → Result Contents ImageFault
 contents_in version size [] = Err Truncated
 contents_in version size (part ∷ []) = Err Truncated
@@ -129,7 +129,7 @@ abbrev pub image_of : ℕ → Result Contents ImageFault → Result Image ImageF
 image_of size (Ok contents) = Ok (record { size = size; segments = contents.0; start = contents.1 })
 image_of size (Err fault) = Err fault
 
--- by the header, and what stands behind it
+-- by the header, and what follows it
 abbrev pub image_by : Option (Version × ℕ) → List (List ℕ) → Result Image ImageFault
 image_by None parts = Err Header
 image_by (Some header) parts = image_of header.1 (contents_in header.0 header.1 parts)
@@ -140,7 +140,7 @@ image_in [] = Err Truncated
 image_in (part ∷ []) = Err Truncated
 image_in (header ∷ next ∷ parts) = image_by (header_in header) (next ∷ parts)
 
--- what a call answers for what is read: that, or where an image is read, that memory was refused
+-- what a call answers for what is read: that, or if an image is read, that memory was refused
 abbrev pub Gives : {X : Type 0} → Result X ImageFault → Result X ImageFault → Type 0
 Gives (Ok found) read = read ≡ Ok found
 Gives (Err Memory) read = IsOk read

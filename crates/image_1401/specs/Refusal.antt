@@ -18,7 +18,7 @@ pub record IsNoRecord (version : Version) (line : List ℕ) : Type 0 where
       → line ≢ segment_text version segment
   pub end : (start : ℕ) → start < 10 ^ address_digits version → line ≢ end_text version start
 
--- the fault of what stands behind the header, in an image of this version and size
+-- the fault of what follows the header, in an image of this version and size
 pub data HasFault : Version → ℕ → List (List ℕ) → ImageFault → Type 0 where
   -- a line is due, and no line feed follows
   unfinished : (version : Version) (size : ℕ) (rest : List ℕ) → HasFault version size (rest ∷ []) Truncated
@@ -33,11 +33,11 @@ pub data HasFault : Version → ℕ → List (List ℕ) → ImageFault → Type 
   entry_outside : (version : Version) (size : ℕ) (line next : List ℕ) (parts : List (List ℕ)) (start : ℕ)
       → line ≡ end_text version start → start < 10 ^ address_digits version → size ≤ start
       → HasFault version size (line ∷ next ∷ parts) Range
-  -- a byte stands behind the entry
+  -- a byte follows the entry
   behind_the_end : (version : Version) (size : ℕ) (line next : List ℕ) (parts : List (List ℕ)) (start : ℕ)
       → line ≡ end_text version start → start < size → is_done (next ∷ parts) ≡ false
       → HasFault version size (line ∷ next ∷ parts) BadRecord
-  -- a segment is good, and what stands behind it has a fault
+  -- a segment is good, and what follows it has a fault
   further_on : (version : Version) (size : ℕ) (line next : List ℕ) (parts : List (List ℕ)) (segment : Segment)
       (fault : ImageFault)
       → line ≡ segment_text version segment → is_segment segment ≡ true → segment.address < 10 ^ address_digits version
@@ -52,12 +52,12 @@ pub data HasTextFault : List (List ℕ) → ImageFault → Type 0 where
   no_header : (line next : List ℕ) (parts : List (List ℕ))
       → ((version : Version) (size : ℕ) → has_size version size ≡ true → line ≢ header_text version size)
       → HasTextFault (line ∷ next ∷ parts) Header
-  -- what stands behind the header has a fault
+  -- what follows the header has a fault
   behind_the_header : (line next : List ℕ) (parts : List (List ℕ)) (version : Version) (size : ℕ) (fault : ImageFault)
       → line ≡ header_text version size → has_size version size ≡ true → HasFault version size (next ∷ parts) fault
       → HasTextFault (line ∷ next ∷ parts) fault
 
--- why a text is refused: by its own fault, and for want of memory only where it is an image's
+-- why a text is refused: by its own fault, and for memory only if it is an image's
 abbrev pub IsRefused : List ℕ → ImageFault → Type 0
 IsRefused text Memory = (image : Image) × IsTextOf text image
 IsRefused text Header = HasTextFault (parts_of text) Header

@@ -14,7 +14,7 @@ abbrev pub address_digits : Version → ℕ
 address_digits One = 4
 address_digits Two = 5
 
--- how many places an image of version 1 has at the most: the third of the sizes
+-- the most places that an image of version 1 has: the third of the sizes
 abbrev pub most_places : ℕ
 most_places = slice_index_or core_sizes 2 0
 

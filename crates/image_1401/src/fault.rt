@@ -11,7 +11,7 @@ pub enum ImageFault {
     /// 2: the first line is no header, or names a size that an image doesn't have.
     #[error("2 HEADER")]
     Header,
-    /// 3: a line is neither a segment nor the end, or something stands behind the end.
+    /// 3: a line is neither a segment nor the end, or something follows the end.
     #[error("3 RECORD")]
     BadRecord,
     /// 4: a segment or the entry doesn't lie in core storage of the image's size.

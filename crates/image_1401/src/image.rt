@@ -4,7 +4,7 @@ ghost use Rattle.std.specs.Prelude.{◌≡◌};
 use core_1401::Cells;
 use std::marker::Model;
 
-/// A few cells, and where they go.
+/// 1 to 40 cells, and the address of the first.
 #[derive(Clone, Copy, Debug, PartialEq, Eq)]
 pub struct Segment {
     /// The place of the first cell; each other goes to the next place.
@@ -13,7 +13,7 @@ pub struct Segment {
     pub cells: Cells,
 }
 
-/// Segments, one behind the other. Contracts see the list of them.
+/// Segments in order. Contracts see the list of them.
 #[derive(Debug, Drop)]
 pub struct Segments {
     segments: Vec<Segment>,
@@ -44,8 +44,8 @@ impl Segments {
     }
 }
 
-/// What stands in core storage before a program is started: each segment in its order, so that a later one goes over an
-/// earlier one, and where the program begins.
+/// The contents of core storage before a program is started: each segment in order, so that a later one overwrites an
+/// earlier one, and the address at which the program begins.
 #[derive(Debug, Drop)]
 pub struct Image {
     /// How many places the core storage has.

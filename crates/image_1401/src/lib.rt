@@ -1,4 +1,4 @@
-//! Core images of the IBM 1401: what stands in core storage before a program is started, and the text in which it is
+//! Core images of the IBM 1401: the contents of core storage before a program is started, and the text in which it is
 //! kept.
 //!
 //! ```text

@@ -21,10 +21,10 @@ use std::alloc::Global;
 ///
 /// # Errors
 ///
-/// The fault of the text's first wrong line: `Truncated` where a line is due and no line feed follows; `Header` where
-/// the first line names no version and size that there are; `BadRecord` where a later line is neither a segment nor the
-/// last line, or a byte stands behind the last line; `Range` where a segment or the entry doesn't lie in core storage
-/// of the image's size. `Memory` where the text is an image's, and the memory for it is refused.
+/// The fault of the text's first wrong line: `Truncated` if a line is due and no line feed follows; `Header` if the
+/// first line doesn't name a version and one of its sizes; `BadRecord` if a later line is neither a segment nor the
+/// last line, or a byte follows the last line; `Range` if a segment or the entry doesn't lie in core storage of the
+/// image's size. `Memory` if the text is an image's, and the memory for it is refused.
 pub fn read_image(alloc: Global, text: &[u8]) -> Result<Image, ImageFault>
     // What is read is the image whose text this is.
     ensures found { IfOk result (IsTextOf text.now) }
@@ -62,8 +62,8 @@ fn image(alloc: Global, text: &[u8]) -> Result<Image, ImageFault>
     contents(alloc, version, size, behind)
 }
 
-/// The image of a size whose segments and entry a text spells. Want of memory is told last: the lines behind it are
-/// looked at first.
+/// The image of a size whose segments and entry a text spells. A refusal of memory is reported last: the lines after it
+/// are looked at first.
 fn contents(alloc: Global, version: Version, size: u16, text: &[u8]) -> Result<Image, ImageFault>
     ensures { Gives result (image_of size (contents_in version size (parts_of text.now))) }
 {
@@ -105,8 +105,7 @@ fn segment_inside(size: u16, spelled: &Spelled) -> Result<Segment, ImageFault>
     })
 }
 
-/// The entry that a line names, if it does, where it lies in core storage of this size and nothing stands behind the
-/// line.
+/// The entry that a line names, if it does, it lies in core storage of this size and nothing follows the line.
 fn last_entry(size: u16, entry: Option<u32>, behind: &[u8]) -> Result<u16, ImageFault>
     ensures value { result ≡ entry_by size entry (parts_of behind.now) }
     ensures fault { IfErr result IsOfText }
@@ -123,7 +122,7 @@ fn last_entry(size: u16, entry: Option<u32>, behind: &[u8]) -> Result<u16, Image
     Ok(start as u16)
 }
 
-/// The first line of a text, and what stands behind its line feed; none where there is no line feed.
+/// The first line of a text, and what follows its line feed; `None` if there is no line feed.
 fn split_line(text: &[u8]) -> Option<(&[u8], &[u8])>
     ensures { MatchOption result (parts_of text.now ≡ text.now ∷ []) (λ first.
         (parts_of text.now ≡ first.0.now ∷ parts_of first.1.now) × (length first.1.now < length text.now)) }
@@ -194,7 +193,7 @@ fn entry(version: Version, line: &[u8]) -> Option<u32>
     if rest.is_empty() { Some(start) } else { None }
 }
 
-/// The number that the first digits of a text say, as many as are asked for, and what stands behind it.
+/// The number of this many digits at the beginning of a text, and what follows it.
 #[tactic(auto, unfolding(crate::specs::Reading::number_at))]
 fn split_number(text: &[u8], digits: usize) -> Option<(u32, &[u8])>
     requires { digits ≤ 5 }

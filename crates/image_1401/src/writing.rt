@@ -17,7 +17,7 @@ pub(crate) const COUNT_DIGITS: usize = 2;
 ///
 /// # Errors
 ///
-/// Where the memory for the text is refused.
+/// If the memory for the text is refused.
 #[tactic(auto, unfolding(crate::specs::ImageText::image_text))]
 pub fn write_image(alloc: Global, image: &Image) -> Result<Vec<u8>, AllocError>
     requires { IsInCore image.now }

@@ -1,4 +1,4 @@
--- Cells by their graphics, one with a word mark behind a tilde (own).
+-- Cells by their graphics, with a tilde before one that has a word mark (own).
 use Rattle.std.specs.Prelude.{ℕ, ◌==◌, nat_le, Bool, true, false, ◌&&◌, if◌then◌else◌, List, [], ◌∷◌, length, take}
 use Rattle.std.specs.Prelude.{slice_index, position, filter_map, Option, is_some, Result, Ok, Err}
 use Rattle.std.specs.Option.{option_map}
@@ -8,15 +8,15 @@ use Rattle.bcd_1401.specs.Graphic.{graphics}
 use Rattle.notation_1401.specs.declared.fault.CellsFault.{CellsFault}
 use Rattle.notation_1401.specs.declared.fault.CellsFault.TheVariants.{Graphic, Length}
 
--- how many cells a command or a segment has at the most
+-- the most cells that a command or a segment has
 abbrev pub most_cells : ℕ
 most_cells = 40
 
--- it stands before a cell with a word mark
+-- it precedes a cell with a word mark
 abbrev pub tilde : ℕ
 tilde = 126
 
--- a cell by its graphic, with a tilde in front where it has a word mark
+-- a cell by its graphic, with a tilde before it if it has a word mark
 abbrev pub cell_text : Cell → List ℕ
 cell_text cell = if cell.mark then tilde ∷ slice_index graphics cell.char ∷ [] else slice_index graphics cell.char ∷ []
 

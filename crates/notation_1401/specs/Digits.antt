@@ -4,7 +4,7 @@ use Rattle.std.specs.Prelude.{Option, None, Some}
 use Rattle.std.specs.Fmt.{decimal}
 use Rattle.std.specs.List.{list_all}
 
--- a number in decimal digits, with zeros in front where it has fewer than the width; one that has more has them all
+-- a number in decimal digits, with leading zeros up to the width; one that is wider has all its digits
 abbrev pub digits_in : ℕ → ℕ → List ℕ
 digits_in width number = replicate (width - length (decimal number)) 48 ++ decimal number
 
@@ -20,6 +20,6 @@ value_of digits = fold (λ number digit. 10 * number + (digit - 48)) 0 digits
 unfoldable pub number_in : List ℕ → Option ℕ
 number_in digits = if list_all is_digit digits then Some (value_of digits) else None
 
--- how many digits are read at the most: any so many stand for less than 2 ^ 32
+-- the most digits that are read: any nine are less than 2 ^ 32
 abbrev pub most_read : ℕ
 most_read = 9

@@ -1,4 +1,4 @@
-//! Cells by their graphics, one with a word mark behind a tilde.
+//! Cells by their graphics, with a tilde before one that has a word mark.
 ghost use Rattle.std.specs.Prelude.{◌≡◌, ◌<◌, [], ◌∷◌, ◌++◌, length, map, OnOk, MatchOption};
 ghost use Rattle.notation_1401.specs.Cells.{cell_of, cell_text, cells_of, cells_text, spelled};
 
@@ -7,11 +7,11 @@ use bcd_1401::{Cell, Char};
 use core_1401::{Cells, MOST_CELLS};
 use std::alloc::AllocError;
 
-/// Adds a cell by its graphic, with a tilde in front of it where it has a word mark.
+/// Adds a cell by its graphic, with a tilde before it if it has a word mark.
 ///
 /// # Errors
 ///
-/// Where the memory for the text is refused. The tilde may have been added then.
+/// If the memory for the text is refused. The tilde may have been added by then.
 pub fn put_cell(text: &mut Vec<u8>, cell: Cell) -> Result<(), AllocError>
     ensures text { OnOk result (text.new.items ≡ text.old.items ++ cell_text cell) }
     ensures again { OnOk result (spelled (cell_text cell) ≡ Some cell ∷ []) }
@@ -23,7 +23,7 @@ pub fn put_cell(text: &mut Vec<u8>, cell: Cell) -> Result<(), AllocError>
     Ok(())
 }
 
-/// Adds cells, one behind the other.
+/// Adds cells, one after another.
 #[tactic(auto, unfolding(crate::specs::Cells::cells_text))]
 fn put_each(text: &mut Vec<u8>, cells: &[Cell]) -> Result<(), AllocError>
     ensures text { OnOk result (text.new.items ≡ text.old.items ++ cells_text cells.now) }
@@ -35,11 +35,11 @@ fn put_each(text: &mut Vec<u8>, cells: &[Cell]) -> Result<(), AllocError>
     Ok(())
 }
 
-/// Adds 1 to 40 cells, one behind the other.
+/// Adds 1 to 40 cells, one after another.
 ///
 /// # Errors
 ///
-/// Where the memory for the text is refused. Some of the cells may have been added then.
+/// If the memory for the text is refused. Some of the cells may have been added by then.
 pub fn put_cells(text: &mut Vec<u8>, cells: &Cells) -> Result<(), AllocError>
     ensures text { OnOk result (text.new.items ≡ text.old.items ++ cells_text cells.now) }
 
@@ -53,7 +53,7 @@ pub fn put_cells(text: &mut Vec<u8>, cells: &Cells) -> Result<(), AllocError>
 ///
 /// # Errors
 ///
-/// `Graphic` where one of the first 40 has no graphic, else `Length` where there are none or more.
+/// `Graphic` if one of the first 40 has no graphic, else `Length` if there are none or more.
 #[tactic(auto, unfolding(crate::specs::Cells::cells_of))]
 pub fn read_cells(text: &[u8]) -> Result<Cells, CellsFault>
     ensures { result ≡ cells_of (spelled text.now) }
@@ -75,8 +75,8 @@ pub fn read_cells(text: &[u8]) -> Result<Cells, CellsFault>
     Cells::from_slice(&cells[..count]).ok_or(CellsFault::Length)
 }
 
-/// The first cell that a text spells, which is none where a graphic is missed, and what stands behind it; none at the
-/// end of the text.
+/// The first cell that a text spells, `None` if its graphic is missing, and what follows it; `None` at the end of the
+/// text.
 #[tactic(auto, unfolding(crate::specs::Cells::spelled))]
 fn split_cell(text: &[u8]) -> Option<(Option<Cell>, &[u8])>
     ensures { MatchOption result (text.now ≡ []) (λ first.

@@ -4,11 +4,11 @@ ghost use Rattle.notation_1401.specs.Digits.{digits_in, most_read, number_in};
 
 use std::alloc::AllocError;
 
-/// Adds a number, with zeros in front where it has fewer digits than the width (own).
+/// Adds a number, with leading zeros up to the width (own).
 ///
 /// # Errors
 ///
-/// Where the memory for the text is refused. Some of the digits may have been added then.
+/// If the memory for the text is refused. Some of the digits may have been added by then.
 pub fn put_digits(text: &mut Vec<u8>, width: u8, number: u64) -> Result<(), AllocError>
     ensures { OnOk result (text.new.items ≡ text.old.items ++ digits_in width number) }
 {

@@ -37,7 +37,7 @@ IsLegal size journal = map answer_in journal ≡ answers_of size (pairs_of journ
 abbrev pub answer_to : ℕ → List Entry → Command → Answer
 answer_to size journal command = reply_to size (pairs_of journal) command
 
--- how many entries a journal has at the most
+-- the most entries that a journal has
 abbrev pub most_entries : ℕ
 most_entries = 100000
 

@@ -35,6 +35,6 @@ answers_of size pairs = answers_after (power_on size) pairs
 abbrev pub reply_to : ℕ → List Pair → Command → Answer
 reply_to size pairs command = (carry_out (replay size pairs) command).answer
 
--- what stands at a place after these commands
+-- the cell at a place after these commands
 abbrev pub cell_after : ℕ → List Pair → ℕ → Cell
 cell_after size pairs address = cell_at (replay size pairs).storage address

@@ -34,6 +34,6 @@ abbrev pub newcomers : ℕ → List Knows
 newcomers zero = []
 newcomers (suc n) = newcomers n ++ newcomer (suc n) ∷ []
 
--- how many seats a shared room has at the most
+-- the most seats that a shared room has
 abbrev pub most_seats : ℕ
 most_seats = 8

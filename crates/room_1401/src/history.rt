@@ -210,7 +210,7 @@ impl<J: Naming> Front<J> {
         }
     }
 
-    /// Adds a command to all that was seen, and says whether it did. It did not where the history is longer.
+    /// Adds a command to all that was seen, and says whether it did: it does not if the history is longer.
     pub(crate) fn extend(&mut self, head: &Head<J>, pair: Pair) -> bool
         requires { length self.old < most_entries }
         ensures { MatchBool result (self.new ≡ self.old ++ pair ∷ []) (self.new ≡ self.old) }

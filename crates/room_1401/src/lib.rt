@@ -11,7 +11,7 @@
 //! ```text
 //! let (room, mut seats) = SharedRoom::<J, &R>::power_on(rt, alloc, 4000, 2, opened)?;
 //! room.command(rt, &mut seats[0], Command::Registers)?   // as `carry` of a room, for seat 1
-//! seats[1].glance(500)?                                  // what stands at 500, after 0 commands or 1
+//! seats[1].glance(500)?                                  // the cell at 500, after 0 commands or 1
 //! room.close(seats)                                      // the room, whose journal explains every answer
 //! ```
 #![tactic(auto)]

@@ -47,7 +47,7 @@ impl<J: Naming, R: Wait + Drop> Publisher<J, R> {
         self.writer.factory().reader()
     }
 
-    /// Puts a change behind those that are pending.
+    /// Appends a change to those that are pending.
     pub(crate) fn append(&mut self, change: Change) -> Result<(), Change>
         ensures shown { self.new.writer.desk.shown.value ≡ self.old.writer.desk.shown.value }
         ensures ok { OnOk result (drop self.new.writer.behind self.new.writer.log.items

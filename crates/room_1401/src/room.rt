@@ -13,7 +13,7 @@ use std::alloc::Global;
 use std::marker::Model;
 use std::slice::from_ref;
 
-/// How many entries a journal has at the most.
+/// The most entries that a journal has.
 const MOST_ENTRIES: usize = 100_000;
 
 /// A machine and its journal. The machine's storage, registers and devices and every recorded answer are those of the
@@ -44,7 +44,7 @@ impl Room {
     ///
     /// # Errors
     ///
-    /// `Size` where no core storage of that size is made, else `Memory` where there is no room for it.
+    /// `Size` if no core storage of that size is made, else `Memory` if there is no room for it.
     pub fn power_on(alloc: Global, size: u16) -> Result<Room, CoreFault>
         ensures size { IfOk result (λ room. room.size ≡ size) }
         ensures journal { IfOk result (λ room. room.journal ≡ []) }
@@ -80,7 +80,7 @@ impl Room {
     ///
     /// # Errors
     ///
-    /// `JournalFull` where the journal has its 100,000 entries, else `Memory` where there is no room for one more. The
+    /// `JournalFull` if the journal has its 100,000 entries, else `Memory` if there is no room for one more. The
     /// journal is as it was in each case.
     pub fn reserve(&mut self) -> Result<(), RoomFault>
         ensures journal { self.new.journal ≡ self.old.journal }
@@ -128,7 +128,7 @@ impl Room {
         Ok(self.carry_reserved(seat, command))
     }
 
-    /// Carries a command out for a seat, and records it with its answer, where there is room for the entry.
+    /// Carries a command out for a seat, and records it with its answer, if there is room for the entry.
     fn carry_reserved(&mut self, seat: u8, command: Command) -> Answer
         requires spare { 0 < self.old.spare }
         requires not_full { is_full self.old.journal ≡ false }
@@ -143,7 +143,7 @@ impl Room {
     }
 }
 
-/// Copies an entry behind those of a journal that has room for it.
+/// Appends a copy of an entry to a journal that has room for it.
 fn record(journal: &mut Vec<Entry>, entry: &Entry)
     requires { vec_len journal.old < vec_capacity journal.old }
     ensures items { journal.new.items ≡ journal.old.items ++ entry.now ∷ [] }

@@ -15,12 +15,12 @@ use core::mem::replace_with;
 use std::marker::Model;
 use std::sync::ledger::{Book, Share};
 
-/// What stands at a place after some of the room's commands.
+/// The cell at a place after some of the room's commands.
 #[derive(Clone, Copy, Debug, PartialEq, Eq)]
 pub struct Glance {
     /// After how many commands.
     pub after: u64,
-    /// The cell that stands there then.
+    /// The cell there then.
     pub cell: Cell,
 }
 
@@ -160,7 +160,7 @@ impl<J: Naming> Seat<J> {
         self.front.len()
     }
 
-    /// The seat has then seen these commands too.
+    /// Brings the seat up to date with these commands.
     pub(crate) fn see(&mut self, front: &Front<J>)
         ensures same { (self.new.number ≡ self.old.number) × (self.new.made ≡ self.old.made) }
         ensures is { self.new.list
@@ -172,7 +172,7 @@ impl<J: Naming> Seat<J> {
         self.front = self.front.longer(front);
     }
 
-    /// The seat has then seen what the note says too. It waits for nobody.
+    /// Brings the seat up to date with a note. It waits for nobody.
     pub fn learn(&mut self, told: Told<J>)
         ensures number { self.new.number ≡ self.old.number }
         ensures made { self.new.made ≡ self.old.made }
@@ -184,12 +184,12 @@ impl<J: Naming> Seat<J> {
         self.see(&told.front);
     }
 
-    /// What stands at an address in the machine that is published, which is no older than what this seat has seen. It
-    /// waits for nobody, and isn't recorded.
+    /// The cell at an address of the published machine, which is no older than what this seat has seen. It waits for
+    /// nobody, and isn't recorded.
     ///
     /// # Errors
     ///
-    /// `Range` where the address isn't in core, else `Gone` where nothing is published any more.
+    /// `Range` if the address isn't in core, else `Gone` if nothing is published any more.
     pub fn glance(&mut self, address: u16) -> Result<Glance, GlanceFault>
         ensures range { (result ≡ Err GlanceFault.Range) ↔ (J.size ≤ address) }
         ensures number { self.new.number ≡ self.old.number }

@@ -25,10 +25,10 @@ use std::alloc::Global;
 use std::sync::ledger::Share;
 use std::sync::{Mutex, Wait};
 
-/// How many seats a shared room has at the most.
+/// The most seats that a shared room has.
 const MOST_SEATS: u8 = 8;
 
-/// A room behind a lock, which operators share by its seats. `J` names it, and `R` is the handle by which its end waits
+/// A room that operators share by its seats, under a lock. `J` names it, and `R` is the handle by which its end waits
 /// for those that still read what it shows.
 #[derive(Drop)]
 pub struct SharedRoom<J: Naming, R: Wait + Drop> {
@@ -41,8 +41,8 @@ impl<J: Naming, R: Wait + Drop> SharedRoom<J, R> {
     ///
     /// # Errors
     ///
-    /// `Size` where no core storage of that size is made, else `Seats` where there aren't from 1 to 8 of them, else
-    /// `Memory` or `NoReader` where there is no room for it or for a seat's reader.
+    /// `Size` if no core storage of that size is made, else `Seats` if there aren't from 1 to 8 of them, else `Memory`
+    /// or `NoReader` if there is no room for it or for a seat's reader.
     pub fn power_on(
         rt: R,
         alloc: Global,
@@ -86,8 +86,8 @@ impl<J: Naming, R: Wait + Drop> SharedRoom<J, R> {
     ///
     /// # Errors
     ///
-    /// `NoReading` where what the seat has seen isn't the journal's length, which doesn't happen while seats and room
-    /// are of one `power_on`; else `JournalFull` where the journal has its 100,000 entries, else `Memory` where there
+    /// `NoReading` if what the seat has seen isn't the journal's length, which doesn't happen while seats and room are
+    /// of one `power_on`; else `JournalFull` if the journal has its 100,000 entries, else `Memory` if there
     /// is no room for one more. The room's journal and machine are as they were.
     pub fn command<W: Wait>(
         &self,
@@ -142,7 +142,7 @@ impl<J: Naming, R: Wait + Drop> SharedRoom<J, R> {
     ///
     /// # Errors
     ///
-    /// `Unreturned` where a number of the room's seats has no seat among them, else `NoReading`, as in `command`. The
+    /// `Unreturned` if a number of the room's seats has no seat among them, else `NoReading`, as in `command`. The
     /// room comes back, with the seats as they were.
     pub fn close(
         self,
@@ -233,7 +233,7 @@ fn at_power_on(alloc: Global, size: u16, token: &Reached) -> Result<Shown, CoreF
     })
 }
 
-/// Fills in the seats of a new room, each with a part of the ledger and a reader. False where there is no place for a
+/// Fills in the seats of a new room, each with a part of the ledger and a reader. False if there is no place for a
 /// reader.
 fn fill_seats<J: Naming, R: Wait + Drop>(
     seats: &mut Vec<Seat<J>>,

@@ -21,11 +21,11 @@ use Rattle.text_1401.specs.declared.line.Line.TheVariants as line
 use Rattle.text_1401.specs.CardText.{graphics_of, trimmed}
 use Rattle.text_1401.specs.ConsoleLine.{feed_of}
 
--- an indicator: 1 where it is on
+-- an indicator: 1 if it is on
 abbrev pub indicator_text : Bool → List ℕ
 indicator_text on = if on then codes "1" else codes "0"
 
--- a switch by its letter where it is on, and by - where it isn't
+-- the letter of a switch that is on, and - for one that is off
 abbrev pub switch_text : Bool → ℕ → ℕ
 switch_text on letter = if on then letter else 45
 
@@ -33,7 +33,7 @@ switch_text on letter = if on then letter else 45
 unfoldable pub switches_text : List Bool → List ℕ
 switches_text switches = map (λ (switch : Bool × ℕ). switch_text switch.0 switch.1) (zip switches (codes "ABCDEFG"))
 
--- the registers: five digits for an address, three for cards and lines, of which there are 500 at the most, four for
+-- the registers: five digits for an address, three for cards and lines, of which there are at most 500, four for
 -- the form and two for the line
 unfoldable pub regs_text : Regs → List ℕ
 regs_text regs =
@@ -80,7 +80,7 @@ answer_text (answer.Line line) = line_text line
 answer_text (answer.Card card) = card_text card
 answer_text (answer.Refused why) = refusal_text why
 
--- what stands behind CARD is read as that card where it stands behind FEED
+-- what follows CARD is read as that card after FEED
 abbrev pub IsFedAgain : Card → List ℕ → Type 0
 IsFedAgain card text = feed_of (drop (length (codes "CARD")) text) ≡ Ok (line.Command (command.Feed card))
 
@@ -102,6 +102,6 @@ fault_text line_fault.Graphic = codes "ERROR 3 GRAPHIC"
 fault_text line_fault.Length = codes "ERROR 4 LENGTH"
 fault_text line_fault.Extra = codes "ERROR 5 EXTRA"
 
--- a glance: after how many commands, and the cell that stands there then
+-- a glance: after how many commands, and the cell there then
 unfoldable pub glance_text : ℕ → Cell → List ℕ
 glance_text after cell = codes "AFTER " ++ digits_in 1 after ++ codes " " ++ cell_text cell

@@ -16,7 +16,7 @@ blank_code = 0
 abbrev pub char_of : ℕ → Option ℕ
 char_of byte = position (λ each. each == byte) graphics
 
--- the characters that a text spells, one for each byte; where there is no graphic there is no character
+-- the characters that a text spells, one for each byte; without a graphic there is no character
 unfoldable pub chars_of : List ℕ → List (Option ℕ)
 chars_of text = map char_of text
 
@@ -24,7 +24,7 @@ chars_of text = map char_of text
 abbrev pub card_with : List ℕ → Card
 card_with chars = record { 0 = chars ++ replicate (card_columns - length chars) blank_code }
 
--- 80 characters at the most; but one of the first 80 that isn't there is a fault before their number is
+-- at most 80 characters; but one of the first 80 that isn't there is a fault before their number is
 unfoldable pub card_of : List (Option ℕ) → Result Card LineFault
 card_of chars =
     if list_all is_some (take card_columns chars)

@@ -1,4 +1,4 @@
--- What a line at the console says (own): a word, and behind it addresses, numbers or a text.
+-- What a line at the console says (own): a word, and then addresses, numbers or a text.
 use Rattle.std.specs.Prelude.{ℕ, ◌==◌, nat_lt, if◌then◌else◌, List, length, drop, Option, None, Some, Result, Ok, Err}
 use Rattle.bcd_1401.specs.declared.cell.Cell.{Cell}
 use Rattle.notation_1401.specs.Cells.{cells_of, spelled}
@@ -29,11 +29,11 @@ abbrev pub if_cells : Result (List Cell) CellsFault → Result (List Cell) LineF
 if_cells (Ok cells) = Ok cells
 if_cells (Err fault) = Err (fault_of fault)
 
--- nothing but blanks stands behind what is said
+-- nothing but blanks follows what is said
 unfoldable pub ended : List ℕ → Line → Said
 ended rest line = if length (word_in rest) == 0 then Ok line else Err Extra
 
--- DEPOSIT a text: behind the address and one blank all bytes are the text
+-- DEPOSIT a text: all bytes after the address and one blank are the text
 unfoldable pub deposit_of : List ℕ → Said
 deposit_of operands = do
   address ← address_of (word_in operands)
@@ -60,7 +60,7 @@ switch_said operands = do
   on ← setting_of (word_in (behind_word operands))
   ended (behind_word (behind_word operands)) (Command (command.Switch switch on))
 
--- FEED a text: behind one blank all bytes are the text, and a card without a text is blank
+-- FEED a text: all bytes after one blank are the text, and a card without a text is blank
 unfoldable pub feed_of : List ℕ → Said
 feed_of operands = do
   card ← card_of (chars_of (drop 1 operands))
@@ -78,7 +78,7 @@ glance_of operands = do
   address ← address_of (word_in operands)
   ended (behind_word operands) (Glance address)
 
--- what a line says by its first word and what stands behind that
+-- what a line says by its first word and what follows that
 unfoldable pub said_with : Option Keyword → List ℕ → Said
 said_with None operands = Err Word
 said_with (Some keyword.Deposit) operands = deposit_of operands
@@ -99,7 +99,7 @@ unfoldable pub said_in_words : List ℕ → Said
 said_in_words line =
     if length (word_in line) == 0 then Ok Empty else said_with (keyword_of (word_in line)) (behind_word line)
 
--- how many bytes a line has at the most
+-- the most bytes that a line has
 abbrev pub most_line_bytes : ℕ
 most_line_bytes = 200
 

@@ -17,18 +17,18 @@ use Rattle.text_1401.specs.Words.{most_digits}
 use Rattle.notation_1401.specs.Cells.{cells_text}
 use Rattle.text_1401.specs.Words.{letter_of}
 
--- a word that is typed as it stands, or a number
+-- a word that is typed as it is, or a number
 pub data Part : Type 0 where
   Name : List ℕ → Part
   Numeral : ℕ → Part
 
--- what is typed behind the parts of a line: blanks alone, cells, or the columns of a card
+-- what is typed after the parts of a line: blanks alone, cells, or the columns of a card
 pub data Text : Type 0 where
   Blanks : Text
   Cells : List Cell → Text
   Columns : Card → Text
 
--- what is typed: its parts, and what stands behind them
+-- what is typed: its parts, and what follows them
 pub record LineText : Type 0 where
   pub parts : List Part
   pub behind : Text
@@ -60,7 +60,7 @@ text_of (line.Command command.TakeCard) = words_alone (Name (codes "CARD") ∷ [
 text_of (line.Glance address) = words_alone (Name (codes "GLANCE") ∷ Numeral address ∷ [])
 text_of line.Quit = words_alone (Name (codes "QUIT") ∷ [])
 
--- how a part is typed: a number in seven digits at the most, with as many zeros in front as one likes
+-- how a part is typed: a number in at most seven digits, with any number of leading zeros
 abbrev pub IsTypedAs : Part → List ℕ → Type 0
 IsTypedAs (Name name) word = word ≡ name
 IsTypedAs (Numeral number) word =
@@ -71,15 +71,15 @@ abbrev pub IsParted : List ℕ → Type 0
 IsParted [] = Unit {0}
 IsParted (byte ∷ bytes) = byte ≡ blank
 
--- behind its parts a line has blanks alone, or one blank and cells by their graphics, or one blank and as many columns
--- of a card as one likes, if the others are blank; where no column is typed the blank may be missing
+-- after its parts a line has blanks alone, or one blank and cells by their graphics, or one blank and as many columns
+-- of a card as one likes, if the others are blank; if no column is typed the blank may be missing
 abbrev pub IsTypedBehind : Text → List ℕ → Type 0
 IsTypedBehind Blanks line = (blanks : ℕ) × (line ≡ replicate blanks blank)
 IsTypedBehind (Cells cells) line = line ≡ blank ∷ cells_text cells
 IsTypedBehind (Columns card) line =
     (columns : List ℕ) × (drop 1 line ≡ graphics_of columns) × (card ≡ card_with columns)
 
--- these parts are typed, each behind blanks, and parted from what follows; then comes what stands behind them
+-- these parts are typed, each after blanks, and separated from what follows; then comes what follows them
 abbrev pub IsTyped : List Part → Text → List ℕ → Type 0
 IsTyped [] behind line = IsTypedBehind behind line
 IsTyped (part ∷ parts) behind line =
@@ -111,7 +111,7 @@ pub record IsLineOf (said : Line) (line : List ℕ) : Type 0 where
   pub short : length line ≤ most_line_bytes
   pub typed : IsTyped (text_of said).parts (text_of said).behind line
 
--- what EXAMINE says where no number says how many cells
+-- what EXAMINE says if no number says how many cells
 abbrev pub one_cell : ℕ → Line
 one_cell address = line.Command (command.Examine address 1)
 

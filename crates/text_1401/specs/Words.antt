@@ -15,7 +15,7 @@ use Rattle.text_1401.specs.declared.words.Keyword.TheVariants.{Deposit, Examine,
 use Rattle.text_1401.specs.declared.words.Keyword.TheVariants.{Run, Line, Card, Glance, Quit}
 
 infixl 10 ◌>>=◌
--- what stands on the left, and where it has no fault, what stands behind it
+-- what is on the left, and if it has no fault, what follows it
 abbrev pub ◌>>=◌ : {A B : Type 0} → Result A LineFault → (A → Result B LineFault) → Result B LineFault
 Ok value >>= behind = behind value
 Err fault >>= behind = Err fault
@@ -36,7 +36,7 @@ without_blanks text = drop (prefix_len is_blank text) text
 unfoldable pub word_in : List ℕ → List ℕ
 word_in text = before_first is_blank (without_blanks text)
 
--- what stands behind the first word: nothing, or a blank and what follows it
+-- what follows the first word: nothing, or a blank and what follows it
 unfoldable pub behind_word : List ℕ → List ℕ
 behind_word text = drop (position_or_len is_blank (without_blanks text)) (without_blanks text)
 
@@ -63,7 +63,7 @@ keywords =
 unfoldable pub keyword_of : List ℕ → Option Keyword
 keyword_of word = find (λ keyword. bytes_eq (name_of keyword) word) keywords
 
--- how many digits a number has at the most
+-- the most digits that a number has
 abbrev pub most_digits : ℕ
 most_digits = 7
 
@@ -79,7 +79,7 @@ address_of word = do
   number ← number_of word
   if nat_lt number addresses then Ok number else Err Number
 
--- a count is a number, and 1 where there is no word
+-- a count is a number, and 1 if there is no word
 unfoldable pub count_of : List ℕ → Result ℕ LineFault
 count_of word = if length word == 0 then Ok 1 else number_of word
 

@@ -1,4 +1,4 @@
-//! The texts of replies, without the line feed behind them.
+//! The texts of replies, without the line feed that ends them.
 ghost use Rattle.std.specs.Prelude.{◌≡◌, ◌++◌, IfOk, OnOk};
 ghost use Rattle.notation_1401.specs.Digits.{digits_in};
 ghost use Rattle.notation_1401.specs.Cells.{cells_of, cells_text, spelled};
@@ -21,7 +21,7 @@ use std::alloc::{AllocError, Global};
 ///
 /// # Errors
 ///
-/// Where the memory for the text is refused.
+/// If the memory for the text is refused.
 #[tactic(auto, unfolding(crate::specs::AnswerText::answer_text))]
 pub fn reply_text(alloc: Global, answer: &Answer) -> Result<Vec<u8>, AllocError>
     ensures text { IfOk result (λ text. text.items ≡ answer_text answer.now) }
@@ -50,7 +50,7 @@ fn cells_reply(alloc: Global, cells: &Cells) -> Result<Vec<u8>, AllocError>
     Ok(text)
 }
 
-/// The registers, each behind its name.
+/// The registers, each after its name.
 #[tactic(auto, unfolding(crate::specs::AnswerText::regs_text))]
 fn regs_reply(alloc: Global, regs: &Regs) -> Result<Vec<u8>, AllocError>
     ensures { IfOk result (λ text. text.items ≡ regs_text regs.now) }
@@ -110,7 +110,7 @@ fn card_reply(alloc: Global, card: &Card) -> Result<Vec<u8>, AllocError>
     Ok(text)
 }
 
-/// Adds a name, and behind it a number, with zeros in front where it has fewer digits than the width.
+/// Adds a name, and then a number with leading zeros up to the width.
 pub(crate) fn put_number(
     text: &mut Vec<u8>,
     name: &[u8],
@@ -123,7 +123,7 @@ pub(crate) fn put_number(
     put_digits(text, width, u64::from(number))
 }
 
-/// Adds a name, and behind it whether an indicator is on.
+/// Adds a name, and then whether an indicator is on.
 fn put_indicator(text: &mut Vec<u8>, name: &[u8], on: bool) -> Result<(), AllocError>
     ensures { OnOk result (text.new.items ≡ text.old.items ++ name.now ++ indicator_text on) }
 {
@@ -131,7 +131,7 @@ fn put_indicator(text: &mut Vec<u8>, name: &[u8], on: bool) -> Result<(), AllocE
     text.extend_from_slice(if on { b"1" } else { b"0" })
 }
 
-/// Adds a name, and behind it the letters of the switches that are on.
+/// Adds a name, and then the letters of the switches that are on.
 fn put_switches(text: &mut Vec<u8>, name: &[u8], switches: [bool; 7]) -> Result<(), AllocError>
     ensures { OnOk result (text.new.items ≡ text.old.items ++ name.now ++ switches_text switches) }
 {
@@ -144,7 +144,7 @@ fn put_switches(text: &mut Vec<u8>, name: &[u8], switches: [bool; 7]) -> Result<
     )
 }
 
-/// A switch by its letter where it is on, and by - where it isn't.
+/// The letter of a switch that is on, and - for one that is off.
 fn switch_letter(on: bool, letter: u8) -> u8
     ensures { result ≡ switch_text on letter }
 {
@@ -165,11 +165,11 @@ fn refusal_reply(why: Refusal) -> &'static [u8]
     }
 }
 
-/// A glance: after how many commands, and the cell that stands there then.
+/// A glance: after how many commands, and the cell there then.
 ///
 /// # Errors
 ///
-/// Where the memory for the text is refused.
+/// If the memory for the text is refused.
 #[tactic(auto, unfolding(crate::specs::AnswerText::glance_text))]
 pub fn glance_text(alloc: Global, after: u64, cell: Cell) -> Result<Vec<u8>, AllocError>
     ensures { IfOk result (λ text. text.items ≡ glance_text after cell) }

@@ -15,7 +15,7 @@ const COLUMNS: usize = 80;
 ///
 /// # Errors
 ///
-/// `Graphic` where one of the first 80 bytes is no graphic, else `Length` where there are more.
+/// `Graphic` if one of the first 80 bytes is no graphic, else `Length` if there are more.
 #[tactic(auto, unfolding(crate::specs::CardText::card_of))]
 pub(crate) fn card(text: &[u8]) -> Result<Card, LineFault>
     ensures { result ≡ card_of (chars_of text.now) }

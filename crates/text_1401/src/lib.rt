@@ -2,7 +2,7 @@
 //!
 //! ```text
 //! parse_line(b"EXAMINE 0500")              // Line::Command(Command::Examine { address: 500, count: 1 })
-//! reply_text(alloc, &Answer::Cells(cells)) // ~0K: cells that are read again behind DEPOSIT
+//! reply_text(alloc, &Answer::Cells(cells)) // ~0K: cells that are read again after DEPOSIT
 //! ```
 #![tactic(auto)]
 

@@ -18,7 +18,7 @@ use devices_1401::Card;
 use notation_1401::{CellsFault, read_cells};
 use thiserror::Error;
 
-/// How many bytes a line has at the most.
+/// The most bytes that a line has.
 pub const LINE_LIMIT: usize = 200;
 
 /// What a line says.
@@ -69,7 +69,7 @@ impl LineFault {
 ///
 /// # Errors
 ///
-/// The first fault from left to right; `Length` before all else where there are more bytes.
+/// The first fault from left to right; `Length` before all else if there are more bytes.
 #[tactic(auto, unfolding(crate::specs::ConsoleLine::said_by))]
 pub fn parse_line(line: &[u8]) -> Result<Line, LineFault>
     ensures said { result ≡ said_by line.now }
@@ -105,7 +105,7 @@ fn parse_words(line: &[u8]) -> Result<Line, LineFault>
     parse_operands(Keyword::from_word(word), operands)
 }
 
-/// What a line says by its first word, which may be none that is known, and what stands behind that.
+/// What a line says by its first word, which may be unknown, and what follows it.
 #[tactic(auto, unfolding(crate::specs::ConsoleLine::said_with))]
 fn parse_operands(keyword: Option<Keyword>, operands: &[u8]) -> Result<Line, LineFault>
     ensures { result ≡ said_with keyword operands.now }
@@ -127,7 +127,7 @@ fn parse_operands(keyword: Option<Keyword>, operands: &[u8]) -> Result<Line, Lin
     }
 }
 
-/// The line, where nothing but blanks stands behind it.
+/// The line, if nothing but blanks follows it.
 #[tactic(auto, unfolding(crate::specs::ConsoleLine::ended))]
 fn end(rest: &[u8], line: Line) -> Result<Line, LineFault>
     ensures { result ≡ ended rest.now line }
@@ -140,7 +140,7 @@ fn end(rest: &[u8], line: Line) -> Result<Line, LineFault>
     }
 }
 
-/// DEPOSIT a text: behind the address and one blank all bytes are the text.
+/// DEPOSIT a text: all bytes after the address and one blank are the text.
 #[tactic(auto, unfolding(crate::specs::ConsoleLine::deposit_of))]
 fn deposit(operands: &[u8]) -> Result<Line, LineFault>
     ensures { result ≡ deposit_of operands.now }
@@ -185,7 +185,7 @@ fn switch_line(operands: &[u8]) -> Result<Line, LineFault>
     end(behind, Line::Command(Command::Switch { n, on }))
 }
 
-/// FEED a text: behind one blank all bytes are the text, and a card without a text is blank.
+/// FEED a text: all bytes after one blank are the text, and a card without a text is blank.
 #[tactic(auto, unfolding(crate::specs::ConsoleLine::feed_of))]
 fn feed(operands: &[u8]) -> Result<Line, LineFault>
     ensures { result ≡ feed_of operands.now }

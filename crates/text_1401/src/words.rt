@@ -9,7 +9,7 @@ use core_1401::ADDRESSES;
 use cpu_1401::SwitchName;
 use notation_1401::read_digits;
 
-/// How many digits a number has at the most.
+/// The most digits that a number has.
 const MOST_DIGITS: usize = 7;
 
 /// The words that a line may begin with.
@@ -106,7 +106,7 @@ fn bytes_before_blank(text: &[u8]) -> usize
     text.iter().take_while(|byte| **byte != b' ').count()
 }
 
-/// The first word of a text, which has no byte where there are blanks alone, and what stands behind it.
+/// The first word of a text, empty if there are only blanks, and what follows it.
 #[tactic(auto, unfolding(crate::specs::Words::word_in, crate::specs::Words::behind_word))]
 pub(crate) fn split_word(text: &[u8]) -> (&[u8], &[u8])
     ensures word { result.0.now ≡ word_in text.now }
@@ -120,7 +120,7 @@ pub(crate) fn split_word(text: &[u8]) -> (&[u8], &[u8])
 ///
 /// # Errors
 ///
-/// `Number` where the word is no number.
+/// `Number` if the word is no number.
 #[tactic(auto, unfolding(crate::specs::Words::number_of, notation_1401::specs::Digits::number_in))]
 pub(crate) fn number(word: &[u8]) -> Result<u32, LineFault>
     ensures { result ≡ number_of word.now }
@@ -135,7 +135,7 @@ pub(crate) fn number(word: &[u8]) -> Result<u32, LineFault>
 ///
 /// # Errors
 ///
-/// `Number` where the word is no address.
+/// `Number` if the word is no address.
 #[tactic(auto, unfolding(crate::specs::Words::address_of))]
 pub(crate) fn address(word: &[u8]) -> Result<u16, LineFault>
     ensures { result ≡ address_of word.now }
@@ -148,11 +148,11 @@ pub(crate) fn address(word: &[u8]) -> Result<u16, LineFault>
     }
 }
 
-/// The count that a word is, a number, or 1 where there is no word.
+/// The count that a word is, a number, or 1 if there is no word.
 ///
 /// # Errors
 ///
-/// `Number` where the word is no number.
+/// `Number` if the word is no number.
 #[tactic(auto, unfolding(crate::specs::Words::count_of))]
 pub(crate) fn count(word: &[u8]) -> Result<u32, LineFault>
     ensures { result ≡ count_of word.now }
@@ -201,7 +201,7 @@ fn switch_named(word: &[u8]) -> Option<SwitchName>
 ///
 /// # Errors
 ///
-/// `Word` where the word names none.
+/// `Word` if the word names none.
 pub(crate) fn switch(word: &[u8]) -> Result<SwitchName, LineFault>
     ensures { result ≡ switch_of word.now }
 {
@@ -212,7 +212,7 @@ pub(crate) fn switch(word: &[u8]) -> Result<SwitchName, LineFault>
 ///
 /// # Errors
 ///
-/// `Word` where the word is neither.
+/// `Word` if the word is neither.
 #[tactic(auto, unfolding(crate::specs::Words::setting_of))]
 pub(crate) fn setting(word: &[u8]) -> Result<bool, LineFault>
     ensures { result ≡ setting_of word.now }
