@@ -3,6 +3,7 @@
 mod attending;
 mod failures;
 mod glances;
+mod hostile;
 mod order;
 mod serving;
 mod sessions;

@@ -2,7 +2,7 @@
 ghost use Rattle.std.specs.Prelude.{◌≡◌};
 
 use crate::{Door, FromReader, OpenDoor, SessionEnd, ToWriter, attend};
-use room_1401::{Naming, Opened, Seat, SharedRoom};
+use room_1401::{Command, Naming, Opened, Seat, SharedRoom};
 use std::alloc::Global;
 use std::cell::RefCell;
 use std::marker::Brand;
@@ -126,4 +126,86 @@ fn two_operators<J: Naming, R: Wait + Abort>(
 #[test]
 fn the_door_is_told_of_each_line(rt: HostRuntime) -> Result<(), Fail> {
     two_operators::<Brand, _>(&rt, rt.alloc(), Opened::new(2))
+}
+
+/// Gives commands of a seat of its own: it asks for the registers before each line, and for place 0 after its reply.
+#[derive(Drop)]
+struct Interjects<'a, 'b, J: Naming, R: Wait> {
+    rt: &'b R,
+    room: &'a SharedRoom<J, &'b R>,
+    seat: RefCell<Seat<J>>,
+}
+
+impl<J: Naming, R: Wait> Interjects<'_, '_, J, R> {
+    /// Gives a command.
+    fn give(&self, command: Command) {
+        if let Ok(mut seat) = self.seat.try_borrow_mut() {
+            let _answer = self.room.command(self.rt, &mut seat, command);
+        }
+    }
+}
+
+impl<J: Naming, R: Wait> Door for Interjects<'_, '_, J, R> {
+    fn before(&self, _seat: u8, _line: u64) {
+        self.give(Command::Registers);
+    }
+
+    fn after(&self, _seat: u8, _line: u64) {
+        self.give(Command::Examine {
+            address: 0,
+            count: 1,
+        });
+    }
+}
+
+/// Has two lines of seat 1 answered, with such a door.
+fn start_twice<'b, J: Naming, R: Wait + Abort>(
+    rt: &'b R,
+    alloc: Global,
+    room: &SharedRoom<J, &'b R>,
+    one: Seat<J>,
+    two: Seat<J>,
+) {
+    let door = Interjects {
+        rt,
+        room,
+        seat: RefCell::new(two),
+    };
+    let console = (
+        "START 0500\nSTART 0600\n",
+        "OK\nOK\n",
+        SessionEnd::EndOfInput,
+    );
+    let _one = expect_replies(rt, alloc, room, one, &door, console);
+}
+
+fn interrupted<J: Naming, R: Wait + Abort>(
+    rt: &R,
+    alloc: Global,
+    opened: Opened,
+) -> Result<(), Fail>
+    requires history { opened.book ≡ J.book }
+    requires ledger { (opened.ledger ≡ J.name) × (opened.parts ≡ J.parts) × (J.parts ≡ J.seats) }
+    requires named { (1400 ≡ J.size) × (2 ≡ J.seats) }
+{
+    let (room, mut seats) = SharedRoom::<J, &R>::power_on(rt, alloc, 1_400, 2, opened)?;
+    let two = seats.pop().ok_or("seat 2")?;
+    let one = seats.pop().ok_or("seat 1")?;
+    start_twice(rt, alloc, &room, one, two);
+    let room = room.abandon();
+    assert_eq!(rt; room.journal().len(), 6);
+    for (entry, kind) in room.journal().iter().zip(b"?S!?S!") {
+        let found = match entry.command {
+            Command::Registers => (2, b'?'),
+            Command::SetI { .. } => (1, b'S'),
+            _ => (2, b'!'),
+        };
+        assert_eq!(rt; (entry.seat, *kind), found);
+    }
+    Ok(())
+}
+
+#[test]
+fn the_door_is_told_before_a_line_is_carried_out(rt: HostRuntime) -> Result<(), Fail> {
+    interrupted::<Brand, _>(&rt, rt.alloc(), Opened::new(2))
 }

@@ -3,13 +3,24 @@ ghost use Rattle.std.specs.Prelude.{Some};
 
 use crate::{Failed, FromReader, ServeFault, SessionEnd, Sink, Source, ToWriter, session};
 use room_1401::Room;
+use std::alloc::Global;
 use std::test::Fail;
 
 // Gives its bytes, and then fails.
 #[derive(Drop)]
-struct BreaksOff<'a> {
+pub struct BreaksOff<'a> {
     bytes: &'a [u8],
     failed: bool,
+}
+
+impl BreaksOff<'_> {
+    /// Gives these bytes first.
+    pub fn new(bytes: &[u8]) -> BreaksOff<'_> {
+        BreaksOff {
+            bytes,
+            failed: false,
+        }
+    }
 }
 
 impl Source for BreaksOff<'_> {
@@ -34,11 +45,23 @@ impl Source for BreaksOff<'_> {
 
 // Takes `width` bytes at the most with each put, and fails once it has `limit` bytes.
 #[derive(Drop)]
-struct Narrow {
-    received: Vec<u8>,
+pub struct Narrow {
+    pub received: Vec<u8>,
     width: usize,
     limit: usize,
     failed: bool,
+}
+
+impl Narrow {
+    /// Has received nothing.
+    pub fn new(alloc: Global, width: usize, limit: usize) -> Narrow {
+        Narrow {
+            received: Vec::new(alloc),
+            width,
+            limit,
+            failed: false,
+        }
+    }
 }
 
 impl Sink for Narrow {
@@ -68,10 +91,7 @@ impl Sink for Narrow {
 #[test]
 fn a_failed_read_leaves_the_unfinished_line(rt: HostRuntime) -> Result<(), Fail> {
     let mut room = Room::power_on(rt.alloc(), 4000)?;
-    let mut reader = BreaksOff {
-        bytes: b"DEPOSIT 0500 K\nEXAMINE 0500",
-        failed: false,
-    };
+    let mut reader = BreaksOff::new(b"DEPOSIT 0500 K\nEXAMINE 0500");
     let mut writer = ToWriter::new(Vec::new(rt.alloc()));
     let ended = session(rt.alloc(), &mut room, &mut reader, &mut writer);
     assert_eq!(rt; ended, SessionEnd::Read);
@@ -93,12 +113,7 @@ fn a_failed_write_leaves_the_command(rt: HostRuntime) -> Result<(), Fail> {
     ] {
         let mut room = Room::power_on(rt.alloc(), 4000)?;
         let mut reader = FromReader::new(b"DEPOSIT 0500 ~0K\nEXAMINE 0500 2\n".as_slice());
-        let mut writer = Narrow {
-            received: Vec::new(rt.alloc()),
-            width,
-            limit,
-            failed: false,
-        };
+        let mut writer = Narrow::new(rt.alloc(), width, limit);
         let ended = session(rt.alloc(), &mut room, &mut reader, &mut writer);
         assert_eq!(rt; ended, end, "{width} {limit}");
         assert_eq!(rt;

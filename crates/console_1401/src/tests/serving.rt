@@ -2,7 +2,7 @@
 ghost use Rattle.std.specs.Prelude.{◌≡◌};
 
 use crate::{Door, OpenDoor, ServeFault, serve};
-use room_1401::{Naming, Opened, SharedRoom};
+use room_1401::{Command, Naming, Opened, SharedRoom};
 use std::alloc::Global;
 use std::io;
 use std::io::{Read, Write};
@@ -164,4 +164,50 @@ fn no_connection<
 #[test]
 fn consoles_go_on_after_a_refused_connection(rt: HostRuntime) -> Result<(), Fail> {
     no_connection::<Brand, _>(&rt, rt.alloc(), Opened::new(3))
+}
+
+/// A line for each of eight connections, the k-th of which examines place k.
+const EIGHT_PLACES: [&str; 8] = [
+    "EXAMINE 1\n",
+    "EXAMINE 2\n",
+    "EXAMINE 3\n",
+    "EXAMINE 4\n",
+    "EXAMINE 5\n",
+    "EXAMINE 6\n",
+    "EXAMINE 7\n",
+    "EXAMINE 8\n",
+];
+
+/// Serves these eight connections, and compares each seat's command with the place of its own number.
+fn in_turn<
+    J: Naming + Send + Sync,
+    R: Threads + Wait + Abort + Sync + Net<Listener = TcpListener, Stream = TcpStream>,
+>(rt: &R, alloc: Global, opened: Opened) -> Result<(), Fail>
+    requires history { opened.book ≡ J.book }
+    requires ledger { (opened.ledger ≡ J.name) × (opened.parts ≡ J.parts) × (J.parts ≡ J.seats) }
+    requires named { (1400 ≡ J.size) × (8 ≡ J.seats) }
+{
+    let (room, seats) = SharedRoom::<J, &R>::power_on(rt, alloc, 1_400, 8, opened)?;
+    let listener = TcpListener::bind(rt, (Ipv4Addr::LOCALHOST, 0))?;
+    let mut streams = Vec::new(alloc);
+    for lines in EIGHT_PLACES {
+        streams.push(send_lines(rt, &listener, lines)?)?;
+    }
+    let served = serve(alloc, rt, room, seats, &listener, &OpenDoor);
+    assert_eq!(rt; (served.consoles, served.fault), (8, None));
+    let journal = served.room.journal();
+    assert_eq!(rt; journal.len(), 8);
+    for entry in journal {
+        let own = Command::Examine {
+            address: u16::from(entry.seat),
+            count: 1,
+        };
+        assert_eq!(rt; entry.command, own);
+    }
+    Ok(())
+}
+
+#[test]
+fn connections_have_the_seats_in_their_order(rt: HostRuntime) -> Result<(), Fail> {
+    in_turn::<Brand, _>(&rt, rt.alloc(), Opened::new(8))
 }
