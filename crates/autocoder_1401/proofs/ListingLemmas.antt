@@ -28,23 +28,24 @@ next_left lines i d sources text behind inside left first =
     (cc, cc)
 
 -- with one line more, what is listed and what is left to list is the whole listing
-pub next_listed : (all here next : Places) (lines : List Line) (i : ℕ) (d : Line) (sources text behind : List ℕ)
+pub next_listed : (all here next : Places) (lines : List Line) (i : ℕ) (line : Line) (sources text behind : List ℕ)
     (later : List Line) (listing after whole : List (List ℕ))
-    → i < length lines → drop i lines ≡ map line_of (lines_of sources)
+    → i < length lines → line ≡ get_or lines i line → drop i lines ≡ map line_of (lines_of sources)
     → lines_of sources ≡ text ∷ lines_of behind
     → listing ++ listing_from all here (i + 1) (lines_of sources) ≡ whole → later ≡ drop (i + 1) lines
-    → after ≡ listing ++ (literal_lines here.next (literals_in here (get_or lines i d).statement)
-    ++ line_for all here (i + 1) text (get_or lines i d).statement later ∷ [])
-    → next ≡ after_line here (get_or lines i d)
+    → after ≡ listing ++ (literal_lines here.next (literals_in here line.statement)
+    ++ line_for all here (i + 1) text line.statement later ∷ [])
+    → next ≡ after_line here line
     → after ++ listing_from all next (i + 1 + 1) (lines_of behind) ≡ whole
-next_listed all here next lines i d sources text behind later listing after whole inside left first so_far same_later
-    same_after same_next =
-    let said = next_left lines i d sources text behind inside left first in
+next_listed all here next lines i line sources text behind later listing after whole inside is left first so_far
+    same_later same_after same_next =
+    let said = next_left lines i line sources text behind inside left first in
+    let same_line : line ≡ line_of text = is ∙ said.0 in
     let rest = listing_from all (after_line here (line_of text)) (i + 1 + 1) (lines_of behind) in
     let literals = literal_lines here.next (literals_in here (line_of text).statement) in
     let shown = line_for all here (i + 1) text (line_of text).statement (map line_of (lines_of behind)) in
-    let made : after ≡ listing ++ (literals ++ shown ∷ []) = rw (same_after, same_later, said.0, said.1) refl in
-    let going_on : listing_from all next (i + 1 + 1) (lines_of behind) ≡ rest = rw (same_next, said.0) refl in
+    let made : after ≡ listing ++ (literals ++ shown ∷ []) = rw (same_after, same_later, same_line, said.1) refl in
+    let going_on : listing_from all next (i + 1 + 1) (lines_of behind) ≡ rest = rw (same_next, same_line) refl in
     let parted : (listing ++ (literals ++ shown ∷ [])) ++ rest ≡ listing ++ (literals ++ shown ∷ rest) =
     append_assoc listing (literals ++ shown ∷ []) rest
     ∙ ap (λ texts. listing ++ texts) (append_assoc literals (shown ∷ []) rest) in

@@ -4,10 +4,10 @@ use Rattle.std.specs.Prelude.{take, slice_index_or}
 use Rattle.std.specs.List.{flat_map, list_all}
 use Rattle.bcd_1401.specs.declared.cell.Cell.{Cell}
 use Rattle.image_1401.specs.declared.image.Segment.{Segment}
+use Rattle.notation_1401.specs.Cells.{most_cells}
 use Rattle.source_1401.specs.declared.statement.Line.{Line}
 use Rattle.autocoder_1401.specs.Cells.{numbered}
 use Rattle.autocoder_1401.specs.Placement.{placed}
-use Rattle.autocoder_1401.specs.Segments.{most_cells}
 use Rattle.autocoder_1401.specs.Values.{line_outside}
 use Rattle.autocoder_1401.specs.declared.fault.AsmFault.{AsmFault}
 use Rattle.autocoder_1401.specs.declared.fault.AsmKind.TheVariants as kinds

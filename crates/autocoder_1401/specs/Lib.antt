@@ -4,6 +4,7 @@ pub mod Cells
 pub mod Characters
 pub mod Fault
 pub mod FirstFault
+pub mod KeptLine
 pub mod Laws
 pub mod Listing
 pub mod Placement

@@ -3,10 +3,7 @@ use Rattle.std.specs.Prelude.{ℕ, ◌+◌, ◌==◌, Bool, ◌&&◌, nat_le, na
 use Rattle.bcd_1401.specs.declared.cell.Cell.{Cell}
 use Rattle.core_1401.specs.Address.{addresses}
 use Rattle.image_1401.specs.declared.image.Segment.{Segment}
-
--- how many cells a segment has at the most
-abbrev pub most_cells : ℕ
-most_cells = 40
+use Rattle.notation_1401.specs.Cells.{most_cells}
 
 -- an address; one that is none counts as 0, and is a fault of its line
 abbrev pub within : ℕ → ℕ

@@ -1,4 +1,4 @@
-//! The passes of the assembler, one behind the other.
+//! The passes of the assembler, in their order.
 ghost use Rattle.std.specs.Prelude.{◌≡◌, ◌<◌, ◌^◌, ◌⊎◌, length, None, Some, true, IfOk, IfErr, OnOk, IfNone, IfSome};
 ghost use Rattle.autocoder_1401.specs.Fault.{IsMemory, Gives};
 ghost use Rattle.autocoder_1401.specs.Symbols.{declared_at};
@@ -16,6 +16,8 @@ ghost use Rattle.autocoder_1401.specs.View.{places_of};
 use crate::cells::place_of;
 use crate::fault::AsmFault;
 use crate::first_fault::first_fault;
+use crate::hashing::SourceHashing;
+use crate::kept_line::KeptLine;
 use crate::listing::{Listing, list};
 use crate::placing::{Placing, place_all};
 use crate::reading::read_lines;
@@ -23,18 +25,22 @@ use crate::segments::emit;
 use crate::symbols::declared;
 use crate::values::first_outside;
 use image_1401::{Image, Segments};
-use source_1401::{Addressing, Line, Statement};
+use source_1401::{Addressing, Statement};
 use std::alloc::Global;
 
 /// The first line with a fault, and its lowest kind.
-fn scan(alloc: Global, lines: &[Line]) -> Result<Option<AsmFault>, AsmFault>
+fn scan(
+    alloc: Global,
+    hashing: SourceHashing,
+    lines: &[KeptLine],
+) -> Result<Option<AsmFault>, AsmFault>
     requires { length lines.now < 2 ^ 32 }
     ensures ok { IfOk result (λ fault. fault ≡ first_fault lines.now) }
     ensures faultless { IfOk result (λ fault. IfNone fault (IsFaultless (declared_at lines.now) lines.now)) }
     ensures first { IfOk result (λ fault. IfSome fault (λ f. IsFirstFault (declared_at lines.now) lines.now f)) }
     ensures err { IfErr result IsMemory }
 {
-    let labels = declared(alloc, lines)?;
+    let labels = declared(alloc, hashing, lines)?;
     let fault = first_fault(&labels, lines);
     Ok(fault)
 }
@@ -44,7 +50,7 @@ fn look_outside(
     alloc: Global,
     size: u16,
     all: &Placing,
-    lines: &[Line],
+    lines: &[KeptLine],
 ) -> Result<Option<AsmFault>, AsmFault>
     requires few { length lines.now < 2 ^ 32 }
     requires placed { places_of all.now ≡ placed lines.now }
@@ -57,12 +63,12 @@ fn look_outside(
 }
 
 /// The value of the first END.
-fn entry(all: &Placing, lines: &[Line]) -> Result<i64, AsmFault>
+fn entry(all: &Placing, lines: &[KeptLine]) -> Result<i64, AsmFault>
     ensures value { IfOk result (λ value. value ≡ entry_in (places_of all.now) lines.now) }
     ensures err { IfErr result IsMemory }
 {
     for line in lines {
-        let Some(Statement { body, .. }) = line.statement else {
+        let Some(Statement { body, .. }) = line.line().statement else {
             continue;
         };
         match body.describe().addressing {
@@ -77,7 +83,12 @@ fn entry(all: &Placing, lines: &[Line]) -> Result<i64, AsmFault>
 }
 
 /// Refuses the first line of which something isn't in core, once all is placed.
-fn refuse_outside(alloc: Global, size: u16, all: &Placing, lines: &[Line]) -> Result<(), AsmFault>
+fn refuse_outside(
+    alloc: Global,
+    size: u16,
+    all: &Placing,
+    lines: &[KeptLine],
+) -> Result<(), AsmFault>
     requires few { length lines.now < 2 ^ 32 }
     requires placed { places_of all.now ≡ placed lines.now }
     ensures inside { OnOk result (first_outside size lines.now ≡ None) }
@@ -91,23 +102,28 @@ fn refuse_outside(alloc: Global, size: u16, all: &Placing, lines: &[Line]) -> Re
 }
 
 /// What is placed by lines, or their first fault.
-fn place_lines(alloc: Global, lines: &[Line], size: u16) -> Result<Placing, AsmFault>
+fn place_lines(
+    alloc: Global,
+    hashing: SourceHashing,
+    lines: &[KeptLine],
+    size: u16,
+) -> Result<Placing, AsmFault>
     requires { length lines.now < 2 ^ 32 }
     ensures exact { Gives places_of result (unless_fault size lines.now (placed lines.now)) }
     ensures faultless { OnOk result (IsFaultless (declared_at lines.now) lines.now) }
     ensures first { IfErr result (λ fault. IsMemory fault ⊎ IsFaultOf size lines.now fault) }
     ensures inside { OnOk result (first_outside size lines.now ≡ None) }
 {
-    if let Some(fault) = scan(alloc, lines)? {
+    if let Some(fault) = scan(alloc, hashing, lines)? {
         return Err(fault);
     }
-    let all = place_all(alloc, lines)?;
+    let all = place_all(alloc, hashing, lines)?;
     refuse_outside(alloc, size, &all, lines)?;
     Ok(all)
 }
 
 /// The image of lines, once all is placed.
-fn image(alloc: Global, all: &Placing, lines: &[Line], size: u16) -> Result<Image, AsmFault>
+fn image(alloc: Global, all: &Placing, lines: &[KeptLine], size: u16) -> Result<Image, AsmFault>
     requires { places_of all.now ≡ placed lines.now }
     ensures ok { IfOk result (λ image. image ≡ image_of size lines.now) }
     ensures err { IfErr result IsMemory }
@@ -135,7 +151,7 @@ fn outputs(
     alloc: Global,
     all: &Placing,
     source: &[u8],
-    lines: &[Line],
+    lines: &[KeptLine],
     size: u16,
 ) -> Result<Assembly, AsmFault>
     requires lines { lines.now ≡ lines_in source.now }
@@ -153,33 +169,33 @@ fn outputs(
 ///
 /// # Errors
 ///
-/// `Memory` where memory is refused, or the source has too many lines. Else the fault of the first line that has one of
-/// kinds 2 to 8, 10 and 11, its lowest; and where no line has one, `OutOfCore` of the first line of which something is
-/// not in core.
+/// `Memory` if memory is refused or the source has too many lines. Otherwise the lowest fault of the first line that
+/// has one of kinds 2 to 8, 10 and 11; if no line has, `OutOfCore` for the first line of which something is not in core.
 #[tactic(auto, using(crate::proofs::PlacementLawLemmas::placed_in_turn))]
 pub fn assemble(alloc: Global, source: &[u8], size: u16) -> Result<Assembly, AsmFault>
-    // The image and the listing of the lines, or their first fault, memory aside.
+    // The image and the listing of the lines, or their first fault, unless memory is refused.
     ensures exact { Gives (λ assembly. assembly) result (assembly_in size source.now) }
 
-    // They come of a source without a fault alone.
+    // Only a source without a fault has them.
     ensures faultless { OnOk result (IsFaultless (declared_at (lines_in source.now)) (lines_in source.now)) }
 
     // All of the image is in core.
     ensures in_core { is_core_size size ≡ true → IfOk result (λ assembly. IsInCore assembly.image) }
 
-    // The segments have the cells that the lines place, in their order: 1 to 40 each, and no fewer than fit but in
-    // front of a gap.
+    // The segments have the cells that the lines place, in their order: 1 to 40 each, and fewer than fit only before a
+    // gap.
     ensures segments { is_core_size size ≡ true → IfOk result (λ assembly.
         IsCutOf (placed_cells (lines_in source.now)) assembly.image.segments) }
 
-    // Places go on by the lengths of the lines, behind an origin from its value; literals stand in the order of their
-    // first use, each once, one behind the other where EX or END places them.
+    // Places advance by the lengths of the lines, and from the value of an origin after one; literals are kept once
+    // each in the order of their first use, and EX and END place them one after the other.
     ensures placement { OnOk result (IsPlacedInTurn (lines_in source.now)) }
 
-    // A fault is the lowest of the first line that has one, or something of a faultless source isn't in core.
+    // A fault is the lowest of the first line that has one, or that something of a faultless source isn't in core.
     ensures first { IfErr result (λ fault. IsMemory fault ⊎ IsFaultOf size (lines_in source.now) fault) }
 {
     let lines = read_lines(alloc, source)?;
-    let all = place_lines(alloc, &lines, size)?;
+    let hashing = SourceHashing::from_source(source);
+    let all = place_lines(alloc, hashing, &lines, size)?;
     outputs(alloc, &all, source, &lines, size)
 }

@@ -12,17 +12,17 @@ ghost use Rattle.autocoder_1401.specs.View.{places_of};
 
 use crate::characters::{Characters, char_of, char_with};
 use crate::fault::AsmFault;
-use crate::placing::{Placing, instruction_length};
-use crate::values::last_place;
+use crate::kept_line::KeptLine;
+use crate::placing::{Placing, instruction_length, last_place};
 use bcd_1401::{Cell, Char};
 use core_1401::{ADDRESSES, encode};
 use source_1401::{
-    Address, AreaRole, Areas, Constant, Contents, Description, Instruction, Line, Next, Operand,
+    Address, AreaRole, Areas, Constant, Contents, Description, Instruction, Next, Operand,
     OperandField, Operands, Statement,
 };
 use std::alloc::Global;
 
-/// The place that a value is the address of, and 0 where it is none.
+/// The place that a value is the address of; 0 if it is none.
 pub(crate) fn place_of(value: i64) -> u16
     ensures value { result ≡ place_of value }
     ensures range { result < addresses }
@@ -137,7 +137,7 @@ impl Placing {
         Ok(())
     }
 
-    /// The address of the next place, and 0 where it is none.
+    /// The address of the next place; 0 if it is none.
     pub(crate) fn address(&self) -> u16
         ensures { result ≡ place_of (places_of self.now).next }
     {
@@ -222,11 +222,11 @@ fn mark(area: &mut [Cell], place: usize)
 }
 
 /// Sets the word marks of the fields directly behind areas, comments aside.
-fn mark_fields(area: &mut [Cell], lines: &[Line])
+fn mark_fields(area: &mut [Cell], lines: &[KeptLine])
     ensures { area.new ≡ fold with_field area.old (fields_behind lines.now) }
 {
     for line in lines {
-        let Some(Statement { body, .. }) = line.statement else {
+        let Some(Statement { body, .. }) = line.line().statement else {
             continue;
         };
         match body.describe().areas {
@@ -241,7 +241,7 @@ fn mark_fields(area: &mut [Cell], lines: &[Line])
 fn put_areas(
     alloc: Global,
     areas: Option<Areas>,
-    lines: &[Line],
+    lines: &[KeptLine],
     out: &mut Vec<Cell>,
 ) -> Result<(), AsmFault>
     ensures ok { OnOk result (out.new.items ≡ out.old.items ++ areas_cells areas lines.now) }
@@ -277,7 +277,7 @@ pub(crate) fn put_contents(
     all: &Placing,
     so_far: &Placing,
     contents: Contents,
-    lines: &[Line],
+    lines: &[KeptLine],
     out: &mut Vec<Cell>,
 ) -> Result<(), AsmFault>
     ensures ok { OnOk result (out.new.items
@@ -302,7 +302,7 @@ pub(crate) fn put_row(
     all: &Placing,
     so_far: &Placing,
     row: Description,
-    lines: &[Line],
+    lines: &[KeptLine],
     out: &mut Vec<Cell>,
 ) -> Result<(), AsmFault>
     ensures ok { OnOk result (out.new.items
@@ -321,15 +321,15 @@ pub(crate) fn cells_of(
     alloc: Global,
     all: &Placing,
     so_far: &Placing,
-    line: &Line,
-    lines: &[Line],
+    line: &KeptLine,
+    lines: &[KeptLine],
 ) -> Result<Vec<Cell>, AsmFault>
     ensures ok { IfOk result
         (λ cells. cells.items ≡ statement_cells (places_of all.now) (places_of so_far.now) line.now.statement lines.now) }
     ensures err { IfErr result IsMemory }
 {
     let mut out = Vec::new(alloc);
-    let Some(Statement { body, .. }) = line.statement else {
+    let Some(Statement { body, .. }) = line.line().statement else {
         return Ok(out);
     };
     put_row(alloc, all, so_far, body.describe(), lines, &mut out)?;

@@ -14,7 +14,7 @@ const MINUS: u8 = 2;
 /// The characters of a constant, at most 50.
 #[derive(Clone, Copy, Debug, PartialEq, Eq, Hash)]
 pub(crate) struct Characters {
-    /// Their codes, with blanks behind them.
+    /// Their codes, followed by blanks.
     pub codes: [u8; 50],
     /// How many there are.
     pub len: u8,
@@ -99,7 +99,7 @@ impl Characters {
     }
 }
 
-/// The character with a code, and a blank where there is none.
+/// The character with a code; a blank if there is none.
 pub(crate) fn char_with(code: u8) -> Char
     ensures { result ≡ char_with code }
 {

@@ -5,8 +5,8 @@ ghost use Rattle.autocoder_1401.specs.declared.fault.AsmKind.TheVariants.{Memory
 use std::alloc::{AllocError, AllocFailed};
 use thiserror::Error;
 
-/// The kinds of a fault, the lowest first. Kinds 2 to 8, 10 and 11 are looked for over the whole source first; only a
-/// source without any of them is placed, and then looked at for kind 9.
+/// The kinds of fault, the lowest first. The whole source is searched for kinds 2 to 8, 10 and 11; only a source
+/// without any of them is placed, and then searched for kind 9.
 #[derive(Clone, Copy, Debug, PartialEq, Eq, Error)]
 pub enum AsmKind {
     /// 1: memory was refused, or the source has more than 4,294,967,295 lines.
@@ -39,7 +39,7 @@ pub enum AsmKind {
     /// 10: there is no END.
     #[error("10 NO END")]
     NoEnd,
-    /// 11: a line behind END is no comment.
+    /// 11: a line after END is no comment.
     #[error("11 AFTER END")]
     AfterEnd,
 }

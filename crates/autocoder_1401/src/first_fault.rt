@@ -9,13 +9,13 @@ ghost use Rattle.autocoder_1401.specs.FirstFault.{lowest_in, lowest, first_fault
 ghost use Rattle.autocoder_1401.specs.FirstFault.{IsFirstFault};
 
 use crate::fault::{AsmFault, AsmKind};
+use crate::kept_line::KeptLine;
 use crate::symbols::Labels;
 use source_1401::{
-    Addressing, AreaRole, Base, Body, Bytes, Label, LabelField, Line, Operand, OperandField,
-    Statement,
+    Addressing, AreaRole, Base, Body, Bytes, Label, LabelField, Operand, OperandField, Statement,
 };
 
-/// What stands before a line.
+/// What the lines before a line tell of it.
 #[derive(Clone, Copy, Debug, PartialEq, Eq)]
 pub(crate) struct Place {
     /// The line's number.
@@ -34,23 +34,23 @@ impl Place {
         areas: None,
     };
 
-    /// The place behind a line.
-    fn behind(self, line: &Line) -> Place
+    /// The place after a line.
+    fn behind(self, line: &KeptLine) -> Place
         requires { self.number < 2 ^ 33 }
         ensures { result ≡ place_behind self line.now }
     {
         Place {
             number: self.number + 1,
-            is_ended: self.is_ended | line.is_end(),
+            is_ended: self.is_ended | line.line().is_end(),
             areas: self.areas_behind(line),
         }
     }
 
-    /// The length of the areas that a field behind the line would divide.
-    fn areas_behind(self, line: &Line) -> Option<u16>
+    /// The length of the areas that a field after the line would divide.
+    fn areas_behind(self, line: &KeptLine) -> Option<u16>
         ensures { result ≡ areas_behind self.areas line.now }
     {
-        match line.statement {
+        match line.line().statement {
             Some(Statement { body, .. }) => match body.describe().areas {
                 AreaRole::Makes(Some(areas)) => Some(areas.length),
                 AreaRole::Makes(None) | AreaRole::Ends => None,
@@ -83,7 +83,7 @@ impl Place {
         !row.is_known || (matches!(row.areas, AreaRole::Divides(_)) && self.areas.is_none())
     }
 
-    /// Whether a field ends behind its area.
+    /// Whether a field ends beyond its area.
     fn is_past_areas(self, body: Body) -> bool
         ensures { result ≡ is_past_areas self.areas body }
     {
@@ -196,10 +196,10 @@ fn lowest_in_statement(labels: &Labels, at: Place, statement: Statement) -> Opti
 }
 
 /// The first kind that a line is found to have.
-fn lowest_of(labels: &Labels, at: Place, line: &Line) -> Option<AsmKind>
+fn lowest_of(labels: &Labels, at: Place, line: &KeptLine) -> Option<AsmKind>
     ensures { result ≡ lowest (get same_label labels.now) at line.now }
 {
-    match (line.bytes, line.statement) {
+    match (line.line().bytes, line.line().statement) {
         (Bytes::Long, _) => Some(AsmKind::LongLine),
         (Bytes::Foreign, _) => Some(AsmKind::Graphic),
         (Bytes::Good, None) => None,
@@ -209,7 +209,7 @@ fn lowest_of(labels: &Labels, at: Place, line: &Line) -> Option<AsmKind>
 }
 
 /// The lowest kind of a line's faults.
-fn lowest_kind(labels: &Labels, at: Place, line: &Line) -> Option<AsmKind>
+fn lowest_kind(labels: &Labels, at: Place, line: &KeptLine) -> Option<AsmKind>
     ensures value { result ≡ lowest (get same_label labels.now) at line.now }
     ensures clean { IfNone result (IsClean (get same_label labels.now) at line.now) }
     ensures lowest { IfSome result (λ kind. IsLowest (get same_label labels.now) at line.now kind) }
@@ -219,7 +219,7 @@ fn lowest_kind(labels: &Labels, at: Place, line: &Line) -> Option<AsmKind>
 }
 
 /// The first line with a fault, and its lowest kind.
-pub(crate) fn first_fault(labels: &Labels, lines: &[Line]) -> Option<AsmFault>
+pub(crate) fn first_fault(labels: &Labels, lines: &[KeptLine]) -> Option<AsmFault>
     requires { length lines.now < 2 ^ 32 }
     ensures value { result ≡ first_fault_from (get same_label labels.now) first_place lines.now }
     ensures faultless { IfNone result (IsFaultless (get same_label labels.now) lines.now) }

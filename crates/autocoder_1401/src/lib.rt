@@ -6,24 +6,24 @@
 //! assembly.listing.as_slice()             // the lines of the source with their addresses and cells
 //! ```
 //!
-//! A source is read into its lines; the labels are noted; each line is looked at for the faults that it has among its
-//! neighbours; then all is placed, with the literals in the order of their first use, and looked at for places and
-//! values that aren't in core. The cells of a source without a fault are cut into segments of at most 40, and its lines
-//! are listed.
+//! The passes are in `assembly`; each line is placed, valued, listed and made into cells by its row of the table of
+//! kinds of statement, `source_1401::Description`.
 #![tactic(auto)]
 
-pub mod assembly;
-mod cells;
-mod characters;
-pub mod fault;
-mod first_fault;
-pub mod listing;
-mod placing;
-mod printing;
-mod reading;
-mod segments;
-mod symbols;
-mod values;
+pub mod assembly; // the passes, in their order
+mod reading; // a source as its lines
+mod kept_line; // a line, as it is kept
+mod hashing; // how labels and literals are hashed
+mod symbols; // which line declares a label
+mod first_fault; // faults of kinds 2 to 8, 10 and 11
+mod placing; // where statements and literals are placed
+mod values; // the values of addresses, and what isn't in core: kind 9
+mod characters; // the characters of constants and literals
+mod cells; // the cells of a line
+mod segments; // the cells, cut into segments
+mod printing; // the parts of a line of the listing
+pub mod listing; // the source with its addresses and cells
+pub mod fault; // the kinds of fault
 
 pub use assembly::{Assembly, assemble};
 pub use fault::{AsmFault, AsmKind};

@@ -15,11 +15,12 @@ ghost use Rattle.autocoder_1401.specs.View.{places_of};
 use crate::cells::{put_constant, put_contents};
 use crate::characters::Characters;
 use crate::fault::AsmFault;
+use crate::kept_line::KeptLine;
 use crate::placing::{Placing, plus};
 use crate::printing::{cut_last_blanks, put_address, put_characters, put_number, put_spelling};
 use crate::segments::lines_behind;
 use bcd_1401::Cell;
-use source_1401::{Addressing, Body, Constant, Line, Next, Statement, split_line};
+use source_1401::{Addressing, Body, Constant, Next, Statement, split_line};
 use std::alloc::Global;
 use std::marker::Model;
 
@@ -46,7 +47,7 @@ impl ListingLine {
     }
 }
 
-/// The lines of a listing, one behind the other. Contracts see the list of them.
+/// The lines of a listing, in their order. Contracts see the list of them.
 #[derive(Debug, Drop)]
 pub struct Listing {
     lines: Vec<ListingLine>,
@@ -122,8 +123,7 @@ fn literal_line(alloc: Global, from: i64, literal: Constant) -> Result<ListingLi
     put_constant(Some(literal), true, &mut cells)?;
     let mut source = Vec::new(alloc);
     put_spelling(&mut source, literal)?;
-    let line = listing_line(alloc, None, Some(from), &cells, &source)?;
-    Ok(line)
+    listing_line(alloc, None, Some(from), &cells, &source)
 }
 
 impl Placing {
@@ -170,7 +170,7 @@ impl Placing {
         alloc: Global,
         all: &Placing,
         body: Body,
-        lines: &[Line],
+        lines: &[KeptLine],
     ) -> Result<Vec<Cell>, AsmFault>
         ensures ok { IfOk result
             (λ cells. cells.items ≡ cells_at (places_of all.now) (places_of self.now) body lines.now) }
@@ -183,10 +183,10 @@ impl Placing {
     }
 
     /// How the literals were first written that a line here places.
-    fn literals_in(&self, line: &Line) -> &[Constant]
+    fn literals_in(&self, line: &KeptLine) -> &[Constant]
         ensures { result.now ≡ literals_in (places_of self.now) line.now.statement }
     {
-        match line.statement {
+        match line.line().statement {
             Some(Statement { body, .. }) => self.literals_at(body),
             None => &[],
         }
@@ -196,15 +196,14 @@ impl Placing {
     fn put_literals_of(
         &self,
         alloc: Global,
-        line: &Line,
+        line: &KeptLine,
         lines: &mut Vec<ListingLine>,
     ) -> Result<(), AsmFault>
         ensures ok { OnOk result (lines.new.items ≡ lines.old.items
             ++ literal_lines (places_of self.now).next (literals_in (places_of self.now) line.now.statement)) }
         ensures err { IfErr result IsMemory }
     {
-        put_literal_lines(alloc, self.next, self.literals_in(line), lines)?;
-        Ok(())
+        put_literal_lines(alloc, self.next, self.literals_in(line), lines)
     }
 
     /// The line of the listing for a line of the source here, with these lines behind it.
@@ -214,24 +213,20 @@ impl Placing {
         all: &Placing,
         number: u64,
         source: &[u8],
-        line: &Line,
-        behind: &[Line],
+        line: &KeptLine,
+        behind: &[KeptLine],
     ) -> Result<ListingLine, AsmFault>
         ensures ok { IfOk result (λ text. text
             ≡ line_for (places_of all.now) (places_of self.now) number source.now line.now.statement behind.now) }
         ensures err { IfErr result IsMemory }
     {
-        match line.statement {
+        match line.line().statement {
             Some(Statement { body, .. }) => {
                 let address = self.address_at(all, body)?;
                 let cells = self.cells_at(alloc, all, body, behind)?;
-                let text = listing_line(alloc, Some(number), Some(address), &cells, source)?;
-                Ok(text)
+                listing_line(alloc, Some(number), Some(address), &cells, source)
             },
-            None => {
-                let text = listing_line(alloc, Some(number), None, &[], source)?;
-                Ok(text)
-            },
+            None => listing_line(alloc, Some(number), None, &[], source),
         }
     }
 
@@ -242,8 +237,8 @@ impl Placing {
         all: &Placing,
         number: u64,
         source: &[u8],
-        line: &Line,
-        behind: &[Line],
+        line: &KeptLine,
+        behind: &[KeptLine],
         lines: &mut Vec<ListingLine>,
     ) -> Result<(), AsmFault>
         ensures listed { OnOk result (lines.new.items ≡ lines.old.items
@@ -265,7 +260,7 @@ impl Placing {
         alloc: Global,
         all: &Placing,
         source: &[u8],
-        lines: &[Line],
+        lines: &[KeptLine],
         listing: &mut Vec<ListingLine>,
     ) -> Result<(), AsmFault>
         requires lines { lines.now ≡ map line_of (lines_of source.now) }
@@ -292,7 +287,7 @@ fn put_listing(
     alloc: Global,
     all: &Placing,
     source: &[u8],
-    lines: &[Line],
+    lines: &[KeptLine],
     listing: &mut Vec<ListingLine>,
 ) -> Result<(), AsmFault>
     requires lines { lines.now ≡ map line_of (lines_of source.now) }
@@ -301,7 +296,7 @@ fn put_listing(
         ≡ listing.old.items ++ listing_from (places_of all.now) nothing_placed 1 (lines_of source.now)) }
     ensures err { IfErr result IsMemory }
 {
-    let mut placing = Placing::new(alloc);
+    let mut placing = Placing::new(alloc, all.hashing);
     placing.list_lines(alloc, all, source, lines, listing)
 }
 
@@ -314,7 +309,7 @@ pub(crate) fn list(
     alloc: Global,
     all: &Placing,
     source: &[u8],
-    lines: &[Line],
+    lines: &[KeptLine],
 ) -> Result<Listing, AsmFault>
     requires lines { lines.now ≡ map line_of (lines_of source.now) }
     requires few { length lines.now < 2 ^ 32 }

@@ -9,15 +9,18 @@ ghost use Rattle.autocoder_1401.specs.Placement.{nothing_placed, with_literal, w
 ghost use Rattle.autocoder_1401.specs.Placement.{pending, behind_literals, units_from, instruction_length};
 ghost use Rattle.autocoder_1401.specs.Placement.{constant_length, contents_length, base_so_far, value_so_far};
 ghost use Rattle.autocoder_1401.specs.Placement.{point_value, moved, behind_row, with_label, after_line, placed};
+ghost use Rattle.autocoder_1401.specs.Values.{last_place};
 ghost use Rattle.autocoder_1401.specs.View.{places_of};
 ghost use Rattle.source_1401.specs.Operands.{count_of};
 
 use crate::characters::Characters;
 use crate::fault::AsmFault;
+use crate::hashing::SourceHashing;
+use crate::kept_line::KeptLine;
 use indexmap::{IndexMap, IndexSet};
 use source_1401::{
-    Addressing, AreaRole, Base, Constant, Contents, Description, Label, LabelField, Line, Next,
-    Operand, OperandField, Operands, Point, Statement,
+    Addressing, AreaRole, Base, Constant, Contents, Description, Label, LabelField, Next, Operand,
+    OperandField, Operands, Point, Statement,
 };
 use std::alloc::Global;
 
@@ -32,16 +35,18 @@ pub(crate) struct Placing {
     /// The first place of the last areas.
     pub areas: i64,
     /// The values of labels.
-    pub values: IndexMap<Label, i64>,
+    pub values: IndexMap<Label, i64, SourceHashing>,
     /// The literals in the order of their first use.
-    pub literals: IndexSet<Characters>,
+    pub literals: IndexSet<Characters, SourceHashing>,
     /// How each of them was first written.
     pub spellings: Vec<Constant>,
     /// The units places of those that are placed.
     pub addresses: Vec<i64>,
+    /// How labels and literals are hashed.
+    pub hashing: SourceHashing,
 }
 
-/// A sum. One that no core comes near is refused like memory.
+/// Adds; an overflow, far beyond any core, is reported as `Memory`.
 pub(crate) fn plus(one: i64, other: i64) -> Result<i64, AsmFault>
     ensures sum { IfOk result (λ sum. sum ≡ one +ℤ other) }
     ensures err { IfErr result IsMemory }
@@ -50,6 +55,15 @@ pub(crate) fn plus(one: i64, other: i64) -> Result<i64, AsmFault>
         Some(sum) => Ok(sum),
         None => Err(AsmFault::MEMORY),
     }
+}
+
+/// The last of the places of a length from the first on.
+pub(crate) fn last_place(first: i64, length: u32) -> Result<i64, AsmFault>
+    ensures value { IfOk result (λ last. last ≡ last_place first length) }
+    ensures err { IfErr result IsMemory }
+{
+    let behind = plus(first, i64::from(length))?;
+    plus(behind, -1)
 }
 
 /// How many places an operand takes.
@@ -128,7 +142,7 @@ fn place_literals(
 }
 
 /// The literals from an index on.
-fn behind(literals: &IndexSet<Characters>, first: usize) -> &[Characters]
+fn behind(literals: &IndexSet<Characters, SourceHashing>, first: usize) -> &[Characters]
     ensures { result.now ≡ drop first literals.now.keys }
 {
     let all = literals.as_slice();
@@ -141,16 +155,17 @@ fn behind(literals: &IndexSet<Characters>, first: usize) -> &[Characters]
 
 impl Placing {
     /// Before the first line.
-    pub(crate) fn new(alloc: Global) -> Placing
+    pub(crate) fn new(alloc: Global, hashing: SourceHashing) -> Placing
         ensures { places_of result ≡ nothing_placed }
     {
         Placing {
             next: FIRST_PLACE,
             areas: FIRST_PLACE,
-            values: IndexMap::new(alloc),
-            literals: IndexSet::new(alloc),
+            values: IndexMap::with_hasher(alloc, hashing),
+            literals: IndexSet::with_hasher(alloc, hashing),
             spellings: Vec::new(alloc),
             addresses: Vec::new(alloc),
+            hashing,
         }
     }
 
@@ -201,10 +216,7 @@ impl Placing {
     {
         match point {
             Point::First => Ok(self.next),
-            Point::Last => plus(
-                plus(self.next, i64::from(contents_length(row.contents)))?,
-                -1,
-            ),
+            Point::Last => last_place(self.next, contents_length(row.contents)),
             Point::InArea(place) => plus(plus(self.areas, i64::from(place))?, -1),
             Point::Value => values.value_so_far(row.addressing.operands().a),
         }
@@ -307,11 +319,11 @@ impl Placing {
     }
 
     /// Places a line.
-    pub(crate) fn place(&mut self, line: &Line) -> Result<(), AsmFault>
+    pub(crate) fn place(&mut self, line: &KeptLine) -> Result<(), AsmFault>
         ensures ok { OnOk result (places_of self.new ≡ after_line (places_of self.old) line.now) }
         ensures err { IfErr result IsMemory }
     {
-        let Some(Statement { label, body }) = line.statement else {
+        let Some(Statement { label, body }) = line.line().statement else {
             return Ok(());
         };
         let row = body.describe();
@@ -322,7 +334,7 @@ impl Placing {
     }
 
     /// Places lines.
-    fn place_each(&mut self, lines: &[Line]) -> Result<(), AsmFault>
+    fn place_each(&mut self, lines: &[KeptLine]) -> Result<(), AsmFault>
         ensures ok { OnOk result (places_of self.new ≡ fold after_line (places_of self.old) lines.now) }
         ensures err { IfErr result IsMemory }
     {
@@ -338,11 +350,15 @@ impl Placing {
 /// # Errors
 ///
 /// `Memory` where there is no room for labels and literals.
-pub(crate) fn place_all(alloc: Global, lines: &[Line]) -> Result<Placing, AsmFault>
+pub(crate) fn place_all(
+    alloc: Global,
+    hashing: SourceHashing,
+    lines: &[KeptLine],
+) -> Result<Placing, AsmFault>
     ensures ok { IfOk result (λ placing. places_of placing ≡ placed lines.now) }
     ensures err { IfErr result IsMemory }
 {
-    let mut placing = Placing::new(alloc);
+    let mut placing = Placing::new(alloc, hashing);
     placing.place_each(lines)?;
     Ok(placing)
 }

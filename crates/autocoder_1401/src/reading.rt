@@ -5,6 +5,7 @@ ghost use Rattle.source_1401.specs.Statement.{line_of};
 ghost use Rattle.autocoder_1401.specs.Fault.{IsMemory};
 
 use crate::fault::AsmFault;
+use crate::kept_line::KeptLine;
 use source_1401::{Line, split_line};
 use std::alloc::Global;
 
@@ -16,7 +17,7 @@ const MOST_LINES: usize = 4_294_967_295;
 /// # Errors
 ///
 /// `Memory` where there is no room for them, or they are too many.
-pub(crate) fn read_lines(alloc: Global, source: &[u8]) -> Result<Vec<Line>, AsmFault>
+pub(crate) fn read_lines(alloc: Global, source: &[u8]) -> Result<Vec<KeptLine>, AsmFault>
     ensures lines { IfOk result (λ v. v.items ≡ map line_of (lines_of source.now)) }
     ensures few { IfOk result (λ v. vec_len v < 2 ^ 32) }
     ensures err { IfErr result IsMemory }
@@ -27,7 +28,7 @@ pub(crate) fn read_lines(alloc: Global, source: &[u8]) -> Result<Vec<Line>, AsmF
         if lines.len() == MOST_LINES {
             return Err(AsmFault::MEMORY);
         }
-        lines.push(Line::from_bytes(line))?;
+        lines.push(KeptLine::new(alloc, Line::from_bytes(line))?)?;
         rest = behind;
     }
     Ok(lines)

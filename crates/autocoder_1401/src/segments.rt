@@ -10,11 +10,11 @@ ghost use Rattle.autocoder_1401.specs.Built.{built};
 
 use crate::cells::cells_of;
 use crate::fault::AsmFault;
+use crate::kept_line::KeptLine;
 use crate::placing::Placing;
 use bcd_1401::Cell;
 use core_1401::{ADDRESSES, Cells, MOST_CELLS};
 use image_1401::Segment;
-use source_1401::Line;
 use std::alloc::Global;
 
 /// The segments so far, and the one that may go on.
@@ -28,7 +28,7 @@ pub(crate) struct Builder {
     pub cells: Vec<Cell>,
 }
 
-/// An address, and 0 where it is none.
+/// The address; 0 if it is none.
 fn within(at: usize) -> u16
     ensures { result ≡ within at }
 {
@@ -111,8 +111,8 @@ impl Builder {
         alloc: Global,
         all: &Placing,
         so_far: &mut Placing,
-        line: &Line,
-        behind: &[Line],
+        line: &KeptLine,
+        behind: &[KeptLine],
     ) -> Result<(), AsmFault>
         ensures built { OnOk result ((rest : List (ℕ × ACell)) → built self.new rest ≡ built self.old
             (numbered (place_of (places_of so_far.old).next)
@@ -132,7 +132,7 @@ impl Builder {
         alloc: Global,
         all: &Placing,
         so_far: &mut Placing,
-        lines: &[Line],
+        lines: &[KeptLine],
     ) -> Result<(), AsmFault>
         ensures ok { OnOk result (built self.new []
             ≡ built self.old (cells_from (places_of all.now) (places_of so_far.old) lines.now)) }
@@ -155,7 +155,7 @@ impl Builder {
 }
 
 /// The lines behind the one with this index.
-pub(crate) fn lines_behind(lines: &[Line], i: usize) -> &[Line]
+pub(crate) fn lines_behind(lines: &[KeptLine], i: usize) -> &[KeptLine]
     requires { i < length lines.now }
     ensures { result.now ≡ drop (i + 1) lines.now }
 {
@@ -166,14 +166,14 @@ pub(crate) fn lines_behind(lines: &[Line], i: usize) -> &[Line]
 fn put_cells(
     alloc: Global,
     all: &Placing,
-    lines: &[Line],
+    lines: &[KeptLine],
     builder: &mut Builder,
 ) -> Result<(), AsmFault>
     ensures ok { OnOk result (built builder.new []
         ≡ built builder.old (cells_from (places_of all.now) nothing_placed lines.now)) }
     ensures err { IfErr result IsMemory }
 {
-    let mut placing = Placing::new(alloc);
+    let mut placing = Placing::new(alloc, all.hashing);
     builder.put_lines(alloc, all, &mut placing, lines)
 }
 
@@ -182,7 +182,11 @@ fn put_cells(
 /// # Errors
 ///
 /// `Memory` where there is no room for them.
-pub(crate) fn emit(alloc: Global, all: &Placing, lines: &[Line]) -> Result<Vec<Segment>, AsmFault>
+pub(crate) fn emit(
+    alloc: Global,
+    all: &Placing,
+    lines: &[KeptLine],
+) -> Result<Vec<Segment>, AsmFault>
     ensures ok { IfOk result
         (λ segments. segments.items ≡ segments_of (cells_from (places_of all.now) nothing_placed lines.now)) }
     ensures err { IfErr result IsMemory }

@@ -7,21 +7,23 @@ ghost use Rattle.autocoder_1401.specs.Fault.{IsMemory};
 ghost use Rattle.autocoder_1401.specs.Symbols.{same_label, declared_at, has_label, or_number};
 
 use crate::fault::AsmFault;
+use crate::hashing::SourceHashing;
+use crate::kept_line::KeptLine;
 use indexmap::IndexMap;
-use source_1401::{Label, Line};
+use source_1401::Label;
 use std::alloc::Global;
 
 /// For each label the number of the line that declares it.
-pub(crate) type Labels = IndexMap<Label, u64>;
+pub(crate) type Labels = IndexMap<Label, u64, SourceHashing>;
 
 /// Notes a line's label, unless an earlier line has it.
-fn note(labels: &mut Labels, line: &Line, number: u64) -> Result<(), AsmFault>
+fn note(labels: &mut Labels, line: &KeptLine, number: u64) -> Result<(), AsmFault>
     ensures noted { OnOk result ((label : ALabel) →
         get same_label labels.new label
         ≡ or_number (get same_label labels.old label) number (has_label label (label_of_line line.now))) }
     ensures err { IfErr result IsMemory }
 {
-    if let Some(label) = line.label() {
+    if let Some(label) = line.line().label() {
         if !labels.contains_key(&label) {
             labels.insert(label, number)?;
         }
@@ -34,16 +36,20 @@ fn note(labels: &mut Labels, line: &Line, number: u64) -> Result<(), AsmFault>
 /// # Errors
 ///
 /// `Memory` where there is no room for them.
-pub(crate) fn declared(alloc: Global, lines: &[Line]) -> Result<Labels, AsmFault>
+pub(crate) fn declared(
+    alloc: Global,
+    hashing: SourceHashing,
+    lines: &[KeptLine],
+) -> Result<Labels, AsmFault>
     requires { length lines.now < 2 ^ 32 }
     ensures lines { IfOk result
         (λ labels. (label : ALabel) → get same_label labels label ≡ declared_at lines.now label) }
     ensures err { IfErr result IsMemory }
 {
-    let mut labels = IndexMap::new(alloc);
+    let mut labels = IndexMap::with_hasher(alloc, hashing);
     for (i, line) in lines.iter().enumerate() {
         note(&mut labels, line, i as u64 + 1)?;
-        if line.is_end() {
+        if line.line().is_end() {
             return Ok(labels);
         }
     }

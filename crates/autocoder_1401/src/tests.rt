@@ -280,3 +280,21 @@ fn a_fault_shows_its_line_its_number_and_its_name(rt: HostRuntime) -> Result<(),
     }
     Ok(())
 }
+
+#[test]
+fn comments_are_numbered_and_searched(rt: HostRuntime) -> Result<(), Fail> {
+    let source = b"     * GOOD\n\n     * BAD \x01\n               END  0\n";
+    assert_eq!(rt; fault(&rt, source, 4_000), Some((3, AsmKind::Graphic)));
+    let mut empty = Vec::new(rt.alloc());
+    for _ in 0..10_000 {
+        empty.push(b'\n')?;
+    }
+    assert_eq!(rt; fault(&rt, &empty, 4_000), Some((10_001, AsmKind::NoEnd)));
+    empty.extend_from_slice(b"               END  400")?;
+    let Assembly { image, listing } = assemble(rt.alloc(), &empty, 4_000)?;
+    assert_eq!(rt; (image.start, image.segments.as_slice().len()), (400, 0));
+    let lines = listing.as_slice();
+    assert_eq!(rt; lines.len(), 10_001);
+    assert_eq!(rt; lines[9_999].as_slice(), b"10000".as_slice());
+    Ok(())
+}

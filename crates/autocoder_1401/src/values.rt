@@ -3,16 +3,15 @@ ghost use Rattle.std.specs.Prelude.{◌≡◌, ◌<◌, ◌^◌, length, IfOk, I
 ghost use Rattle.autocoder_1401.specs.Fault.{IsMemory};
 ghost use Rattle.autocoder_1401.specs.Placement.{nothing_placed};
 ghost use Rattle.autocoder_1401.specs.Values.{base_value, address_value, is_in_core, are_in_core, operand_outside};
-ghost use Rattle.autocoder_1401.specs.Values.{places_outside, last_place, literals_outside, next_outside};
+ghost use Rattle.autocoder_1401.specs.Values.{places_outside, literals_outside, next_outside};
 ghost use Rattle.autocoder_1401.specs.Values.{value_outside, addresses_outside, row_outside, line_outside};
 ghost use Rattle.autocoder_1401.specs.Values.{first_outside_from};
 ghost use Rattle.autocoder_1401.specs.View.{places_of};
 
 use crate::fault::{AsmFault, AsmKind};
-use crate::placing::{Placing, behind_literals, contents_length, plus};
-use source_1401::{
-    Address, Addressing, Base, Description, Line, Next, Operand, OperandField, Statement,
-};
+use crate::kept_line::KeptLine;
+use crate::placing::{Placing, behind_literals, contents_length, last_place, plus};
+use source_1401::{Address, Addressing, Base, Description, Next, Operand, OperandField, Statement};
 use std::alloc::Global;
 
 /// Whether a value is the address of a place of core storage of this size.
@@ -37,16 +36,6 @@ fn is_value_outside(size: u16, value: i64, next: Next) -> bool
         Next::Behind | Next::Literals => !is_in_core(size, value),
         Next::Value => !are_in_core(size, value, value),
     }
-}
-
-/// The last of the places of a length from the first on.
-pub(crate) fn last_place(first: i64, length: u32) -> Result<i64, AsmFault>
-    ensures value { IfOk result (λ last. last ≡ last_place first length) }
-    ensures err { IfErr result IsMemory }
-{
-    let behind = plus(first, i64::from(length))?;
-    let last = plus(behind, -1)?;
-    Ok(last)
 }
 
 /// Whether one of the places of a length isn't in core.
@@ -76,8 +65,7 @@ impl Placing {
         ensures err { IfErr result IsMemory }
     {
         let base = self.base_value(here, address.base);
-        let value = plus(base, i64::from(address.adjustment))?;
-        Ok(value)
+        plus(base, i64::from(address.adjustment))
     }
 
     /// Whether an operand is an address whose value isn't in core.
@@ -165,16 +153,13 @@ impl Placing {
     }
 
     /// Whether something of a line here isn't in core.
-    fn is_line_outside(&self, size: u16, all: &Placing, line: &Line) -> Result<bool, AsmFault>
+    fn is_line_outside(&self, size: u16, all: &Placing, line: &KeptLine) -> Result<bool, AsmFault>
         ensures value { IfOk result
             (λ outside. outside ≡ line_outside size (places_of all.now) (places_of self.now) line.now) }
         ensures err { IfErr result IsMemory }
     {
-        match line.statement {
-            Some(Statement { body, .. }) => {
-                let outside = self.is_row_outside(size, all, body.describe())?;
-                Ok(outside)
-            },
+        match line.line().statement {
+            Some(Statement { body, .. }) => { self.is_row_outside(size, all, body.describe()) },
             None => Ok(false),
         }
     }
@@ -185,7 +170,7 @@ impl Placing {
         &mut self,
         size: u16,
         all: &Placing,
-        lines: &[Line],
+        lines: &[KeptLine],
     ) -> Result<Option<AsmFault>, AsmFault>
         requires { length lines.now < 2 ^ 32 }
         ensures ok { IfOk result
@@ -214,12 +199,12 @@ pub(crate) fn first_outside(
     alloc: Global,
     size: u16,
     all: &Placing,
-    lines: &[Line],
+    lines: &[KeptLine],
 ) -> Result<Option<AsmFault>, AsmFault>
     requires { length lines.now < 2 ^ 32 }
     ensures ok { IfOk result (λ fault. fault ≡ first_outside_from size (places_of all.now) 1 nothing_placed lines.now) }
     ensures err { IfErr result IsMemory }
 {
-    let mut placing = Placing::new(alloc);
+    let mut placing = Placing::new(alloc, all.hashing);
     placing.first_outside(size, all, lines)
 }

@@ -6,12 +6,13 @@ use Rattle.std.specs.List.{prefix_len}
 use Rattle.std.specs.Str.{bytes_eq}
 use Rattle.source_1401.specs.Label.{is_digit, is_letter_or_digit, label_of}
 use Rattle.source_1401.specs.Numbers.{short_number}
+use Rattle.source_1401.specs.Punctuation.{asterisk, plus_sign, minus_sign}
 use Rattle.source_1401.specs.declared.address.Address.{Address}
 use Rattle.source_1401.specs.declared.address.Base.{Base}
 use Rattle.source_1401.specs.declared.address.Base.TheVariants as bases
 
 abbrev pub begins_with_asterisk : List ℕ → Bool
-begins_with_asterisk text = slice_index text 0 == 42
+begins_with_asterisk text = slice_index text 0 == asterisk
 
 -- an address begins with an asterisk, or with a word of letters and digits
 abbrev pub base_len : List ℕ → ℕ
@@ -41,10 +42,10 @@ indexed base adjustment rest =
 
 -- an adjustment is a sign and a number
 abbrev pub is_adjusted : List ℕ → Bool
-is_adjusted rest = ((slice_index rest 0 == 43) || (slice_index rest 0 == 45)) && is_digit (slice_index rest 1)
+is_adjusted rest = ((slice_index rest 0 == plus_sign) || (slice_index rest 0 == minus_sign)) && is_digit (slice_index rest 1)
 
 abbrev pub adjustment_of : ℕ → ℕ → ℤ
-adjustment_of sign number = if sign == 45 then neg_ℤ (pos number) else pos number
+adjustment_of sign number = if sign == minus_sign then neg_ℤ (pos number) else pos number
 
 -- behind the sign stands the number, and behind that the index register
 abbrev pub adjusted_by : Base → ℕ → List ℕ → Option Address

@@ -6,12 +6,13 @@ use Rattle.std.specs.List.{position_or_len, list_all}
 use Rattle.source_1401.specs.SourceLine.{padded}
 use Rattle.source_1401.specs.Label.{is_digit}
 use Rattle.source_1401.specs.Numbers.{number_between}
+use Rattle.source_1401.specs.Punctuation.{at_sign, number_sign, plus_sign, minus_sign}
 use Rattle.source_1401.specs.declared.constant.Text.{Text}
 use Rattle.source_1401.specs.declared.constant.Constant.{Constant}
 use Rattle.source_1401.specs.declared.constant.Constant.TheVariants as constants
 
 abbrev pub is_at_sign : ℕ → Bool
-is_at_sign byte = byte == 64
+is_at_sign byte = byte == at_sign
 
 -- how a text of at most 50 graphics is held
 abbrev pub text_of : List ℕ → Text
@@ -36,8 +37,8 @@ digits_in word =
 abbrev pub constant_of : List ℕ → Option Constant
 constant_of [] = None
 constant_of (byte ∷ more) =
-    if byte == 64 then option_map constants.Text (quoted more)
-    else if byte == 43 then option_map constants.Plus (digits_in more)
-    else if byte == 45 then option_map constants.Minus (digits_in more)
-    else if byte == 35 then option_map constants.Blanks (number_between 1 50 more)
+    if byte == at_sign then option_map constants.Text (quoted more)
+    else if byte == plus_sign then option_map constants.Plus (digits_in more)
+    else if byte == minus_sign then option_map constants.Minus (digits_in more)
+    else if byte == number_sign then option_map constants.Blanks (number_between 1 50 more)
     else option_map constants.Number (digits_in (byte ∷ more))

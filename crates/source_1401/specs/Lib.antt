@@ -5,5 +5,6 @@ pub mod Label
 pub mod Mnemonic
 pub mod Numbers
 pub mod Operands
+pub mod Punctuation
 pub mod SourceLine
 pub mod Statement

@@ -4,6 +4,7 @@ use Rattle.std.specs.Prelude.{◌∷◌, take, drop, Option, None, Some, is_some
 use Rattle.std.specs.Option.{option_map}
 use Rattle.source_1401.specs.Address.{address_of}
 use Rattle.source_1401.specs.Constant.{constant_of}
+use Rattle.source_1401.specs.Punctuation.{blank, comma, at_sign, plus_sign, minus_sign}
 use Rattle.source_1401.specs.declared.address.Base.{Base}
 use Rattle.source_1401.specs.declared.address.Base.TheVariants as bases
 use Rattle.source_1401.specs.declared.mnemonic.DCharacter.{DCharacter}
@@ -18,15 +19,15 @@ use Rattle.source_1401.specs.declared.operands.Operands.{Operands}
 -- operands end at a blank, or with the columns
 abbrev pub is_ended : List ℕ → Bool
 is_ended [] = true
-is_ended (byte ∷ more) = byte == 32
+is_ended (byte ∷ more) = byte == blank
 
 -- how many bytes an operand has, which begins within two at signs or not: up to the first comma or blank outside of
 -- them
 abbrev pub operand_len : Bool → List ℕ → ℕ
 operand_len is_quoted [] = 0
 operand_len is_quoted (byte ∷ more) =
-    if not is_quoted && ((byte == 44) || (byte == 32)) then 0
-    else 1 + operand_len (if byte == 64 then not is_quoted else is_quoted) more
+    if not is_quoted && ((byte == comma) || (byte == blank)) then 0
+    else 1 + operand_len (if byte == at_sign then not is_quoted else is_quoted) more
 
 abbrev pub operand_in : List ℕ → List ℕ
 operand_in text = take (operand_len false text) text
@@ -41,11 +42,11 @@ lone_operand text = if is_ended (behind_operand text) then operand_in text else 
 -- the one operand behind a comma
 abbrev pub operand_behind_comma : List ℕ → List ℕ
 operand_behind_comma [] = []
-operand_behind_comma (byte ∷ more) = if byte == 44 then lone_operand more else []
+operand_behind_comma (byte ∷ more) = if byte == comma then lone_operand more else []
 
 -- a literal begins with an at sign or a sign
 abbrev pub begins_literal : ℕ → Bool
-begins_literal byte = (byte == 64) || (byte == 43) || (byte == 45)
+begins_literal byte = (byte == at_sign) || (byte == plus_sign) || (byte == minus_sign)
 
 -- the address or the literal that a word is
 abbrev pub operand_of : List ℕ → Option Operand
@@ -77,7 +78,7 @@ first_operand most text = if (most == 0) || is_ended text then (fields.Absent, t
 abbrev pub second_operand : ℕ → List ℕ → OperandAndRest
 second_operand most [] = (fields.Absent, [])
 second_operand most (byte ∷ more) =
-    if (byte == 44) && nat_lt 1 most then read_operand more else (fields.Absent, byte ∷ more)
+    if (byte == comma) && nat_lt 1 most then read_operand more else (fields.Absent, byte ∷ more)
 
 -- a d-character is any graphic in one column, and nothing stands behind it
 abbrev pub lone_d : List ℕ → Option ℕ
@@ -86,7 +87,7 @@ lone_d (byte ∷ more) = if is_ended more then Some byte else None
 
 abbrev pub d_behind_comma : List ℕ → Option ℕ
 d_behind_comma [] = None
-d_behind_comma (byte ∷ more) = if byte == 44 then lone_d more else None
+d_behind_comma (byte ∷ more) = if byte == comma then lone_d more else None
 
 -- the d-character behind the addresses
 abbrev pub d_at : ℕ → List ℕ → Option ℕ

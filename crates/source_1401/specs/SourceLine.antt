@@ -3,6 +3,7 @@ use Rattle.std.specs.Prelude.{ℕ, ◌-◌, ◌==◌, nat_le, Bool, not, ◌&&�
 use Rattle.std.specs.Prelude.{take, replicate, slice_index, slice_range, is_some, position}
 use Rattle.std.specs.List.{slice_split, list_all}
 use Rattle.bcd_1401.specs.Graphic.{graphics}
+use Rattle.source_1401.specs.Punctuation.{blank, asterisk}
 
 -- byte 10 ends a line
 abbrev pub is_line_feed : ℕ → Bool
@@ -30,7 +31,7 @@ lines_of source = lines_between (slice_split is_line_feed source)
 
 -- a text with blanks behind it, n bytes in all
 abbrev pub padded : ℕ → List ℕ → List ℕ
-padded n text = text ++ replicate (n - length text) 32
+padded n text = text ++ replicate (n - length text) blank
 
 -- the 80 columns of a line: a shorter one goes on in blanks
 unfoldable pub columns_of : List ℕ → List ℕ
@@ -41,7 +42,7 @@ abbrev pub columns_in : ℕ → ℕ → List ℕ → List ℕ
 columns_in first last columns = slice_range columns (first - 1) last
 
 abbrev pub is_blank : ℕ → Bool
-is_blank byte = byte == 32
+is_blank byte = byte == blank
 
 abbrev pub is_printable : ℕ → Bool
 is_printable byte = nat_le 32 byte && nat_le byte 126
@@ -52,7 +53,7 @@ is_graphic byte = is_some (position (λ each. each == byte) graphics)
 
 -- a comment has an asterisk in column 6, or is all blank
 abbrev pub is_comment : List ℕ → Bool
-is_comment columns = (slice_index columns 5 == 42) || list_all is_blank columns
+is_comment columns = (slice_index columns 5 == asterisk) || list_all is_blank columns
 
 -- comments and columns 1 to 5 and 73 to 80 hold bytes 32 to 126, columns 6 to 72 of other lines graphics
 abbrev pub has_foreign_bytes : List ℕ → Bool

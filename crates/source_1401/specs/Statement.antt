@@ -10,6 +10,7 @@ use Rattle.source_1401.specs.Numbers.{number_between}
 use Rattle.source_1401.specs.Constant.{constant_of}
 use Rattle.source_1401.specs.Operands.{operand_in, behind_operand, lone_operand, operand_behind_comma, operands_of}
 use Rattle.source_1401.specs.Description.{describe, is_required, is_forbidden, is_entry}
+use Rattle.source_1401.specs.Punctuation.{letter_x}
 use Rattle.source_1401.specs.declared.label.Label.{Label}
 use Rattle.source_1401.specs.declared.label.LabelField.{LabelField}
 use Rattle.source_1401.specs.declared.label.LabelField.TheVariants as labels
@@ -31,7 +32,7 @@ abbrev pub one_address : Form
 one_address = record { least = 1; most = 1; d = d.Never }
 
 abbrev pub is_x : ℕ → Bool
-is_x byte = byte == 88
+is_x byte = byte == letter_x
 
 -- the number of areas, an X, and the length of each
 abbrev pub areas_of : List ℕ → Option Areas

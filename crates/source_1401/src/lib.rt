@@ -1,26 +1,26 @@
 //! A source line of Autocoder by itself: its columns, its label, its operation and its operands, and the faults that it
-//! has whatever stands around it.
+//! has whatever the other lines are.
 //!
 //! ```text
-//! let (line, rest) = split_line(source)?;      // the first line, and what stands behind its line feed
+//! let (line, rest) = split_line(source)?;      // the first line, and what follows its line feed
 //! let line = Line::from_bytes(line);           // what it says
 //! line.statement                               // its label and its body; none for a comment
 //! ```
 //!
-//! What a line says is plain data. An address is what the source writes: no symbol is looked up here and nothing is
-//! placed.
+//! What a line says is plain data. An address is what the source writes: no symbol is looked up here, and nothing is
+//! placed. What each kind of statement asks of the assembler is a row of the table in `description`.
 #![tactic(auto)]
 
-pub mod address;
-pub mod columns;
-pub mod constant;
-pub mod description;
-pub mod label;
-pub mod lines;
-pub mod mnemonic;
-pub mod numbers;
-pub mod operands;
-pub mod statement;
+pub mod lines; // a source as its lines
+pub mod columns; // a line as its 80 columns
+pub mod numbers; // numbers within bounds
+pub mod label; // columns 6 to 15
+pub mod mnemonic; // columns 16 to 20
+pub mod address; // addresses, as they are written
+pub mod constant; // constants and literals
+pub mod operands; // columns 21 to 72
+pub mod statement; // what a line says
+pub mod description; // what each kind of statement asks of the assembler
 
 pub use address::{Address, Base};
 pub use columns::COLUMNS;

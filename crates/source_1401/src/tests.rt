@@ -1,8 +1,8 @@
 //! Source lines, and what they say.
 
 use crate::{
-    Address, Base, Body, Bytes, Constant, Label, LabelField, Line, Operand, OperandField,
-    Statement, split_line,
+    Address, Addressing, Base, Body, Bytes, Constant, Label, LabelField, LabelRule, Line, Next,
+    Operand, OperandField, Point, Statement, split_line,
 };
 
 /// What a line says, and whether it has a bad label, an unknown operation, bad operands.
@@ -151,4 +151,66 @@ fn the_end_is_known_by_its_operation(rt: HostRuntime) {
     assert!(rt; Line::from_bytes(b"     a         END  ~").is_end());
     assert!(rt; !Line::from_bytes(b"     *         END  1").is_end());
     assert!(rt; !Line::from_bytes(b"               EX   1").is_end());
+}
+
+#[test]
+fn each_kind_of_statement_has_its_row(rt: HostRuntime) {
+    for (line, label, names, next) in [
+        (
+            b"               H    5".as_slice(),
+            LabelRule::Optional,
+            Point::First,
+            Next::Behind,
+        ),
+        (
+            b"     A         DCW  #5",
+            LabelRule::Optional,
+            Point::Last,
+            Next::Behind,
+        ),
+        (
+            b"     A              2,4",
+            LabelRule::Optional,
+            Point::InArea(4),
+            Next::Behind,
+        ),
+        (
+            b"     A         EQU  5",
+            LabelRule::Required,
+            Point::Value,
+            Next::Behind,
+        ),
+        (
+            b"               ORG  5",
+            LabelRule::Forbidden,
+            Point::First,
+            Next::Value,
+        ),
+        (
+            b"               EX   5",
+            LabelRule::Forbidden,
+            Point::First,
+            Next::Literals,
+        ),
+    ] {
+        let Some(Statement { body, .. }) = Line::from_bytes(line).statement else {
+            panic!(rt; "no statement");
+        };
+        let row = body.describe();
+        assert_eq!(rt; (row.label, row.names, row.next), (label, names, next));
+    }
+}
+
+#[test]
+fn a_program_begins_at_the_operand_of_end(rt: HostRuntime) {
+    let Some(Statement { body, .. }) = Line::from_bytes(b"               END  400").statement else {
+        panic!(rt; "no statement");
+    };
+    let addressing = body.describe().addressing;
+    assert!(rt; matches!(addressing, Addressing::Entry(_)));
+    let OperandField::Operand(Operand::Address(address)) = addressing.operands().a else {
+        panic!(rt; "no address");
+    };
+    assert_eq!(rt; address.base, Base::Number(400));
+    assert_eq!(rt; Addressing::Nothing.operands().a, OperandField::Absent);
 }

@@ -14,9 +14,9 @@ pub loop-i-preserved : goal.loop-i-preserved
 loop-i-preserved c = record {
   listed =
       next_listed (places_of c.args.all.now) (places_of c.loop-i.self) (places_of c.list_line.new.self)
-      c.args.lines.now c.loop-i.i _ c.loop-i.sources.now c.in-Some.text.now c.in-Some.behind.now
+      c.args.lines.now c.loop-i.i c.index-lines-i.result c.loop-i.sources.now c.in-Some.text.now c.in-Some.behind.now
       c.lines_behind-later.result.now c.loop-i.listing.items c.list_line.new.lines.items _ c.loop-i-test.true
-      c.loop-i.invariant.left c.in-Some.ensures.0 c.loop-i.invariant.listed c.lines_behind-later.ensures
+      c.index-lines-i.is c.loop-i.invariant.left c.in-Some.ensures.0 c.loop-i.invariant.listed c.lines_behind-later.ensures
       c.in_ok-list_line.ensures.listed c.in_ok-list_line.ensures.placed;
   left = (next_left c.args.lines.now c.loop-i.i
       (line_of c.in-Some.text.now) c.loop-i.sources.now c.in-Some.text.now c.in-Some.behind.now
