@@ -223,7 +223,7 @@ def loaded_decks(folder):
     expect("run --load with more cards", ran, 0, paper.read_bytes(), told("HALT", 461, 253, 27, 23, 21))
     first.write_text("")
     expect("run --load without a card", run([PROGRAM, "run", "--load", first]), 1, "", told("READER", 0, 0))
-    first.write_text(",008015.\n")
+    first.write_text(",008009.\n")
     ran = run([PROGRAM, "run", "--load", first, "--size", "1400"])
     expect("run --load: one card", ran, 0, "", told("HALT", 9, 2, 1))
     expect("run --load --size 1401", run([PROGRAM, "run", "--load", first, "--size", "1401"]), 1, "", SIZE)
