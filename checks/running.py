@@ -1,9 +1,14 @@
 """Programs run to their end with a deck: paper, punched cards, what is told, and the statuses."""
+import os
+import pty
 import re
+import select
+import subprocess
 import tempfile
+import time
 from pathlib import Path
 
-from checks.report import MOST_BYTES, PROGRAM, TOP, difference, expect, run, tell
+from checks.report import MOST_BYTES, PROGRAM, TOP, count, difference, expect, run, tell
 
 # Columns 1 to 4 of each card are listed and punched, until it was the last one.
 LIST_AND_PUNCH = """\
@@ -21,13 +26,20 @@ LIST_AND_PUNCH = """\
                END  START
 """
 
+SIZE, CANNOT = "ibm1401: size refused\n", b"ibm1401: cannot write\n"
+
 HALT = "               H    *-3\n               END  0\n"
+
+
+def counted(number, name):
+    """So many of these."""
+    return f"{number} {name}" if number == 1 else f"{number} {name}s"
 
 
 def told(stop, address, steps, read=0, printed=0, punched=0):
     """The last line of a run."""
-    counts = f"{read} cards read, {printed} lines printed, {punched} cards punched"
-    return f"ibm1401: {stop} at {address:04} after {steps} steps; {counts}\n"
+    counts = f"{counted(read, 'card')} read, {counted(printed, 'line')} printed, {counted(punched, 'card')} punched"
+    return f"ibm1401: {stop} at {address:04} after {counted(steps, 'step')}; {counts}\n"
 
 
 def running():
@@ -43,6 +55,7 @@ def running():
         shown = re.search(r"```sh\n(\./ibm1401 run [^\n]*)\n```\n\n```text\n(.*?)```", page.read_text(), re.DOTALL)
         call, printed = shown.groups() if shown else ("exit 3", "")
         expect(f"what {page.name} runs", run(["bash", "-c", call], cwd=TOP), 0, printed, told("HALT", 463, 24, 3, 2))
+    programs()
     with tempfile.TemporaryDirectory() as name:
         folder = Path(name)
         long_deck(folder)
@@ -50,6 +63,34 @@ def running():
         decks(folder)
         places(folder)
         outputs(folder)
+        loaded_decks(folder)
+        closed_streams(folder)
+    while_it_runs()
+    how_far()
+
+
+def programs():
+    """Each example with a deck: paper, punched cards and counts are those of its session at the console."""
+    decks = sorted((TOP / "examples").glob("*.cards"))
+    count("examples with a deck", len(decks), 8)
+    for deck in decks:
+        session = deck.with_suffix(".console")
+        if not session.exists():
+            continue
+        lines, replies = session.read_text(), deck.with_suffix(".out").read_text()
+        steps, address = re.search(r"^STOP 02 HALT STEPS (\d+) I (\d+)$", replies, re.MULTILINE).groups()
+        counts = [len(re.findall(f"^{word} ", text, re.MULTILINE)) for word, text in
+                  (("FEED", lines), ("LINE", replies), ("CARD", replies))]
+        switches = ["--switches", "A"] if "SWITCH A ON\n" in lines else []
+        with tempfile.TemporaryDirectory() as folder:
+            punch = Path(folder) / "punch"
+            ran = run([PROGRAM, "run", deck.with_suffix(".source"), "--cards", deck, "--punch", punch, *switches])
+            paper, end = deck.with_suffix(".paper").read_bytes(), told("HALT", int(address), int(steps), *counts)
+            expect(f"{deck.name}: its paper", ran, 0, paper, end)
+            punched = deck.with_suffix(".punched")
+            wanted = punched.read_bytes() if punched.exists() else b""
+            wrong = difference("the deck", punch.read_bytes() if punch.exists() else None, wanted)
+            tell(f"{deck.name}: its punched cards", "; ".join(wrong))
 
 
 def long_deck(folder):
@@ -166,3 +207,92 @@ def outputs(folder):
         ("--limit 3 2>/dev/full", 1, "", ""),
     ]:
         expect(f"run {words}", run(["bash", "-c", f"{call} {words}", PROGRAM]), status, output, error)
+
+
+def loaded_decks(folder):
+    """Decks that are started by the load key."""
+    deck = TOP / "examples/listing.deck"
+    paper = TOP / "examples/listing.paper"
+    ran = run([PROGRAM, "run", "--load", deck, "--switches", "A"])
+    expect("run --load: its paper", ran, 0, paper.read_bytes(), told("HALT", 461, 253, 27, 23, 21))
+    cards = deck.read_text().splitlines(keepends=True)
+    first, behind = folder / "first", folder / "behind"
+    first.write_text("".join(cards[:6]))
+    behind.write_text("".join(cards[6:]))
+    ran = run([PROGRAM, "run", "--load", first, "--cards", behind, "--switches", "A"])
+    expect("run --load with more cards", ran, 0, paper.read_bytes(), told("HALT", 461, 253, 27, 23, 21))
+    first.write_text("")
+    expect("run --load without a card", run([PROGRAM, "run", "--load", first]), 1, "", told("READER", 0, 0))
+    first.write_text(",008009.\n")
+    ran = run([PROGRAM, "run", "--load", first, "--size", "1400"])
+    expect("run --load: one card", ran, 0, "", told("HALT", 9, 2, 1))
+    expect("run --load --size 1401", run([PROGRAM, "run", "--load", first, "--size", "1401"]), 1, "", SIZE)
+    first.write_text("A\n" * 6 + " " * 11 + "~\n")
+    fault = f"ibm1401: {first}: line 7, column 12: no card has this character\n"
+    expect("run --load: a fault of the deck", run([PROGRAM, "run", "--load", first]), 1, "", fault)
+    fault = f"ibm1401: cannot read {folder / 'none'}\n"
+    expect("run --load: no deck", run([PROGRAM, "run", "--load", folder / "none"]), 1, "", fault)
+
+
+def closed_streams(folder):
+    """No file takes the place of a standard stream that is closed."""
+    sales, punch = TOP / "examples/sales", folder / "punch"
+    call = f'"$0" run {sales}.source --cards {sales}.cards --switches A --punch {punch}'
+    for words, status, error in [
+        (">&-", 1, "ibm1401: cannot write\n"),
+        ("<&- >&-", 1, "ibm1401: cannot write\n"),
+        ("2>&-", 0, ""),
+        ("<&- 2>&-", 0, ""),
+    ]:
+        output = sales.with_suffix(".paper").read_bytes() if status == 0 else ""
+        expect(f"run --punch {words}", run(["bash", "-c", f"{call} {words}", PROGRAM]), status, output, error)
+        tell(f"run --punch {words}: the punched cards", "" if punch.read_bytes() == b"" else "there are some")
+
+
+def on_a_terminal(words):
+    """What a run tells on a terminal behind standard error, until it ends or shows how far it is, 20 seconds at most."""
+    ours, theirs = pty.openpty()
+    told_so_far, end = b"", time.monotonic() + 20
+    ran = subprocess.Popen([PROGRAM, "run", *words], stdin=subprocess.DEVNULL, stdout=subprocess.DEVNULL, stderr=theirs)
+    try:
+        while b"cards left" not in told_so_far and time.monotonic() < end:
+            if select.select([ours], [], [], 0.1)[0]:
+                told_so_far += os.read(ours, 4_096)
+            elif ran.poll() is not None:
+                break
+    finally:
+        ran.kill()
+        ran.wait()
+        os.close(theirs)
+        os.close(ours)
+    return told_so_far
+
+
+def how_far():
+    """A run of more than a second shows how far it is, where standard error is a terminal; a short one doesn't."""
+    sales = TOP / "examples/sales"
+    words = [f"{sales}.source", "--cards", f"{sales}.cards", "--switches", "A"]
+    wanted = told("HALT", 463, 24, 3, 2).replace("\n", "\r\n").encode()
+    tell("a short run on a terminal", "; ".join(difference("standard error", on_a_terminal(words), wanted)))
+    with tempfile.TemporaryDirectory() as name:
+        file = Path(name) / "source"
+        file.write_text("               ORG  400\n     START     B    START\n               END  START\n")
+        shown = on_a_terminal([file, "--limit", "4294967295"])
+    good = re.match(rb"\r\d+ steps, 0 cards left, 0 lines\x1b\[K", shown)
+    tell("a long run on a terminal", "" if good else f"it shows {shown!r}")
+
+
+def while_it_runs():
+    """Paper and cards go out while a program runs that doesn't end."""
+    source = "               ORG  400\n     START     W\n               B    START\n               END  START\n"
+    with tempfile.TemporaryDirectory() as name:
+        file = Path(name) / "source"
+        file.write_text(source)
+        call = [PROGRAM, "run", file, "--limit", "4000000000"]
+        with subprocess.Popen(call, stdin=subprocess.DEVNULL, stdout=subprocess.PIPE, stderr=subprocess.PIPE) as ran:
+            first = ran.stdout.read(1_000)
+            going_on = ran.poll() is None
+            ran.stdout.close()
+            error, status = ran.stderr.read(), ran.wait(60)
+    tell("a pipe sees the paper at once", "" if first.strip(b"\n\f") == b"" and going_on else f"{first!r}")
+    tell("a pipe that is closed ends a run", "" if (status, error) == (1, CANNOT) else f"{status} {error!r}")

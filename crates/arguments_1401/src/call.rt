@@ -20,18 +20,29 @@ pub struct Service {
     pub port: u16,
 }
 
+/// How a program is started.
+#[derive(Clone, Copy, Debug, PartialEq, Eq)]
+pub enum Start {
+    /// The I register is set to the program's entry.
+    Entry,
+    /// The load key is pressed, which reads the deck's first card.
+    LoadKey,
+}
+
 /// A job: a program, its deck, and where paper and punched cards go.
 #[derive(Debug, Drop, PartialEq, Eq)]
 pub struct Job {
-    /// The name of the file of the source or the image.
+    /// The name of the file of the source or the image; or of the deck for which the load key is pressed.
     pub file: String,
+    /// How the program is started.
+    pub start: Start,
     /// The name of the deck's file; without one there are no cards.
     pub cards: Option<String>,
     /// The name of the file of the punched cards; without one they are counted alone.
     pub punch: Option<String>,
     /// The name of the file of the paper; without one it is standard output.
     pub paper: Option<String>,
-    /// How many places core storage has, where the file is a source.
+    /// How many places core storage has, where the file is no image.
     pub size: u16,
     /// How many instructions are carried out at the most.
     pub limit: u32,

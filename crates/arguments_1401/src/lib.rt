@@ -8,5 +8,5 @@
 pub mod call;
 pub mod reading;
 
-pub use call::{Call, Job, Product, Service};
+pub use call::{Call, Job, Product, Service, Start};
 pub use reading::read_call;

@@ -1,6 +1,6 @@
 //! The words of the command line, read by `clap`.
 
-use crate::call::{Call, Job, Product, Service};
+use crate::call::{Call, Job, Product, Service, Start};
 use clap::error::ErrorKind;
 use clap::{Arg, ArgAction, ArgMatches, Command, Error, value_parser};
 use std::alloc::{AllocError, Global};
@@ -101,12 +101,16 @@ fn serve_command<'a>(alloc: Global) -> Result<Command<'a>, AllocError> {
 fn run_command<'a>(alloc: Global) -> Result<Command<'a>, AllocError> {
     let file = Arg::new(alloc, "file")
         .value_name("FILE")
-        .help("The file of the source or the image; - is a name like any other")
+        .help("The file of the source or the image, or of a deck; - is a name like any other")
         .required(true);
+    let load = Arg::new(alloc, "load")
+        .long("load")
+        .help("FILE is a deck: presses the load key, which reads its first card and starts there")
+        .action(ArgAction::SetTrue);
     let cards = Arg::new(alloc, "cards")
         .long("cards")
         .value_name("DECK")
-        .help("The file of the deck, a card a line");
+        .help("The file of the deck, a card a line; behind the cards of FILE, if FILE is a deck");
     let punch = Arg::new(alloc, "punch")
         .long("punch")
         .value_name("OUT")
@@ -127,6 +131,7 @@ fn run_command<'a>(alloc: Global) -> Result<Command<'a>, AllocError> {
         .help("The sense switches that are on, as in BCG");
     Command::new(alloc, "run")
         .about("Runs a source or an image with a deck, from cards to paper")
+        .arg(load)?
         .arg(cards)?
         .arg(punch)?
         .arg(paper)?
@@ -187,8 +192,14 @@ fn run_call(alloc: Global, matches: &ArgMatches<'_>, file: &str) -> Result<Call,
         let refusal = run_command(alloc)?.error(ErrorKind::ValueValidation, text)?;
         return Err(refusal);
     };
+    let start = if matches.get_flag("load") {
+        Start::LoadKey
+    } else {
+        Start::Entry
+    };
     Ok(Call::Run(Job {
         file: String::from_str(alloc, file)?,
+        start,
         cards: name_in(alloc, matches, "cards")?,
         punch: name_in(alloc, matches, "punch")?,
         paper: name_in(alloc, matches, "paper")?,

@@ -1,5 +1,7 @@
 pub mod Assemble
 pub mod Console
 pub mod Load
+pub mod Program
 pub mod Run
+pub mod RunDeck
 pub mod Status

@@ -20,18 +20,36 @@ pub struct JobReport {
     pub punched: u64,
 }
 
+/// A number of things, by their name: `1 card`, `2 cards`.
+#[derive(Clone, Copy)]
+struct Count<'a> {
+    count: u64,
+    name: &'a str,
+}
+
+/// So many of these.
+fn counted(count: u64, name: &str) -> Count<'_> {
+    Count { count, name }
+}
+
+impl fmt::Display for Count<'_> {
+    fn fmt<W: fmt::Write>(&self, f: &mut fmt::Formatter<W>) -> fmt::Result {
+        let end = if self.count == 1 { "" } else { "s" };
+        write!(f, "{} {}{end}", self.count, self.name)
+    }
+}
+
+/// Where and why the machine stopped.
+fn put_stop<W: fmt::Write>(f: &mut fmt::Formatter<W>, report: &JobReport) -> fmt::Result {
+    write!(f, "{} at {:04}", report.stop, report.i)
+}
+
 impl fmt::Display for JobReport {
     fn fmt<W: fmt::Write>(&self, f: &mut fmt::Formatter<W>) -> fmt::Result {
-        write!(
-            f,
-            "{} at {:04} after {} steps; ",
-            self.stop, self.i, self.steps
-        )?;
-        write!(
-            f,
-            "{} cards read, {} lines printed, ",
-            self.read, self.printed
-        )?;
-        write!(f, "{} cards punched", self.punched)
+        put_stop(f, self)?;
+        write!(f, " after {}; ", counted(u64::from(self.steps), "step"))?;
+        write!(f, "{} read, ", counted(self.read, "card"))?;
+        write!(f, "{} printed, ", counted(self.printed, "line"))?;
+        write!(f, "{} punched", counted(self.punched, "card"))
     }
 }

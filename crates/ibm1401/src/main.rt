@@ -2,32 +2,42 @@
 #![tactic(auto)]
 
 mod assembling;
+mod deck_running;
 mod fault;
 mod job_report;
 mod loading;
+mod programs;
+mod punch_file;
 mod running;
 mod serving;
 mod subcommands;
 #[cfg(test)]
 mod tests;
+mod watching;
 
 use crate::assembling::{check_size, write_assembly};
 use crate::fault::{Fault, report};
 use crate::loading::{load, read_file};
-use crate::running::run_file;
+use crate::running::{ErrorOutput, run_file};
 use crate::serving::open_room;
 use crate::subcommands::{console, tell};
 use arguments_1401::{Call, read_call};
 use console_1401::{FromReader, ToWriter};
+use std::io::IsTerminal;
 use std::net::{Net, TcpListener, TcpStream};
 use std::process::ExitCode;
-use std::rt::{Env, Files};
+use std::rt::{Clock, Env, Files};
 use std::sync::Wait;
 use std::thread::Threads;
 use std::{env, io};
 
 fn main(rt: HostRuntime) -> ExitCode {
-    ExitCode::from(report(&rt, run(&rt)))
+    let error_output = if rt.stderr().is_terminal() {
+        ErrorOutput::Terminal
+    } else {
+        ErrorOutput::Other
+    };
+    ExitCode::from(report(&rt, run(&rt, error_output)))
 }
 
 /// Runs what the command line asks for.
@@ -39,6 +49,7 @@ fn main(rt: HostRuntime) -> ExitCode {
 fn run<
     R: Env
         + Files
+        + Clock
         + Input
         + Print
         + Eprint
@@ -47,7 +58,7 @@ fn run<
         + Wait
         + Sync
         + Net<Listener = TcpListener, Stream = TcpStream>,
->(rt: &R) -> Result<(), Fault> {
+>(rt: &R, error_output: ErrorOutput) -> Result<(), Fault> {
     let words = command_line(rt)?;
     match read_call(rt.alloc(), words.as_slice()) {
         Ok(Call::Console { size }) => {
@@ -73,7 +84,7 @@ fn run<
             let mut writer = ToWriter::new(io::writer(rt));
             load(rt.alloc(), text.as_slice(), &mut reader, &mut writer)
         }
-        Ok(Call::Run(job)) => run_file(rt, job),
+        Ok(Call::Run(job)) => run_file(rt, error_output, job),
         Ok(Call::Serve(service)) => open_room(rt, service),
         Err(error) => tell(rt, error),
     }

@@ -1,5 +1,5 @@
 //! A deck in memory.
-ghost use Rattle.std.specs.Prelude.{◌≡◌, drop, length};
+ghost use Rattle.std.specs.Prelude.{◌≡◌, ◌<◌, ◌^◌, drop, length};
 
 use crate::cards::Cards;
 use crate::fault::JobFault;
@@ -22,7 +22,8 @@ impl<'a> Deck<'a> {
 
     /// How many cards it will still give.
     pub fn left(&self) -> usize
-        ensures { result ≡ length (⟦<Deck<'a> as Cards>⟧.left self.now) }
+        ensures value { result ≡ length (⟦<Deck<'a> as Cards>⟧.left self.now) }
+        ensures most { result < 2 ^ 63 }
     {
         self.cards.len().saturating_sub(self.next)
     }

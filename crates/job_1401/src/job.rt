@@ -49,8 +49,10 @@ pub fn run_job<R: Cards, W: Output>(
     ensures limit { IfOk result (λ end. end.stop ≡ Stop.Limit → end.steps ≡ limit) }
 
     // Two calls join: a job of more steps goes on where this call met its limit, and has ended where it stopped.
-    ensures goes_on { IfOk result (λ end. end.stop ≡ Stop.Limit → GoesOn limit (with_deck (R.left cards.old) machine.old)) }
-    ensures at_end { IfOk result (λ end. end.stop ≢ Stop.Limit → AtEnd limit (with_deck (R.left cards.old) machine.old)) }
+    ensures goes_on { IfOk result (λ end. end.stop ≡ Stop.Limit
+        → GoesOn limit (with_deck (R.left cards.old) machine.old)) }
+    ensures at_end { IfOk result (λ end. end.stop ≢ Stop.Limit
+        → AtEnd limit (with_deck (R.left cards.old) machine.old)) }
     ensures begins { OnOk result (Begins limit (with_deck (R.left cards.old) machine.old)) }
 
     ensures part { OnErr result (IsPartOf (W.lines output.new) (W.cards output.new)

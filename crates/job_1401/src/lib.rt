@@ -19,6 +19,7 @@ pub mod deck_text;
 pub mod fault;
 mod feeding;
 pub mod job;
+pub mod loading;
 pub mod output;
 pub mod paper;
 mod taking;
@@ -29,6 +30,7 @@ pub use deck::Deck;
 pub use deck_text::{DeckFault, put_cards, read_deck};
 pub use fault::JobFault;
 pub use job::{JobEnd, run_job};
+pub use loading::press_load_key;
 pub use output::Output;
 pub use paper::{Place, put_paper};
 

@@ -4,7 +4,7 @@ use crate::fault::{Fault, report};
 use crate::job_report::JobReport;
 use crate::running::{job_outcome, tell_report};
 use crate::tests::recorder::Recorder;
-use arguments_1401::{Call, Job, read_call};
+use arguments_1401::{Call, Job, Start, read_call};
 use cpu_1401::Stop;
 use job_1401::DeckFault;
 use std::test::Fail;
@@ -32,7 +32,7 @@ fn each_end_of_a_job_is_one_line(rt: HostRuntime) -> Result<(), Fail> {
         let outcome = tell_report(&told, report_of(stop, i));
         assert_eq!(rt; report(&told, outcome), status, "{line}");
         let counts = "2 cards read, 3 lines printed, 4 cards punched";
-        let wanted = format!(in rt.alloc(); "ibm1401: {line} after 1 steps; {counts}\n")?;
+        let wanted = format!(in rt.alloc(); "ibm1401: {line} after 1 step; {counts}\n")?;
         let text = told.text(rt.alloc())?;
         assert_eq!(rt; text.as_str(), wanted.as_str());
     }
@@ -68,10 +68,39 @@ fn the_faults_of_files_name_them(rt: HostRuntime) -> Result<(), Fail> {
 }
 
 #[test]
+fn a_deck_that_loads_itself_is_started_by_the_load_key(rt: HostRuntime) -> Result<(), Fail> {
+    let words = ["ibm1401", "run", "a deck", "--load"];
+    let call = read_call(rt.alloc(), &words)?;
+    let Call::Run(job) = call else {
+        return Err(Fail::new("these words ask for a run"));
+    };
+    assert_eq!(rt; job.start, Start::LoadKey);
+    assert_eq!(rt; job.file.as_str(), "a deck");
+    Ok(())
+}
+
+#[test]
+fn one_is_counted_without_an_s(rt: HostRuntime) -> Result<(), Fail> {
+    let report = JobReport {
+        stop: Stop::Reader,
+        i: 1,
+        steps: 2,
+        read: 1,
+        printed: 1,
+        punched: 0,
+    };
+    let text = format!(in rt.alloc(); "{report}")?;
+    let wanted = "READER at 0001 after 2 steps; 1 card read, 1 line printed, 0 cards punched";
+    assert_eq!(rt; text.as_str(), wanted);
+    Ok(())
+}
+
+#[test]
 fn a_run_is_named_with_its_files(rt: HostRuntime) -> Result<(), Fail> {
     let words = ["ibm1401", "run", "a source"];
     let job = Job {
         file: String::from_str(rt.alloc(), "a source")?,
+        start: Start::Entry,
         cards: None,
         punch: None,
         paper: None,
@@ -100,6 +129,7 @@ fn a_run_is_named_with_its_files(rt: HostRuntime) -> Result<(), Fail> {
     ];
     let job = Job {
         file: String::from_str(rt.alloc(), "a source")?,
+        start: Start::Entry,
         cards: Some(String::from_str(rt.alloc(), "a deck")?),
         punch: Some(String::from_str(rt.alloc(), "cards")?),
         paper: Some(String::from_str(rt.alloc(), "lines")?),

@@ -1,0 +1,86 @@
+//! How far a run is, told while it goes on.
+
+use std::rt::Clock;
+use std::time::{Duration, Instant};
+
+/// How far a run is.
+#[derive(Clone, Copy, Debug, PartialEq, Eq)]
+pub struct HowFar {
+    /// How many instructions were carried out.
+    pub steps: u32,
+    /// How many cards are left to be read.
+    pub cards: u64,
+    /// How many lines were printed.
+    pub printed: u64,
+}
+
+/// Is told now and then how far a run is.
+pub trait Watch {
+    /// Sees how far the run is.
+    fn saw(&mut self, how_far: HowFar);
+}
+
+/// Tells nobody.
+#[derive(Drop)]
+pub struct Unwatched;
+
+impl Watch for Unwatched {
+    fn saw(&mut self, _how_far: HowFar) {}
+}
+
+/// How many times a run is seen before the clock is asked again.
+const BETWEEN_LOOKS: u32 = 16;
+
+/// How many seconds a run goes on before it is told how far it is, and again each time.
+const BETWEEN_LINES: u64 = 1;
+
+/// Tells a terminal behind standard error each second how far the run is, on one line.
+#[derive(Drop)]
+pub struct Shown<'a, R> {
+    rt: &'a R,
+    seen: u32,
+    last: Option<Instant>,
+    is_told: bool,
+}
+
+impl<'a, R: Clock + Eprint> Shown<'a, R> {
+    /// A run that begins now.
+    pub fn new(rt: &'a R) -> Shown<'a, R> {
+        Shown {
+            rt,
+            seen: 0,
+            last: Instant::now(rt).ok(),
+            is_told: false,
+        }
+    }
+
+    /// Takes the line away again.
+    pub fn end(&self) {
+        if self.is_told {
+            let _ = eprint!(self.rt; "\r\x1b[K");
+        }
+    }
+}
+
+impl<R: Clock + Eprint> Watch for Shown<'_, R> {
+    fn saw(&mut self, how_far: HowFar) {
+        self.seen = self.seen.wrapping_add(1);
+        if self.seen % BETWEEN_LOOKS != 0 {
+            return;
+        }
+        let (Some(last), Ok(now)) = (self.last, Instant::now(self.rt)) else {
+            return;
+        };
+        if now.saturating_duration_since(last) < Duration::from_secs(BETWEEN_LINES) {
+            return;
+        }
+        let HowFar {
+            steps,
+            cards,
+            printed,
+        } = how_far;
+        let _ = eprint!(self.rt; "\r{steps} steps, {cards} cards left, {printed} lines\x1b[K");
+        self.last = Some(now);
+        self.is_told = true;
+    }
+}

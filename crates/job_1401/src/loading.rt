@@ -1,0 +1,32 @@
+//! The load key pressed before a deck is run.
+ghost use Rattle.std.specs.Prelude.{◌≡◌, ◌==◌, false, not, length, IfOk, OnOk, OnErr, IfErr};
+ghost use Rattle.cpu_1401.specs.CardsAndPrinter.{load};
+ghost use Rattle.job_1401.specs.Unattended.{with_deck};
+
+use crate::cards::Cards;
+use crate::fault::JobFault;
+use crate::feeding::fill_hopper;
+use cpu_1401::Machine;
+
+/// Presses the load key of a machine whose hopper holds the deck: its first card is read, and the next instruction is
+/// taken from there. Tells whether there was a card; if not, nothing is done.
+///
+/// # Errors
+///
+/// `Read` where a card can't be read.
+#[tactic(auto, using(crate::proofs::LoadLemmas::nothing_loaded))]
+pub fn press_load_key<R: Cards>(machine: &mut Machine, cards: &mut R) -> Result<bool, JobFault>
+    ensures loaded { OnOk result
+        (with_deck (R.left cards.new) machine.new ≡ load (with_deck (R.left cards.old) machine.old)) }
+    ensures card { IfOk result (λ some.
+        some ≡ not (length (with_deck (R.left cards.old) machine.old).devices.hopper == 0)) }
+    ensures none { IfOk result (λ some. some ≡ false
+        → with_deck (R.left cards.new) machine.new ≡ with_deck (R.left cards.old) machine.old) }
+    ensures err { OnErr result
+        (with_deck (R.left cards.new) machine.new ≡ with_deck (R.left cards.old) machine.old) }
+    ensures fault { IfErr result (λ why. why ≡ JobFault.Read) }
+{
+    fill_hopper(machine, cards)?;
+    let loaded = machine.load_key();
+    Ok(loaded.is_ok())
+}
