@@ -1,0 +1,9 @@
+-- Without a line feed the text ends in its first line.
+use Rattle.std.proofs.Common.{◌≡◌, false, rules}
+use Rattle.journal_1401.specs.Reading.{has_line}
+use Rattle.journal_1401.specs.Reading.IsCut.{in_header}
+use Rattle.journal_1401.proofs.reading.split_first.Goals as goal
+
+pub returns-then-not-has_line-clause-err : goal.returns-then-not-has_line-clause-err
+returns-then-not-has_line-clause-err c =
+    let none : has_line c.args.text.now ≡ false = first_of (cc, search rules) in in_header c.args.text.now none

@@ -1,0 +1,60 @@
+-- The text of a journal (own): a line that names the size of core storage, and one for each entry.
+use Rattle.std.specs.Prelude.{◌≡◌, ◌<◌, ◌≤◌, ℕ, ◌+◌, true, All, List, [], ◌∷◌, ◌++◌, length, codes}
+use Rattle.core_1401.specs.Storage.{is_core_size}
+use Rattle.notation_1401.specs.Digits.{digits_in}
+use Rattle.text_1401.specs.declared.line.Line.TheVariants as line
+use Rattle.text_1401.specs.AnswerText.{answer_text}
+use Rattle.text_1401.specs.CommandText.{command_text}
+use Rattle.text_1401.specs.LineText.{CanBeSaid}
+use Rattle.room_1401.specs.declared.entry.Entry.{Entry}
+use Rattle.room_1401.specs.Journal.{IsLegal, most_entries}
+
+-- it parts the fields of a line
+abbrev pub tab : ℕ
+tab = 9
+
+-- it ends a line
+abbrev pub line_feed : ℕ
+line_feed = 10
+
+-- a field, and the tab behind it
+abbrev pub with_tab : List ℕ → List ℕ
+with_tab field = field ++ tab ∷ []
+
+-- a line, or a line's last field, with the line feed that ends it
+abbrev pub with_feed : List ℕ → List ℕ
+with_feed line = line ++ line_feed ∷ []
+
+-- the first line: the format, and the size of core storage
+abbrev pub header_text : ℕ → List ℕ
+header_text size = with_feed (codes "JOURNAL1 " ++ digits_in 1 size)
+
+-- the line of an entry: its number in the journal, the seat, the command and its answer
+unfoldable pub entry_text : ℕ → Entry → List ℕ
+entry_text number entry =
+    with_tab (digits_in 1 number) ++ with_tab (digits_in 1 entry.seat) ++ with_tab (command_text entry.command)
+    ++ with_feed (answer_text entry.answer)
+
+-- what is written of each of these entries, the first of which has this number
+abbrev pub lines_by : (ℕ → Entry → List ℕ) → ℕ → List Entry → List ℕ
+lines_by line number [] = []
+lines_by line number (entry ∷ entries) = line number entry ++ lines_by line (number + 1) entries
+
+-- the lines of entries, the first of which has this number
+abbrev pub entries_text : ℕ → List Entry → List ℕ
+entries_text number entries = lines_by entry_text number entries
+
+-- the header, and the lines of the entries, numbered from 1
+abbrev pub journal_text : ℕ → List Entry → List ℕ
+journal_text size journal = header_text size ++ entries_text 1 journal
+
+-- a line can say the entry's command, and its seat is a seat's number
+abbrev pub CanBeKept : Entry → Type 0
+CanBeKept entry = CanBeSaid (line.Command entry.command) × (entry.seat < 256)
+
+-- A room of this size can have this journal, and each of its entries can be kept.
+pub record IsJournal (size : ℕ) (journal : List Entry) : Type 0 where
+  pub core : is_core_size size ≡ true
+  pub legal : IsLegal size journal
+  pub bound : length journal ≤ most_entries
+  pub kept : All CanBeKept journal
