@@ -2,6 +2,7 @@
 #![tactic(auto)]
 
 mod assembling;
+mod disassembling;
 mod fault;
 mod job_report;
 mod loading;
@@ -12,6 +13,7 @@ mod subcommands;
 mod tests;
 
 use crate::assembling::{check_size, write_assembly};
+use crate::disassembling::write_disassembly;
 use crate::fault::{Fault, report};
 use crate::loading::{load, read_file};
 use crate::running::run_file;
@@ -72,6 +74,11 @@ fn run<
             let mut reader = FromReader::new(rt.reader());
             let mut writer = ToWriter::new(io::writer(rt));
             load(rt.alloc(), text.as_slice(), &mut reader, &mut writer)
+        }
+        Ok(Call::Disassemble { file }) => {
+            let text = read_file(rt, file)?;
+            let mut writer = ToWriter::new(io::writer(rt));
+            write_disassembly(rt.alloc(), text.as_slice(), &mut writer)
         }
         Ok(Call::Run(job)) => run_file(rt, job),
         Ok(Call::Serve(service)) => open_room(rt, service),

@@ -5,6 +5,7 @@ mod assembling;
 mod branches;
 mod cards;
 mod command_line;
+mod disassembling;
 mod editing;
 mod faults;
 mod glances;
