@@ -72,6 +72,11 @@ pub enum Call {
         /// The name of the image's file.
         file: String,
     },
+    /// The listing of an image, on standard output.
+    Disassemble {
+        /// The name of the image's file.
+        file: String,
+    },
     /// A program run to its end.
     Run(Job),
     /// A room that operators share.

@@ -67,6 +67,17 @@ fn load_command<'a>(alloc: Global) -> Result<Command<'a>, AllocError> {
         .arg(file)
 }
 
+/// The subcommand `disassemble`.
+fn disassemble_command<'a>(alloc: Global) -> Result<Command<'a>, AllocError> {
+    let file = Arg::new(alloc, "file")
+        .value_name("FILE")
+        .help("The file of the image; - is a name like any other")
+        .required(true);
+    Command::new(alloc, "disassemble")
+        .about("Lists the instructions and the data of a core image")
+        .arg(file)
+}
+
 /// The subcommand `console`.
 fn console_command<'a>(alloc: Global) -> Result<Command<'a>, AllocError> {
     Command::new(alloc, "console")
@@ -221,6 +232,7 @@ pub fn read_call(alloc: Global, words: &[impl AsStr]) -> Result<Call, Error> {
         .subcommand(console_command(alloc)?)?
         .subcommand(assemble_command(alloc)?)?
         .subcommand(load_command(alloc)?)?
+        .subcommand(disassemble_command(alloc)?)?
         .subcommand(run_command(alloc)?)?
         .subcommand(serve_command(alloc)?)?;
     let matches = program.try_get_matches_from(words)?;
@@ -235,6 +247,13 @@ pub fn read_call(alloc: Global, words: &[impl AsStr]) -> Result<Call, Error> {
     {
         let file = String::from_str(alloc, file)?;
         return Ok(Call::Load { file });
+    }
+    if let Some(file) = matches
+        .subcommand_matches("disassemble")
+        .and_then(|disassemble| disassemble.get_str("file"))
+    {
+        let file = String::from_str(alloc, file)?;
+        return Ok(Call::Disassemble { file });
     }
     if let Some(run) = matches.subcommand_matches("run") {
         if let Some(file) = run.get_str("file") {

@@ -1,6 +1,8 @@
 -- An address that is written is read again.
-use Rattle.std.proofs.Common.{◌≡◌, ℕ, zero, suc, ◌+◌, ◌<◌, ◌≤◌, ◌==◌, ◌&&◌, Bool, true, false, List, [], ◌∷◌, ◌++◌, length}
-use Rattle.std.proofs.Common.{take, drop, pos, Option, None, Some, refl, ap, ◌∙◌, sym, arith, append_assoc, length-append}
+use Rattle.std.proofs.Common.{◌≡◌, ℕ, zero, suc, ◌+◌, ◌<◌, ◌≤◌, ◌==◌, ◌&&◌, Bool, true, false, List, [], ◌∷◌, ◌++◌}
+use Rattle.std.proofs.Common.{length}
+use Rattle.std.proofs.Common.{take, drop, pos, Option, None, Some, refl, ap, ◌∙◌, sym, arith, append_assoc}
+use Rattle.std.proofs.Common.{length-append}
 use Rattle.std.proofs.lemmas.Bool.{and_parts}
 use Rattle.std.proofs.Math.Seq.{take-append_seam, drop-append_seam}
 use Rattle.std.specs.List.{list_all, prefix_len}
@@ -26,16 +28,28 @@ record IsIndex (index : ℕ) (text : List ℕ) : Type 0 where
 
 index_again : (index : ℕ) → index < 4 → IsIndex index (index_text index)
 index_again zero h = record {
-  goes_on = λ rest. omega arith; ends_the_word = refl; no_adjustment = refl; is = refl;
+  goes_on = λ rest. omega arith;
+  ends_the_word = refl;
+  no_adjustment = refl;
+  is = refl;
 }
 index_again (suc zero) h = record {
-  goes_on = λ rest. omega arith; ends_the_word = refl; no_adjustment = refl; is = refl;
+  goes_on = λ rest. omega arith;
+  ends_the_word = refl;
+  no_adjustment = refl;
+  is = refl;
 }
 index_again (suc (suc zero)) h = record {
-  goes_on = λ rest. omega arith; ends_the_word = refl; no_adjustment = refl; is = refl;
+  goes_on = λ rest. omega arith;
+  ends_the_word = refl;
+  no_adjustment = refl;
+  is = refl;
 }
 index_again (suc (suc (suc zero))) h = record {
-  goes_on = λ rest. omega arith; ends_the_word = refl; no_adjustment = refl; is = refl;
+  goes_on = λ rest. omega arith;
+  ends_the_word = refl;
+  no_adjustment = refl;
+  is = refl;
 }
 index_again (suc (suc (suc (suc more)))) h = absurd (omega (arith, h))
 
@@ -83,8 +97,12 @@ operand_again : (word text : List ℕ) (value index : ℕ) → IsNumber word val
 operand_again [] text value index number behind fits = absurd (omega (arith, number.some))
 operand_again (byte ∷ more) text value index number behind fits =
     let parts = and_parts (is_digit byte) (list_all is_digit more) number.digits in
-    rw (no_higher byte 64 parts.0 (omega arith), no_other byte 43 parts.0 (omega arith),
-    no_other byte 45 parts.0 (omega arith), address_again (byte ∷ more) text value index number behind fits) refl
+    rw (
+      no_higher byte 64 parts.0 (omega arith),
+      no_other byte 43 parts.0 (omega arith),
+      no_other byte 45 parts.0 (omega arith),
+      address_again (byte ∷ more) text value index number behind fits,
+    ) refl
 
 begins_again : (word text : List ℕ) (value : ℕ) → IsNumber word value
     → (rest : List ℕ) → is_ended ((word ++ text) ++ rest) ≡ false
@@ -101,8 +119,12 @@ number_is_address value index fits few =
     record {
       goes_on = λ rest.
           ap (operand_len false) (append_assoc (number_text value) (index_text index) rest)
-          ∙ omega (arith, operand_len-digits (number_text value) (index_text index ++ rest) number.digits,
-          behind.goes_on rest, length-append (number_text value) (index_text index));
+          ∙ omega (
+            arith,
+            operand_len-digits (number_text value) (index_text index ++ rest) number.digits,
+            behind.goes_on rest,
+            length-append (number_text value) (index_text index),
+          );
       begins = begins_again (number_text value) (index_text index) value number;
       is = operand_again (number_text value) (index_text index) value index number behind fits;
     }

@@ -1,5 +1,10 @@
 pub mod AddressLemmas
+pub mod AssembledLemmas
 mod InstructionTextExamples
+pub mod LineLemmas
 pub mod MnemonicLemmas
 pub mod NumberLemmas
 pub mod OperandsLemmas
+pub mod PlacedLemmas
+pub mod ReadLemmas
+pub mod WordLemmas

@@ -1,5 +1,6 @@
 -- Where the assembler has a mnemonic, the one that is written is one of its own.
-use Rattle.std.proofs.Common.{◌≡◌, ℕ, ◌==◌, ◌&&◌, Bool, true, false, not, nat_le, nat_lt, List, [], ◌∷◌, length, map, Option, None, Some, refl}
+use Rattle.std.proofs.Common.{◌≡◌, ℕ, ◌==◌, ◌&&◌, Bool, true, false, not, nat_le, nat_lt, List, [], ◌∷◌, length, map}
+use Rattle.std.proofs.Common.{Option, None, Some, refl}
 use Rattle.std.specs.Prelude.{slice_index, ◌||◌}
 use Rattle.std.specs.List.{list_all, range_with_len}
 use Rattle.std.specs.Option.{option_map_or}
@@ -39,44 +40,44 @@ is_good operation addresses d mnemonic =
     && list_all is_graphic mnemonic.columns
     && option_map_or (is_as mnemonic operation addresses d) (instruction_of mnemonic.columns) false
 
-abbrev follows : Bool → Bool → Bool
+abbrev pub follows : Bool → Bool → Bool
 follows false b = true
 follows true b = b
 
 -- whether what is written for an operation is good where the assembler has a mnemonic for it
-abbrev is_written_well : ℕ → ℕ → Option ℕ → Bool
+abbrev pub is_written_well : ℕ → ℕ → Option ℕ → Bool
 is_written_well operation addresses d =
     follows (has_mnemonic operation addresses d)
     (is_good operation addresses d (mnemonic_of operation addresses d))
 
 -- with a d-character behind this many addresses
-abbrev with_d : ℕ → Bool
+abbrev pub with_d : ℕ → Bool
 with_d addresses =
     list_all (λ operation. list_all (λ d. is_written_well operation addresses (Some d)) graphics) graphics
 
-none_with_d : with_d 0 ≡ true
+pub none_with_d : with_d 0 ≡ true
 unfolding graphics instructions operations operations_with_d
 none_with_d = refl
 
-one_with_d : with_d 1 ≡ true
+pub one_with_d : with_d 1 ≡ true
 unfolding graphics instructions operations operations_with_d
 one_with_d = refl
 
-two_with_d : with_d 2 ≡ true
+pub two_with_d : with_d 2 ≡ true
 unfolding graphics instructions operations operations_with_d
 two_with_d = refl
 
-abbrev without_d : ℕ → Bool
+abbrev pub without_d : ℕ → Bool
 without_d addresses = list_all (λ operation. is_written_well operation addresses None) graphics
 
-none_without_d : without_d 0 ≡ true
+pub none_without_d : without_d 0 ≡ true
 unfolding graphics instructions operations operations_with_d
 none_without_d = refl
 
-one_without_d : without_d 1 ≡ true
+pub one_without_d : without_d 1 ≡ true
 unfolding graphics instructions operations operations_with_d
 one_without_d = refl
 
-two_without_d : without_d 2 ≡ true
+pub two_without_d : without_d 2 ≡ true
 unfolding graphics instructions operations operations_with_d
 two_without_d = refl

@@ -46,8 +46,13 @@ number_by value fits false true e f =
 number_by value fits false false e f =
     record {
       digits =
-          rw (digit_is (value / 10000), digit_is (value / 1000), digit_is (value / 100), digit_is (value / 10),
-          digit_is value) refl;
+          rw (
+            digit_is (value / 10000),
+            digit_is (value / 1000),
+            digit_is (value / 100),
+            digit_is (value / 10),
+            digit_is value,
+          ) refl;
       some = omega arith;
       few = omega arith;
       is = omega arith;
@@ -59,7 +64,8 @@ unfolding thousands_by
 number_again value fits = number_by value fits (nat_lt value 1000) (nat_lt value 10000) refl refl
 
 -- a word that writes a number is that number
-pub short_number_of : (word : List ℕ) (value : ℕ) → IsNumber word value → value < 100000 → short_number word ≡ Some value
+pub short_number_of : (word : List ℕ) (value : ℕ) → IsNumber word value → value < 100000
+    → short_number word ≡ Some value
 short_number_of word value number fits =
     let digits = number.digits in
     let some = number.some in
@@ -81,8 +87,11 @@ operand_len-digits [] rest h = omega arith
 operand_len-digits (byte ∷ digits) rest h =
     let parts = and_parts (is_digit byte) (list_all is_digit digits) h in
     let further = operand_len-digits digits rest parts.1 in
-    rw (no_other byte 44 parts.0 (omega arith), no_other byte 32 parts.0 (omega arith),
-    no_higher byte 64 parts.0 (omega arith)) (omega (arith, further))
+    rw (
+      no_other byte 44 parts.0 (omega arith),
+      no_other byte 32 parts.0 (omega arith),
+      no_higher byte 64 parts.0 (omega arith),
+    ) (omega (arith, further))
 
 -- a word goes on behind digits
 pub prefix_len-digits : (digits rest : List ℕ) → list_all is_digit digits ≡ true

@@ -4,7 +4,8 @@ use Rattle.std.proofs.Common.{Option, None, Some, refl, ap, ◌∙◌, sym, arit
 use Rattle.std.specs.Prelude.{◌||◌}
 use Rattle.std.proofs.lemmas.Bool.{and_parts, eqb-true, false≢true}
 use Rattle.std.proofs.lemmas.Bool.Decides.{nat_tests}
-use Rattle.source_1401.specs.Operands.{operand_len, operands_of, operands_with, first_operand, second_operand, d_of, d_by}
+use Rattle.source_1401.specs.Operands.{operand_len, operands_of, operands_with, first_operand, second_operand, d_of}
+use Rattle.source_1401.specs.Operands.{d_by}
 use Rattle.source_1401.specs.Operands.{d_at, is_ended, read_operand, Read}
 use Rattle.source_1401.specs.declared.address.Address.{Address}
 use Rattle.source_1401.specs.declared.mnemonic.DCharacter.{DCharacter}

@@ -23,6 +23,10 @@ number_text value =
 abbrev pub index_text : ℕ → List ℕ
 index_text index = if index == 0 then [] else codes "+X" ++ (48 + index) ∷ []
 
--- the value that three characters spell before indexing, and the index register whose number is the zone over the tens
+-- the number of the index register, which is the zone over the tens
+abbrev pub register_in : ℕ → ℕ
+register_in t = zone_of t % 4
+
+-- the value that three characters spell before indexing, and the index register
 abbrev pub address_text : ℕ → ℕ → ℕ → List ℕ
-address_text h t u = number_text (value_of h t u) ++ index_text (zone_of t)
+address_text h t u = number_text (value_of h t u) ++ index_text (register_in t)

@@ -1,5 +1,6 @@
 //! The text of an instruction.
-ghost use Rattle.std.specs.Prelude.{◌≡◌, ◌<◌, ◌≤◌, ◌++◌, length, OnOk};
+ghost use Rattle.std.specs.Prelude.{◌≡◌, true, ◌<◌, ◌≤◌, ◌++◌, length, OnOk};
+ghost use Rattle.disassembly_1401.specs.Assembled.{has_word, IsOwnD, IsTextOf};
 ghost use Rattle.disassembly_1401.specs.Address.{digit, thousands_text, number_text, index_text, address_text};
 ghost use Rattle.disassembly_1401.specs.InstructionText.{addresses_in, d_in, instruction_text, operands_text, written};
 
@@ -29,7 +30,7 @@ fn put_thousands(text: &mut Vec<u8>, number: u16) -> Result<(), AllocError>
 }
 
 /// Adds a number in three to five digits.
-fn put_number(text: &mut Vec<u8>, number: u16) -> Result<(), AllocError>
+pub(crate) fn put_number(text: &mut Vec<u8>, number: u16) -> Result<(), AllocError>
     ensures { OnOk result (text.new.items ≡ text.old.items ++ number_text number) }
 {
     put_thousands(text, number)?;
@@ -85,7 +86,8 @@ fn put_operands(text: &mut Vec<u8>, cells: &[Cell]) -> Result<(), AllocError>
 
 /// The graphic of the d-character of an instruction, by the cells behind its operation; none where it has none.
 fn d_in(behind: &[Cell]) -> Option<u8>
-    ensures { result ≡ d_in behind.now }
+    ensures value { result ≡ d_in behind.now }
+    ensures own { IsOwnD behind.now }
 {
     match behind {
         [] | [_, _] => None,
@@ -114,6 +116,9 @@ fn written(mnemonic: Mnemonic, behind: &[Cell]) -> &[Cell]
 pub fn put_instruction(text: &mut Vec<u8>, cells: &[Cell]) -> Result<(), AllocError>
     requires { length cells.now ≤ 8 }
     ensures text { OnOk result (text.new.items ≡ text.old.items ++ instruction_text cells.now) }
+
+    // Where the assembler has a word for the instruction, it makes these cells of the text again.
+    ensures again { has_word cells.now ≡ true → IsTextOf (instruction_text cells.now) cells.now }
 {
     let [operation, behind @ ..] = cells else {
         return Ok(());

@@ -2,14 +2,18 @@
 //!
 //! ```text
 //! put_instruction(&mut text, &cells)?     // MCW  510,509
+//! list_image(alloc, &image)?              // 00600 M510509  MCW  510,509, and so on
 //! ```
 //!
 //! The text of an instruction is what stands from column 16 of a line on. Where the assembler has a word for the
 //! instruction, it makes the same cells of that line again.
 #![tactic(auto)]
 
+pub mod image_listing;
 pub mod instruction;
 pub mod mnemonic;
+mod stretches;
 
+pub use image_listing::list_image;
 pub use instruction::put_instruction;
 pub use mnemonic::Mnemonic;

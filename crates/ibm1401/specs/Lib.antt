@@ -1,5 +1,6 @@
 pub mod Assemble
 pub mod Console
+pub mod Disassemble
 pub mod Load
 pub mod Program
 pub mod Run

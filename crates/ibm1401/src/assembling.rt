@@ -84,7 +84,7 @@ fn listing_text(alloc: Global, lines: &[ListingLine]) -> Result<Vec<u8>, AllocEr
 /// # Errors
 ///
 /// `Output` where it isn't written, or a part of it alone.
-fn write_text<W: Sink>(text: &[u8], writer: &mut W) -> Result<(), Fault>
+pub(crate) fn write_text<W: Sink>(text: &[u8], writer: &mut W) -> Result<(), Fault>
     ensures { Wrote text.now (W.received writer.old) (W.received writer.new) result }
 {
     match put_all(writer, text) {

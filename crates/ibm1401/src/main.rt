@@ -3,6 +3,7 @@
 
 mod assembling;
 mod deck_running;
+mod disassembling;
 mod fault;
 mod job_report;
 mod loading;
@@ -16,6 +17,7 @@ mod tests;
 mod watching;
 
 use crate::assembling::{check_size, write_assembly};
+use crate::disassembling::write_disassembly;
 use crate::fault::{Fault, report};
 use crate::loading::{load, read_file};
 use crate::running::{ErrorOutput, run_file};
@@ -83,6 +85,11 @@ fn run<
             let mut reader = FromReader::new(rt.reader());
             let mut writer = ToWriter::new(io::writer(rt));
             load(rt.alloc(), text.as_slice(), &mut reader, &mut writer)
+        }
+        Ok(Call::Disassemble { file }) => {
+            let text = read_file(rt, file)?;
+            let mut writer = ToWriter::new(io::writer(rt));
+            write_disassembly(rt.alloc(), text.as_slice(), &mut writer)
         }
         Ok(Call::Run(job)) => run_file(rt, error_output, job),
         Ok(Call::Serve(service)) => open_room(rt, service),

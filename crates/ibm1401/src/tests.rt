@@ -2,6 +2,7 @@
 
 mod assembling;
 mod command_line;
+mod disassembling;
 mod faults;
 mod loading;
 mod recorder;

@@ -1,0 +1,6 @@
+use Rattle.std.proofs.Common.{◌≡◌, ◌++◌, map, take}
+use Rattle.disassembly_1401.specs.InstructionText.{graphic_of}
+use Rattle.disassembly_1401.proofs.image_listing.put_graphics.Given as goal
+
+abbrev pub invariant-loop-cell : goal.invariant-loop-cell
+invariant-loop-cell l = l.text.items ≡ l.initial.text.items ++ map graphic_of (take l.cell-index l.cells)

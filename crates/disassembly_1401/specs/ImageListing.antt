@@ -1,0 +1,63 @@
+-- The listing of an image: instructions and data with their addresses (own).
+use Rattle.std.specs.Prelude.{ℕ, ◌+◌, Bool, false, ◌&&◌, nat_le, if◌then◌else◌, List, [], ◌∷◌, ◌++◌, length, map, drop}
+use Rattle.std.specs.Prelude.{Option, None, Some, codes}
+use Rattle.std.specs.List.{flat_map}
+use Rattle.bcd_1401.specs.declared.cell.Cell.{Cell}
+use Rattle.cpu_1401.specs.Operation.{operation_of, has_length}
+use Rattle.cpu_1401.specs.declared.operation.Operation.{Operation}
+use Rattle.image_1401.specs.declared.image.Image.{Image}
+use Rattle.image_1401.specs.declared.image.Segment.{Segment}
+use Rattle.notation_1401.specs.Cells.{cells_text}
+use Rattle.notation_1401.specs.Digits.{digits_in}
+use Rattle.disassembly_1401.specs.Address.{number_text}
+use Rattle.disassembly_1401.specs.InstructionText.{graphic_of, instruction_text}
+use Rattle.disassembly_1401.specs.Stretches.{stretches_of}
+
+-- whether an operation of this machine may have instructions of this length
+abbrev pub is_legal : Option Operation → ℕ → Bool
+is_legal None len = false
+is_legal (Some operation) len = has_length operation len
+
+-- whether cells are an instruction: a word mark over an operation of this machine, and as many cells as it may have
+abbrev pub is_instruction : List Cell → Bool
+is_instruction [] = false
+is_instruction (operation ∷ behind) =
+    operation.mark && nat_le (length behind) 7 && is_legal (operation_of operation.char) (length behind + 1)
+
+-- an instruction by its characters in eight columns, and as Autocoder writes it
+abbrev pub as_instruction : List Cell → List ℕ
+as_instruction cells =
+    map graphic_of cells ++ drop (length cells) (codes "        ") ++ codes " " ++ instruction_text cells
+
+-- data by their characters, with a tilde in front of one with a word mark
+abbrev pub as_data : List Cell → List ℕ
+as_data cells = codes "         " ++ cells_text cells
+
+-- cells, as the one or the other
+abbrev pub what_stands : List Cell → List ℕ
+what_stands cells = if is_instruction cells then as_instruction cells else as_data cells
+
+-- the line of a stretch: its address, and what stands there
+unfoldable pub stretch_line : Segment → List ℕ
+stretch_line stretch =
+    digits_in 5 stretch.address ++ codes " " ++ what_stands stretch.cells ++ codes "\n"
+
+-- the entry in decimal, which ends its line
+unfoldable pub start_text : ℕ → List ℕ
+start_text start = number_text start ++ codes "\n"
+
+-- the operation and the entry
+unfoldable pub entry_text : ℕ → List ℕ
+entry_text start = codes " END  " ++ start_text start
+
+-- what stands behind the address of the last line
+unfoldable pub end_text : ℕ → List ℕ
+end_text start = codes "         " ++ entry_text start
+
+-- the last line: where the program begins
+abbrev pub start_line : ℕ → List ℕ
+start_line start = digits_in 5 start ++ end_text start
+
+-- the listing of an image, a line a stretch
+unfoldable pub listing_text : Image → List ℕ
+listing_text image = flat_map stretch_line (stretches_of image.segments) ++ start_line image.start
