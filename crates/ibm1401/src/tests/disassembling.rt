@@ -12,14 +12,14 @@ use std::test::Fail;
 /// Five is put into a field, and added to it.
 const FIVE_AND_FIVE: &[u8] = b"IMAGE2 04000\n00400 24 ~?423420~A423420~.414~   ~HI~E\nEND 00400\n";
 
-/// Its instructions, its field, its name and its literal.
+/// Its instructions, its field, its name, and its literal, which could be an edit without addresses.
 const LISTING: &[u8] = b"\
 00400 ?423420  ZA   423,420
 00407 A423420  A    423,420
 00414 .414     H    414
 00418          ~   \n\
 00421          ~HI
-00423          ~E
+00423 E        MCE  \n\
 00400          END  400
 ";
 
@@ -41,9 +41,9 @@ fn expect_listing(rt: &impl Abort, alloc: Global, text: &[u8], listing: &[u8]) {
 
 #[test]
 fn an_instruction_goes_on_in_the_next_segment(rt: HostRuntime) {
-    let text = b"IMAGE2 04000\n00500 05 ~M510\n00505 03 509\n00508 04 ~Q0Z9\nEND 00500\n";
+    let text = b"IMAGE2 04000\n00500 04 ~M510\n00504 03 509\n00507 04 ~Q0Z9\nEND 00500\n";
     let listing =
-        b"00500 M510509  MCW  510,509\n00508 Q0Z9     SAR  099+X1\n00500          END  500\n";
+        b"00500 M510509  MCW  510,509\n00507 Q0Z9     SAR  099+X1\n00500          END  500\n";
     expect_listing(&rt, rt.alloc(), text.as_slice(), listing.as_slice());
 }
 
