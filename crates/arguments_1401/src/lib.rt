@@ -7,6 +7,7 @@
 
 pub mod call;
 pub mod reading;
+mod sizes;
 
 pub use call::{Call, Job, Product, Service, Start};
 pub use reading::read_call;

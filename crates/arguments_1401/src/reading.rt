@@ -1,13 +1,11 @@
 //! The words of the command line, read by `clap`.
 
 use crate::call::{Call, Job, Product, Service, Start};
+use crate::sizes::{DEFAULT_SIZE, SizeTexts};
 use clap::error::ErrorKind;
 use clap::{Arg, ArgAction, ArgMatches, Command, Error, value_parser};
 use std::alloc::{AllocError, Global};
 use std::convert::AsStr;
-
-/// The size of core storage where none is named.
-const DEFAULT_SIZE: u16 = 4_000;
 
 /// How many instructions are carried out at the most where no number is named.
 const DEFAULT_LIMIT: u32 = 1_000_000_000;
@@ -29,17 +27,17 @@ Lines, each with one reply:
   QUIT            ends the session, of which nothing is kept";
 
 /// The size of core storage, as an option.
-fn size_arg<'a>(alloc: Global) -> Arg<'a> {
+fn size_arg<'a>(alloc: Global, sizes: &'a SizeTexts) -> Arg<'a> {
     Arg::new(alloc, "size")
         .long("size")
         .value_name("N")
-        .help("The places of core storage: 1400, 2000, 4000, 8000, 12000 or 16000")
-        .default_value("4000")
+        .help(sizes.help.as_str())
+        .default_value(sizes.default.as_str())
         .value_parser(value_parser!(u16))
 }
 
 /// The subcommand `assemble`.
-fn assemble_command<'a>(alloc: Global) -> Result<Command<'a>, AllocError> {
+fn assemble_command<'a>(alloc: Global, sizes: &'a SizeTexts) -> Result<Command<'a>, AllocError> {
     let list = Arg::new(alloc, "list")
         .long("list")
         .help("Writes the listing in place of the image")
@@ -51,7 +49,7 @@ fn assemble_command<'a>(alloc: Global) -> Result<Command<'a>, AllocError> {
     Command::new(alloc, "assemble")
         .about("Assembles a source, and writes its core image")
         .arg(list)?
-        .arg(size_arg(alloc))?
+        .arg(size_arg(alloc, sizes))?
         .arg(file)
 }
 
@@ -79,15 +77,15 @@ fn disassemble_command<'a>(alloc: Global) -> Result<Command<'a>, AllocError> {
 }
 
 /// The subcommand `console`.
-fn console_command<'a>(alloc: Global) -> Result<Command<'a>, AllocError> {
+fn console_command<'a>(alloc: Global, sizes: &'a SizeTexts) -> Result<Command<'a>, AllocError> {
     Command::new(alloc, "console")
         .about("Carries out the lines of standard input, and writes their replies")
         .after_help(LINES)
-        .arg(size_arg(alloc))
+        .arg(size_arg(alloc, sizes))
 }
 
 /// The subcommand `serve`.
-fn serve_command<'a>(alloc: Global) -> Result<Command<'a>, AllocError> {
+fn serve_command<'a>(alloc: Global, sizes: &'a SizeTexts) -> Result<Command<'a>, AllocError> {
     let port = Arg::new(alloc, "port")
         .long("port")
         .value_name("P")
@@ -105,11 +103,11 @@ fn serve_command<'a>(alloc: Global) -> Result<Command<'a>, AllocError> {
         .after_help(LINES)
         .arg(port)?
         .arg(seats)?
-        .arg(size_arg(alloc))
+        .arg(size_arg(alloc, sizes))
 }
 
 /// The subcommand `run`.
-fn run_command<'a>(alloc: Global) -> Result<Command<'a>, AllocError> {
+fn run_command<'a>(alloc: Global, sizes: &'a SizeTexts) -> Result<Command<'a>, AllocError> {
     let file = Arg::new(alloc, "file")
         .value_name("FILE")
         .help("The file of the source or the image, or of a deck; - is a name like any other")
@@ -146,7 +144,7 @@ fn run_command<'a>(alloc: Global) -> Result<Command<'a>, AllocError> {
         .arg(cards)?
         .arg(punch)?
         .arg(paper)?
-        .arg(size_arg(alloc))?
+        .arg(size_arg(alloc, sizes))?
         .arg(limit)?
         .arg(switches)?
         .arg(file)
@@ -200,7 +198,8 @@ fn switches_of(letters: &str) -> Option<[bool; 7]> {
 fn run_call(alloc: Global, matches: &ArgMatches<'_>, file: &str) -> Result<Call, Error> {
     let Some(switches) = switches_of(matches.get_str("switches").unwrap_or("")) else {
         let text = "the switches are letters from A to G";
-        let refusal = run_command(alloc)?.error(ErrorKind::ValueValidation, text)?;
+        let sizes = SizeTexts::new(alloc)?;
+        let refusal = run_command(alloc, &sizes)?.error(ErrorKind::ValueValidation, text)?;
         return Err(refusal);
     };
     let start = if matches.get_flag("load") {
@@ -226,15 +225,16 @@ fn run_call(alloc: Global, matches: &ArgMatches<'_>, file: &str) -> Result<Call,
 ///
 /// What is wrong with the command line, the text of the help, or want of memory.
 pub fn read_call(alloc: Global, words: &[impl AsStr]) -> Result<Call, Error> {
+    let sizes = SizeTexts::new(alloc)?;
     let program = Command::new(alloc, "ibm1401")
         .about("An IBM 1401 card system, each operation of it proved")
         .subcommand_required(true)
-        .subcommand(console_command(alloc)?)?
-        .subcommand(assemble_command(alloc)?)?
+        .subcommand(console_command(alloc, &sizes)?)?
+        .subcommand(assemble_command(alloc, &sizes)?)?
         .subcommand(load_command(alloc)?)?
         .subcommand(disassemble_command(alloc)?)?
-        .subcommand(run_command(alloc)?)?
-        .subcommand(serve_command(alloc)?)?;
+        .subcommand(run_command(alloc, &sizes)?)?
+        .subcommand(serve_command(alloc, &sizes)?)?;
     let matches = program.try_get_matches_from(words)?;
     if let Some(assemble) = matches.subcommand_matches("assemble") {
         if let Some(file) = assemble.get_str("file") {

@@ -96,7 +96,7 @@ assembled_by line instruction operands wanted read e =
     (record {
       bytes = refl;
       label = refl;
-      operands = read.good;
+      operands = ap (λ b. not (not b)) read.good;
       cells = λ all this lines. read.cells all (last_place this.next (instruction_length read.of));
     })
 

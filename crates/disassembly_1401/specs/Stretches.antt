@@ -4,7 +4,8 @@ use Rattle.std.specs.List.{flat_map}
 use Rattle.bcd_1401.specs.declared.cell.Cell.{Cell}
 use Rattle.image_1401.specs.declared.image.Segment.{Segment}
 use Rattle.autocoder_1401.specs.Cells.{numbered}
-use Rattle.autocoder_1401.specs.Segments.{most_cells, within}
+use Rattle.notation_1401.specs.Cells.{most_cells}
+use Rattle.autocoder_1401.specs.Segments.{within}
 use Rattle.disassembly_1401.specs.declared.stretches.Builder.{Builder}
 
 -- the cells of segments in their order, each with its address
