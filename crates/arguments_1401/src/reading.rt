@@ -226,15 +226,24 @@ fn run_call(alloc: Global, matches: &ArgMatches<'_>, file: &str) -> Result<Call,
 /// What is wrong with the command line, the text of the help, or want of memory.
 pub fn read_call(alloc: Global, words: &[impl AsStr]) -> Result<Call, Error> {
     let sizes = SizeTexts::new(alloc)?;
+    call_with(alloc, words, &sizes)
+}
+
+/// The same, with the texts that the help takes from the sizes.
+fn call_with<'a, S: AsStr>(
+    alloc: Global,
+    words: &'a [S],
+    sizes: &'a SizeTexts,
+) -> Result<Call, Error> {
     let program = Command::new(alloc, "ibm1401")
         .about("An IBM 1401 card system, each operation of it proved")
         .subcommand_required(true)
-        .subcommand(console_command(alloc, &sizes)?)?
-        .subcommand(assemble_command(alloc, &sizes)?)?
+        .subcommand(console_command(alloc, sizes)?)?
+        .subcommand(assemble_command(alloc, sizes)?)?
         .subcommand(load_command(alloc)?)?
         .subcommand(disassemble_command(alloc)?)?
-        .subcommand(run_command(alloc, &sizes)?)?
-        .subcommand(serve_command(alloc, &sizes)?)?;
+        .subcommand(run_command(alloc, sizes)?)?
+        .subcommand(serve_command(alloc, sizes)?)?;
     let matches = program.try_get_matches_from(words)?;
     if let Some(assemble) = matches.subcommand_matches("assemble") {
         if let Some(file) = assemble.get_str("file") {
