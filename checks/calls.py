@@ -2,6 +2,7 @@
 
 The program growth_trial makes each call, tells a refusal, and makes the call again: what it tells besides must be what
 it tells where nothing is refused. Its trials end with the whole journal and the whole machine."""
+import os
 import shutil
 import subprocess
 import tempfile
@@ -138,15 +139,26 @@ def service(how):
     return end, "; ".join(wrong)
 
 
+def is_built():
+    """Whether the program of the trials is there, and no source is newer: the gate builds it too."""
+    newest = (TOP / "crates.txt").stat().st_mtime
+    for place, folders, files in os.walk(TOP / "crates"):
+        folders[:] = [each for each in folders if each != "out"]
+        newest = max(newest, *(Path(place, each).stat().st_mtime for each in files if each.endswith((".rt", ".antt"))), 0)
+    return TRIAL.exists() and newest <= TRIAL.stat().st_mtime
+
+
 def calls():
     """Each call of the crates that takes memory, with each growth that it asks for refused in turn."""
     if shutil.which("cc") is None:
         print("LEFT OUT  there is no C compiler cc: growths of the crates' calls aren't refused one by one")
         return
-    built = subprocess.run(["rt", "run", "growth_trial"], cwd=TOP, stdin=subprocess.DEVNULL, capture_output=True)
-    if built.returncode != 0:
-        tell("growth_trial is proved and built", built.stderr.decode(errors="replace")[-300:])
-        return
+    if not is_built():
+        folder = TOP / "crates/growth_trial"
+        built = subprocess.run(["rt", "run"], cwd=folder, stdin=subprocess.DEVNULL, capture_output=True)
+        if built.returncode != 0 or not TRIAL.exists():
+            tell("growth_trial is proved and built", built.stderr.decode(errors="replace")[-300:])
+            return
     with tempfile.TemporaryDirectory() as folder:
         refusing = Refusing(Path(folder))
         for call, ends, known in AGAIN:
