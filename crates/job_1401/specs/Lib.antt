@@ -1,4 +1,3 @@
 pub mod DeckText
-pub mod Frame
 pub mod Paper
 pub mod Unattended
