@@ -1,3 +1,4 @@
 pub mod DeckText
 pub mod Paper
+pub mod PaperRead
 pub mod Unattended
