@@ -5,7 +5,10 @@ mod CardsExamples
 pub mod CardsAndPrinterLemmas
 pub mod DecodedLemmas
 pub mod ExampleCells
+mod FrameExamples
+pub mod FrameLemmas
 mod RegisterExamples
 pub mod RunLemmas
 mod StepExamples
 pub mod StorageLemmas
+pub mod UseLemmas

@@ -2,6 +2,7 @@ pub mod Branch
 pub mod CardsAndPrinter
 pub mod Decoded
 pub mod FieldStep
+pub mod Frame
 pub mod Instruction
 pub mod Operation
 pub mod RegisterStep

@@ -23,6 +23,7 @@ mod kept;
 mod operation;
 
 // a step, a run of them, and why one ends
+pub mod frame;
 pub mod running;
 pub mod stepping;
 pub mod stop;
@@ -34,6 +35,7 @@ mod device_steps;
 mod field_steps;
 mod register_steps;
 
+pub use frame::step_law;
 pub use machine::Machine;
 pub use regs::Regs;
 pub use running::Ran;

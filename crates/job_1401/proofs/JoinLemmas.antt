@@ -8,7 +8,7 @@ use Rattle.cpu_1401.specs.declared.stop.Stop.TheVariants as stop
 use Rattle.cpu_1401.specs.Run.{carried_out_by}
 use Rattle.cpu_1401.specs.State.{State}
 use Rattle.cpu_1401.specs.Step.{step}
-use Rattle.job_1401.specs.Unattended.{AtEnd, Begins, GoesOn, IsBeginning, IsPartOf, Job, after_job, after_output, after_steps, ended, go_on, taken_first, unattended}
+use Rattle.job_1401.specs.Unattended.{IsPartOf, Job, after_job, after_steps, ended, go_on, taken_first, unattended}
 use Rattle.job_1401.proofs.JobLemmas.{emptied_first, waiting_begins}
 
 -- two jobs whose counts and outputs are equal

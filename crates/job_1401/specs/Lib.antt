@@ -1,4 +1,4 @@
 pub mod DeckText
-pub mod Frame
 pub mod Paper
+pub mod PaperRead
 pub mod Unattended

@@ -7,7 +7,7 @@ use crate::fault::JobFault;
 use crate::feeding::fill_hopper;
 use crate::output::Output;
 use crate::taking::take_all;
-use cpu_1401::{Machine, Stop};
+use cpu_1401::{Machine, Stop, step_law};
 
 /// The most steps of one stretch: each reads, prints and punches one at the most, and 500 of each have room.
 const STRETCH: u32 = 500;
@@ -59,6 +59,7 @@ pub fn run_job<R: Cards, W: Output>(
         (after_output (W.lines output.old) (W.cards output.old) 0
         (unattended limit (with_deck (R.left cards.old) machine.old)))) }
 {
+    step_law();
     take_all(machine, output)?;
     let mut steps = 0;
     while steps < limit {

@@ -3,6 +3,7 @@ ghost use Rattle.std.specs.Prelude.{◌≡◌, ◌-◌, ◌≤◌, ◌==◌, ◌
 ghost use Rattle.std.specs.List.{suffix_len};
 ghost use Rattle.job_1401.specs.Paper.{blank_code, trimmed, graphics_of, line_text, new_forms, paper_text};
 ghost use Rattle.job_1401.specs.Paper.{place_after, place_behind};
+ghost use Rattle.job_1401.specs.PaperRead.{IsOnlyPaper, IsReadBack};
 
 use bcd_1401::Char;
 use devices_1401::PrintLine;
@@ -115,6 +116,10 @@ fn put_line(text: &mut Vec<u8>, place: Place, line: &PrintLine) -> Result<Place,
 pub fn put_paper(text: &mut Vec<u8>, place: Place, lines: &[PrintLine]) -> Result<Place, AllocError>
     ensures text { OnOk result (text.new.items ≡ text.old.items ++ paper_text place lines.now) }
     ensures place { IfOk result (λ next. next ≡ place_behind place lines.now) }
+
+    // Form, line and graphics of each line can be read off the text, and no paper that differs in them has it.
+    ensures again { OnOk result (IsReadBack place lines.now) }
+    ensures only { OnOk result (IsOnlyPaper place lines.now) }
 {
     let mut next = place;
     for line in lines {
