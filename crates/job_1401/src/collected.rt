@@ -1,5 +1,5 @@
 //! Paper and punched cards kept in memory.
-ghost use Rattle.std.specs.Prelude.{◌≡◌, []};
+ghost use Rattle.std.specs.Prelude.{◌≡◌, [], false};
 
 use crate::fault::JobFault;
 use crate::output::Output;
@@ -30,6 +30,8 @@ impl Output for Collected {
     ghost lines = { λ c. c.lines.items };
 
     ghost cards = { λ c. c.cards.items };
+
+    ghost has_failed = { λ _. false };
 
     fn put_line(&mut self, line: &PrintLine) -> Result<(), JobFault> {
         match self.lines.push(PrintLine {

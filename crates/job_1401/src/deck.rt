@@ -1,5 +1,5 @@
 //! A deck in memory.
-ghost use Rattle.std.specs.Prelude.{◌≡◌, ◌<◌, ◌^◌, drop, length};
+ghost use Rattle.std.specs.Prelude.{◌≡◌, ◌<◌, ◌^◌, drop, false, length};
 
 use crate::cards::Cards;
 use crate::fault::JobFault;
@@ -31,6 +31,8 @@ impl<'a> Deck<'a> {
 
 impl<'a> Cards for Deck<'a> {
     ghost left = { λ d. drop d.next d.cards.now };
+
+    ghost has_failed = { λ _. false };
 
     fn next_card(&mut self) -> Result<Option<Card>, JobFault> {
         if self.next < self.cards.len() {

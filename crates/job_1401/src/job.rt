@@ -1,6 +1,6 @@
 //! A job: a deck, a machine, and steps until it stops.
-ghost use Rattle.std.specs.Prelude.{◌≡◌, ◌≢◌, ◌≤◌, IfOk, OnOk, OnErr};
-ghost use Rattle.job_1401.specs.Unattended.{AtEnd, Begins, GoesOn, IsPartOf, after_output, unattended, with_deck};
+ghost use Rattle.std.specs.Prelude.{◌≡◌, ◌≢◌, ◌≤◌, IfOk, IfErr, OnOk, OnErr};
+ghost use Rattle.job_1401.specs.Unattended.{AtEnd, Begins, GoesOn, IsPartOf, IsWhyBroken, after_output, failed, unattended, with_deck};
 
 use crate::cards::Cards;
 use crate::fault::JobFault;
@@ -8,9 +8,10 @@ use crate::feeding::fill_hopper;
 use crate::output::Output;
 use crate::taking::take_all;
 use cpu_1401::{Machine, Stop, step_law};
+use devices_1401::MOST_HELD;
 
-/// The most steps of one stretch: each reads, prints and punches one at the most, and 500 of each have room.
-const STRETCH: u32 = 500;
+/// The most steps between two feedings: a step reads, prints and punches at most one, and there is room for 500.
+pub const STRETCH: u32 = MOST_HELD as u32;
 
 /// How a job ended.
 #[derive(Clone, Copy, Debug, PartialEq, Eq)]
@@ -58,6 +59,13 @@ pub fn run_job<R: Cards, W: Output>(
     ensures part { OnErr result (IsPartOf (W.lines output.new) (W.cards output.new)
         (after_output (W.lines output.old) (W.cards output.old) 0
         (unattended limit (with_deck (R.left cards.old) machine.old)))) }
+
+    // Read means a failed read, Write a failed write, and Memory neither.
+    ensures why { IfErr result (λ why. IsWhyBroken why
+        (failed (R.has_failed cards.old) (W.has_failed output.old))
+        (failed (R.has_failed cards.new) (W.has_failed output.new))) }
+    ensures good { OnOk result (failed (R.has_failed cards.new) (W.has_failed output.new)
+        ≡ failed (R.has_failed cards.old) (W.has_failed output.old)) }
 {
     step_law();
     take_all(machine, output)?;

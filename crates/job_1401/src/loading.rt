@@ -1,5 +1,5 @@
 //! The load key pressed before a deck is run.
-ghost use Rattle.std.specs.Prelude.{◌≡◌, ◌==◌, false, not, length, IfOk, OnOk, OnErr, IfErr};
+ghost use Rattle.std.specs.Prelude.{◌≡◌, ◌==◌, false, not, length, IsTrue, IfOk, OnOk, OnErr, IfErr};
 ghost use Rattle.cpu_1401.specs.CardsAndPrinter.{load};
 ghost use Rattle.job_1401.specs.Unattended.{with_deck};
 
@@ -25,6 +25,8 @@ pub fn press_load_key<R: Cards>(machine: &mut Machine, cards: &mut R) -> Result<
     ensures err { OnErr result
         (with_deck (R.left cards.new) machine.new ≡ with_deck (R.left cards.old) machine.old) }
     ensures fault { IfErr result (λ why. why ≡ JobFault.Read) }
+    ensures good { OnOk result (R.has_failed cards.new ≡ R.has_failed cards.old) }
+    ensures failed { OnErr result (IsTrue (R.has_failed cards.new)) }
 {
     fill_hopper(machine, cards)?;
     let loaded = machine.load_key();

@@ -1,5 +1,5 @@
 //! Paper and stacker emptied.
-ghost use Rattle.std.specs.Prelude.{◌≡◌, ◌≢◌, ◌++◌, [], IfErr, OnOk, OnErr};
+ghost use Rattle.std.specs.Prelude.{◌≡◌, ◌≢◌, ◌++◌, [], IsTrue, Err, IfErr, OnOk, OnErr};
 ghost use Rattle.cpu_1401.specs.CardsAndPrinter.{with_devices};
 ghost use Rattle.job_1401.specs.Unattended.{IsBeginning, emptied};
 
@@ -17,6 +17,8 @@ fn take_lines<W: Output>(machine: &mut Machine, output: &mut W) -> Result<(), Jo
     ensures part { OnErr result (IsBeginning (W.lines output.new) (W.lines output.old ++ machine.old.devices.paper)) }
     ensures state { OnOk result (machine.new ≡ with_devices (record machine.old.devices { paper = [] }) machine.old) }
     ensures fault { IfErr result (λ why. why ≢ JobFault.Read) }
+    ensures good { result ≢ Err JobFault.Write → W.has_failed output.new ≡ W.has_failed output.old }
+    ensures failed { result ≡ Err JobFault.Write → IsTrue (W.has_failed output.new) }
     ensures cards { W.cards output.new ≡ W.cards output.old }
 {
     while let Some(line) = machine.take_line() {
@@ -35,6 +37,8 @@ fn take_cards<W: Output>(machine: &mut Machine, output: &mut W) -> Result<(), Jo
     ensures part { OnErr result (IsBeginning (W.cards output.new) (W.cards output.old ++ machine.old.devices.stacker)) }
     ensures state { OnOk result (machine.new ≡ with_devices (record machine.old.devices { stacker = [] }) machine.old) }
     ensures fault { IfErr result (λ why. why ≢ JobFault.Read) }
+    ensures good { result ≢ Err JobFault.Write → W.has_failed output.new ≡ W.has_failed output.old }
+    ensures failed { result ≡ Err JobFault.Write → IsTrue (W.has_failed output.new) }
     ensures lines { W.lines output.new ≡ W.lines output.old }
 {
     while let Some(card) = machine.take_card() {
@@ -53,6 +57,8 @@ pub(crate) fn take_all<W: Output>(machine: &mut Machine, output: &mut W) -> Resu
     ensures cards { OnOk result (W.cards output.new ≡ W.cards output.old ++ machine.old.devices.stacker) }
     ensures state { OnOk result (machine.new ≡ emptied machine.old) }
     ensures fault { IfErr result (λ why. why ≢ JobFault.Read) }
+    ensures good { result ≢ Err JobFault.Write → W.has_failed output.new ≡ W.has_failed output.old }
+    ensures failed { result ≡ Err JobFault.Write → IsTrue (W.has_failed output.new) }
     ensures part_lines { OnErr result (IsBeginning (W.lines output.new) (W.lines output.old ++ machine.old.devices.paper)) }
     ensures part_cards { OnErr result
         (IsBeginning (W.cards output.new) (W.cards output.old ++ machine.old.devices.stacker)) }
