@@ -6,7 +6,7 @@ use crate::output::Output;
 use devices_1401::{Card, PrintLine};
 use std::alloc::Global;
 
-/// All lines and cards so far.
+/// An output that keeps all lines and cards in memory.
 #[derive(Drop)]
 pub struct Collected {
     pub lines: Vec<PrintLine>,
@@ -14,7 +14,7 @@ pub struct Collected {
 }
 
 impl Collected {
-    /// Nothing yet.
+    /// An empty output.
     pub fn new(alloc: Global) -> Collected
         ensures lines { result.lines.items ≡ [] }
         ensures cards { result.cards.items ≡ [] }

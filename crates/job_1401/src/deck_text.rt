@@ -15,7 +15,7 @@ use thiserror::Error;
 /// How many columns a card has.
 const COLUMNS: usize = 80;
 
-/// Why a text is no deck: its first byte that no card has.
+/// Why a text isn't a deck.
 #[derive(Clone, Copy, Debug, PartialEq, Eq, Error)]
 pub enum DeckFault {
     /// The memory for the cards was refused.
@@ -46,7 +46,7 @@ pub struct ReadDeck {
     pub has_small_letters: bool,
 }
 
-/// The card of a line, which goes on in blanks. A small letter is read as its capital.
+/// The card of a line: its characters, small letters as capitals, and then blanks.
 ///
 /// # Errors
 ///
@@ -70,18 +70,18 @@ fn card_of(number: u64, line: &[u8]) -> Result<Card, DeckFault>
     Ok(Card(columns))
 }
 
-/// The cards of a text, one for each line. A carriage return before a line feed is no column, and a small letter is read
-/// as its capital.
+/// Reads a deck, a card from each line. A carriage return before a line feed is no column, and small letters are read
+/// as capitals.
 ///
 /// # Errors
 ///
-/// The fault of the first line that is no card, or `Memory`.
+/// `Graphic` or `Length` for the first byte that is on no card, or `Memory`.
 pub fn read_deck(alloc: Global, text: &[u8]) -> Result<ReadDeck, DeckFault>
     ensures deck { IfOk result (λ deck. deck_of text.now ≡ Ok deck.cards.items) }
     ensures count { IfOk result (λ deck. length deck.cards.items ≡ length (lines_of text.now)) }
     ensures small { IfOk result (λ deck. deck.has_small_letters ≡ list_any is_ascii_lowercase text.now) }
 
-    // A text without a fault is refused for want of memory alone.
+    // Without a fault of the text only memory can be refused.
     ensures fault { IfErr result (λ why. why ≢ DeckFault.Memory → deck_of text.now ≡ Err why) }
 {
     let has_small_letters = text.iter().any(|byte| byte.is_ascii_lowercase());
@@ -101,11 +101,11 @@ pub fn read_deck(alloc: Global, text: &[u8]) -> Result<ReadDeck, DeckFault>
     })
 }
 
-/// Adds cards to a text, each as a line without the blanks at its end.
+/// Adds each card to a text as a line, without its trailing blanks.
 ///
 /// # Errors
 ///
-/// Where there is no room for the text.
+/// If the memory for the text is refused. Part of it may have been added.
 pub fn put_cards(text: &mut Vec<u8>, cards: &[Card]) -> Result<(), AllocError>
     ensures { OnOk result (text.new.items ≡ text.old.items ++ flat_map card_text cards.now) }
 {

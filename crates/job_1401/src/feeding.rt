@@ -1,4 +1,4 @@
-//! The hopper filled from a deck.
+//! Filling the hopper from a deck.
 ghost use Rattle.std.specs.Prelude.{◌≡◌, ◌≤◌, ◌⊎◌, [], IsTrue, IfErr, OnOk, OnErr, length};
 ghost use Rattle.devices_1401.specs.Devices.{most_held};
 ghost use Rattle.job_1401.specs.Unattended.{with_deck};
@@ -8,11 +8,11 @@ use crate::fault::JobFault;
 use cpu_1401::Machine;
 use devices_1401::MOST_HELD;
 
-/// Feeds cards until the hopper is full or the deck is at its end.
+/// Feeds cards until the hopper is full or no card is left.
 ///
 /// # Errors
 ///
-/// `Read` where a card can't be read. Those before are in the hopper.
+/// `Read` if a card can't be read. The cards before it are in the hopper.
 pub(crate) fn fill_hopper<R: Cards>(machine: &mut Machine, cards: &mut R) -> Result<(), JobFault>
     ensures deck { with_deck (R.left cards.new) machine.new ≡ with_deck (R.left cards.old) machine.old }
     ensures full { OnOk result ((most_held ≤ length machine.new.devices.hopper) ⊎ (R.left cards.new ≡ [])) }

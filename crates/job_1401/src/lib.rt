@@ -7,9 +7,9 @@
 //! output.lines                            // all that was printed, however much
 //! ```
 //!
-//! Hopper, stacker and paper hold 500 each. A job feeds the hopper and takes what was printed and punched every 500
-//! steps, of which each reads, prints and punches one at most: so the machine meets neither an empty hopper while there
-//! are cards nor a full stacker.
+//! Hopper, stacker and paper hold 500 each, and a step reads, punches and prints at most one. So a job that fills the
+//! hopper and empties stacker and paper every 500 steps never shows the machine an empty hopper while cards are left,
+//! nor a full stacker or full paper.
 #![tactic(auto)]
 
 pub mod cards;

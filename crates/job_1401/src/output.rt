@@ -21,7 +21,7 @@ pub trait Output {
     ///
     /// # Errors
     ///
-    /// `Write` or `Memory` where the line isn't received.
+    /// `Write` if the write fails, `Memory` if memory is refused. The line isn't received.
     fn put_line(&mut self, line: &PrintLine) -> Result<(), JobFault>
         ensures ok { OnOk result (lines self.new ≡ lines self.old ++ line.now ∷ []) }
         ensures err { OnErr result (lines self.new ≡ lines self.old) }
@@ -34,7 +34,7 @@ pub trait Output {
     ///
     /// # Errors
     ///
-    /// `Write` or `Memory` where the card isn't received.
+    /// `Write` if the write fails, `Memory` if memory is refused. The card isn't received.
     fn put_card(&mut self, card: &Card) -> Result<(), JobFault>
         ensures ok { OnOk result (cards self.new ≡ cards self.old ++ card.now ∷ []) }
         ensures err { OnErr result (cards self.new ≡ cards self.old) }

@@ -16,7 +16,7 @@ use std::test::Fail;
 /// Columns 1 to 4 of each card are listed and punched, until it was the last one.
 const LIST_AND_PUNCH: &[u8] = b"~,001101~1~M004204~M004104~2~4~B533A~B507~.~ ";
 
-/// A machine with these cells from 500 on, where it begins: a graphic each, with a word mark where a `~` stands before it.
+/// A machine with these cells from 500 on, where it begins: a graphic each, with a word mark after a `~`.
 fn machine_with(rt: &impl Abort, alloc: Global, text: &[u8]) -> Machine {
     let mut machine = Machine::power_on(alloc, 1_400).expect(rt, "a machine");
     let mut mark = false;
