@@ -23,6 +23,7 @@ mod cells; // the cells of a line
 mod segments; // the cells, cut into segments
 mod printing; // the parts of a line of the listing
 pub mod listing; // the source with its addresses and cells
+mod outputs; // segments and listing, line by line
 pub mod fault; // the kinds of fault
 
 pub use assembly::{Assembly, assemble};
