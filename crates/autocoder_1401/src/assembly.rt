@@ -97,7 +97,7 @@ pub struct Assembly {
 ///
 /// # Errors
 ///
-/// `OutOfCore` for the first line of which something isn't in core; `Memory` where there is no room.
+/// `OutOfCore` for the first line of which something isn't in core; `Memory` if there is no room.
 fn make_assembly(
     alloc: Global,
     all: &Placing,
@@ -132,7 +132,8 @@ fn make_assembly(
 /// # Errors
 ///
 /// `Memory` if memory is refused or the source has too many lines. Otherwise the lowest fault of the first line that
-/// has one of kinds 2 to 8, 10 and 11; if no line has, `OutOfCore` for the first line of which something is not in core.
+/// has one of kinds 2 to 8, 10 and 11; if no line has one, `OutOfCore` for the first line of which something isn't in
+/// core.
 #[tactic(auto, using(crate::proofs::PlacementLawLemmas::placed_in_turn))]
 pub fn assemble(alloc: Global, source: &[u8], size: u16) -> Result<Assembly, AsmFault>
     // The image and the listing of the lines, or their first fault, unless memory is refused.

@@ -94,7 +94,7 @@ fn listing_line(
     Ok(ListingLine { text })
 }
 
-/// Adds the lines of literals that are placed one behind the other from a place on.
+/// Adds the lines of literals that are placed one after the other from a place on.
 fn put_literal_lines(
     alloc: Global,
     from: i64,
@@ -164,7 +164,7 @@ impl Placing {
         }
     }
 
-    /// The cells that the line of a body here shows, with these lines behind it.
+    /// The cells that the line of a body here shows, with these lines after it.
     fn cells_at(
         &self,
         alloc: Global,
@@ -206,7 +206,7 @@ impl Placing {
         put_literal_lines(alloc, self.next, self.literals_in(line), lines)
     }
 
-    /// The line of the listing for a line of the source here, with these lines behind it.
+    /// The line of the listing for a line of the source here, with these lines after it.
     fn line_for(
         &self,
         alloc: Global,
@@ -230,7 +230,7 @@ impl Placing {
         }
     }
 
-    /// Adds the lines for a line of the source here, with these lines behind it.
+    /// Adds the lines for a line of the source here, with these lines after it.
     pub(crate) fn list_line(
         &self,
         alloc: Global,

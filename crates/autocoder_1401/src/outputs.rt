@@ -44,7 +44,7 @@ pub(crate) struct Made {
 }
 
 impl Output {
-    /// Makes what a line stands for, with these lines behind it, and places it.
+    /// Makes what a line stands for, with these lines after it, and places it.
     fn put_line(
         &mut self,
         alloc: Global,
@@ -129,7 +129,7 @@ impl Output {
 ///
 /// # Errors
 ///
-/// `OutOfCore` for the first line of which something isn't in core; `Memory` where there is no room.
+/// `OutOfCore` for the first line of which something isn't in core; `Memory` if there is no room.
 pub(crate) fn make_outputs(
     alloc: Global,
     all: &Placing,

@@ -104,7 +104,7 @@ impl Builder {
         Ok(())
     }
 
-    /// Puts the cells of a line for which this is placed so far, with these lines behind it.
+    /// Puts the cells of a line for which this is placed so far, with these lines after it.
     pub(crate) fn put_line(
         &mut self,
         alloc: Global,
@@ -133,7 +133,7 @@ impl Builder {
     }
 }
 
-/// The lines behind the one with this index.
+/// The lines after the one with this index.
 pub(crate) fn lines_behind(lines: &[KeptLine], i: usize) -> &[KeptLine]
     requires { i < length lines.now }
     ensures { result.now ≡ drop (i + 1) lines.now }

@@ -25,7 +25,7 @@ fn are_in_core(size: u16, first: i64, behind: i64) -> bool
     first >= 0 && behind <= i64::from(size)
 }
 
-/// Whether a value isn't in core. The next place may be the one behind the last.
+/// Whether a value isn't in core. The next place may be the one after the last.
 fn is_value_outside(size: u16, value: i64, next: Next) -> bool
     ensures { result ≡ value_outside size value next }
 {

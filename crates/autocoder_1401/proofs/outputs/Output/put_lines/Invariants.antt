@@ -1,5 +1,5 @@
--- What is made, with what the lines that are left stand for, is the whole; and what is found in them is what is found in
--- all lines.
+-- What is made, with what the lines that are left stand for, is the whole; what is found in them is what is found in all
+-- lines.
 use Rattle.std.proofs.Common.{◌≡◌, ◌+◌, ◌++◌, drop, map}
 use Rattle.source_1401.specs.SourceLine.{lines_of}
 use Rattle.source_1401.specs.Statement.{line_of}
