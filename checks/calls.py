@@ -23,7 +23,7 @@ AGAIN = [
     ("room", {"Memory"}, 10),
     ("shared", {"Memory"}, 215),
     ("command", {"Memory"}, 36),
-    ("assemble", {"Memory"}, 112),
+    ("assemble", {"Memory"}, 92),
     ("write_image", {"Memory"}, 10),
     ("read_image", {"Memory"}, 7),
     ("reply_text", {"Memory"}, 28),
