@@ -6,6 +6,7 @@
 #![tactic(auto)]
 
 mod attended;
+mod notes;
 mod recorded;
 mod served;
 mod shared;
@@ -33,7 +34,9 @@ fn main(rt: HostRuntime) -> io::Result<()> {
         "carry" => recorded::carry(&rt, alloc),
         "reserve" => recorded::reserve(&rt, alloc),
         "put_image" => recorded::put_image(&rt, alloc),
+        "notes" => notes::notes(&rt, alloc),
         "session" => attended::session(&rt, alloc),
+        "program" => attended::program(&rt, alloc),
         "attend" => attended::attend(&rt, alloc),
         "serve" => served::serve(&rt, alloc),
         _ => println!(rt; "growth_trial CALL: what a call answers where memory is refused"),

@@ -1,6 +1,9 @@
 //! A journal that grows.
+ghost use Rattle.std.specs.Prelude.{◌≡◌, nat_lt, true};
+ghost use Rattle.std.specs.List.{list_all};
+ghost use Rattle.image_1401.specs.Image.{is_inside};
 
-use crate::shown::show_room;
+use crate::shown::{show_machine, show_room};
 use image_1401::{Image, read_image};
 use room_1401::{Answer, Command, Room, RoomFault};
 use std::alloc::Global;
@@ -29,7 +32,7 @@ const IMAGE: &[u8] =
     00415 01 F\n00416 01 G\n00400 01 J\nEND 00400\n";
 
 /// A room of 4,000 places. Where its memory is refused, a second one.
-fn new_room(rt: &impl Print, alloc: Global) -> io::Result<Option<Room>> {
+pub fn new_room(rt: &impl Print, alloc: Global) -> io::Result<Option<Room>> {
     for _ in 0..2 {
         match Room::power_on(alloc, 4_000) {
             Ok(room) => return Ok(Some(room)),
@@ -97,7 +100,13 @@ pub fn reserve(rt: &impl Print, alloc: Global) -> io::Result<()> {
     }
     reserve_one(rt, &mut room)?;
     carry_command(rt, &mut room, &Command::Registers)?;
-    println!(rt; "{} {:?}", room.journal().len(), room.machine().regs())
+    let alike = room
+        .journal()
+        .iter()
+        .filter(|entry| Some(*entry) == room.journal().first())
+        .count();
+    println!(rt; "{} entries, {alike} as the first", room.journal().len())?;
+    show_machine(rt, room.machine())
 }
 
 /// Carries out what is left of loading an image, command by command.
@@ -120,7 +129,20 @@ fn load_rest(rt: &impl Print, room: &mut Room, image: &Image) -> io::Result<()> 
     Ok(())
 }
 
-/// An image, loaded at once, or to its end command by command where that was refused.
+/// Loads an image at once, or to its end command by command where that was refused.
+pub fn load(rt: &impl Print, room: &mut Room, image: &Image) -> io::Result<()>
+    requires size { image.now.size ≡ room.old.size }
+    requires segments { list_all (is_inside image.now.size) image.now.segments ≡ true }
+    requires start { nat_lt image.now.start image.now.size ≡ true }
+{
+    if let Err(fault) = console_1401::put_image(room, image) {
+        println!(rt; "refused {fault:?} {}", room.journal().len())?;
+        load_rest(rt, room, image)?;
+    }
+    Ok(())
+}
+
+/// An image that is read and loaded.
 pub fn put_image(rt: &impl Print, alloc: Global) -> io::Result<()> {
     for _ in 0..2 {
         let image = match read_image(alloc, IMAGE) {
@@ -137,10 +159,7 @@ pub fn put_image(rt: &impl Print, alloc: Global) -> io::Result<()> {
                 continue;
             }
         };
-        if let Err(fault) = console_1401::put_image(&mut room, &image) {
-            println!(rt; "refused {fault:?} {}", room.journal().len())?;
-            load_rest(rt, &mut room, &image)?;
-        }
+        load(rt, &mut room, &image)?;
         return show_room(rt, &room);
     }
     Ok(())

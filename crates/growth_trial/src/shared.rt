@@ -1,5 +1,6 @@
 //! A room that operators share.
-ghost use Rattle.std.specs.Prelude.{◌≡◌};
+ghost use Rattle.std.specs.Prelude.{◌≡◌, IfOk, IfSome};
+ghost use Rattle.room_1401.specs.Seen.{newcomers};
 
 use crate::recorded::COMMANDS;
 use crate::shown::show_room;
@@ -23,6 +24,26 @@ fn fault_of<J: Naming, R: Wait>(
     requires named { (size ≡ J.size) × (seats ≡ J.seats) }
 {
     SharedRoom::<J, &R>::power_on(rt, alloc, size, seats, opened).err()
+}
+
+/// A room of 4,000 places with two seats. None where it was refused, which is told.
+pub fn open_room<J: Naming, R: Wait + Print>(
+    rt: &R,
+    alloc: Global,
+    opened: Opened,
+) -> io::Result<Option<(SharedRoom<J, &R>, Vec<Seat<J>>)>>
+    requires history { opened.book ≡ J.book }
+    requires ledger { (opened.ledger ≡ J.name) × (opened.parts ≡ J.parts) × (J.parts ≡ J.seats) }
+    requires named { (4000 ≡ J.size) × (2 ≡ J.seats) }
+    ensures seats { IfOk result (λ made. IfSome made (λ room. room.1.items ≡ newcomers 2)) }
+{
+    match SharedRoom::<J, &R>::power_on(rt, alloc, 4_000, 2, opened) {
+        Ok(made) => Ok(Some(made)),
+        Err(fault) => {
+            println!(rt; "refused {fault:?} at power-on")?;
+            Ok(None)
+        }
+    }
 }
 
 /// What is asked for: sizes and numbers of seats that there are none of, and each number of seats that there is.
@@ -78,24 +99,26 @@ fn give<J: Naming, R: Wait + Print>(
     Ok(())
 }
 
-/// A line's command is given by each seat in turn, which then glances.
-fn give_each<J: Naming, R: Wait + Print>(
+/// Prints what a seat sees at place 500.
+pub fn show_glance<J: Naming>(rt: &impl Print, seat: &mut Seat<J>) -> io::Result<()> {
+    match seat.glance(500) {
+        Ok(glance) => println!(rt; "seat {} glances {glance:?}", seat.number()),
+        Err(fault) => println!(rt; "{fault:?}"),
+    }
+}
+
+/// A seat gives a line's command, and then glances.
+pub fn give_line<J: Naming, R: Wait + Print>(
     rt: &R,
     room: &SharedRoom<J, &R>,
-    seats: &mut [Seat<J>],
+    seat: &mut Seat<J>,
     line: &str,
 ) -> io::Result<()> {
     let Ok(Line::Command(command)) = parse_line(line.as_bytes()) else {
         return println!(rt; "no command: {line}");
     };
-    for seat in seats.iter_mut() {
-        give(rt, room, seat, &command)?;
-        match seat.glance(500) {
-            Ok(glance) => println!(rt; "seat {} glances {glance:?}", seat.number())?,
-            Err(fault) => println!(rt; "{fault:?}")?,
-        }
-    }
-    Ok(())
+    give(rt, room, seat, &command)?;
+    show_glance(rt, seat)
 }
 
 /// Two operators give commands in turn. False where the room was refused.
@@ -104,16 +127,14 @@ fn operate<J: Naming, R: Wait + Print>(rt: &R, alloc: Global, opened: Opened) ->
     requires ledger { (opened.ledger ≡ J.name) × (opened.parts ≡ J.parts) × (J.parts ≡ J.seats) }
     requires named { (4000 ≡ J.size) × (2 ≡ J.seats) }
 {
-    let (room, mut seats) = match SharedRoom::<J, &R>::power_on(rt, alloc, 4_000, 2, opened) {
-        Ok(made) => made,
-        Err(fault) => {
-            println!(rt; "refused {fault:?} at power-on")?;
-            return Ok(false);
-        }
+    let Some((room, mut seats)) = open_room::<J, R>(rt, alloc, opened)? else {
+        return Ok(false);
     };
     for _ in 0..5 {
         for line in COMMANDS {
-            give_each(rt, &room, seats.as_mut_slice(), line)?;
+            for seat in seats.as_mut_slice().iter_mut() {
+                give_line(rt, &room, seat, line)?;
+            }
         }
     }
     match room.close(seats) {
