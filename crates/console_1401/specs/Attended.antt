@@ -56,20 +56,21 @@ Stand size seat before (carried ∷ more) list =
 abbrev pub Between : List Pair → List Pair → (List Pair → Type 0) → Type 0
 Between before after P = (list : List Pair) × IsPrefix before list × IsPrefix list after × P list
 
--- why the room took no command: if its journal was full, the seat has then seen all of its 100,000 and no more
-abbrev pub RoomRefused : List Pair → RoomFault → Type 0
-RoomRefused after Memory = Unit {0}
-RoomRefused after JournalFull = length after ≡ most_entries
-RoomRefused after NoReading = Unit {0}
+-- why the room took no command: if its journal was full, the seat has then seen all of its 100,000 and no more; if
+-- memory was refused, it had seen fewer by then
+abbrev pub RoomRefused : List Pair → List Pair → RoomFault → Type 0
+RoomRefused before after Memory = Between before after (λ list. length list < most_entries)
+RoomRefused before after JournalFull = length after ≡ most_entries
+RoomRefused before after NoReading = Unit {0}
 
 -- a command has an answer, which `Stand` speaks of, or a fault of the room
-abbrev pub CommandReplied : List Pair → Reply → Type 0
-CommandReplied after (reply.Answer answer) = Unit {0}
-CommandReplied after (reply.RoomFault fault) = RoomRefused after fault
-CommandReplied after (reply.Glance glance) = ⊥
-CommandReplied after (reply.GlanceFault fault) = ⊥
-CommandReplied after (reply.LineFault fault) = ⊥
-CommandReplied after reply.Bye = ⊥
+abbrev pub CommandReplied : List Pair → List Pair → Reply → Type 0
+CommandReplied before after (reply.Answer answer) = Unit {0}
+CommandReplied before after (reply.RoomFault fault) = RoomRefused before after fault
+CommandReplied before after (reply.Glance glance) = ⊥
+CommandReplied before after (reply.GlanceFault fault) = ⊥
+CommandReplied before after (reply.LineFault fault) = ⊥
+CommandReplied before after reply.Bye = ⊥
 
 -- a glance shows the cell after the commands that the seat had then seen, and how many they were
 abbrev pub GlanceReplied : ℕ → List Pair → List Pair → ℕ → Reply → Type 0
@@ -86,7 +87,7 @@ GlanceReplied size before after address reply.Bye = ⊥
 abbrev pub LineReplied : ℕ → List Pair → List Pair → Said → Option Reply → Type 0
 LineReplied size before after (Ok line.Empty) given = given ≡ None
 LineReplied size before after (Ok (line.Command command)) None = ⊥
-LineReplied size before after (Ok (line.Command command)) (Some given) = CommandReplied after given
+LineReplied size before after (Ok (line.Command command)) (Some given) = CommandReplied before after given
 LineReplied size before after (Ok (line.Glance address)) None = ⊥
 LineReplied size before after (Ok (line.Glance address)) (Some given) = GlanceReplied size before after address given
 LineReplied size before after (Ok line.Quit) given = given ≡ Some reply.Bye
