@@ -6,12 +6,10 @@ use Rattle.std.specs.Prelude.{filter_map, position}
 use Rattle.std.specs.Option.{option_map}
 use Rattle.std.specs.List.{flat_map, list_all}
 use Rattle.std.specs.Result.{result_ok}
-use Rattle.std.specs.Str.{bytes_eq}
 use Rattle.std.proofs.lemmas.Bool.{and_from, and_parts, eqb-true, eq-eqb, leb-true, false≢true}
 use Rattle.std.proofs.lemmas.List.{take_all, take_at, drop_at, take-append-drop, length-map}
 use Rattle.std.proofs.lemmas.List.Quantifiers.{position-Some}
 use Rattle.std.proofs.lemmas.Option.{cond_some, same_Some}
-use Rattle.std.proofs.lemmas.Slice.Eq.{bytes_eq-Decides}
 use Rattle.bcd_1401.specs.declared.cell.Cell.{Cell}
 use Rattle.bcd_1401.specs.Graphic.{graphics}
 use Rattle.notation_1401.specs.declared.fault.CellsFault.{CellsFault}
@@ -20,21 +18,7 @@ use Rattle.notation_1401.specs.Cells.{cell_of, cell_text, cells_of, cells_text, 
 use Rattle.notation_1401.proofs.SpelledLemmas.{cells_of-some}
 use Rattle.image_1401.specs.declared.image.Segment.{Segment}
 use Rattle.image_1401.specs.ImageText.{is_char, is_character, is_segment}
-use Rattle.image_1401.specs.Reading.{behind, few_cells_in}
-
--- the text begins with these bytes
-pub behind_takes : (front text rest : List ℕ) → behind front text ≡ Some rest → text ≡ front ++ rest
-behind_takes front text rest h =
-    let found = cond_some (bytes_eq (take (length front) text) front) (drop (length front) text) rest h in
-    let same : take (length front) text ≡ front = (bytes_eq-Decides (take (length front) text) front).0 found.0 in
-    sym (take-append-drop (length front) text)
-    ∙ (ap (λ (more : List ℕ). more ++ drop (length front) text) same
-    ∙ ap (λ (more : List ℕ). front ++ more) found.1)
-
-pub behind_again : (front rest : List ℕ) → behind front (front ++ rest) ≡ Some rest
-behind_again front rest =
-    let same : bytes_eq front front ≡ true = (bytes_eq-Decides front front).1 refl in
-    rw (take_at front rest (length front) refl, drop_at front rest (length front) refl, same)
+use Rattle.image_1401.specs.Reading.{few_cells_in}
 
 -- a cell is read from a byte
 pub record IsRead (mark : Bool) (byte : ℕ) (cell : Cell) : Type 0 where
