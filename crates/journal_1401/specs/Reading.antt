@@ -5,9 +5,9 @@ use Rattle.std.specs.Prelude.{List, [], ◌∷◌, ◌++◌, length, take, drop,
 use Rattle.std.specs.Prelude.{Ok, Err}
 use Rattle.std.specs.List.{before_first, list_any}
 use Rattle.std.specs.Option.{ok_or}
-use Rattle.std.specs.Str.{bytes_eq}
 use Rattle.core_1401.specs.Storage.{core_sizes}
 use Rattle.notation_1401.specs.Digits.{digits_in, number_in}
+use Rattle.notation_1401.specs.Prefix.{after_prefix}
 use Rattle.command_1401.specs.declared.answer.Answer.{Answer}
 use Rattle.command_1401.specs.declared.command.Command.{Command}
 use Rattle.text_1401.specs.declared.line.Line.{Line}
@@ -29,17 +29,13 @@ abbrev pub ◌>>=◌ : {A B : Type 0} → Result A Wrong → (A → Result B Wro
 Ok value >>= more = more value
 Err why >>= more = Err why
 
--- what stands behind these bytes, where the text begins with them
-abbrev pub behind : List ℕ → List ℕ → Option (List ℕ)
-behind front text = if bytes_eq (take (length front) text) front then Some (drop (length front) text) else None
-
 -- the first field of a text: what stands before its first tab
 abbrev pub field : List ℕ → List ℕ
 field text = before_first (λ byte. byte == tab) text
 
 -- what stands behind the number that is due
 unfoldable pub number_at : ℕ → List ℕ → Result (List ℕ) Wrong
-number_at number text = ok_or (behind (with_tab (digits_in 1 number)) text) wrong.Number
+number_at number text = ok_or (after_prefix (with_tab (digits_in 1 number)) text) wrong.Number
 
 -- a seat's number, if it is one
 abbrev pub if_seat : Option ℕ → Option ℕ
@@ -54,7 +50,7 @@ seat_in text = if nat_le (length text) 3 then if_seat (number_in text) else None
 unfoldable pub seat_at : List ℕ → Result (ℕ × List ℕ) Wrong
 seat_at text = do
   seat ← ok_or (seat_in (field text)) wrong.Seat
-  rest ← ok_or (behind (with_tab (digits_in 1 seat)) text) wrong.Seat
+  rest ← ok_or (after_prefix (with_tab (digits_in 1 seat)) text) wrong.Seat
   Ok (seat, rest)
 
 -- the command that a line says, if it says one
@@ -69,13 +65,13 @@ if_command (Err fault) = None
 unfoldable pub command_at : List ℕ → Result (Command × List ℕ) Wrong
 command_at text = do
   command ← ok_or (if_command (said_by (field text))) wrong.Command
-  rest ← ok_or (behind (with_tab (command_text command)) text) wrong.Command
+  rest ← ok_or (after_prefix (with_tab (command_text command)) text) wrong.Command
   Ok (command, rest)
 
 -- what stands behind the machine's answer and its line feed, where the journal has room for an entry more
 unfoldable pub answer_at : List Entry → Answer → List ℕ → Result (List ℕ) Wrong
 answer_at journal answer text =
-    if is_full journal then Err wrong.Full else ok_or (behind (with_feed (answer_text answer)) text) wrong.Answer
+    if is_full journal then Err wrong.Full else ok_or (after_prefix (with_feed (answer_text answer)) text) wrong.Answer
 
 -- the entry that a text begins with behind these entries of a machine of this size, and what stands behind its line
 unfoldable pub entry_at : ℕ → List Entry → List ℕ → Result (Entry × List ℕ) Wrong
@@ -88,7 +84,7 @@ entry_at size journal text = do
 
 -- the size, of these, that the first line names
 abbrev pub size_among : List ℕ → List ℕ → Option ℕ
-size_among sizes text = find (λ size. is_some (behind (header_text size) text)) sizes
+size_among sizes text = find (λ size. is_some (after_prefix (header_text size) text)) sizes
 
 -- the size that the first line names
 unfoldable pub size_at : List ℕ → Option ℕ
@@ -97,7 +93,7 @@ size_at text = size_among core_sizes text
 -- The first line names this size, and this stands behind it.
 pub record HasHeader (text : List ℕ) (size : ℕ) (rest : List ℕ) : Type 0 where
   pub size_is : size_at text ≡ Some size
-  pub rest_is : behind (header_text size) text ≡ Some rest
+  pub rest_is : after_prefix (header_text size) text ≡ Some rest
 
 -- why none of these sizes is read
 abbrev pub IsNoHeader : List ℕ → List ℕ → Wrong → Type 0

@@ -3,13 +3,14 @@ ghost use Rattle.std.specs.Prelude.{◌≡◌, ◌+◌, ◌==◌, ◌≤◌, ℕ
 ghost use Rattle.std.specs.Option.{ok_or};
 ghost use Rattle.std.specs.List.{position_or_len};
 ghost use Rattle.notation_1401.specs.Digits.{digits_in};
+ghost use Rattle.notation_1401.specs.Prefix.{after_prefix};
 ghost use Rattle.text_1401.specs.AnswerText.{answer_text};
 ghost use Rattle.text_1401.specs.CommandText.{command_text};
 ghost use Rattle.room_1401.specs.declared.entry.Entry.{Entry};
 ghost use Rattle.room_1401.specs.Journal.{IsLegal, most_entries};
 ghost use Rattle.journal_1401.specs.JournalText.{header_text, tab, with_feed, with_tab};
 ghost use Rattle.journal_1401.specs.Reading.{HasHeader, IsNoHeader, IsRefused, IsRefusedIn, IsTextOf, IsThat, IsWhy};
-ghost use Rattle.journal_1401.specs.Reading.{Takes, behind, command_at, entry_at, field, has_line, number_at, seat_at};
+ghost use Rattle.journal_1401.specs.Reading.{Takes, command_at, entry_at, field, has_line, number_at, seat_at};
 ghost use Rattle.journal_1401.specs.Reading.{seat_in, size_among};
 
 use crate::fault::{JournalFault, Wrong};
@@ -119,7 +120,7 @@ fn split_first(alloc: Global, text: &[u8]) -> Result<(u16, &[u8]), Wrong>
 /// The size, of these, that the first line names, and what stands behind that line.
 fn split_header<'a>(alloc: Global, text: &'a [u8], sizes: &[u16]) -> Result<(u16, &'a [u8]), Wrong>
     ensures size { IfOk result (λ found. size_among sizes.now text.now ≡ Some found.0) }
-    ensures rest { IfOk result (λ found. behind (header_text found.0) text.now ≡ Some found.1.now) }
+    ensures rest { IfOk result (λ found. after_prefix (header_text found.0) text.now ≡ Some found.1.now) }
     ensures err { IfErr result (IsNoHeader sizes.now text.now) }
 {
     let [size, more @ ..] = sizes else {
@@ -277,8 +278,8 @@ fn command_front(alloc: Global, command: &Command) -> Result<Vec<u8>, AllocError
 
 /// What stands behind an answer and its line feed.
 fn split_answer<'a>(alloc: Global, answer: &Answer, text: &'a [u8]) -> Result<&'a [u8], Wrong>
-    ensures ok { IfOk result (λ rest. behind (with_feed (answer_text answer.now)) text.now ≡ Some rest.now) }
-    ensures why { IfErr result (IsWhy (ok_or (behind (with_feed (answer_text answer.now)) text.now) Wrong.Answer)) }
+    ensures ok { IfOk result (λ rest. after_prefix (with_feed (answer_text answer.now)) text.now ≡ Some rest.now) }
+    ensures why { IfErr result (IsWhy (ok_or (after_prefix (with_feed (answer_text answer.now)) text.now) Wrong.Answer)) }
 {
     let Ok(front) = answer_front(alloc, answer) else {
         return Err(Wrong::Memory);
