@@ -64,16 +64,22 @@ header_with_takes version line size h =
           ∙ (and_parts _ _ good.0).1,
     )
 
+-- a number that nothing follows
+number_alone : (places number : ℕ) → number < 10 ^ places
+    → number_at places (number_text places number) ≡ Some (number, [])
+number_alone places number small =
+    ap (number_at places) (sym (append-nil (number_text places number))) ∙ number_again places number [] small
+
 header_with_again : (version : Version) (size : ℕ) → has_size version size ≡ true
     → header_with version (header_text version size) ≡ Some size
 unfolding header_with header_text
 header_with_again version size h =
     let digits = address_digits version in
-    let number : number_at digits (number_text digits size)
-    ≡ Some (size, []) =
-    ap (number_at digits) (sym (append-nil (number_text digits size)))
-    ∙ number_again digits size [] (size_bound version size h) in
-    rw (after_prefix_again (name_of version) (number_text digits size), number, h)
+    rw (
+      after_prefix_again (name_of version) (number_text digits size),
+      number_alone digits size (size_bound version size h),
+      h,
+    )
 
 -- the versions' headers begin with other bytes
 header_with_other : (size : ℕ) → header_with One (header_text Two size) ≡ None
@@ -139,12 +145,7 @@ end_small version line start h =
 pub end_again : (version : Version) (start : ℕ) → start < 10 ^ address_digits version
     → end_in version (end_text version start) ≡ Some start
 unfolding end_in end_text
-end_again version start small =
-    let digits = address_digits version in
-    let number : number_at digits (number_text digits start)
-    ≡ Some (start, []) =
-    ap (number_at digits) (sym (append-nil (number_text digits start))) ∙ number_again digits start [] small in
-    rw number
+end_again version start small = rw (number_alone (address_digits version) start small)
 
 -- the last line is no segment
 pub end_is_no_segment : (version : Version) (start : ℕ) → segment_in version (end_text version start) ≡ None

@@ -62,6 +62,15 @@ cell_again cell own =
     let place = place_from (position (λ each. each == slice_index graphics cell.char) graphics) cell.char own in
     ap (option_map (λ char. record { char = char; mark = cell.mark })) place
 
+-- no character has a byte that is no graphic
+pub no_character : (byte : ℕ) → position (λ each. each == byte) graphics ≡ None → (cell : Cell)
+    → (slice_index graphics cell.char == byte) ≡ true → is_character cell ≡ true → ⊥
+no_character byte nowhere cell e own =
+    let there : slice_index graphics cell.char ≡ byte = eqb-true _ _ e in
+    let none : position (λ each. each == slice_index graphics cell.char) graphics
+    ≡ None = ap (λ n. position (λ each. each == n) graphics) there ∙ nowhere in
+    false≢true (sym (ap (λ place. is_char place cell.char) none) ∙ own)
+
 no_place : position (λ each. each == 126) graphics ≡ None
 unfolding graphics
 no_place = refl
@@ -70,11 +79,7 @@ no_place = refl
 pub no_tilde : (cell : Cell) (is_tilde : Bool) → (slice_index graphics cell.char == 126) ≡ is_tilde → is_character cell
     ≡ true → is_tilde ≡ false
 no_tilde cell false e own = refl
-no_tilde cell true e own =
-    let tilde : slice_index graphics cell.char ≡ 126 = eqb-true _ _ e in
-    let none : position (λ each. each == slice_index graphics cell.char) graphics
-    ≡ None = ap (λ n. position (λ each. each == n) graphics) tilde ∙ no_place in
-    absurd (false≢true (sym (ap (λ place. is_char place cell.char) none) ∙ own))
+no_tilde cell true e own = absurd (no_character 126 no_place cell e own)
 
 -- cells that are read are spelled so
 pub record Spells (text : List ℕ) (cells : List Cell) : Type 0 where
