@@ -36,7 +36,8 @@ REPLY = re.compile(
 IMAGE = re.compile(rf"IMAGE2 \d{{5}}\n(?:\d{{5}} \d\d (?:~?{ONE}){{1,40}}\n)*END \d{{5}}\n")
 LISTING = re.compile(rf"(?:\d{{5}} [^\n]*\n)+")
 JOB = re.compile(
-    rf"ibm1401: ({'|'.join(STOPS)}) at \d{{4,5}} after \d+ steps?; \d+ cards? read, \d+ lines? printed, \d+ cards? punched\n"
+    rf"ibm1401: ({'|'.join(STOPS)}) at \d{{4,5}} after \d+ steps?;"
+    r" \d+ cards? read, \d+ lines? printed, \d+ cards? punched\n"
 )
 WORDS = [
     b"DEPOSIT", b"EXAMINE", b"REGS", b"START", b"SWITCH", b"FEED", b"LOAD", b"RUN", b"LINE", b"CARD", b"GLANCE", b"QUIT ",
@@ -122,7 +123,7 @@ def listing(chance, file):
 
 
 def deck(chance, file):
-    """A program run with a deck of chance: it ends at a stop, or the deck is refused for a line and a column that it has."""
+    """A program run with a deck of chance: it ends at a stop, or the deck is refused for a line and a column of it."""
     source = TOP / "examples/sales.source"
     text = source.with_suffix(".cards").read_bytes()
     text = damaged(chance, text) if chance.random() < 0.9 else chance.randbytes(chance.randrange(200))
