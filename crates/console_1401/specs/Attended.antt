@@ -44,7 +44,7 @@ answer_in (Some reply.Bye) = []
 abbrev pub carried_in : List Replied → List (Command × Answer)
 carried_in lines = flat_map (λ (given : Replied). zip (command_in given.said) (answer_in given.reply)) lines
 
--- beyond a list, these commands stand in a longer one as those of a seat, in this order, each answered as the
+-- beyond a list, a longer one has these commands as those of a seat, in this order, each answered as the
 -- sequential machine of this size answers it there
 abbrev pub Stand : ℕ → ℕ → List Pair → List (Command × Answer) → List Pair → Type 0
 Stand size seat before [] list = IsPrefix before list
@@ -100,7 +100,7 @@ AllReplied size before after (given ∷ more) =
     LineReplied size before after given.said given.reply × AllReplied size before after more
 
 -- The lines of a console at a seat were answered: what was written are their replies. The commands that the room
--- didn't refuse stand, in order, as the seat's own in the list that it has seen then, beyond the one that it had seen,
+-- didn't refuse are, in order, the seat's own in the list that it has seen then, beyond the one that it had seen,
 -- and each was answered as the machine answers it there; it made more by their number.
 pub record Attended (size : ℕ) (before : Knows) (lines : List Said) (written : List ℕ) (after : Knows) : Type 0 where
   pub replied : List Replied
