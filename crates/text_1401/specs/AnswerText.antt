@@ -29,7 +29,8 @@ indicator_text on = if on then codes "1" else codes "0"
 
 -- the letter of a switch that is on, and - for one that is off
 abbrev pub switch_text : List Bool → SwitchName → List ℕ
-switch_text switches switch = if slice_index_or switches (switch_number switch) false then letter_of switch else codes "-"
+switch_text switches switch =
+    if slice_index_or switches (switch_number switch) false then letter_of switch else codes "-"
 
 -- the switches A to G
 unfoldable pub switches_text : List Bool → List ℕ

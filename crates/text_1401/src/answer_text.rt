@@ -41,7 +41,7 @@ pub fn reply_text(alloc: Global, answer: &Answer) -> Result<Vec<u8>, AllocError>
     }
 }
 
-/// Cells by their graphics, each marked one with a tilde in front of it.
+/// Cells by their graphics, with a tilde before each marked one.
 fn cells_reply(alloc: Global, cells: &Cells) -> Result<Vec<u8>, AllocError>
     ensures text { IfOk result (λ text. text.items ≡ cells_text cells.now) }
     ensures again { IfOk result (λ text. cells_of (spelled text.items) ≡ Ok cells.now) }
