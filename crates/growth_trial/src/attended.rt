@@ -13,7 +13,7 @@ use std::io;
 use std::marker::Brand;
 use std::sync::Wait;
 
-/// Holds a session, and prints how it ended and what stands then.
+/// Holds a session, and prints how it ended, the journal and the machine.
 fn hold_session(rt: &(impl Input + Print), alloc: Global, room: &mut Room) -> io::Result<()> {
     let mut reader = FromReader::new(rt.reader());
     let mut writer = ToWriter::new(io::writer(rt));
@@ -33,27 +33,19 @@ pub fn session(rt: &(impl Input + Print), alloc: Global) -> io::Result<()> {
 /// A session at a machine into which a program was loaded as it came from the assembler.
 pub fn program(rt: &(impl Input + Print), alloc: Global) -> io::Result<()> {
     for _ in 0..2 {
-        let image = match assemble(alloc, SOURCE, 4_000) {
-            Ok(assembly) => assembly.image,
-            Err(fault) => {
-                println!(rt; "refused {:?} at line {}", fault.kind, fault.line)?;
-                continue;
+        match assemble(alloc, SOURCE, 4_000) {
+            Ok(assembly) => {
+                if let Some(mut room) = load(rt, alloc, &assembly.image)? {
+                    return hold_session(rt, alloc, &mut room);
+                }
             }
-        };
-        let mut room = match Room::power_on(alloc, image.size) {
-            Ok(room) => room,
-            Err(fault) => {
-                println!(rt; "refused {fault:?} at power-on")?;
-                continue;
-            }
-        };
-        load(rt, &mut room, &image)?;
-        return hold_session(rt, alloc, &mut room);
+            Err(fault) => println!(rt; "refused {:?} at line {}", fault.kind, fault.line)?,
+        }
     }
     Ok(())
 }
 
-/// Lines at the first of two seats; then the other one, which asks for one place. False where the room was refused.
+/// Lines at the first of two seats; then the other one, which asks for one place. False if the room was refused.
 fn operate<J: Naming, R: Wait + Input + Print>(
     rt: &R,
     alloc: Global,

@@ -1,8 +1,8 @@
 //! The calls that take memory, each made so that a refusal is told and the call is made again.
 //!
-//! The word names a trial. A trial prints what its calls answered and what stands in the end; a line that begins with
-//! `refused` tells of a call that was refused memory, and was then made once more. `./check` runs each trial once for
-//! each growth of memory, with that one refused. Without a word it says only so.
+//! The word names a trial. A trial prints what its calls answered, and in the end the journal and the machine; a line
+//! that begins with `refused` tells of a call that was refused memory, and was then made once more. `./check` runs each
+//! trial once for each growth of memory, with that one refused. Without a word it says only so.
 #![tactic(auto)]
 
 mod attended;

@@ -61,7 +61,7 @@ fn close<J: Naming, R: Wait + Print>(
     }
 }
 
-/// Both seats' commands, and the room's end. False where the room was refused.
+/// Both seats' commands, and the room's end. False if the room was refused.
 fn operate<J: Naming, R: Wait + Print>(
     rt: &R,
     alloc: Global,

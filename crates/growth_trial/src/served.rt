@@ -68,7 +68,7 @@ fn show_replies(rt: &impl Print, stream: &mut TcpStream) -> io::Result<()> {
     println!(rt; "END")
 }
 
-/// Serves the two, and prints their replies, how the service ended, and what stands then.
+/// Serves the two, and prints their replies, how the service ended, the journal and the machine.
 fn operate<
     J: Naming + Send + Sync,
     R: Threads + Wait + Print + Sync + Net<Listener = TcpListener, Stream = TcpStream>,

@@ -26,7 +26,7 @@ fn fault_of<J: Naming, R: Wait>(
     SharedRoom::<J, &R>::power_on(rt, alloc, size, seats, opened).err()
 }
 
-/// A room of 4,000 places with two seats. None where it was refused, which is told.
+/// A room of 4,000 places with two seats. None if it was refused, which is told.
 pub fn open_room<J: Naming, R: Wait + Print>(
     rt: &R,
     alloc: Global,
@@ -61,7 +61,7 @@ const ASKED: [(u16, u8); 11] = [
     (4_000, 8),
 ];
 
-/// Rooms of all these, each asked for a second time where it was refused.
+/// Rooms of all these, each asked for a second time if it was refused.
 pub fn power_on(rt: &(impl Print + Wait), alloc: Global) -> io::Result<()> {
     for (size, seats) in ASKED {
         for _ in 0..2 {
@@ -78,7 +78,7 @@ pub fn power_on(rt: &(impl Print + Wait), alloc: Global) -> io::Result<()> {
     Ok(())
 }
 
-/// Has a seat's command carried out, and a second time where it was refused.
+/// Has a seat's command carried out, and asks for it a second time if it was refused.
 fn give<J: Naming, R: Wait + Print>(
     rt: &R,
     room: &SharedRoom<J, &R>,
@@ -121,7 +121,7 @@ pub fn give_line<J: Naming, R: Wait + Print>(
     show_glance(rt, seat)
 }
 
-/// Two operators give commands in turn. False where the room was refused.
+/// Two operators give commands in turn. False if the room was refused.
 fn operate<J: Naming, R: Wait + Print>(rt: &R, alloc: Global, opened: Opened) -> io::Result<bool>
     requires history { opened.book ≡ J.book }
     requires ledger { (opened.ledger ≡ J.name) × (opened.parts ≡ J.parts) × (J.parts ≡ J.seats) }
@@ -144,7 +144,7 @@ fn operate<J: Naming, R: Wait + Print>(rt: &R, alloc: Global, opened: Opened) ->
     Ok(true)
 }
 
-/// Commands of two seats, and what stands when the room is closed.
+/// Commands of two seats, and the room when it is closed.
 pub fn command(rt: &(impl Wait + Print), alloc: Global) -> io::Result<()> {
     for _ in 0..2 {
         if operate::<Brand, _>(rt, alloc, Opened::new(2))? {

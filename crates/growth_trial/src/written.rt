@@ -93,7 +93,7 @@ pub fn images(rt: &impl Print, alloc: Global) -> io::Result<()> {
     Ok(())
 }
 
-/// The reply to an answer, and a second time where it was refused.
+/// The reply to an answer, asked for a second time if it was refused.
 fn reply(rt: &impl Print, alloc: Global, answer: &Answer) -> io::Result<()> {
     for _ in 0..2 {
         match reply_text(alloc, answer) {
