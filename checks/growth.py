@@ -145,6 +145,18 @@ def all_faults(refusing):
         return refusing.each("assemble --all", assemble, ["memory refused", "line 0: 1 MEMORY"])
 
 
+def disassemblies(refusing):
+    """The listing of an image's instructions and data."""
+    image = TOP / "examples/five_and_five.image"
+    whole = image.with_suffix(".disassembly").read_bytes()
+    faults = [MEMORY, b"ibm1401: image refused: 1 MEMORY\n"]
+
+    def disassemble(how):
+        return written_end(run([PROGRAM, "disassemble", image], **how), whole, faults)
+
+    return refusing.each("disassemble", disassemble, ["memory refused", "image refused: 1 MEMORY"])
+
+
 def jobs(refusing):
     """A source that is run with its deck: what went out is a beginning of the paper."""
     source = TOP / "examples/sales.source"
@@ -215,6 +227,6 @@ def growth():
         return
     with tempfile.TemporaryDirectory() as folder:
         refusing = Refusing(Path(folder))
-        number = sessions(refusing) + texts(refusing) + jobs(refusing)
+        number = sessions(refusing) + texts(refusing) + disassemblies(refusing) + jobs(refusing)
         number += refusing.each("serve", served_end, ["before READY", "at the journal", "at a reply"])
     tell(f"{number} runs with a growth refused", "" if number > 300 else "these are few")
