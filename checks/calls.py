@@ -6,7 +6,7 @@ import os
 import shutil
 import subprocess
 import tempfile
-from functools import cache
+from functools import cache, partial
 from pathlib import Path
 
 from checks.growth import LINES, Refusing, without
@@ -14,6 +14,8 @@ from checks.report import TOP, difference, run, tell
 
 TRIAL = TOP / "crates/growth_trial/out/growth_trial"
 SESSION = (*LINES, b"QUIT\n")
+QUESTION = (b"DEPOSIT 0500 ~0K\n", b"EXAMINE 0500 2\n", b"QUIT\n")
+PROGRAM_RUN = (b"RUN 10\n", b"EXAMINE 0418 3\n")
 # Each call that is made again where it was refused, with the refusals that it must have met, and how many growths it
 # was seen to ask for.
 AGAIN = [
@@ -23,13 +25,21 @@ AGAIN = [
     ("room", {"Memory"}, 10),
     ("shared", {"Memory"}, 215),
     ("command", {"Memory"}, 36),
-    ("assemble", {"Memory"}, 112),
+    ("assemble", {"Memory"}, 92),
     ("write_image", {"Memory"}, 10),
     ("read_image", {"Memory"}, 7),
     ("reply_text", {"Memory"}, 28),
     ("carry", {"Memory"}, 15),
     ("reserve", {"Memory"}, 26),
     ("put_image", {"Memory"}, 16),
+    ("notes", {"Memory"}, 57),
+]
+# Each console, with its lines, the ends that it must have come to, and how many growths it was seen to ask for.
+CONSOLES = [
+    ("session", SESSION, {"Memory", "at the journal", "at a reply"}, 42),
+    ("session", QUESTION, {"Memory", "at the journal", "at a reply"}, 16),
+    ("program", PROGRAM_RUN, {"Memory", "at a reply"}, 128),
+    ("attend", SESSION, {"Memory", "at the journal", "at a reply"}, 65),
 ]
 BEFORE = "before the call"
 
@@ -69,46 +79,55 @@ def split(told):
     ]
 
 
-def replies(lines):
-    """The replies of a session to these lines where nothing is refused."""
-    return split(whole("session", b"".join(lines)))[0][0][0]
+def replies(call, lines):
+    """The replies of a console to these lines where nothing is refused."""
+    return split(whole(call, b"".join(lines)))[0][0][0]
 
 
-def carried_out(lines, replied, end):
-    """The lines of a console whose commands stand, and the replies that it must have had."""
-    ample = replies(lines)
+def carried_out(call, lines, replied, end):
+    """The lines of a console whose commands were carried out, and the replies that it must have had."""
+    ample = replies(call, lines)
     if b"FAULT 1 MEMORY\n" in replied:
         place = replied.index(b"FAULT 1 MEMORY\n")
-        return (*lines[:place], *lines[place + 1 :]), without(lines, place, replies)
+        rest = (*lines[:place], *lines[place + 1 :])
+        return rest, without(lines, place, lambda given: replies(call, given))
     if end == "Memory":
         return lines[: len(replied) + 1], ample[: len(replied)]
     return lines, ample
 
 
-def console(call, how):
-    """How a session or an attended console went: a command was refused, or the session ended at a reply."""
-    ran = run([TRIAL, call], b"".join(SESSION), **how)
+def console(call, lines, how):
+    """How a session or an attended console went: what comes before it was refused, and done again, a command was
+    refused, or the session ended at a reply."""
+    ran = run([TRIAL, call], b"".join(lines), **how)
     told = ran.stdout.splitlines(keepends=True)
-    if ran.returncode != 0 and not told or told[0].startswith(b"refused "):
+    if ran.returncode != 0 and not told:
         return BEFORE, ""
+    refused = [line for line in told if line.startswith(b"refused ")]
+    if refused:
+        rest = b"".join(line for line in told if line not in refused)
+        wrong = difference("what it told besides", rest, b"".join(whole(call, b"".join(lines))))
+        wrong += [f"{ran}"] if (ran.returncode, len(refused)) != (0, 1) else []
+        return refused[0].split()[1].decode(), "; ".join(wrong)
     consoles, journal, machine = split(told)
-    if ran.returncode != 0 or len(consoles) != (1 if call == "session" else 2):
+    if ran.returncode != 0 or len(consoles) != (2 if call == "attend" else 1):
         return "", f"{ran}"
     replied, end = consoles[0]
-    stand, wanted = carried_out(SESSION, replied, end[0])
+    stand, wanted = carried_out(call, lines, replied, end[0])
     wrong = difference("the replies", b"".join(replied), b"".join(wanted))
     _, wanted_journal, wanted_machine = split(whole(call, b"".join(stand)))
     kind = "at a reply" if end[0] == "Memory" else "at the journal" if b"FAULT 1 MEMORY\n" in replied else ""
     if call == "attend":
         others, other_end = consoles[1]
-        stand, wanted = carried_out((b"EXAMINE 0\n", b"QUIT\n"), others, other_end[0])
+        stand, wanted = carried_out("session", (b"EXAMINE 0\n", b"QUIT\n"), others, other_end[0])
         wrong += difference("the other's replies", b"".join(others), b"".join(wanted))
         wanted_journal = wanted_journal if b"EXAMINE 0\n" in stand else wanted_journal[:-1]
         wrong += ["both are refused"] if kind and (others != wanted or other_end[0] != "Quit") else []
         kind = kind or ("at a reply" if other_end[0] == "Memory" else "at the journal" if len(stand) < 2 else "")
     wrong += difference("the journal", b"".join(journal), b"".join(wanted_journal))
     wrong += difference("the machine", b"".join(machine), b"".join(wanted_machine))
-    wrong += [] if end[0] in ("Quit", "Memory") else [f"it ends as {end}"]
+    ample = "Quit" if lines[-1] == b"QUIT\n" else "EndOfInput"
+    wrong += [] if end[0] in (ample, "Memory") else [f"it ends as {end}"]
     return kind or "without an effect", "; ".join(wrong)
 
 
@@ -163,15 +182,29 @@ def calls():
         refusing = Refusing(Path(folder))
         for call, ends, known in AGAIN:
             least(refusing, call, lambda how, call=call: again(call, how), ends, known)
-        for call, known in ("session", 42), ("attend", 65):
-            least(refusing, call, lambda how, call=call: console(call, how), {"at the journal", "at a reply"}, known)
+        for call, lines, ends, known in CONSOLES:
+            attempt = partial(console, call, lines)
+            least(refusing, call, attempt, ends, known, b"".join(lines))
         least(refusing, "serve", service, {"Thread", "at a console"}, 40)
+    worked()
 
 
-def least(refusing, call, attempt, ends, known):
+def worked():
+    """What two trials tell with ample memory: the program adds five and five; one of two seats isn't enough to close
+    their room, in which they made two commands and one."""
+    consoles, journal, _ = split(whole("program", b"".join(PROGRAM_RUN)))
+    wrong = difference("the replies", b"".join(consoles[0][0]), b"STOP 02 HALT STEPS 3 I 00414\n~01?\n")
+    tell("the trial of a program", "; ".join(wrong + ([] if len(journal) == 4 else [f"{len(journal)} entries"])))
+    told = [line.partition(b":")[0] for line in whole("notes")]
+    wanted = {b"Unreturned { back": 1, b"seat 1 made 2": 2, b"seat 2 made 1": 2, b"Entry { seat": 6}
+    wrong = [f"{told.count(text)} times {text}" for text, times in wanted.items() if told.count(text) != times]
+    tell("the trial of two seats", "; ".join(wrong))
+
+
+def least(refusing, call, attempt, ends, known, lines=b""):
     """Makes a trial for each growth, and tells where they are fewer than were known, or where one that meets no refusal
     tells of one."""
-    ample = whole(call, b"".join(SESSION) if call in ("session", "attend") else b"")
+    ample = whole(call, lines)
     refused = [line for line in ample if line.startswith((b"refused", b"FAULT 1", b"END Memory")) or b"Thread" in line]
     tell(f"the call {call} with ample memory", "" if ample and not refused else f"{refused}")
     number = refusing.each(f"the call {call}", attempt, ends) - 1

@@ -1,4 +1,4 @@
-"""Lines, cards, images and sources of chance: whatever comes, each answer is one of those that there are.
+"""Lines, decks, images and sources of chance: whatever comes, each answer is one of those that there are.
 
 Half of what is given is a damaged copy of an example. One seed is always the same, and one is drawn anew each time and
 printed: CHANCE_SEED=n ./check --program tries that one again."""
@@ -34,6 +34,11 @@ REPLY = re.compile(
     rf"|REFUSED (?:{numbered(REFUSED)})|ERROR (?:{numbered(ERRORS)})|FAULT 2 JOURNAL FULL"
 )
 IMAGE = re.compile(rf"IMAGE2 \d{{5}}\n(?:\d{{5}} \d\d (?:~?{ONE}){{1,40}}\n)*END \d{{5}}\n")
+LISTING = re.compile(rf"(?:\d{{5}} [^\n]*\n)+")
+JOB = re.compile(
+    rf"ibm1401: ({'|'.join(STOPS)}) at \d{{4,5}} after \d+ steps?;"
+    r" \d+ cards? read, \d+ lines? printed, \d+ cards? punched\n"
+)
 WORDS = [
     b"DEPOSIT", b"EXAMINE", b"REGS", b"START", b"SWITCH", b"FEED", b"LOAD", b"RUN", b"LINE", b"CARD", b"GLANCE", b"QUIT ",
     b"ON", b"OFF", b"A", b"G", b"0", b"1", b"40", b"41", b"500", b"3999", b"4000", b"15999", b"16000", b"1000", b"9999999",
@@ -107,6 +112,33 @@ def image(chance, file):
     return "" if is_refused or is_loaded else f"{text!r}: status {ran.returncode}, {ran.stderr!r}, {ran.stdout!r}"
 
 
+def listing(chance, file):
+    """The instructions and data of an image of chance: what `load` refuses isn't listed, for the same fault."""
+    text = chance.choice(sorted((TOP / "examples").glob("*.image"))).read_bytes()
+    file.write_bytes(damaged(chance, text) if chance.random() < 0.9 else text)
+    loaded, listed = run([PROGRAM, "load", file], b""), run([PROGRAM, "disassemble", file])
+    is_alike = (listed.returncode, listed.stderr) == (loaded.returncode, loaded.stderr)
+    is_listing = LISTING.fullmatch(listed.stdout.decode("latin-1")) if loaded.returncode == 0 else not listed.stdout
+    return "" if is_alike and is_listing else f"{file.read_bytes()!r}: {loaded.stderr!r}, {listed}"
+
+
+def deck(chance, file):
+    """A program run with a deck of chance: it ends at a stop, or the deck is refused for a line and a column of it."""
+    source = TOP / "examples/sales.source"
+    text = source.with_suffix(".cards").read_bytes()
+    text = damaged(chance, text) if chance.random() < 0.9 else chance.randbytes(chance.randrange(200))
+    file.write_bytes(text)
+    words = ["run", source, "--cards", file, "--switches", "A", "--limit", "100000"]
+    ran = run([PROGRAM, *words], timeout=SECONDS)
+    told = ran.stderr.decode("latin-1").removeprefix(f"ibm1401: {file}: ")
+    refused = re.fullmatch(r"line (\d+), column (\d+): (?:no card has this character|a card has 80 columns)\n", told)
+    is_refused = refused and not ran.stdout and int(refused[1]) <= text.count(b"\n") + 1 and int(refused[2]) <= 81
+    ended = JOB.fullmatch(told)
+    is_ended = ended and (ran.returncode == 0) == (ended[1] == "HALT")
+    is_so = ran.returncode in (0, 1) and (is_refused or is_ended)
+    return "" if is_so else f"{text!r}: status {ran.returncode}, {ran.stderr!r}, {ran.stdout!r}"
+
+
 def source(chance, file):
     """An assembly of a source of chance."""
     text = chance.choice(sorted((TOP / "examples").glob("*.source"))).read_bytes()
@@ -169,6 +201,8 @@ def chance():
                 ("sessions", 250, lambda: session(given)),
                 ("images", 150, lambda: image(given, file)),
                 ("sources", 150, lambda: source(given, file)),
+                ("listings", 75, lambda: listing(given, file)),
+                ("decks", 75, lambda: deck(given, file)),
                 ("rooms", 12, lambda: room(given)),
             ]:
                 wrong = next(filter(None, (attempt() for _ in range(times))), "")

@@ -124,7 +124,37 @@ def texts(refusing):
             return written_end(run([PROGRAM, "assemble", *words, source], **how), whole, faults)
 
         number += refusing.each(f"assemble {' '.join(words)}", assemble, ["memory refused", "line 0: 1 MEMORY"])
-    return number
+    return number + all_faults(refusing)
+
+
+def all_faults(refusing):
+    """All faults of a source: each of them is told, or that memory was refused."""
+    faults = [MEMORY, b"ibm1401: line 0: 1 MEMORY\n"]
+    with tempfile.NamedTemporaryFile() as source:
+        source.write(b"               ZZZ\n               B    Q\n")
+        source.flush()
+        words = [PROGRAM, "assemble", "--all", source.name]
+        whole = run(words).stderr
+
+        def assemble(how):
+            ran = run(words, **how)
+            if ran.returncode == 1 and not ran.stdout and ran.stderr in faults:
+                return ran.stderr.decode().split(": ", 1)[1].strip(), ""
+            return "without an effect", "" if (ran.returncode, ran.stdout, ran.stderr) == (1, b"", whole) else f"{ran}"
+
+        return refusing.each("assemble --all", assemble, ["memory refused", "line 0: 1 MEMORY"])
+
+
+def disassemblies(refusing):
+    """The listing of an image's instructions and data."""
+    image = TOP / "examples/five_and_five.image"
+    whole = image.with_suffix(".disassembly").read_bytes()
+    faults = [MEMORY, b"ibm1401: image refused: 1 MEMORY\n"]
+
+    def disassemble(how):
+        return written_end(run([PROGRAM, "disassemble", image], **how), whole, faults)
+
+    return refusing.each("disassemble", disassemble, ["memory refused", "image refused: 1 MEMORY"])
 
 
 def jobs(refusing):
@@ -197,6 +227,6 @@ def growth():
         return
     with tempfile.TemporaryDirectory() as folder:
         refusing = Refusing(Path(folder))
-        number = sessions(refusing) + texts(refusing) + jobs(refusing)
+        number = sessions(refusing) + texts(refusing) + disassemblies(refusing) + jobs(refusing)
         number += refusing.each("serve", served_end, ["before READY", "at the journal", "at a reply"])
     tell(f"{number} runs with a growth refused", "" if number > 300 else "these are few")

@@ -93,17 +93,23 @@ def programs():
             tell(f"{deck.name}: its punched cards", "; ".join(wrong))
 
 
+def paper_of(lines):
+    """The paper that lists these lines, 66 on a form."""
+    each = lines.splitlines(keepends=True)
+    return "\f".join("".join(each[at:at + 66]) for at in range(0, len(each), 66))
+
+
 def long_deck(folder):
     """More cards than the hopper holds, and than stacker and paper do; what was punched is a deck."""
     source, deck, punch, paper = (folder / each for each in ("source", "deck", "punch", "paper"))
     source.write_text(LIST_AND_PUNCH)
     cards = [f"{number:04}" for number in range(1_203)]
-    forms = ["".join(f"{card}\n" for card in cards[at:at + 66]) for at in range(0, 1_203, 66)]
+    forms = paper_of("".join(f"{card}\n" for card in cards))
     deck.write_text("".join(f"{card} AND MORE\n" for card in cards))
     for given in deck, folder / "again":
         ran = run([PROGRAM, "run", source, "--cards", given, "--punch", punch, "--paper", paper, "--switches", "A"])
         expect("a deck of 1,203 cards", ran, 0, "", told("HALT", 433, 8_422, 1_203, 1_203, 1_203))
-        wrong = difference("the paper", paper.read_bytes(), "\f".join(forms))
+        wrong = difference("the paper", paper.read_bytes(), forms)
         wrong += difference("the cards", punch.read_bytes(), "".join(f"{card}\n" for card in cards))
         tell("a deck of 1,203 cards: its paper and its cards", "; ".join(wrong))
         punch.rename(folder / "again")
@@ -155,17 +161,21 @@ def faults(folder):
 
 
 def decks(folder):
-    """Short and long lines, lower case, and the ends of lines."""
+    """Short and long lines, small letters, which are told once, and the ends of lines."""
     source, deck, punch = folder / "source", folder / "deck", folder / "punch"
     source.write_text(LIST_AND_PUNCH)
-    for text, wanted in [
-        ("ab\r\nAB12\n\nlast", "AB\nAB12\n\nLAST\n"),
-        ("A" * 80 + "\n" + "B" * 80, "AAAA\nBBBB\n"),
+    small = f"ibm1401: {deck}: small letters are read as capitals\n"
+    for text, wanted, letters in [
+        ("ab\r\nAB12\n\nlast", "AB\nAB12\n\nLAST\n", small),
+        ("\n" * 600 + "z", "\n" * 600 + "Z\n", small),
+        ("A" * 80 + "\n" + "B" * 80, "AAAA\nBBBB\n", ""),
+        ("A\r\nB\r\n", "A\nB\n", ""),
     ]:
         deck.write_text(text, newline="")
         count = wanted.count("\n")
         ran = run([PROGRAM, "run", source, "--cards", deck, "--punch", punch, "--switches", "A"])
-        expect("a deck's lines", ran, 0, wanted, told("HALT", 433, 7 * count + 1, count, count, count))
+        end = told("HALT", 433, 7 * count + 1, count, count, count)
+        expect("a deck's lines", ran, 0, paper_of(wanted), letters + end)
         tell("a deck's lines, punched", "; ".join(difference("the deck", punch.read_bytes(), wanted)))
 
 

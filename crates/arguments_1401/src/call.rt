@@ -9,6 +9,30 @@ pub enum Product {
     Listing,
 }
 
+/// A source that is assembled, and where what it stands for goes.
+#[derive(Debug, Drop, PartialEq, Eq)]
+pub struct Assembling {
+    /// The name of the source's file.
+    pub file: String,
+    /// How many places core storage has.
+    pub size: u16,
+    /// Which of the two is written.
+    pub product: Product,
+    /// The name of the file that it is written to; without one it is standard output.
+    pub out: Option<String>,
+    /// How many faults of the source are told.
+    pub told: Told,
+}
+
+/// How many faults of a source are told.
+#[derive(Clone, Copy, Debug, PartialEq, Eq)]
+pub enum Told {
+    /// The first.
+    First,
+    /// All, each on a line of its own.
+    All,
+}
+
 /// How many places the machine has, how many operators share it, and the port at which they come.
 #[derive(Clone, Copy, Debug, PartialEq, Eq)]
 pub struct Service {
@@ -58,15 +82,8 @@ pub enum Call {
         /// How many places core storage has.
         size: u16,
     },
-    /// The image of a source, or its listing, on standard output.
-    Assemble {
-        /// The name of the source's file.
-        file: String,
-        /// How many places core storage has.
-        size: u16,
-        /// Which of the two is written.
-        product: Product,
-    },
+    /// The image of a source, or its listing.
+    Assemble(Assembling),
     /// A session on a room that has an image loaded.
     Load {
         /// The name of the image's file.

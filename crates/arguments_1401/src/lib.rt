@@ -9,5 +9,5 @@ pub mod call;
 pub mod reading;
 mod sizes;
 
-pub use call::{Call, Job, Product, Service, Start};
+pub use call::{Assembling, Call, Job, Product, Service, Start, Told};
 pub use reading::read_call;

@@ -1,6 +1,6 @@
 //! The words of the command line, read by `clap`.
 
-use crate::call::{Call, Job, Product, Service, Start};
+use crate::call::{Assembling, Call, Job, Product, Service, Start, Told};
 use crate::sizes::{DEFAULT_SIZE, SizeTexts};
 use clap::error::ErrorKind;
 use clap::{Arg, ArgAction, ArgMatches, Command, Error, value_parser};
@@ -42,13 +42,26 @@ fn assemble_command<'a>(alloc: Global, sizes: &'a SizeTexts) -> Result<Command<'
         .long("list")
         .help("Writes the listing in place of the image")
         .action(ArgAction::SetTrue);
+    let all = Arg::new(alloc, "all")
+        .long("all")
+        .help("Tells every fault of the source, a line each, as FILE:LINE:COLUMN: FAULT")
+        .action(ArgAction::SetTrue);
+    let out = Arg::new(alloc, "output")
+        .short('o')
+        .long("output")
+        .value_name("OUT")
+        .help(
+            "The file to write to, in place of standard output; it is written whole or not at all",
+        );
     let file = Arg::new(alloc, "file")
         .value_name("FILE")
         .help("The file of the source; - is a name like any other")
         .required(true);
     Command::new(alloc, "assemble")
         .about("Assembles a source, and writes its core image")
+        .arg(out)?
         .arg(list)?
+        .arg(all)?
         .arg(size_arg(alloc, sizes))?
         .arg(file)
 }
@@ -163,11 +176,18 @@ fn assemble_call(alloc: Global, matches: &ArgMatches<'_>, file: &str) -> Result<
     } else {
         Product::Image
     };
-    Ok(Call::Assemble {
+    let told = if matches.get_flag("all") {
+        Told::All
+    } else {
+        Told::First
+    };
+    Ok(Call::Assemble(Assembling {
         file,
         size: size_in(matches),
         product,
-    })
+        out: name_in(alloc, matches, "output")?,
+        told,
+    }))
 }
 
 /// The value of an option, if it is there.

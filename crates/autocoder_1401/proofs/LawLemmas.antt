@@ -1,7 +1,7 @@
 -- The first line with something outside; the segments that cells are cut into.
 use Rattle.std.proofs.Common.{◌≡◌, ℕ, zero, suc, ◌+◌, ◌<◌, ◌≤◌, Bool, true, false, cond, List, []}
 use Rattle.std.proofs.Common.{◌∷◌, ◌++◌, length, take, get_or, Option, None, Some, IfSome, refl, sym, ap, subst, ◌∙◌}
-use Rattle.std.proofs.Common.{arith, Result, Ok, Err, IfOk}
+use Rattle.std.proofs.Common.{arith, ◌⊎◌, inl, inr}
 use Rattle.std.specs.Prelude.{fold, nat_lt, nat_le, ◌==◌, if◌then◌else◌}
 use Rattle.std.specs.List.{list_all, flat_map}
 use Rattle.std.proofs.lemmas.Bool.{and_parts, and_from, le-leb, ltb-true, eqb-true}
@@ -11,13 +11,13 @@ use Rattle.bcd_1401.specs.declared.cell.Cell.{Cell}
 use Rattle.core_1401.specs.Storage.{is_core_size}
 use Rattle.image_1401.specs.declared.image.Segment.{Segment}
 use Rattle.source_1401.specs.declared.statement.Line.{Line}
-use Rattle.autocoder_1401.specs.Assembly.{placed_cells, image_of, assembly_of}
+use Rattle.autocoder_1401.specs.Assembly.{placed_cells, image_of}
 use Rattle.autocoder_1401.specs.Cells.{numbered}
+use Rattle.autocoder_1401.specs.Fault.{IsMemory}
 use Rattle.autocoder_1401.specs.Laws.{IsFirstOutside, cells_in, has_few, is_parted, are_parted, IsCutOf}
 use Rattle.autocoder_1401.specs.Placement.{Places, nothing_placed, after_line, placed}
 use Rattle.autocoder_1401.specs.Segments.{within, closed, goes_on, cut}
 use Rattle.autocoder_1401.specs.Values.{line_outside, first_outside_from, first_outside}
-use Rattle.autocoder_1401.specs.declared.assembly.Assembly.{Assembly}
 use Rattle.autocoder_1401.specs.declared.fault.AsmFault.{AsmFault}
 use Rattle.autocoder_1401.specs.declared.fault.AsmKind.TheVariants as kinds
 use Rattle.autocoder_1401.proofs.CoreLemmas.{size_bound, are_below, cells_below}
@@ -86,6 +86,18 @@ found_outside size lines (Some fault) e =
       earlier = f.earlier;
       here = f.here;
     }
+
+-- what is found where all of these are placed is the first line with something outside
+pub refused_outside : (size : ℕ) (all : Places) (lines : List Line) (fault : AsmFault) → all ≡ placed lines
+    → IsMemory fault ⊎ (first_outside_from size all 1 nothing_placed lines ≡ Some fault)
+    → IsMemory fault ⊎ ((first_outside size lines ≡ Some fault) × IsFirstOutside size lines fault)
+refused_outside size all lines fault same found =
+    elim found [
+      | inl memory ↦ inl memory
+      | inr outside ↦ (let whole : first_outside size lines ≡ Some fault =
+          ap (λ (places : Places). first_outside_from size places 1 nothing_placed lines) (sym same) ∙ outside in
+          inr (whole, found_outside size lines (Some fault) (sym whole)))
+    ]
 
 -- one cell more
 numbered_push : (at : ℕ) (cells : List Cell) (cell : Cell)
@@ -233,10 +245,3 @@ image_cut size lines size_is none =
     let made = cut_from size 0 [] (placed_cells lines) bounds.1 (λ some. absurd (omega (arith, some)))
     (omega arith) below in
     record { whole = made.whole; few = made.few; parted = made.parted }
-
--- what holds of a source's assembly holds of an answer that is it
-pub of_assembly : (size : ℕ) (source : List ℕ) (answer : Result Assembly AsmFault) (P : Assembly → Type 0)
-    → IfOk answer (λ (assembly : Assembly). assembly ≡ assembly_of size source) → P (assembly_of size source)
-    → IfOk answer P
-of_assembly size source (Ok assembly) P same holds = subst P (sym same) holds
-of_assembly size source (Err fault) P same holds = tt

@@ -1,3 +1,5 @@
+mod AllFaultsExamples
+pub mod AllFaultsLemmas
 mod AssemblyExamples
 pub mod CellsLemmas
 pub mod CharactersLemmas
@@ -8,5 +10,4 @@ pub mod ListingLemmas
 pub mod LowestLemmas
 pub mod PlacementLawLemmas
 pub mod PlacingLemmas
-pub mod SegmentsLemmas
 pub mod StandingLemmas

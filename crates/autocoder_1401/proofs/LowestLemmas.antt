@@ -27,8 +27,8 @@ above n (first ∷ kinds) kind ascends stands =
       | inr behind ↦ (let low = ascends.0 in let high = above (rank first) kinds kind ascends.1 behind in omega arith)
     ]
 
-found : (test : AsmKind → Bool) (kinds : List AsmKind) (kind : AsmKind) → first_of test kinds ≡ Some kind → test kind
-    ≡ true
+pub found : (test : AsmKind → Bool) (kinds : List AsmKind) (kind : AsmKind) → first_of test kinds ≡ Some kind
+    → test kind ≡ true
 found test [] kind e = cc
 found test (first ∷ kinds) kind e = by (test first) refl e (found test kinds kind)
   where

@@ -25,7 +25,7 @@ use Rattle.autocoder_1401.specs.declared.fault.AsmFault.{AsmFault}
 abbrev pub lines_in : List ℕ → List Line
 lines_in source = map line_of (lines_of source)
 
--- the value of END, else that of the END behind
+-- the value of END; of any other line, what is given for those after it
 abbrev pub entry_in_row : Places → Addressing → ℤ → ℤ
 entry_in_row all addressing.Nothing behind = behind
 entry_in_row all (addressing.Addresses of) behind = behind

@@ -100,7 +100,7 @@ constant_cells false constant = map plain (constant_codes constant)
 abbrev pub literal_cells : Characters → List Cell
 literal_cells literal = with_word_mark (codes_in literal)
 
--- the fields directly behind areas, comments aside
+-- the fields directly after areas, comments aside
 abbrev pub fields_by : AreaRole → List Span → List Span
 fields_by areas.Ends behind = []
 fields_by (areas.Makes made) behind = []
@@ -139,7 +139,7 @@ abbrev pub areas_cells : Option Areas → List Line → List Cell
 areas_cells None lines = []
 areas_cells (Some areas) lines = repeated areas.count (area_cells areas.length (fields_behind lines))
 
--- the cells of contents that begin at the next place, with these lines behind them
+-- the cells of contents that begin at the next place, with these lines after them
 abbrev pub contents_cells : Places → Places → Contents → List Line → List Cell
 contents_cells all this contents.Nothing lines = []
 contents_cells all this (contents.Instruction instruction of) lines =
@@ -155,7 +155,7 @@ row_cells all this row next.Behind lines = contents_cells all this row.contents 
 row_cells all this row next.Literals lines = flat_map literal_cells (pending this)
 row_cells all this row next.Value lines = []
 
--- the cells that a body places, with these lines behind it
+-- the cells that a body places, with these lines after it
 abbrev pub body_cells : Places → Places → Body → List Line → List Cell
 body_cells all this body lines = row_cells all this (describe body) (describe body).next lines
 

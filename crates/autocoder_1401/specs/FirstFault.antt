@@ -31,8 +31,8 @@ use Rattle.autocoder_1401.specs.declared.fault.AsmKind.TheVariants as kinds
 use Rattle.autocoder_1401.specs.declared.fault.AsmFault.{AsmFault}
 use Rattle.autocoder_1401.specs.declared.first_fault.Place.{Place}
 
--- the length of the areas that a field behind these lines would divide: those of a DA, with nothing but its fields and
--- comments behind it
+-- the length of the areas that a field after these lines would divide: those of a DA, with nothing but its fields and
+-- comments after it
 abbrev pub areas_by : Option ℕ → AreaRole → Option ℕ
 areas_by areas roles.Ends = None
 areas_by areas (roles.Makes made) = option_map (λ (of : Areas). of.length) made
@@ -49,7 +49,7 @@ areas_behind areas line =
 abbrev pub first_place : Place
 first_place = record { number = 1; is_ended = false; areas = None }
 
--- the place behind a line
+-- the place after a line
 abbrev pub place_behind : Place → Line → Place
 place_behind this line =
     record { number = this.number + 1; is_ended = this.is_ended || is_end line; areas = areas_behind this.areas line }
@@ -113,7 +113,7 @@ undefined_in declared number (addressing.Entry of) = is_undefined declared of.a
 abbrev pub undefined : Declared → ℕ → Body → Bool
 undefined declared number body = undefined_in declared number (describe body).addressing
 
--- a field that ends behind its area
+-- a field that ends past its area
 abbrev pub is_past : Option ℕ → Option Span → Bool
 is_past (Some length) (Some span) = nat_lt length span.last
 is_past (Some length) None = false
@@ -186,7 +186,7 @@ lowest_in declared at this =
     else if bad_operands at.areas this.body then Some kinds.Operand
     else None
 
--- a line's fault if it has one, and else that of the lines behind it
+-- a line's fault if it has one, and else that of the lines after it
 abbrev pub or_behind : ℕ → Option AsmKind → Option AsmFault → Option AsmFault
 or_behind number None behind = behind
 or_behind number (Some kind) behind = Some (record { line = number; kind = kind })

@@ -12,7 +12,7 @@ use Rattle.autocoder_1401.specs.Values.{line_outside}
 use Rattle.autocoder_1401.specs.declared.fault.AsmFault.{AsmFault}
 use Rattle.autocoder_1401.specs.declared.fault.AsmKind.TheVariants as kinds
 
--- whether something of a line isn't in core that stands behind the first lines, as many as these
+-- whether something of a line that follows the first k lines isn't in core
 abbrev pub outside_at : ℕ → List Line → ℕ → Line → Bool
 outside_at size lines k line = line_outside size (placed lines) (placed (take k lines)) line
 
@@ -33,7 +33,7 @@ cells_in segment = numbered segment.address segment.cells
 abbrev pub has_few : Segment → Bool
 has_few segment = nat_le 1 (length segment.cells) && nat_le (length segment.cells) most_cells
 
--- where one segment stands behind another there is a gap, or no cell more fits into the first
+-- between a segment and the next there is a gap, or no cell more fits into the first
 abbrev pub is_parted : Segment → Segment → Bool
 is_parted first next =
     not (next.address == first.address + length first.cells) || (length first.cells == most_cells)

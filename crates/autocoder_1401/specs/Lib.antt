@@ -1,3 +1,4 @@
+pub mod AllFaults
 pub mod Assembly
 pub mod Built
 pub mod Cells
@@ -7,6 +8,7 @@ pub mod FirstFault
 pub mod KeptLine
 pub mod Laws
 pub mod Listing
+pub mod OwnFault
 pub mod Placement
 pub mod PlacementLaws
 pub mod Segments

@@ -37,7 +37,7 @@ address_text (Some address) = digits_in 5 (nat_abs address)
 abbrev pub graphic_of : Cell → ℕ
 graphic_of cell = slice_index graphics cell.char
 
--- the first eight cells, with blanks behind them where there are fewer
+-- the first eight cells, with blanks after them where there are fewer
 unfoldable pub characters_text : List Cell → List ℕ
 characters_text cells = padded 8 (map graphic_of (take 8 cells))
 
@@ -60,7 +60,7 @@ spelling (constants.Plus digits) = codes "+" ++ bytes_of digits
 spelling (constants.Minus digits) = codes "-" ++ bytes_of digits
 spelling (constants.Blanks count) = codes "#" ++ digits_in 1 count
 
--- the lines of literals that are placed one behind the other, each as it was first written
+-- the lines of literals that are placed one after the other, each as it was first written
 abbrev pub literal_lines : ℤ → List Constant → List (List ℕ)
 literal_lines from [] = []
 literal_lines from (literal ∷ literals) =
@@ -76,7 +76,7 @@ literals_by this next.Value = []
 abbrev pub literals_at : Places → Body → List Constant
 literals_at this body = literals_by this (describe body).next
 
--- the values of labels that an operand is looked up in: some are valued where they stand, the others by all labels
+-- the values of labels that an operand is looked up in: some are valued by the labels before them, the others by all labels
 abbrev pub values_for : Places → Places → Addressing → List (Label × ℤ)
 values_for all this addressing.Nothing = this.values
 values_for all this (addressing.Addresses of) = this.values
@@ -98,7 +98,7 @@ abbrev pub literals_in : Places → Option Statement → List Constant
 literals_in this None = []
 literals_in this (Some statement) = literals_at this statement.body
 
--- the line for a line of the source, with these lines behind it; a comment has no address
+-- the line for a line of the source, with these lines after it; a comment has no address
 abbrev pub line_for : Places → Places → ℕ → List ℕ → Option Statement → List Line → List ℕ
 line_for all this number source None lines = listing_line (Some number) None [] source
 line_for all this number source (Some statement) lines =

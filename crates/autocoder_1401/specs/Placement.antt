@@ -91,7 +91,7 @@ value_so_far values (fields.Operand (operands.Literal constant)) = pos 0
 abbrev pub pending : Places → List Characters
 pending this = drop (length this.addresses) this.literals
 
--- the place behind literals that begin at a place
+-- the place after literals that begin at a place
 abbrev pub behind_literal : ℤ → Characters → ℤ
 behind_literal from literal = from +ℤ pos literal.len
 
@@ -156,7 +156,7 @@ moved this row next.Behind = with_next this (this.next +ℤ pos (contents_length
 moved this row next.Literals = with_pending this
 moved this row next.Value = with_next this (own_value this row.addressing)
 
--- what is placed behind a statement
+-- what is placed after a statement
 abbrev pub behind_row : Places → Description → Places
 behind_row this row = with_uses (with_areas (moved this row row.next) this.next row.areas) row.addressing
 

@@ -39,7 +39,7 @@ abbrev pub length_with : Places → Option Statement → ℕ
 length_with this None = 0
 length_with this (Some statement) = body_length this statement.body
 
--- how many places lines take, one behind the other
+-- how many places lines take, one after the other
 abbrev pub lengths_from : Places → List Line → ℕ
 lengths_from this [] = 0
 lengths_from this (line ∷ lines) = length_with this line.statement + lengths_from (after_line this line) lines
@@ -101,11 +101,11 @@ uses_with (Some statement) = uses_in statement.body
 abbrev pub uses : List Line → List Characters
 uses lines = flat_map (λ (line : Line). uses_with line.statement) lines
 
--- a literal behind those that were used before it, unless it is one of them
+-- a literal after those that were used before it, unless it is one of them
 abbrev pub with_use : List Characters → Characters → List Characters
 with_use used literal = if list_any (same_characters literal) used then used else used ++ literal ∷ []
 
--- how lines are placed, whatever stands before and behind them
+-- how lines are placed, whatever is before and after them
 pub record IsPlacedInTurn (lines : List Line) : Type 0 where
   -- Behind lines without an origin the next place is the one before them and their lengths.
   pub since : (before since rest : List Line) → lines ≡ before ++ since ++ rest → AreNoOrigins since
@@ -118,7 +118,7 @@ pub record IsPlacedInTurn (lines : List Line) : Type 0 where
   pub literals : (placed lines).literals ≡ fold with_use [] (uses lines)
   -- and each is kept as it was written there.
   pub spelled : map characters_of (placed lines).spellings ≡ (placed lines).literals
-  -- EX and END place the literals that are used and not placed, in this order, one behind the other from the next place
+  -- EX and END place the literals that are used and not placed, in this order, one after the other from the next place
   -- on: the units place of each, which operands name, is as far on as it and those in front of it are long.
   pub standing : (before : List Line) (line : Line) (rest : List Line) (k : ℕ) (literal : Characters)
       → lines ≡ before ++ line ∷ rest → places_with line.statement ≡ true

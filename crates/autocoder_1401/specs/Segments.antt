@@ -18,7 +18,7 @@ closed at cells = if nat_le 1 (length cells) && nat_le (length cells) most_cells
 abbrev pub goes_on : ℕ → List Cell → ℕ → Bool
 goes_on at cells next = (next == at + length cells) && nat_lt (length cells) most_cells
 
--- the segments of the cells so far, and of those behind them
+-- the segments of the cells so far, and of those after them
 abbrev pub cut : ℕ → List Cell → List (ℕ × Cell) → List Segment
 cut at cells [] = closed at cells
 cut at cells (next ∷ more) =

@@ -69,7 +69,7 @@ next_outside size this next.Behind = false
 next_outside size this next.Literals = literals_outside size this
 next_outside size this next.Value = false
 
--- a value that isn't in core; the next place may be the one behind the last
+-- a value that isn't in core; the next place may be the one after the last
 abbrev pub value_outside : ℕ → ℤ → Next → Bool
 value_outside size value next.Behind = not (is_in_core size value)
 value_outside size value next.Literals = not (is_in_core size value)

@@ -7,7 +7,7 @@ ghost use Rattle.core_1401.specs.Storage.{is_core_size};
 ghost use Rattle.image_1401.specs.Image.{IsInCore};
 ghost use Rattle.autocoder_1401.specs.Placement.{placed};
 ghost use Rattle.autocoder_1401.specs.Values.{first_outside};
-ghost use Rattle.autocoder_1401.specs.Assembly.{lines_in, entry_in, image_of, assembly_of, placed_cells, unless_fault};
+ghost use Rattle.autocoder_1401.specs.Assembly.{lines_in, entry_in, assembly_of, placed_cells};
 ghost use Rattle.autocoder_1401.specs.Assembly.{assembly_in, IsFaultOf};
 ghost use Rattle.autocoder_1401.specs.Laws.{IsFirstOutside, IsCutOf};
 ghost use Rattle.autocoder_1401.specs.PlacementLaws.{IsPlacedInTurn};
@@ -18,12 +18,11 @@ use crate::fault::AsmFault;
 use crate::first_fault::first_fault;
 use crate::hashing::SourceHashing;
 use crate::kept_line::KeptLine;
-use crate::listing::{Listing, list};
+use crate::listing::Listing;
+use crate::outputs::make_outputs;
 use crate::placing::{Placing, place_all};
 use crate::reading::read_lines;
-use crate::segments::emit;
 use crate::symbols::declared;
-use crate::values::first_outside;
 use image_1401::{Image, Segments};
 use source_1401::{Addressing, Statement};
 use std::alloc::Global;
@@ -42,23 +41,6 @@ fn scan(
 {
     let labels = declared(alloc, hashing, lines)?;
     let fault = first_fault(&labels, lines);
-    Ok(fault)
-}
-
-/// The first line of which something isn't in core, once all is placed.
-fn look_outside(
-    alloc: Global,
-    size: u16,
-    all: &Placing,
-    lines: &[KeptLine],
-) -> Result<Option<AsmFault>, AsmFault>
-    requires few { length lines.now < 2 ^ 32 }
-    requires placed { places_of all.now ≡ placed lines.now }
-    ensures ok { IfOk result (λ fault. fault ≡ first_outside size lines.now) }
-    ensures outside { IfOk result (λ fault. IfSome fault (IsFirstOutside size lines.now)) }
-    ensures err { IfErr result IsMemory }
-{
-    let fault = first_outside(alloc, size, all, lines)?;
     Ok(fault)
 }
 
@@ -82,59 +64,24 @@ fn entry(all: &Placing, lines: &[KeptLine]) -> Result<i64, AsmFault>
     Ok(0)
 }
 
-/// Refuses the first line of which something isn't in core, once all is placed.
-fn refuse_outside(
-    alloc: Global,
-    size: u16,
-    all: &Placing,
-    lines: &[KeptLine],
-) -> Result<(), AsmFault>
-    requires few { length lines.now < 2 ^ 32 }
-    requires placed { places_of all.now ≡ placed lines.now }
-    ensures inside { OnOk result (first_outside size lines.now ≡ None) }
-    ensures outside { IfErr result (λ fault. IsMemory fault
-        ⊎ ((first_outside size lines.now ≡ Some fault) × IsFirstOutside size lines.now fault)) }
-{
-    match look_outside(alloc, size, all, lines)? {
-        Some(fault) => Err(fault),
-        None => Ok(()),
-    }
-}
-
-/// What is placed by lines, or their first fault.
+/// What is placed by lines, or the first of them with a fault.
 fn place_lines(
     alloc: Global,
     hashing: SourceHashing,
     lines: &[KeptLine],
-    size: u16,
 ) -> Result<Placing, AsmFault>
     requires { length lines.now < 2 ^ 32 }
-    ensures exact { Gives places_of result (unless_fault size lines.now (placed lines.now)) }
+    ensures ok { IfOk result (λ all. places_of all ≡ placed lines.now) }
+    ensures none { OnOk result (first_fault lines.now ≡ None) }
     ensures faultless { OnOk result (IsFaultless (declared_at lines.now) lines.now) }
-    ensures first { IfErr result (λ fault. IsMemory fault ⊎ IsFaultOf size lines.now fault) }
-    ensures inside { OnOk result (first_outside size lines.now ≡ None) }
+    ensures first { IfErr result (λ fault. IsMemory fault
+        ⊎ ((first_fault lines.now ≡ Some fault) × IsFirstFault (declared_at lines.now) lines.now fault)) }
 {
     if let Some(fault) = scan(alloc, hashing, lines)? {
         return Err(fault);
     }
     let all = place_all(alloc, hashing, lines)?;
-    refuse_outside(alloc, size, &all, lines)?;
     Ok(all)
-}
-
-/// The image of lines, once all is placed.
-fn image(alloc: Global, all: &Placing, lines: &[KeptLine], size: u16) -> Result<Image, AsmFault>
-    requires { places_of all.now ≡ placed lines.now }
-    ensures ok { IfOk result (λ image. image ≡ image_of size lines.now) }
-    ensures err { IfErr result IsMemory }
-{
-    let start = place_of(entry(all, lines)?);
-    let segments = emit(alloc, all, lines)?;
-    Ok(Image {
-        size,
-        segments: Segments::from_vec(segments),
-        start,
-    })
 }
 
 /// What a source stands for.
@@ -147,7 +94,11 @@ pub struct Assembly {
 }
 
 /// The image and the listing of a source, which says these lines, once all is placed.
-fn outputs(
+///
+/// # Errors
+///
+/// `OutOfCore` for the first line of which something isn't in core; `Memory` if there is no room.
+fn make_assembly(
     alloc: Global,
     all: &Placing,
     source: &[u8],
@@ -158,11 +109,22 @@ fn outputs(
     requires few { length lines.now < 2 ^ 32 }
     requires placed { places_of all.now ≡ placed lines.now }
     ensures ok { IfOk result (λ assembly. assembly ≡ assembly_of size source.now) }
-    ensures err { IfErr result IsMemory }
+    ensures inside { OnOk result (first_outside size (lines_in source.now) ≡ None) }
+    ensures outside { IfErr result (λ fault. IsMemory fault
+        ⊎ ((first_outside size lines.now ≡ Some fault) × IsFirstOutside size lines.now fault)) }
 {
-    let image = image(alloc, all, lines, size)?;
-    let listing = list(alloc, all, source, lines)?;
-    Ok(Assembly { image, listing })
+    let start = place_of(entry(all, lines)?);
+    let made = make_outputs(alloc, all, size, source, lines)?;
+    Ok(Assembly {
+        image: Image {
+            size,
+            segments: Segments::from_vec(made.segments),
+            start,
+        },
+        listing: Listing {
+            lines: made.listing,
+        },
+    })
 }
 
 /// The core image and the listing that a source stands for, in core storage of this size.
@@ -170,7 +132,8 @@ fn outputs(
 /// # Errors
 ///
 /// `Memory` if memory is refused or the source has too many lines. Otherwise the lowest fault of the first line that
-/// has one of kinds 2 to 8, 10 and 11; if no line has, `OutOfCore` for the first line of which something is not in core.
+/// has one of kinds 2 to 8, 10 and 11; if no line has one, `OutOfCore` for the first line of which something isn't in
+/// core.
 #[tactic(auto, using(crate::proofs::PlacementLawLemmas::placed_in_turn))]
 pub fn assemble(alloc: Global, source: &[u8], size: u16) -> Result<Assembly, AsmFault>
     // The image and the listing of the lines, or their first fault, unless memory is refused.
@@ -196,6 +159,7 @@ pub fn assemble(alloc: Global, source: &[u8], size: u16) -> Result<Assembly, Asm
 {
     let lines = read_lines(alloc, source)?;
     let hashing = SourceHashing::from_source(source);
-    let all = place_lines(alloc, hashing, &lines, size)?;
-    outputs(alloc, &all, source, &lines, size)
+    let all = place_lines(alloc, hashing, &lines)?;
+    let assembly = make_assembly(alloc, &all, source, &lines, size)?;
+    Ok(assembly)
 }

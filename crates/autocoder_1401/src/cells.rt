@@ -221,7 +221,7 @@ fn mark(area: &mut [Cell], place: usize)
     }
 }
 
-/// Sets the word marks of the fields directly behind areas, comments aside.
+/// Sets the word marks of the fields directly after areas, comments aside.
 fn mark_fields(area: &mut [Cell], lines: &[KeptLine])
     ensures { area.new ≡ fold with_field area.old (fields_behind lines.now) }
 {
@@ -237,7 +237,7 @@ fn mark_fields(area: &mut [Cell], lines: &[KeptLine])
     }
 }
 
-/// Puts areas, with the word marks of the fields behind them.
+/// Puts areas, with the word marks of the fields after them.
 fn put_areas(
     alloc: Global,
     areas: Option<Areas>,
@@ -271,7 +271,7 @@ fn put_repeated(count: u8, area: &[Cell], out: &mut Vec<Cell>) -> Result<(), Asm
     Ok(())
 }
 
-/// Puts the cells of contents that begin at the next place, with these lines behind them.
+/// Puts the cells of contents that begin at the next place, with these lines after them.
 pub(crate) fn put_contents(
     alloc: Global,
     all: &Placing,
@@ -296,7 +296,7 @@ pub(crate) fn put_contents(
     }
 }
 
-/// Puts the cells of a statement for which this is placed so far, with these lines behind it.
+/// Puts the cells of a statement for which this is placed so far, with these lines after it.
 pub(crate) fn put_row(
     alloc: Global,
     all: &Placing,
@@ -316,7 +316,7 @@ pub(crate) fn put_row(
     }
 }
 
-/// The cells that a line places for which this is placed so far, with these lines behind it.
+/// The cells that a line places for which this is placed so far, with these lines after it.
 pub(crate) fn cells_of(
     alloc: Global,
     all: &Placing,
@@ -324,8 +324,8 @@ pub(crate) fn cells_of(
     line: &KeptLine,
     lines: &[KeptLine],
 ) -> Result<Vec<Cell>, AsmFault>
-    ensures ok { IfOk result
-        (λ cells. cells.items ≡ statement_cells (places_of all.now) (places_of so_far.now) line.now.statement lines.now) }
+    ensures ok { IfOk result (λ cells. cells.items
+        ≡ statement_cells (places_of all.now) (places_of so_far.now) line.now.statement lines.now) }
     ensures err { IfErr result IsMemory }
 {
     let mut out = Vec::new(alloc);

@@ -24,7 +24,7 @@ pub enum AsmKind {
     /// 5: an earlier line has the same label.
     #[error("5 DOUBLE LABEL")]
     DoubleLabel,
-    /// 6: columns 16 to 20 hold no operation, or a field stands under no areas.
+    /// 6: columns 16 to 20 hold no operation, or a field has no areas above it.
     #[error("6 OPERATION")]
     Operation,
     /// 7: a symbol is the label of no line, or for EQU and ORG of no earlier one.

@@ -28,14 +28,14 @@ pub(crate) struct Place {
 
 impl Place {
     /// The place of the first line.
-    const FIRST: Place = Place {
+    pub(crate) const FIRST: Place = Place {
         number: 1,
         is_ended: false,
         areas: None,
     };
 
     /// The place after a line.
-    fn behind(self, line: &KeptLine) -> Place
+    pub(crate) fn behind(self, line: &KeptLine) -> Place
         requires { self.number < 2 ^ 33 }
         ensures { result ≡ place_behind self line.now }
     {
@@ -68,7 +68,7 @@ impl Place {
     }
 
     /// Whether the label is bad, or a field of areas has none.
-    fn has_bad_label(self, statement: Statement) -> bool
+    pub(crate) fn has_bad_label(self, statement: Statement) -> bool
         ensures { result ≡ bad_label self.areas statement }
     {
         statement.has_bad_label()
@@ -76,7 +76,7 @@ impl Place {
     }
 
     /// Whether the operation isn't known, or is a field under no areas.
-    fn has_bad_operation(self, body: Body) -> bool
+    pub(crate) fn has_bad_operation(self, body: Body) -> bool
         ensures { result ≡ bad_operation self.areas body }
     {
         let row = body.describe();
@@ -95,7 +95,7 @@ impl Place {
     }
 
     /// Whether the operands aren't as the operation asks.
-    fn has_bad_operands(self, statement: Statement) -> bool
+    pub(crate) fn has_bad_operands(self, statement: Statement) -> bool
         ensures { result ≡ bad_operands self.areas statement.body }
     {
         statement.has_bad_operands() || self.is_past_areas(statement.body)
@@ -113,7 +113,7 @@ fn is_before(number: u64, declared: Option<u64>) -> bool
 }
 
 /// Whether an earlier line has the label.
-fn has_double_label(labels: &Labels, number: u64, field: LabelField) -> bool
+pub(crate) fn has_double_label(labels: &Labels, number: u64, field: LabelField) -> bool
     ensures { result ≡ double_label (get same_label labels.now) number field }
 {
     match field {
@@ -138,7 +138,7 @@ fn symbol_in(field: OperandField) -> Option<Label>
 }
 
 /// Whether an operand's symbol is the label of no line.
-fn is_undefined(labels: &Labels, field: OperandField) -> bool
+pub(crate) fn is_undefined(labels: &Labels, field: OperandField) -> bool
     ensures { result ≡ is_undefined (get same_label labels.now) field }
 {
     match symbol_in(field) {
@@ -158,7 +158,7 @@ fn is_undefined_before(labels: &Labels, number: u64, field: OperandField) -> boo
 }
 
 /// Whether a line here names a symbol that it can't.
-fn has_undefined(labels: &Labels, number: u64, body: Body) -> bool
+pub(crate) fn has_undefined(labels: &Labels, number: u64, body: Body) -> bool
     ensures { result ≡ undefined (get same_label labels.now) number body }
 {
     match body.describe().addressing {
@@ -209,7 +209,7 @@ fn lowest_of(labels: &Labels, at: Place, line: &KeptLine) -> Option<AsmKind>
 }
 
 /// The lowest kind of a line's faults.
-fn lowest_kind(labels: &Labels, at: Place, line: &KeptLine) -> Option<AsmKind>
+pub(crate) fn lowest_kind(labels: &Labels, at: Place, line: &KeptLine) -> Option<AsmKind>
     ensures value { result ≡ lowest (get same_label labels.now) at line.now }
     ensures clean { IfNone result (IsClean (get same_label labels.now) at line.now) }
     ensures lowest { IfSome result (λ kind. IsLowest (get same_label labels.now) at line.now kind) }

@@ -4,8 +4,8 @@ ghost use Rattle.std.specs.Hash.DefaultHasher as sip;
 
 use std::hash::{BuildHasher, DefaultHasher, Hasher};
 
-/// Hashes by SipHash, which has read the whole source before it reads a label or a literal. So labels can't be chosen to
-/// collide under a hash that is known beforehand: each choice is part of the source, and with it the hash is another.
+/// Hashes by SipHash, which has read the whole source before it reads a label or a literal. So labels can't be chosen
+/// to collide under a hash that is known beforehand: each choice is part of the source, and changes the hash.
 #[derive(Clone, Copy)]
 pub(crate) struct SourceHashing {
     /// The hasher that has read the source.

@@ -23,11 +23,17 @@ mod cells; // the cells of a line
 mod segments; // the cells, cut into segments
 mod printing; // the parts of a line of the listing
 pub mod listing; // the source with its addresses and cells
+mod outputs; // segments and listing, line by line
+mod own_fault; // faults that don't only follow from one told before
+pub mod all_faults; // all faults of a source
 pub mod fault; // the kinds of fault
 
+pub use all_faults::faults;
 pub use assembly::{Assembly, assemble};
 pub use fault::{AsmFault, AsmKind};
 pub use listing::{Listing, ListingLine};
 
+#[cfg(test)]
+mod fault_tests;
 #[cfg(test)]
 mod tests;

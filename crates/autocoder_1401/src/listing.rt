@@ -18,9 +18,8 @@ use crate::fault::AsmFault;
 use crate::kept_line::KeptLine;
 use crate::placing::{Placing, plus};
 use crate::printing::{cut_last_blanks, put_address, put_characters, put_number, put_spelling};
-use crate::segments::lines_behind;
 use bcd_1401::Cell;
-use source_1401::{Addressing, Body, Constant, Next, Statement, split_line};
+use source_1401::{Addressing, Body, Constant, Next, Statement};
 use std::alloc::Global;
 use std::marker::Model;
 
@@ -50,7 +49,8 @@ impl ListingLine {
 /// The lines of a listing, in their order. Contracts see the list of them.
 #[derive(Debug, Drop)]
 pub struct Listing {
-    lines: Vec<ListingLine>,
+    /// The lines.
+    pub(crate) lines: Vec<ListingLine>,
 }
 
 impl Model for Listing {
@@ -94,7 +94,7 @@ fn listing_line(
     Ok(ListingLine { text })
 }
 
-/// Adds the lines of literals that are placed one behind the other from a place on.
+/// Adds the lines of literals that are placed one after the other from a place on.
 fn put_literal_lines(
     alloc: Global,
     from: i64,
@@ -164,7 +164,7 @@ impl Placing {
         }
     }
 
-    /// The cells that the line of a body here shows, with these lines behind it.
+    /// The cells that the line of a body here shows, with these lines after it.
     fn cells_at(
         &self,
         alloc: Global,
@@ -206,7 +206,7 @@ impl Placing {
         put_literal_lines(alloc, self.next, self.literals_in(line), lines)
     }
 
-    /// The line of the listing for a line of the source here, with these lines behind it.
+    /// The line of the listing for a line of the source here, with these lines after it.
     fn line_for(
         &self,
         alloc: Global,
@@ -230,9 +230,9 @@ impl Placing {
         }
     }
 
-    /// Adds the lines for a line of the source here, with these lines behind it, and places it.
-    fn list_line(
-        &mut self,
+    /// Adds the lines for a line of the source here, with these lines after it.
+    pub(crate) fn list_line(
+        &self,
         alloc: Global,
         all: &Placing,
         number: u64,
@@ -242,82 +242,13 @@ impl Placing {
         lines: &mut Vec<ListingLine>,
     ) -> Result<(), AsmFault>
         ensures listed { OnOk result (lines.new.items ≡ lines.old.items
-            ++ (literal_lines (places_of self.old).next (literals_in (places_of self.old) line.now.statement)
-            ++ line_for (places_of all.now) (places_of self.old) number source.now line.now.statement behind.now
+            ++ (literal_lines (places_of self.now).next (literals_in (places_of self.now) line.now.statement)
+            ++ line_for (places_of all.now) (places_of self.now) number source.now line.now.statement behind.now
             ∷ [])) }
-        ensures placed { OnOk result (places_of self.new ≡ after_line (places_of self.old) line.now) }
         ensures err { IfErr result IsMemory }
     {
         self.put_literals_of(alloc, line, lines)?;
         lines.push(self.line_for(alloc, all, number, source, line, behind)?)?;
-        self.place(line)?;
         Ok(())
     }
-
-    /// Adds the lines for a source which says these lines, the first of which stands here, and places them.
-    fn list_lines(
-        &mut self,
-        alloc: Global,
-        all: &Placing,
-        source: &[u8],
-        lines: &[KeptLine],
-        listing: &mut Vec<ListingLine>,
-    ) -> Result<(), AsmFault>
-        requires lines { lines.now ≡ map line_of (lines_of source.now) }
-        requires few { length lines.now < 2 ^ 32 }
-        ensures ok { OnOk result (listing.new.items ≡ listing.old.items
-            ++ listing_from (places_of all.now) (places_of self.old) 1 (lines_of source.now)) }
-        ensures err { IfErr result IsMemory }
-    {
-        let mut sources = source;
-        for (i, line) in lines.iter().enumerate() {
-            let Some((text, behind)) = split_line(sources) else {
-                unreachable!()
-            };
-            let later = lines_behind(lines, i);
-            self.list_line(alloc, all, i as u64 + 1, text, line, later, listing)?;
-            sources = behind;
-        }
-        Ok(())
-    }
-}
-
-/// Adds the lines of the listing of a source, which says these lines, once all is placed.
-fn put_listing(
-    alloc: Global,
-    all: &Placing,
-    source: &[u8],
-    lines: &[KeptLine],
-    listing: &mut Vec<ListingLine>,
-) -> Result<(), AsmFault>
-    requires lines { lines.now ≡ map line_of (lines_of source.now) }
-    requires few { length lines.now < 2 ^ 32 }
-    ensures ok { OnOk result (listing.new.items
-        ≡ listing.old.items ++ listing_from (places_of all.now) nothing_placed 1 (lines_of source.now)) }
-    ensures err { IfErr result IsMemory }
-{
-    let mut placing = Placing::new(alloc, all.hashing);
-    placing.list_lines(alloc, all, source, lines, listing)
-}
-
-/// The listing of a source, which says these lines, once all is placed.
-///
-/// # Errors
-///
-/// `Memory` where there is no room for it.
-pub(crate) fn list(
-    alloc: Global,
-    all: &Placing,
-    source: &[u8],
-    lines: &[KeptLine],
-) -> Result<Listing, AsmFault>
-    requires lines { lines.now ≡ map line_of (lines_of source.now) }
-    requires few { length lines.now < 2 ^ 32 }
-    ensures ok { IfOk result
-        (λ listing. listing ≡ listing_from (places_of all.now) nothing_placed 1 (lines_of source.now)) }
-    ensures err { IfErr result IsMemory }
-{
-    let mut listing = Vec::new(alloc);
-    put_listing(alloc, all, source, lines, &mut listing)?;
-    Ok(Listing { lines: listing })
 }

@@ -110,7 +110,7 @@ pub(crate) fn contents_length(contents: Contents) -> u32
     }
 }
 
-/// The place behind literals that begin at a place.
+/// The place after literals that begin at a place.
 pub(crate) fn behind_literals(from: i64, literals: &[Characters]) -> Result<i64, AsmFault>
     ensures value { IfOk result (λ behind. behind ≡ behind_literals from literals.now) }
     ensures err { IfErr result IsMemory }
@@ -304,7 +304,7 @@ impl Placing {
         Ok(())
     }
 
-    /// Goes on behind a statement, and notes and places its literals.
+    /// Goes on after a statement, and notes and places its literals.
     fn pass(&mut self, row: Description) -> Result<(), AsmFault>
         ensures ok { OnOk result (places_of self.new ≡ behind_row (places_of self.old) row) }
         ensures err { IfErr result IsMemory }
@@ -349,7 +349,7 @@ impl Placing {
 ///
 /// # Errors
 ///
-/// `Memory` where there is no room for labels and literals.
+/// `Memory` if there is no room for labels and literals.
 pub(crate) fn place_all(
     alloc: Global,
     hashing: SourceHashing,

@@ -70,7 +70,7 @@ fn put_graphics(text: &mut Vec<u8>, cells: &[Cell]) -> Result<(), AsmFault>
     Ok(())
 }
 
-/// Adds the first eight cells by their graphics, with blanks behind them where there are fewer.
+/// Adds the first eight cells by their graphics, with blanks after them where there are fewer.
 #[tactic(auto, unfolding(crate::specs::Listing::characters_text))]
 pub(crate) fn put_characters(text: &mut Vec<u8>, cells: &[Cell]) -> Result<(), AsmFault>
     ensures ok { OnOk result (text.new.items ≡ text.old.items ++ characters_text cells.now) }

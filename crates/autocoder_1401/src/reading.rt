@@ -16,7 +16,7 @@ const MOST_LINES: usize = 4_294_967_295;
 ///
 /// # Errors
 ///
-/// `Memory` where there is no room for them, or they are too many.
+/// `Memory` if there is no room for them, or they are too many.
 pub(crate) fn read_lines(alloc: Global, source: &[u8]) -> Result<Vec<KeptLine>, AsmFault>
     ensures lines { IfOk result (λ v. v.items ≡ map line_of (lines_of source.now)) }
     ensures few { IfOk result (λ v. vec_len v < 2 ^ 32) }

@@ -2,8 +2,7 @@
 ghost use Rattle.std.specs.Prelude.{◌≡◌, ◌∷◌, ◌++◌, ◌+◌, ◌<◌, ℕ, List, [], length, drop, IfOk, IfErr, OnOk};
 ghost use Rattle.bcd_1401.specs.declared.cell.Cell.{Cell as ACell};
 ghost use Rattle.autocoder_1401.specs.Fault.{IsMemory};
-ghost use Rattle.autocoder_1401.specs.Cells.{place_of, numbered, statement_cells, cells_from};
-ghost use Rattle.autocoder_1401.specs.Placement.{nothing_placed, after_line};
+ghost use Rattle.autocoder_1401.specs.Cells.{place_of, numbered, statement_cells};
 ghost use Rattle.autocoder_1401.specs.Segments.{within, closed, goes_on, segments_of};
 ghost use Rattle.autocoder_1401.specs.View.{places_of};
 ghost use Rattle.autocoder_1401.specs.Built.{built};
@@ -41,7 +40,7 @@ fn within(at: usize) -> u16
 
 impl Builder {
     /// No segment.
-    fn new(alloc: Global) -> Builder
+    pub(crate) fn new(alloc: Global) -> Builder
         ensures { (rest : List (ℕ × ACell)) → built result rest ≡ segments_of rest }
     {
         Builder {
@@ -105,47 +104,27 @@ impl Builder {
         Ok(())
     }
 
-    /// Puts the cells of a line, with these lines behind it, and places it.
-    fn put_line(
+    /// Puts the cells of a line for which this is placed so far, with these lines after it.
+    pub(crate) fn put_line(
         &mut self,
         alloc: Global,
         all: &Placing,
-        so_far: &mut Placing,
+        so_far: &Placing,
         line: &KeptLine,
         behind: &[KeptLine],
     ) -> Result<(), AsmFault>
         ensures built { OnOk result ((rest : List (ℕ × ACell)) → built self.new rest ≡ built self.old
-            (numbered (place_of (places_of so_far.old).next)
-            (statement_cells (places_of all.now) (places_of so_far.old) line.now.statement behind.now) ++ rest)) }
-        ensures placed { OnOk result (places_of so_far.new ≡ after_line (places_of so_far.old) line.now) }
+            (numbered (place_of (places_of so_far.now).next)
+            (statement_cells (places_of all.now) (places_of so_far.now) line.now.statement behind.now) ++ rest)) }
         ensures err { IfErr result IsMemory }
     {
         let cells = cells_of(alloc, all, so_far, line, behind)?;
         self.put_all(so_far.address(), &cells)?;
-        so_far.place(line)?;
-        Ok(())
-    }
-
-    /// Puts the cells of lines, and places them.
-    fn put_lines(
-        &mut self,
-        alloc: Global,
-        all: &Placing,
-        so_far: &mut Placing,
-        lines: &[KeptLine],
-    ) -> Result<(), AsmFault>
-        ensures ok { OnOk result (built self.new []
-            ≡ built self.old (cells_from (places_of all.now) (places_of so_far.old) lines.now)) }
-        ensures err { IfErr result IsMemory }
-    {
-        for (i, line) in lines.iter().enumerate() {
-            self.put_line(alloc, all, so_far, line, lines_behind(lines, i))?;
-        }
         Ok(())
     }
 
     /// The segments.
-    fn finish(mut self) -> Result<Vec<Segment>, AsmFault>
+    pub(crate) fn finish(mut self) -> Result<Vec<Segment>, AsmFault>
         ensures ok { IfOk result (λ segments. segments.items ≡ built self []) }
         ensures err { IfErr result IsMemory }
     {
@@ -154,44 +133,10 @@ impl Builder {
     }
 }
 
-/// The lines behind the one with this index.
+/// The lines after the one with this index.
 pub(crate) fn lines_behind(lines: &[KeptLine], i: usize) -> &[KeptLine]
     requires { i < length lines.now }
     ensures { result.now ≡ drop (i + 1) lines.now }
 {
     lines.split_at(i + 1).1
-}
-
-/// Puts the cells of lines.
-fn put_cells(
-    alloc: Global,
-    all: &Placing,
-    lines: &[KeptLine],
-    builder: &mut Builder,
-) -> Result<(), AsmFault>
-    ensures ok { OnOk result (built builder.new []
-        ≡ built builder.old (cells_from (places_of all.now) nothing_placed lines.now)) }
-    ensures err { IfErr result IsMemory }
-{
-    let mut placing = Placing::new(alloc, all.hashing);
-    builder.put_lines(alloc, all, &mut placing, lines)
-}
-
-/// The segments of the cells that lines place, in their order.
-///
-/// # Errors
-///
-/// `Memory` where there is no room for them.
-pub(crate) fn emit(
-    alloc: Global,
-    all: &Placing,
-    lines: &[KeptLine],
-) -> Result<Vec<Segment>, AsmFault>
-    ensures ok { IfOk result
-        (λ segments. segments.items ≡ segments_of (cells_from (places_of all.now) nothing_placed lines.now)) }
-    ensures err { IfErr result IsMemory }
-{
-    let mut builder = Builder::new(alloc);
-    put_cells(alloc, all, lines, &mut builder)?;
-    builder.finish()
 }

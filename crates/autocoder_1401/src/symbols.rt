@@ -3,6 +3,7 @@ ghost use Rattle.std.specs.Prelude.{◌≡◌, ◌+◌, ◌<◌, ◌^◌, length
 ghost use Rattle.indexmap.specs.IndexMap.{get};
 ghost use Rattle.source_1401.specs.Statement.{label_of_line};
 ghost use Rattle.source_1401.specs.declared.label.Label.{Label as ALabel};
+ghost use Rattle.autocoder_1401.specs.OwnFault.{declared_anywhere};
 ghost use Rattle.autocoder_1401.specs.Fault.{IsMemory};
 ghost use Rattle.autocoder_1401.specs.Symbols.{same_label, declared_at, has_label, or_number};
 
@@ -31,11 +32,33 @@ fn note(labels: &mut Labels, line: &KeptLine, number: u64) -> Result<(), AsmFaul
     Ok(())
 }
 
+/// For each label the first line that has it, END or not.
+///
+/// # Errors
+///
+/// `Memory` if there is no room for them.
+pub(crate) fn declared_anywhere(
+    alloc: Global,
+    hashing: SourceHashing,
+    lines: &[KeptLine],
+) -> Result<Labels, AsmFault>
+    requires { length lines.now < 2 ^ 32 }
+    ensures lines { IfOk result
+        (λ labels. (label : ALabel) → get same_label labels label ≡ declared_anywhere lines.now label) }
+    ensures err { IfErr result IsMemory }
+{
+    let mut labels = IndexMap::with_hasher(alloc, hashing);
+    for (i, line) in lines.iter().enumerate() {
+        note(&mut labels, line, i as u64 + 1)?;
+    }
+    Ok(labels)
+}
+
 /// For each label the line that declares it: the first, up to END, that has it.
 ///
 /// # Errors
 ///
-/// `Memory` where there is no room for them.
+/// `Memory` if there is no room for them.
 pub(crate) fn declared(
     alloc: Global,
     hashing: SourceHashing,

@@ -1,18 +1,15 @@
 //! The values of addresses, and what of a line isn't in core.
-ghost use Rattle.std.specs.Prelude.{◌≡◌, ◌<◌, ◌^◌, length, IfOk, IfErr};
+ghost use Rattle.std.specs.Prelude.{◌≡◌, IfOk, IfErr};
 ghost use Rattle.autocoder_1401.specs.Fault.{IsMemory};
-ghost use Rattle.autocoder_1401.specs.Placement.{nothing_placed};
 ghost use Rattle.autocoder_1401.specs.Values.{base_value, address_value, is_in_core, are_in_core, operand_outside};
 ghost use Rattle.autocoder_1401.specs.Values.{places_outside, literals_outside, next_outside};
 ghost use Rattle.autocoder_1401.specs.Values.{value_outside, addresses_outside, row_outside, line_outside};
-ghost use Rattle.autocoder_1401.specs.Values.{first_outside_from};
 ghost use Rattle.autocoder_1401.specs.View.{places_of};
 
-use crate::fault::{AsmFault, AsmKind};
+use crate::fault::AsmFault;
 use crate::kept_line::KeptLine;
 use crate::placing::{Placing, behind_literals, contents_length, last_place, plus};
 use source_1401::{Address, Addressing, Base, Description, Next, Operand, OperandField, Statement};
-use std::alloc::Global;
 
 /// Whether a value is the address of a place of core storage of this size.
 fn is_in_core(size: u16, value: i64) -> bool
@@ -28,7 +25,7 @@ fn are_in_core(size: u16, first: i64, behind: i64) -> bool
     first >= 0 && behind <= i64::from(size)
 }
 
-/// Whether a value isn't in core. The next place may be the one behind the last.
+/// Whether a value isn't in core. The next place may be the one after the last.
 fn is_value_outside(size: u16, value: i64, next: Next) -> bool
     ensures { result ≡ value_outside size value next }
 {
@@ -153,7 +150,12 @@ impl Placing {
     }
 
     /// Whether something of a line here isn't in core.
-    fn is_line_outside(&self, size: u16, all: &Placing, line: &KeptLine) -> Result<bool, AsmFault>
+    pub(crate) fn is_line_outside(
+        &self,
+        size: u16,
+        all: &Placing,
+        line: &KeptLine,
+    ) -> Result<bool, AsmFault>
         ensures value { IfOk result
             (λ outside. outside ≡ line_outside size (places_of all.now) (places_of self.now) line.now) }
         ensures err { IfErr result IsMemory }
@@ -163,48 +165,4 @@ impl Placing {
             None => Ok(false),
         }
     }
-
-    /// The first of lines of which something isn't in core, where the first of them stands here. Those before it are
-    /// placed.
-    fn first_outside(
-        &mut self,
-        size: u16,
-        all: &Placing,
-        lines: &[KeptLine],
-    ) -> Result<Option<AsmFault>, AsmFault>
-        requires { length lines.now < 2 ^ 32 }
-        ensures ok { IfOk result
-            (λ fault. fault ≡ first_outside_from size (places_of all.now) 1 (places_of self.old) lines.now) }
-        ensures err { IfErr result IsMemory }
-    {
-        for (i, line) in lines.iter().enumerate() {
-            if self.is_line_outside(size, all, line)? {
-                return Ok(Some(AsmFault {
-                    line: i as u64 + 1,
-                    kind: AsmKind::OutOfCore,
-                }));
-            }
-            self.place(line)?;
-        }
-        Ok(None)
-    }
-}
-
-/// The first line of which something isn't in core.
-///
-/// # Errors
-///
-/// `Memory` where there is no room for labels and literals.
-pub(crate) fn first_outside(
-    alloc: Global,
-    size: u16,
-    all: &Placing,
-    lines: &[KeptLine],
-) -> Result<Option<AsmFault>, AsmFault>
-    requires { length lines.now < 2 ^ 32 }
-    ensures ok { IfOk result (λ fault. fault ≡ first_outside_from size (places_of all.now) 1 nothing_placed lines.now) }
-    ensures err { IfErr result IsMemory }
-{
-    let mut placing = Placing::new(alloc, all.hashing);
-    placing.first_outside(size, all, lines)
 }

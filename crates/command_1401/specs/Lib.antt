@@ -1,1 +1,2 @@
 pub mod CarryOut
+pub mod RefusalText

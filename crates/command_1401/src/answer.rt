@@ -1,8 +1,11 @@
 //! What the machine answers.
+ghost use Rattle.std.specs.Prelude.{◌≡◌};
+ghost use Rattle.command_1401.specs.RefusalText.{refusal_text};
 
 use core_1401::Cells;
 use cpu_1401::{Regs, Stop};
 use devices_1401::{Card, PrintLine};
+use thiserror::Error;
 
 /// What a command is answered.
 #[derive(Clone, Copy, Debug, PartialEq, Eq)]
@@ -30,8 +33,9 @@ pub enum Answer {
     Refused(Refusal),
 }
 
-/// Why a command was refused, by its number.
-#[derive(Clone, Copy, Debug, PartialEq, Eq)]
+/// Why a command was refused, by its number. The machine is as it was.
+#[derive(Clone, Copy, Debug, PartialEq, Eq, Error)]
+#[error("{}", self.text())]
 pub enum Refusal {
     /// 1: a place isn't in core.
     Address,
@@ -45,4 +49,20 @@ pub enum Refusal {
     Limit,
     /// 6: the count isn't from 1 to 40; this is looked at before the places.
     Count,
+}
+
+impl Refusal {
+    /// The number and the name, as the console replies them.
+    pub fn text(self) -> &'static str
+        ensures { result.now ≡ refusal_text self }
+    {
+        match self {
+            Refusal::Address => "REFUSED 1 ADDRESS",
+            Refusal::Hopper => "REFUSED 2 HOPPER",
+            Refusal::Reader => "REFUSED 3 READER",
+            Refusal::Empty => "REFUSED 4 EMPTY",
+            Refusal::Limit => "REFUSED 5 LIMIT",
+            Refusal::Count => "REFUSED 6 COUNT",
+        }
+    }
 }

@@ -11,7 +11,7 @@ use core_1401::{Cells, Core, MOST_CELLS};
 use cpu_1401::Machine;
 use devices_1401::Card;
 
-/// How many instructions a run has at the most.
+/// The most instructions of a run.
 const MOST_STEPS: u32 = 1_000_000;
 
 /// Carries a command out on a machine, and gives its answer. One that is refused leaves the machine as it was, and none
@@ -48,7 +48,7 @@ fn are_in_core(core: &Core, address: u16, count: usize) -> bool
     usize::from(address) + count <= usize::from(core.size())
 }
 
-/// Puts cells at an address and the ones above it, where all of these places are in core.
+/// Puts cells at an address and the ones above it, if all of these places are in core.
 fn deposit(machine: &mut Machine, address: u16, cells: &[Cell]) -> Answer
     requires { length cells.now ≤ most_cells }
     ensures state { machine.new ≡ (deposit address cells.now machine.old).state }
@@ -119,7 +119,7 @@ fn set_i(machine: &mut Machine, address: u16) -> Answer
     Answer::Done
 }
 
-/// Puts a card into the hopper, where there is room for it.
+/// Puts a card into the hopper, if there is room for it.
 fn feed(machine: &mut Machine, card: Card) -> Answer
     ensures state { machine.new ≡ (feed card machine.old).state }
     ensures answer { result ≡ (feed card machine.old).answer }
@@ -131,7 +131,7 @@ fn feed(machine: &mut Machine, card: Card) -> Answer
     }
 }
 
-/// Presses the load key, where there is a card.
+/// Presses the load key, if there is a card.
 fn load_key(machine: &mut Machine) -> Answer
     ensures state { machine.new ≡ (load_key machine.old).state }
     ensures answer { result ≡ (load_key machine.old).answer }
@@ -143,7 +143,7 @@ fn load_key(machine: &mut Machine) -> Answer
     }
 }
 
-/// Runs the machine, where the limit is one that a run has.
+/// Runs the machine, if the limit is one that a run has.
 fn run(machine: &mut Machine, limit: u32) -> Answer
     ensures state { machine.new ≡ (run limit machine.old).state }
     ensures answer { result ≡ (run limit machine.old).answer }
@@ -160,7 +160,7 @@ fn run(machine: &mut Machine, limit: u32) -> Answer
     }
 }
 
-/// Takes the oldest printed line, where there is one.
+/// Takes the oldest printed line, if there is one.
 fn take_line(machine: &mut Machine) -> Answer
     ensures state { machine.new ≡ (take_line machine.old).state }
     ensures answer { result ≡ (take_line machine.old).answer }
@@ -172,7 +172,7 @@ fn take_line(machine: &mut Machine) -> Answer
     }
 }
 
-/// Takes the oldest punched card, where there is one.
+/// Takes the oldest punched card, if there is one.
 fn take_card(machine: &mut Machine) -> Answer
     ensures state { machine.new ≡ (take_card machine.old).state }
     ensures answer { result ≡ (take_card machine.old).answer }

@@ -35,7 +35,7 @@ pub enum Command {
         /// Whether it is on afterwards.
         on: bool,
     },
-    /// Puts a card behind those in the hopper.
+    /// Puts a card into the hopper, after those in it.
     Feed {
         /// The card.
         card: Card,
@@ -44,7 +44,7 @@ pub enum Command {
     LoadKey,
     /// Carries out instructions until one stops the machine.
     Run {
-        /// How many instructions at the most: 1 to 1,000,000, and any other number is refused.
+        /// The most instructions: 1 to 1,000,000, and any other number is refused.
         limit: u32,
     },
     /// Takes the oldest printed line from the paper.

@@ -64,3 +64,19 @@ fn the_hopper_takes_five_hundred_cards(rt: HostRuntime) -> Result<(), Fail> {
     assert_eq!(rt; machine.regs().hopper, 500);
     Ok(())
 }
+
+#[test]
+fn each_refusal_has_its_text(rt: HostRuntime) -> Result<(), Fail> {
+    for (refusal, text) in [
+        (Refusal::Address, "REFUSED 1 ADDRESS"),
+        (Refusal::Hopper, "REFUSED 2 HOPPER"),
+        (Refusal::Reader, "REFUSED 3 READER"),
+        (Refusal::Empty, "REFUSED 4 EMPTY"),
+        (Refusal::Limit, "REFUSED 5 LIMIT"),
+        (Refusal::Count, "REFUSED 6 COUNT"),
+    ] {
+        let shown = format!(in rt.alloc(); "{refusal}")?;
+        assert_eq!(rt; shown.as_str(), text);
+    }
+    Ok(())
+}

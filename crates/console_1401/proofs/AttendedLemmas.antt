@@ -66,7 +66,8 @@ reply_from : (size : ℕ) (first before after : List Pair) (said : Said) (given 
 reply_from size first before after (Ok line.Empty) given p r = r
 reply_from size first before after (Ok (line.Command command)) None p r = r
 reply_from size first before after (Ok (line.Command command)) (Some (reply.Answer answer)) p r = r
-reply_from size first before after (Ok (line.Command command)) (Some (reply.RoomFault Memory)) p r = r
+reply_from size first before after (Ok (line.Command command)) (Some (reply.RoomFault Memory)) p r =
+    between_from first before after _ p r
 reply_from size first before after (Ok (line.Command command)) (Some (reply.RoomFault JournalFull)) p r = r
 reply_from size first before after (Ok (line.Command command)) (Some (reply.RoomFault NoReading)) p r = r
 reply_from size first before after (Ok (line.Command command)) (Some (reply.Glance glance)) p r = r
@@ -159,7 +160,7 @@ in_front size before (Ok (line.Command command)) (Some (reply.Answer answer)) mi
     }
 in_front size before (Ok (line.Command command)) (Some (reply.RoomFault Memory)) middle after r =
     still size before (Ok (line.Command command)) (Some (reply.RoomFault Memory)) middle after
-    (record { grows = r.0; made_is = r.1; none = refl; reply = λ grows few. tt })
+    (record { grows = r.0; made_is = r.1; none = refl; reply = λ grows few. (middle.list, r.0, grows, r.3 refl) })
 in_front size before (Ok (line.Command command)) (Some (reply.RoomFault JournalFull)) middle after r =
     still size before (Ok (line.Command command)) (Some (reply.RoomFault JournalFull)) middle after
     (record {

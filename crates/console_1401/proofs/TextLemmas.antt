@@ -107,19 +107,18 @@ unfolding without_return
 said_finished-long line h =
     said_by-long (without_return line) (omega (arith, shorter_by_one (get_or line (length line - 1) 0 == 13) line))
 
--- what the kept bytes say is what the line says
-pub said_by-kept : (line : List ℕ) → said_by (take 202 line) ≡ said_by line
-said_by-kept line =
+-- what is said alike of all long lines is said of a line by its kept bytes
+kept-says : (says : List ℕ → Said) → ((line : List ℕ) → 201 < length line → says line ≡ Err Length) → (line : List ℕ)
+    → says (take 202 line) ≡ says line
+kept-says says long line =
     elim (cases_lt 202 (length line)) [
-      | inl h ↦ said_by-long (take 202 line) (omega (arith, length-take 202 line))
-          ∙ sym (said_by-long line (omega arith))
-      | inr h ↦ ap said_by (take_all 202 line h)
+      | inl h ↦ long (take 202 line) (omega (arith, length-take 202 line)) ∙ sym (long line (omega arith))
+      | inr h ↦ ap says (take_all 202 line h)
     ]
 
+-- what the kept bytes say is what the line says
+pub said_by-kept : (line : List ℕ) → said_by (take 202 line) ≡ said_by line
+said_by-kept line = kept-says said_by (λ each long. said_by-long each (omega (arith, long))) line
+
 pub said_finished-kept : (line : List ℕ) → said_finished (take 202 line) ≡ said_finished line
-said_finished-kept line =
-    elim (cases_lt 202 (length line)) [
-      | inl h ↦ said_finished-long (take 202 line) (omega (arith, length-take 202 line))
-          ∙ sym (said_finished-long line (omega arith))
-      | inr h ↦ ap said_finished (take_all 202 line h)
-    ]
+said_finished-kept line = kept-says said_finished said_finished-long line

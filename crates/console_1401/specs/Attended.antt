@@ -44,7 +44,7 @@ answer_in (Some reply.Bye) = []
 abbrev pub carried_in : List Replied → List (Command × Answer)
 carried_in lines = flat_map (λ (given : Replied). zip (command_in given.said) (answer_in given.reply)) lines
 
--- beyond a list, these commands stand in a longer one as those of a seat, in this order, each answered as the
+-- beyond a list, a longer one has these commands as those of a seat, in this order, each answered as the
 -- sequential machine of this size answers it there
 abbrev pub Stand : ℕ → ℕ → List Pair → List (Command × Answer) → List Pair → Type 0
 Stand size seat before [] list = IsPrefix before list
@@ -56,20 +56,21 @@ Stand size seat before (carried ∷ more) list =
 abbrev pub Between : List Pair → List Pair → (List Pair → Type 0) → Type 0
 Between before after P = (list : List Pair) × IsPrefix before list × IsPrefix list after × P list
 
--- why the room took no command: if its journal was full, the seat has then seen all of its 100,000 and no more
-abbrev pub RoomRefused : List Pair → RoomFault → Type 0
-RoomRefused after Memory = Unit {0}
-RoomRefused after JournalFull = length after ≡ most_entries
-RoomRefused after NoReading = Unit {0}
+-- why the room took no command: if its journal was full, the seat has then seen all of its 100,000 and no more; if
+-- memory was refused, it had seen fewer by then
+abbrev pub RoomRefused : List Pair → List Pair → RoomFault → Type 0
+RoomRefused before after Memory = Between before after (λ list. length list < most_entries)
+RoomRefused before after JournalFull = length after ≡ most_entries
+RoomRefused before after NoReading = Unit {0}
 
 -- a command has an answer, which `Stand` speaks of, or a fault of the room
-abbrev pub CommandReplied : List Pair → Reply → Type 0
-CommandReplied after (reply.Answer answer) = Unit {0}
-CommandReplied after (reply.RoomFault fault) = RoomRefused after fault
-CommandReplied after (reply.Glance glance) = ⊥
-CommandReplied after (reply.GlanceFault fault) = ⊥
-CommandReplied after (reply.LineFault fault) = ⊥
-CommandReplied after reply.Bye = ⊥
+abbrev pub CommandReplied : List Pair → List Pair → Reply → Type 0
+CommandReplied before after (reply.Answer answer) = Unit {0}
+CommandReplied before after (reply.RoomFault fault) = RoomRefused before after fault
+CommandReplied before after (reply.Glance glance) = ⊥
+CommandReplied before after (reply.GlanceFault fault) = ⊥
+CommandReplied before after (reply.LineFault fault) = ⊥
+CommandReplied before after reply.Bye = ⊥
 
 -- a glance shows the cell after the commands that the seat had then seen, and how many they were
 abbrev pub GlanceReplied : ℕ → List Pair → List Pair → ℕ → Reply → Type 0
@@ -86,7 +87,7 @@ GlanceReplied size before after address reply.Bye = ⊥
 abbrev pub LineReplied : ℕ → List Pair → List Pair → Said → Option Reply → Type 0
 LineReplied size before after (Ok line.Empty) given = given ≡ None
 LineReplied size before after (Ok (line.Command command)) None = ⊥
-LineReplied size before after (Ok (line.Command command)) (Some given) = CommandReplied after given
+LineReplied size before after (Ok (line.Command command)) (Some given) = CommandReplied before after given
 LineReplied size before after (Ok (line.Glance address)) None = ⊥
 LineReplied size before after (Ok (line.Glance address)) (Some given) = GlanceReplied size before after address given
 LineReplied size before after (Ok line.Quit) given = given ≡ Some reply.Bye
@@ -99,7 +100,7 @@ AllReplied size before after (given ∷ more) =
     LineReplied size before after given.said given.reply × AllReplied size before after more
 
 -- The lines of a console at a seat were answered: what was written are their replies. The commands that the room
--- didn't refuse stand, in order, as the seat's own in the list that it has seen then, beyond the one that it had seen,
+-- didn't refuse are, in order, the seat's own in the list that it has seen then, beyond the one that it had seen,
 -- and each was answered as the machine answers it there; it made more by their number.
 pub record Attended (size : ℕ) (before : Knows) (lines : List Said) (written : List ℕ) (after : Knows) : Type 0 where
   pub replied : List Replied

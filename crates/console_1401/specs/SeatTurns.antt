@@ -14,7 +14,7 @@ use Rattle.console_1401.specs.declared.reply.Reply.TheVariants as reply
 use Rattle.text_1401.specs.ConsoleLine.{Said}
 
 -- a command is carried out for the seat, and answered as the sequential machine answers it; or the room takes none, and
--- the seat has seen no less: a full journal, or one that isn't full where memory is the reason
+-- the seat has seen no less: a full journal, or one that isn't full if memory is the reason
 abbrev pub CommandResponds : ℕ → Knows → Command → Reply → Knows → Type 0
 CommandResponds size before command (reply.Answer answer) after =
     Carries size before.list after.list before.number command answer × (after.made ≡ before.made + 1)

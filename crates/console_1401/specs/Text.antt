@@ -14,7 +14,7 @@ abbrev pub onto_lines : ℕ → List (List ℕ) → List ℕ → Cut
 onto_lines byte [] rest = record { finished = []; rest = byte ∷ rest }
 onto_lines byte (line ∷ lines) rest = record { finished = (byte ∷ line) ∷ lines; rest = rest }
 
--- the byte in front of a text that is cut so: a line feed ends a line of its own
+-- the byte before a text that is cut so: a line feed ends a line of its own
 abbrev pub in_front : ℕ → Cut → Cut
 in_front byte cut =
     if byte == line_feed then record { finished = [] ∷ cut.finished; rest = cut.rest }

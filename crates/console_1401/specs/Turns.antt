@@ -60,7 +60,7 @@ entries_of (Ok (line.Glance address)) = 0
 entries_of (Ok line.Quit) = 0
 entries_of (Err fault) = 0
 
--- One line was answered at a room, where memory for the journal was refused or wasn't: it never is while there are
+-- One line was answered at a room, and memory for the journal was refused or wasn't: it never is while there are
 -- spare entries.
 pub record RoomResponds (before : Account) (said : Said) (reply : Option Reply) (after : Account) : Type 0 where
   pub memory_refused : Bool

@@ -18,7 +18,7 @@ use std::marker::Model;
 use std::sync::Wait;
 use text_1401::{Line, LineFault};
 
-/// What stands behind a console at a seat: the seat, its room, and the door. Contracts see what the seat knows.
+/// What answers at a console of a shared room: the seat, its room, and the door. Contracts see what the seat knows.
 struct Attendant<'a, J: Naming, R: Wait + Drop, W: Wait, D: Door> {
     wait: &'a W,
     room: &'a SharedRoom<J, R>,

@@ -18,7 +18,7 @@ pub trait Sink {
     fn has_failed(&self) -> bool
         ensures { result ≡ has_failed self.now };
 
-    /// Receives bytes from the front of these, at least one where there is one, or fails and receives none. After a
+    /// Receives bytes from the front of these, at least one if there is one, or fails and receives none. After a
     /// failed write there is no other one.
     fn put(&mut self, bytes: &[u8]) -> Result<usize, Failed>
         requires { has_failed self.old ≡ false }

@@ -1,5 +1,5 @@
--- What a step can see and use of the devices (own): of the hopper its first card and whether it is empty, of the stacker
--- and the paper whether they are full; and it reads at most one card, punches at most one and prints at most one line.
+-- What a step can see and use of the devices (own): of the hopper its first card and whether it is empty, of the
+-- stacker and the paper whether they are full; it reads at most one card, punches one and prints one line.
 use Rattle.std.specs.Prelude.{◌≡◌, ◌==◌, ◌≤◌, ◌+◌, List, ◌++◌, length}
 use Rattle.devices_1401.specs.Devices.{Devices, is_full}
 use Rattle.devices_1401.specs.declared.card.Card.{Card}
@@ -41,8 +41,8 @@ pub record UsesOne (old new : Devices) : Type 0 where
   pub stacker : length new.stacker ≤ length old.stacker + 1
   pub paper : length new.paper ≤ length old.paper + 1
 
--- the law of a step, whatever the operation: it uses at most one of each, and a step in a frame that the machine doesn't
--- see is the step without it, in that frame
+-- the law of a step, whatever the operation: it uses at most one of each, and a step in a frame that the machine
+-- doesn't see is the step without it, in that frame
 pub record StepLaw : Type 0 where
   pub uses : (s : State) → UsesOne s.devices (step s).state.devices
   pub in_frame : (frame : Frame) (s : State) → IsUnseen frame s → step (framed frame s) ≡ around frame (step s)

@@ -11,8 +11,8 @@ pub(crate) const LINES_OF_FORM: u32 = 66;
 /// How many positions the carriage has: the lines of 10,000 forms.
 pub(crate) const POSITIONS: u32 = 660_000;
 
-/// How many lines a skip moves from a position to a line, 1 to 66: that of this form if it is greater than the
-/// present one, else that of the next form.
+/// How many lines a skip moves from a position to a line, 1 to 66: to the line of this form if it is greater than the
+/// present one, else to the line of the next form.
 fn lines_to(position: u32, line: u32) -> u32
     requires position { position < positions }
     requires least { 1 ≤ line }

@@ -1,6 +1,7 @@
 //! The cells of an image, cut at word marks.
 ghost use Rattle.std.specs.Prelude.{◌≡◌, ◌∷◌, ◌++◌, ◌≤◌, ℕ, List, [], length, IfOk, OnOk};
 ghost use Rattle.bcd_1401.specs.declared.cell.Cell.{Cell as ACell};
+ghost use Rattle.notation_1401.specs.Cells.{most_cells};
 ghost use Rattle.autocoder_1401.specs.Cells.{numbered};
 ghost use Rattle.autocoder_1401.specs.Segments.{within};
 ghost use Rattle.disassembly_1401.specs.Stretches.{closed, goes_on, cut, placed_cells, stretches_of, built};
@@ -83,9 +84,9 @@ impl Builder {
         Ok(())
     }
 
-    /// Puts up to forty cells from an address on.
+    /// Puts up to 40 cells from an address on.
     fn put_all(&mut self, address: u16, cells: &[Cell]) -> Result<(), AllocError>
-        requires { length cells.now ≤ 40 }
+        requires { length cells.now ≤ most_cells }
         ensures { OnOk result
             ((rest : List (ℕ × ACell)) → built self.new rest ≡ built self.old (numbered address cells.now ++ rest)) }
     {

@@ -1,39 +1,62 @@
 //! Consoles, whose lines come from standard input, and whose replies go to standard output.
 ghost use Rattle.std.specs.Prelude.{◌≡◌};
 
+use crate::recorded::{load, new_room};
+use crate::shared::open_room;
 use crate::shown::show_room;
+use crate::written::SOURCE;
+use autocoder_1401::assemble;
 use console_1401::{FromReader, OpenDoor, ToWriter};
-use room_1401::{Naming, Opened, Room, SharedRoom};
+use room_1401::{Naming, Opened, Room};
 use std::alloc::Global;
 use std::io;
 use std::marker::Brand;
 use std::sync::Wait;
 
-/// A session, how it ended, and what stands then.
-pub fn session(rt: &(impl Input + Print), alloc: Global) -> io::Result<()> {
-    let Ok(mut room) = Room::power_on(alloc, 4_000) else {
-        return println!(rt; "refused Memory at power-on");
-    };
+/// Holds a session, and prints how it ended, the journal and the machine.
+fn hold_session(rt: &(impl Input + Print), alloc: Global, room: &mut Room) -> io::Result<()> {
     let mut reader = FromReader::new(rt.reader());
     let mut writer = ToWriter::new(io::writer(rt));
-    let end = console_1401::session(alloc, &mut room, &mut reader, &mut writer);
+    let end = console_1401::session(alloc, room, &mut reader, &mut writer);
     println!(rt; "END {end:?}")?;
-    show_room(rt, &room)
+    show_room(rt, room)
 }
 
-/// The same at the first of two seats; then the other one, which asks for one place.
+/// A session at a new machine.
+pub fn session(rt: &(impl Input + Print), alloc: Global) -> io::Result<()> {
+    match new_room(rt, alloc)? {
+        Some(mut room) => hold_session(rt, alloc, &mut room),
+        None => Ok(()),
+    }
+}
+
+/// A session at a machine into which a program was loaded as it came from the assembler.
+pub fn program(rt: &(impl Input + Print), alloc: Global) -> io::Result<()> {
+    for _ in 0..2 {
+        match assemble(alloc, SOURCE, 4_000) {
+            Ok(assembly) => {
+                if let Some(mut room) = load(rt, alloc, &assembly.image)? {
+                    return hold_session(rt, alloc, &mut room);
+                }
+            }
+            Err(fault) => println!(rt; "refused {:?} at line {}", fault.kind, fault.line)?,
+        }
+    }
+    Ok(())
+}
+
+/// Lines at the first of two seats; then the other one, which asks for one place. False if the room was refused.
 fn operate<J: Naming, R: Wait + Input + Print>(
     rt: &R,
     alloc: Global,
     opened: Opened,
-) -> io::Result<()>
+) -> io::Result<bool>
     requires history { opened.book ≡ J.book }
     requires ledger { (opened.ledger ≡ J.name) × (opened.parts ≡ J.parts) × (J.parts ≡ J.seats) }
     requires named { (4000 ≡ J.size) × (2 ≡ J.seats) }
 {
-    let (room, seats) = match SharedRoom::<J, &R>::power_on(rt, alloc, 4_000, 2, opened) {
-        Ok(made) => made,
-        Err(fault) => return println!(rt; "refused {fault:?} at power-on"),
+    let Some((room, seats)) = open_room::<J, R>(rt, alloc, opened)? else {
+        return Ok(false);
     };
     for seat in seats {
         let number = seat.number();
@@ -47,10 +70,16 @@ fn operate<J: Naming, R: Wait + Input + Print>(
         };
         println!(rt; "END {end:?} {} {}", seat.number(), seat.made())?;
     }
-    show_room(rt, &room.abandon())
+    show_room(rt, &room.abandon())?;
+    Ok(true)
 }
 
 /// Two consoles at the seats of a room.
 pub fn attend(rt: &(impl Wait + Input + Print), alloc: Global) -> io::Result<()> {
-    operate::<Brand, _>(rt, alloc, Opened::new(2))
+    for _ in 0..2 {
+        if operate::<Brand, _>(rt, alloc, Opened::new(2))? {
+            break;
+        }
+    }
+    Ok(())
 }

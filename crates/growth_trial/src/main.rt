@@ -1,11 +1,12 @@
 //! The calls that take memory, each made so that a refusal is told and the call is made again.
 //!
-//! The word names a trial. A trial prints what its calls answered and what stands in the end; a line that begins with
-//! `refused` tells of a call that was refused memory, and was then made once more. `./check` runs each trial once for
-//! each growth of memory, with that one refused. Without a word it says only so.
+//! The word names a trial. A trial prints what its calls answered, and in the end the journal and the machine; a line
+//! that begins with `refused` tells of a call that was refused memory, and was then made once more. `./check` runs each
+//! trial once for each growth of memory, with that one refused. Without a word it says only so.
 #![tactic(auto)]
 
 mod attended;
+mod notes;
 mod recorded;
 mod served;
 mod shared;
@@ -33,7 +34,9 @@ fn main(rt: HostRuntime) -> io::Result<()> {
         "carry" => recorded::carry(&rt, alloc),
         "reserve" => recorded::reserve(&rt, alloc),
         "put_image" => recorded::put_image(&rt, alloc),
+        "notes" => notes::notes(&rt, alloc),
         "session" => attended::session(&rt, alloc),
+        "program" => attended::program(&rt, alloc),
         "attend" => attended::attend(&rt, alloc),
         "serve" => served::serve(&rt, alloc),
         _ => println!(rt; "growth_trial CALL: what a call answers where memory is refused"),

@@ -1,6 +1,9 @@
 //! A journal that grows.
+ghost use Rattle.std.specs.Prelude.{◌≡◌, nat_lt, true};
+ghost use Rattle.std.specs.List.{list_all};
+ghost use Rattle.image_1401.specs.Image.{is_inside};
 
-use crate::shown::show_room;
+use crate::shown::{show_machine, show_room};
 use image_1401::{Image, read_image};
 use room_1401::{Answer, Command, Room, RoomFault};
 use std::alloc::Global;
@@ -28,8 +31,8 @@ const IMAGE: &[u8] =
     b"IMAGE2 04000\n00400 02 ~HI\n00410 01 A\n00411 01 B\n00412 01 C\n00413 01 ~D\n00414 01 E\n\
     00415 01 F\n00416 01 G\n00400 01 J\nEND 00400\n";
 
-/// A room of 4,000 places. Where its memory is refused, a second one.
-fn new_room(rt: &impl Print, alloc: Global) -> io::Result<Option<Room>> {
+/// A room of 4,000 places. If its memory is refused, a second one.
+pub fn new_room(rt: &impl Print, alloc: Global) -> io::Result<Option<Room>> {
     for _ in 0..2 {
         match Room::power_on(alloc, 4_000) {
             Ok(room) => return Ok(Some(room)),
@@ -39,7 +42,7 @@ fn new_room(rt: &impl Print, alloc: Global) -> io::Result<Option<Room>> {
     Ok(None)
 }
 
-/// Has a command carried out, or tells what stands where it was refused. It is asked for a second time then.
+/// Has a command carried out. If it was refused, tells the journal and the registers, and asks a second time.
 fn carry_command(rt: &impl Print, room: &mut Room, command: &Command) -> io::Result<()> {
     for _ in 0..2 {
         match room.carry(0, *command) {
@@ -69,7 +72,7 @@ pub fn carry(rt: &impl Print, alloc: Global) -> io::Result<()> {
     show_room(rt, &room)
 }
 
-/// Asks for room for one entry more, and for a second time where it was refused.
+/// Asks for room for one entry more, and a second time if it was refused.
 fn reserve_one(rt: &impl Print, room: &mut Room) -> io::Result<()> {
     for _ in 0..2 {
         match room.reserve() {
@@ -97,7 +100,13 @@ pub fn reserve(rt: &impl Print, alloc: Global) -> io::Result<()> {
     }
     reserve_one(rt, &mut room)?;
     carry_command(rt, &mut room, &Command::Registers)?;
-    println!(rt; "{} {:?}", room.journal().len(), room.machine().regs())
+    let alike = room
+        .journal()
+        .iter()
+        .filter(|entry| Some(*entry) == room.journal().first())
+        .count();
+    println!(rt; "{} entries, {alike} as the first", room.journal().len())?;
+    show_machine(rt, room.machine())
 }
 
 /// Carries out what is left of loading an image, command by command.
@@ -120,28 +129,37 @@ fn load_rest(rt: &impl Print, room: &mut Room, image: &Image) -> io::Result<()> 
     Ok(())
 }
 
-/// An image, loaded at once, or to its end command by command where that was refused.
+/// A room into which an image is loaded, at once, or to its end command by command if that was refused. None if the
+/// room was refused.
+pub fn load(rt: &impl Print, alloc: Global, image: &Image) -> io::Result<Option<Room>>
+    requires segments { list_all (is_inside image.now.size) image.now.segments ≡ true }
+    requires start { nat_lt image.now.start image.now.size ≡ true }
+{
+    let mut room = match Room::power_on(alloc, image.size) {
+        Ok(room) => room,
+        Err(fault) => {
+            println!(rt; "refused {fault:?} at power-on")?;
+            return Ok(None);
+        }
+    };
+    if let Err(fault) = console_1401::put_image(&mut room, image) {
+        println!(rt; "refused {fault:?} {}", room.journal().len())?;
+        load_rest(rt, &mut room, image)?;
+    }
+    Ok(Some(room))
+}
+
+/// An image that is read and loaded.
 pub fn put_image(rt: &impl Print, alloc: Global) -> io::Result<()> {
     for _ in 0..2 {
-        let image = match read_image(alloc, IMAGE) {
-            Ok(image) => image,
-            Err(fault) => {
-                println!(rt; "refused {fault:?} at reading")?;
-                continue;
+        match read_image(alloc, IMAGE) {
+            Ok(image) => {
+                if let Some(room) = load(rt, alloc, &image)? {
+                    return show_room(rt, &room);
+                }
             }
-        };
-        let mut room = match Room::power_on(alloc, image.size) {
-            Ok(room) => room,
-            Err(fault) => {
-                println!(rt; "refused {fault:?} at power-on")?;
-                continue;
-            }
-        };
-        if let Err(fault) = console_1401::put_image(&mut room, &image) {
-            println!(rt; "refused {fault:?} {}", room.journal().len())?;
-            load_rest(rt, &mut room, &image)?;
+            Err(fault) => println!(rt; "refused {fault:?} at reading")?,
         }
-        return show_room(rt, &room);
     }
     Ok(())
 }

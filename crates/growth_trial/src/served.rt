@@ -1,16 +1,45 @@
 //! A room that listens for two consoles.
 ghost use Rattle.std.specs.Prelude.{◌≡◌};
 
+use crate::shared::open_room;
 use crate::shown::{show_bytes, show_room};
-use console_1401::OpenDoor;
-use room_1401::{Naming, Opened, SharedRoom};
+use console_1401::Door;
+use room_1401::{Naming, Opened};
 use std::alloc::Global;
 use std::io;
 use std::io::{Read, Write};
 use std::marker::Brand;
 use std::net::{Ipv4Addr, Net, Shutdown, TcpListener, TcpStream};
 use std::sync::Wait;
-use std::thread::Threads;
+use std::sync::atomic::AtomicBool;
+use std::sync::atomic::Ordering::SeqCst;
+use std::thread::{Threads, yield_now};
+
+/// How often a held console looks whether it may go on.
+const TURNS: u32 = 1_000_000;
+
+/// Holds the first line of seat 1 until that of seat 2 is answered, for a while.
+#[derive(Drop)]
+struct SecondFirst {
+    is_answered: AtomicBool,
+}
+
+impl Door for SecondFirst {
+    fn before(&self, seat: u8, line: u64) {
+        for _ in 0..TURNS {
+            if seat != 1 || line != 1 || self.is_answered.load(SeqCst) {
+                return;
+            }
+            yield_now();
+        }
+    }
+
+    fn after(&self, seat: u8, line: u64) {
+        if seat == 2 && line == 1 {
+            self.is_answered.store(true, SeqCst);
+        }
+    }
+}
 
 /// What each console sends before the room listens.
 const LINES: &str = "EXAMINE 0\nQUIT\n";
@@ -39,7 +68,7 @@ fn show_replies(rt: &impl Print, stream: &mut TcpStream) -> io::Result<()> {
     println!(rt; "END")
 }
 
-/// Serves the two, and prints their replies, how the service ended, and what stands then.
+/// Serves the two, and prints their replies, how the service ended, the journal and the machine.
 fn operate<
     J: Naming + Send + Sync,
     R: Threads + Wait + Print + Sync + Net<Listener = TcpListener, Stream = TcpStream>,
@@ -48,15 +77,17 @@ fn operate<
     requires ledger { (opened.ledger ≡ J.name) × (opened.parts ≡ J.parts) × (J.parts ≡ J.seats) }
     requires named { (4000 ≡ J.size) × (2 ≡ J.seats) }
 {
-    let (room, seats) = match SharedRoom::<J, &R>::power_on(rt, alloc, 4_000, 2, opened) {
-        Ok(made) => made,
-        Err(fault) => return println!(rt; "refused {fault:?} at power-on"),
+    let Some((room, seats)) = open_room::<J, R>(rt, alloc, opened)? else {
+        return Ok(());
     };
     let listener = TcpListener::bind(rt, (Ipv4Addr::LOCALHOST, 0))?;
     let mut one = send_lines(rt, &listener)?;
     let mut two = send_lines(rt, &listener)?;
     println!(rt; "BEGIN")?;
-    let served = console_1401::serve(alloc, rt, room, seats, &listener, &OpenDoor);
+    let door = SecondFirst {
+        is_answered: AtomicBool::new(false),
+    };
+    let served = console_1401::serve(alloc, rt, room, seats, &listener, &door);
     drop(listener);
     println!(rt; "CONSOLES {} {:?}", served.consoles, served.fault)?;
     show_replies(rt, &mut one)?;
@@ -64,7 +95,7 @@ fn operate<
     show_room(rt, &served.room)
 }
 
-/// Two consoles that have sent their lines before the room listens.
+/// Two consoles that have sent their lines before the room listens. The second one's is carried out first.
 pub fn serve<R: Threads + Wait + Print + Sync + Net<Listener = TcpListener, Stream = TcpStream>>(
     rt: &R,
     alloc: Global,

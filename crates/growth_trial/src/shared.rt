@@ -1,5 +1,6 @@
 //! A room that operators share.
-ghost use Rattle.std.specs.Prelude.{◌≡◌};
+ghost use Rattle.std.specs.Prelude.{◌≡◌, IfOk, IfSome};
+ghost use Rattle.room_1401.specs.Seen.{newcomers};
 
 use crate::recorded::COMMANDS;
 use crate::shown::show_room;
@@ -25,6 +26,26 @@ fn fault_of<J: Naming, R: Wait>(
     SharedRoom::<J, &R>::power_on(rt, alloc, size, seats, opened).err()
 }
 
+/// A room of 4,000 places with two seats. None if it was refused, which is told.
+pub fn open_room<J: Naming, R: Wait + Print>(
+    rt: &R,
+    alloc: Global,
+    opened: Opened,
+) -> io::Result<Option<(SharedRoom<J, &R>, Vec<Seat<J>>)>>
+    requires history { opened.book ≡ J.book }
+    requires ledger { (opened.ledger ≡ J.name) × (opened.parts ≡ J.parts) × (J.parts ≡ J.seats) }
+    requires named { (4000 ≡ J.size) × (2 ≡ J.seats) }
+    ensures seats { IfOk result (λ made. IfSome made (λ room. room.1.items ≡ newcomers 2)) }
+{
+    match SharedRoom::<J, &R>::power_on(rt, alloc, 4_000, 2, opened) {
+        Ok(made) => Ok(Some(made)),
+        Err(fault) => {
+            println!(rt; "refused {fault:?} at power-on")?;
+            Ok(None)
+        }
+    }
+}
+
 /// What is asked for: sizes and numbers of seats that there are none of, and each number of seats that there is.
 const ASKED: [(u16, u8); 11] = [
     (4_001, 0),
@@ -40,7 +61,7 @@ const ASKED: [(u16, u8); 11] = [
     (4_000, 8),
 ];
 
-/// Rooms of all these, each asked for a second time where it was refused.
+/// Rooms of all these, each asked for a second time if it was refused.
 pub fn power_on(rt: &(impl Print + Wait), alloc: Global) -> io::Result<()> {
     for (size, seats) in ASKED {
         for _ in 0..2 {
@@ -57,7 +78,7 @@ pub fn power_on(rt: &(impl Print + Wait), alloc: Global) -> io::Result<()> {
     Ok(())
 }
 
-/// Has a seat's command carried out, and a second time where it was refused.
+/// Has a seat's command carried out, and asks for it a second time if it was refused.
 fn give<J: Naming, R: Wait + Print>(
     rt: &R,
     room: &SharedRoom<J, &R>,
@@ -78,42 +99,42 @@ fn give<J: Naming, R: Wait + Print>(
     Ok(())
 }
 
-/// A line's command is given by each seat in turn, which then glances.
-fn give_each<J: Naming, R: Wait + Print>(
+/// Prints what a seat sees at place 500.
+pub fn show_glance<J: Naming>(rt: &impl Print, seat: &mut Seat<J>) -> io::Result<()> {
+    match seat.glance(500) {
+        Ok(glance) => println!(rt; "seat {} glances {glance:?}", seat.number()),
+        Err(fault) => println!(rt; "{fault:?}"),
+    }
+}
+
+/// A seat gives a line's command, and then glances.
+pub fn give_line<J: Naming, R: Wait + Print>(
     rt: &R,
     room: &SharedRoom<J, &R>,
-    seats: &mut [Seat<J>],
+    seat: &mut Seat<J>,
     line: &str,
 ) -> io::Result<()> {
     let Ok(Line::Command(command)) = parse_line(line.as_bytes()) else {
         return println!(rt; "no command: {line}");
     };
-    for seat in seats.iter_mut() {
-        give(rt, room, seat, &command)?;
-        match seat.glance(500) {
-            Ok(glance) => println!(rt; "seat {} glances {glance:?}", seat.number())?,
-            Err(fault) => println!(rt; "{fault:?}")?,
-        }
-    }
-    Ok(())
+    give(rt, room, seat, &command)?;
+    show_glance(rt, seat)
 }
 
-/// Two operators give commands in turn. False where the room was refused.
+/// Two operators give commands in turn. False if the room was refused.
 fn operate<J: Naming, R: Wait + Print>(rt: &R, alloc: Global, opened: Opened) -> io::Result<bool>
     requires history { opened.book ≡ J.book }
     requires ledger { (opened.ledger ≡ J.name) × (opened.parts ≡ J.parts) × (J.parts ≡ J.seats) }
     requires named { (4000 ≡ J.size) × (2 ≡ J.seats) }
 {
-    let (room, mut seats) = match SharedRoom::<J, &R>::power_on(rt, alloc, 4_000, 2, opened) {
-        Ok(made) => made,
-        Err(fault) => {
-            println!(rt; "refused {fault:?} at power-on")?;
-            return Ok(false);
-        }
+    let Some((room, mut seats)) = open_room::<J, R>(rt, alloc, opened)? else {
+        return Ok(false);
     };
     for _ in 0..5 {
         for line in COMMANDS {
-            give_each(rt, &room, seats.as_mut_slice(), line)?;
+            for seat in seats.as_mut_slice().iter_mut() {
+                give_line(rt, &room, seat, line)?;
+            }
         }
     }
     match room.close(seats) {
@@ -123,7 +144,7 @@ fn operate<J: Naming, R: Wait + Print>(rt: &R, alloc: Global, opened: Opened) ->
     Ok(true)
 }
 
-/// Commands of two seats, and what stands when the room is closed.
+/// Commands of two seats, and the room when it is closed.
 pub fn command(rt: &(impl Wait + Print), alloc: Global) -> io::Result<()> {
     for _ in 0..2 {
         if operate::<Brand, _>(rt, alloc, Opened::new(2))? {

@@ -11,7 +11,7 @@ use std::io;
 use text_1401::{Line, parse_line, reply_text};
 
 /// Puts five into a field and adds five to it.
-const SOURCE: &[u8] =
+pub const SOURCE: &[u8] =
     b"               ORG  400\n     START     ZA   +5,TOTAL\n               A    +5,TOTAL\n\
     \x20              H    *-3\n     TOTAL     DCW  #3\n     NAME      DCW  @HI@\n\
     \x20    * ONE LITERAL, TWO USES\n               END  START\n";
@@ -93,7 +93,7 @@ pub fn images(rt: &impl Print, alloc: Global) -> io::Result<()> {
     Ok(())
 }
 
-/// The reply to an answer, and a second time where it was refused.
+/// The reply to an answer, asked for a second time if it was refused.
 fn reply(rt: &impl Print, alloc: Global, answer: &Answer) -> io::Result<()> {
     for _ in 0..2 {
         match reply_text(alloc, answer) {

@@ -1,5 +1,5 @@
 -- What a call that assembles a source has written and told, once the file is read (own).
-use Rattle.std.specs.Prelude.{◌≡◌, ◌⊎◌, ℕ, ⊤, List, ◌++◌, Option, Result, Ok, Err, IsOk, codes}
+use Rattle.std.specs.Prelude.{◌≡◌, ◌⊎◌, ℕ, ⊤, Bool, IsTrue, List, ◌++◌, Option, Result, Ok, Err, IsOk, codes}
 use Rattle.std.specs.Io.KnownBytes.{Appends, Keeps}
 use Rattle.std.specs.List.{flat_map}
 use Rattle.autocoder_1401.specs.Assembly.{assembly_in}
@@ -33,6 +33,7 @@ IsWhyNotAssembled size source fault.Output = ⊥
 IsWhyNotAssembled size source fault.Size = ⊥
 IsWhyNotAssembled size source (fault.Unread name) = ⊥
 IsWhyNotAssembled size source (fault.Image why) = ⊥
+IsWhyNotAssembled size source (fault.Faulty told) = ⊥
 IsWhyNotAssembled size source (fault.Source why) = IsMemory why ⊎ (assembly_in size source ≡ Err why)
 IsWhyNotAssembled size source (fault.Unwritten name) = ⊥
 IsWhyNotAssembled size source (fault.Deck name why) = ⊥
@@ -48,10 +49,17 @@ IsWhyNotAssembled size source fault.Port = ⊥
 IsWhyNotAssembled size source fault.Accept = ⊥
 IsWhyNotAssembled size source fault.Thread = ⊥
 
--- what standard output received of a text: all of it, or a beginning where a write failed
-abbrev pub Wrote : List ℕ → Option (List ℕ) → Option (List ℕ) → Result ⊤ Fault → Type 0
-Wrote text old new outcome =
-    ((outcome ≡ Ok tt) × Appends old new text) ⊎ ((outcome ≡ Err fault.Output) × AppendsPart old new text)
+-- what an output received of a text: all of it, or a beginning where a write to it has failed
+abbrev pub Wrote : List ℕ → Option (List ℕ) → Option (List ℕ) → Bool → Result ⊤ Fault → Type 0
+Wrote text old new failed outcome =
+    ((outcome ≡ Ok tt) × Appends old new text)
+    ⊎ ((outcome ≡ Err fault.Output) × AppendsPart old new text × IsTrue failed)
+
+-- the text is what is written of what the source stands for
+pub record IsProductOf (size : ℕ) (source : List ℕ) (product : Product) (text : List ℕ) : Type 0 where
+  pub assembly : Assembly
+  pub stands_for : assembly_in size source ≡ Ok assembly
+  pub text_is : IsProduct product assembly text
 
 -- Nothing was written.
 pub record NotAssembled (size : ℕ) (source : List ℕ) (old new : Option (List ℕ))
@@ -63,14 +71,12 @@ pub record NotAssembled (size : ℕ) (source : List ℕ) (old new : Option (List
 
 -- What the source stands for was written, and nothing else.
 pub record WroteAssembly (size : ℕ) (source : List ℕ) (product : Product) (old new : Option (List ℕ))
-    (outcome : Result ⊤ Fault) : Type 0 where
-  pub assembly : Assembly
-  pub stands_for : assembly_in size source ≡ Ok assembly
+    (failed : Bool) (outcome : Result ⊤ Fault) : Type 0 where
   pub text : List ℕ
-  pub text_is : IsProduct product assembly text
-  pub written : Wrote text old new outcome
+  pub text_is : IsProductOf size source product text
+  pub written : Wrote text old new failed outcome
 
 -- what a call did
-abbrev pub AssembleDid : ℕ → List ℕ → Product → Option (List ℕ) → Option (List ℕ) → Result ⊤ Fault → Type 0
-AssembleDid size source product old new outcome =
-    NotAssembled size source old new outcome ⊎ WroteAssembly size source product old new outcome
+abbrev pub AssembleDid : ℕ → List ℕ → Product → Option (List ℕ) → Option (List ℕ) → Bool → Result ⊤ Fault → Type 0
+AssembleDid size source product old new failed outcome =
+    NotAssembled size source old new outcome ⊎ WroteAssembly size source product old new failed outcome

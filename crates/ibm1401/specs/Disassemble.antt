@@ -1,5 +1,5 @@
 -- What a call that lists an image has written and told, once the file is read (own).
-use Rattle.std.specs.Prelude.{◌≡◌, ◌⊎◌, ℕ, ⊤, List, Option, Result, Err}
+use Rattle.std.specs.Prelude.{◌≡◌, ◌⊎◌, ℕ, ⊤, Bool, List, Option, Result, Err}
 use Rattle.disassembly_1401.specs.ImageListing.{listing_text}
 use Rattle.image_1401.specs.declared.image.Image.{Image}
 use Rattle.image_1401.specs.ImageText.{IsTextOf}
@@ -22,6 +22,7 @@ IsWhyNotListed text fault.Output = ⊥
 IsWhyNotListed text fault.Size = ⊥
 IsWhyNotListed text (fault.Unread name) = ⊥
 IsWhyNotListed text (fault.Image why) = IsRefused text why
+IsWhyNotListed text (fault.Faulty told) = ⊥
 IsWhyNotListed text (fault.Source why) = ⊥
 IsWhyNotListed text (fault.Unwritten name) = ⊥
 IsWhyNotListed text (fault.Deck name why) = ⊥
@@ -45,11 +46,13 @@ pub record NotListed (text : List ℕ) (old new : Option (List ℕ)) (outcome : 
   pub unwritten : new ≡ old
 
 -- The listing of the image was written, and nothing else.
-pub record WroteListing (text : List ℕ) (old new : Option (List ℕ)) (outcome : Result ⊤ Fault) : Type 0 where
+pub record WroteListing (text : List ℕ) (old new : Option (List ℕ)) (failed : Bool) (outcome : Result ⊤ Fault)
+    : Type 0 where
   pub listing : List ℕ
   pub listing_is : IsListingOf text listing
-  pub written : Wrote listing old new outcome
+  pub written : Wrote listing old new failed outcome
 
 -- what a call did
-abbrev pub DisassembleDid : List ℕ → Option (List ℕ) → Option (List ℕ) → Result ⊤ Fault → Type 0
-DisassembleDid text old new outcome = NotListed text old new outcome ⊎ WroteListing text old new outcome
+abbrev pub DisassembleDid : List ℕ → Option (List ℕ) → Option (List ℕ) → Bool → Result ⊤ Fault → Type 0
+DisassembleDid text old new failed outcome =
+    NotListed text old new outcome ⊎ WroteListing text old new failed outcome

@@ -35,6 +35,7 @@ IsWhyNotLoaded text fault.Output = ⊥
 IsWhyNotLoaded text fault.Size = ⊥
 IsWhyNotLoaded text (fault.Unread name) = ⊥
 IsWhyNotLoaded text (fault.Image why) = IsRefused text why
+IsWhyNotLoaded text (fault.Faulty told) = ⊥
 IsWhyNotLoaded text (fault.Source why) = ⊥
 IsWhyNotLoaded text (fault.Unwritten name) = ⊥
 IsWhyNotLoaded text (fault.Deck name why) = ⊥

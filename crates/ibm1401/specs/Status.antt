@@ -18,6 +18,7 @@ status_of fault.Size = 1
 status_of (fault.Unread name) = 1
 status_of (fault.Image why) = 1
 status_of (fault.Source why) = 1
+status_of (fault.Faulty told) = 1
 status_of (fault.Unwritten name) = 1
 status_of (fault.Deck name why) = 1
 status_of (fault.Stopped report) = 1

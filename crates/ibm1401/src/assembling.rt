@@ -1,8 +1,9 @@
 //! What the subcommand `assemble` does.
-ghost use Rattle.std.specs.Prelude.{◌≡◌, true, false, Err, IfOk, OnOk, OnErr};
+ghost use Rattle.std.specs.Prelude.{◌≡◌, true, false, Err, IfOk, IfErr, OnOk, OnErr};
 ghost use Rattle.core_1401.specs.Storage.{is_core_size};
 ghost use Rattle.image_1401.specs.Image.{IsInCore};
-ghost use Rattle.ibm1401.specs.Assemble.{listing_text, IsProduct, Wrote, AssembleDid};
+ghost use Rattle.ibm1401.specs.Assemble.{listing_text, IsProduct, IsProductOf, IsWhyNotAssembled};
+ghost use Rattle.ibm1401.specs.Assemble.{Wrote, AssembleDid};
 
 use crate::fault::Fault;
 use arguments_1401::Product;
@@ -42,17 +43,36 @@ pub fn write_assembly<W: Sink>(
     writer: &mut W,
 ) -> Result<(), Fault>
     requires { is_core_size size ≡ true }
-    ensures { AssembleDid size source.now product (W.received writer.old) (W.received writer.new) result }
+    ensures { AssembleDid size source.now product (W.received writer.old) (W.received writer.new)
+        (W.has_failed writer.new) result }
+{
+    let text = assembly_text(alloc, source, size, product)?;
+    write_text(&text, writer)
+}
+
+/// The text of what a source stands for: of its image, or of its listing.
+///
+/// # Errors
+///
+/// `Source` where the source can't be assembled, and `Memory` where there is no room for the text.
+pub(crate) fn assembly_text(
+    alloc: Global,
+    source: &[u8],
+    size: u16,
+    product: Product,
+) -> Result<Vec<u8>, Fault>
+    requires { is_core_size size ≡ true }
+    ensures ok { IfOk result (λ text. IsProductOf size source.now product text.items) }
+    ensures err { IfErr result (IsWhyNotAssembled size source.now) }
 {
     let assembly = match assemble(alloc, source, size) {
         Ok(assembly) => assembly,
         Err(fault) => return Err(Fault::Source(fault)),
     };
-    let text = match product_text(alloc, &assembly, product) {
-        Ok(text) => text,
-        Err(_) => return Err(Fault::Memory),
-    };
-    write_text(&text, writer)
+    match product_text(alloc, &assembly, product) {
+        Ok(text) => Ok(text),
+        Err(_) => Err(Fault::Memory),
+    }
 }
 
 /// What is written of an assembly.
@@ -85,7 +105,7 @@ fn listing_text(alloc: Global, lines: &[ListingLine]) -> Result<Vec<u8>, AllocEr
 ///
 /// `Output` where it isn't written, or a part of it alone.
 pub(crate) fn write_text<W: Sink>(text: &[u8], writer: &mut W) -> Result<(), Fault>
-    ensures { Wrote text.now (W.received writer.old) (W.received writer.new) result }
+    ensures { Wrote text.now (W.received writer.old) (W.received writer.new) (W.has_failed writer.new) result }
 {
     match put_all(writer, text) {
         Ok(()) => Ok(()),

@@ -14,11 +14,10 @@ use arguments_1401::Start;
 use console_1401::{Sink, put_all};
 use cpu_1401::{Machine, Stop};
 use devices_1401::{Card, PrintLine};
-use job_1401::{Cards, Collected, Deck, Place, press_load_key, put_cards, put_paper, run_job};
+use job_1401::{
+    Cards, Collected, Deck, Place, STRETCH, press_load_key, put_cards, put_paper, run_job,
+};
 use std::alloc::Global;
-
-/// The most steps that are carried out before their paper and their cards are written.
-const STRETCH: u32 = 500;
 
 /// Why a run broke off.
 #[derive(Clone, Copy, Debug, PartialEq, Eq)]

@@ -16,7 +16,8 @@ use std::alloc::Global;
 /// `Image` where the text is no image's, and `Memory` where there is no room for the listing; nothing is written then.
 /// `Output` where the listing isn't written, or a part of it alone.
 pub fn write_disassembly<W: Sink>(alloc: Global, text: &[u8], writer: &mut W) -> Result<(), Fault>
-    ensures { DisassembleDid text.now (W.received writer.old) (W.received writer.new) result }
+    ensures { DisassembleDid text.now (W.received writer.old) (W.received writer.new)
+        (W.has_failed writer.new) result }
 {
     let listing = listing_of(alloc, text)?;
     write_text(&listing, writer)

@@ -16,7 +16,8 @@ const MISUSED: u8 = 2;
 /// The status of a run that failed.
 const FAILED: u8 = 1;
 
-/// What a run of the program may fail by. Each but `Usage`, which has a text of its own, is one line on standard error.
+/// What a run of the program may fail by. Each but `Usage` and `Faulty`, which have texts of their own, is one line on
+/// standard error.
 #[derive(Debug, Drop, Error)]
 pub enum Fault {
     /// A word of the command line isn't UTF-8.
@@ -46,6 +47,9 @@ pub enum Fault {
     /// The file has no source that can be assembled.
     #[error("{0}")]
     Source(AsmFault),
+    /// The file has no source that can be assembled: a line for each of its faults.
+    #[error("{0}")]
+    Faulty(String),
     /// The file has no image's text.
     #[error("image refused: {0}")]
     Image(ImageFault),
@@ -90,7 +94,7 @@ impl Fault {
             Fault::Text | Fault::Usage(_) => MISUSED,
             Fault::Output | Fault::Size | Fault::Memory => FAILED,
             Fault::Unread(_) | Fault::Image(_) | Fault::JournalFull => FAILED,
-            Fault::Source(_) => FAILED,
+            Fault::Source(_) | Fault::Faulty(_) => FAILED,
             Fault::Unwritten(_) | Fault::Deck(..) | Fault::Stopped(_) => FAILED,
             Fault::Read | Fault::Write | Fault::Bound | Fault::Reply => FAILED,
             Fault::NoReader | Fault::Port | Fault::Accept | Fault::Thread => FAILED,
@@ -126,6 +130,7 @@ pub fn report(rt: &impl Eprint, outcome: Result<(), Fault>) -> u8
     let status = fault.status();
     let _ = match &fault {
         Fault::Usage(refusal) => rt.eprint(refusal),
+        Fault::Faulty(lines) => rt.eprint(lines),
         fault => eprintln!(rt; "ibm1401: {fault}"),
     };
     status

@@ -11,17 +11,20 @@ mod programs;
 mod punch_file;
 mod running;
 mod serving;
+mod source_faults;
+mod source_file;
 mod subcommands;
 #[cfg(test)]
 mod tests;
 mod watching;
+mod whole_file;
 
-use crate::assembling::{check_size, write_assembly};
 use crate::disassembling::write_disassembly;
 use crate::fault::{Fault, report};
 use crate::loading::{load, read_file};
 use crate::running::{ErrorOutput, run_file};
 use crate::serving::open_room;
+use crate::source_file::assemble_file;
 use crate::subcommands::{console, tell};
 use arguments_1401::{Call, read_call};
 use console_1401::{FromReader, ToWriter};
@@ -68,18 +71,7 @@ fn run<
             let mut writer = ToWriter::new(io::writer(rt));
             console(rt.alloc(), size, &mut reader, &mut writer)
         }
-        Ok(
-            Call::Assemble {
-                file,
-                size,
-                product,
-            },
-        ) => {
-            check_size(size)?;
-            let source = read_file(rt, file)?;
-            let mut writer = ToWriter::new(io::writer(rt));
-            write_assembly(rt.alloc(), source.as_slice(), size, product, &mut writer)
-        }
+        Ok(Call::Assemble(asked)) => assemble_file(rt, asked),
         Ok(Call::Load { file }) => {
             let text = read_file(rt, file)?;
             let mut reader = FromReader::new(rt.reader());

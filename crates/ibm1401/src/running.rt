@@ -53,18 +53,28 @@ fn set_switches(machine: &mut Machine, switches: &[bool; 7]) {
     }
 }
 
-/// The cards of a deck's file.
+/// Tells on standard error that a deck of this name has small letters.
+pub fn tell_small_letters(rt: &impl Eprint, name: &str) {
+    let _ = eprintln!(rt; "ibm1401: {name}: small letters are read as capitals");
+}
+
+/// The cards of a deck's file. It is told, once, if the file has small letters.
 ///
 /// # Errors
 ///
-/// `Unread` where the file can't be read, `Deck` where a line is no card, or `Memory`.
-fn read_cards(rt: &(impl Files + AllocGlobal), name: String) -> Result<Vec<Card>, Fault> {
+/// `Unread` if the file can't be read, `Deck` if a line is no card, or `Memory`.
+fn read_cards(rt: &(impl Files + Eprint + AllocGlobal), name: String) -> Result<Vec<Card>, Fault> {
     let Ok(label) = name.clone() else {
         return Err(Fault::Memory);
     };
     let text = read_file(rt, name)?;
     match read_deck(rt.alloc(), text.as_slice()) {
-        Ok(cards) => Ok(cards),
+        Ok(deck) => {
+            if deck.has_small_letters {
+                tell_small_letters(rt, label.as_str());
+            }
+            Ok(deck.cards)
+        }
         Err(DeckFault::Memory) => Err(Fault::Memory),
         Err(fault) => Err(Fault::Deck(label, fault)),
     }
@@ -76,7 +86,7 @@ fn read_cards(rt: &(impl Files + AllocGlobal), name: String) -> Result<Vec<Card>
 ///
 /// `Unread` where the file can't be read; `Source`, `Image` or `Deck` where it has no program; or `Memory`.
 fn read_program(
-    rt: &(impl Files + AllocGlobal),
+    rt: &(impl Files + Eprint + AllocGlobal),
     file: String,
     start: Start,
     size: u16,

@@ -69,6 +69,17 @@ at_other version size front line behind parts all e none so_far =
     ≡ entry_alone (entry_by size (end_in version line) (parts_of behind)) = rw (e, contents_in-line, none) refl in
     sym so_far ∙ ap (with_segments front) this
 
+-- the last line, by the entry that it has
+at_last : (version : Version) (size : ℕ) (front : List Segment) (entry : Result ℕ ImageFault)
+    (line behind : List ℕ) (parts : List (List ℕ)) (all : Result Contents ImageFault)
+    → parts ≡ line ∷ parts_of behind → segment_in version line ≡ None → entry
+    ≡ entry_by size (end_in version line) (parts_of behind)
+    → with_segments front (contents_in version size parts) ≡ all → image_of size all
+    ≡ image_of size (with_segments front (entry_alone entry))
+at_last version size front entry line behind parts all e none found so_far =
+    ap (image_of size) (at_other version size front line behind parts all e none so_far
+    ∙ ap (λ (each : Result ℕ ImageFault). with_segments front (entry_alone each)) (sym found))
+
 -- the last line, and all is read
 pub at_entry : (version : Version) (size : ℕ) (front : List Segment) (start : ℕ) (line behind : List ℕ)
     (parts : List (List ℕ)) (all : Result Contents ImageFault)
@@ -77,11 +88,7 @@ pub at_entry : (version : Version) (size : ℕ) (front : List Segment) (start : 
     → with_segments front (contents_in version size parts) ≡ all → image_of size all
     ≡ Ok (record { size = size; segments = front; start = start })
 at_entry version size front start line behind parts all e none found so_far =
-    let all_is : all
-    ≡ with_segments front (entry_alone (Ok start)) =
-    at_other version size front line behind parts all e none so_far
-    ∙ ap (λ (entry : Result ℕ ImageFault). with_segments front (entry_alone entry)) (sym found) in
-    ap (image_of size) all_is
+    at_last version size front (Ok start) line behind parts all e none found so_far
     ∙ ap (λ (segments : List Segment). let image : Image =
     record { size = size; segments = segments; start = start } in Ok image) (append-nil front)
 
@@ -92,11 +99,7 @@ pub at_fault : (version : Version) (size : ℕ) (front : List Segment) (fault : 
     ≡ entry_by size (end_in version line) (parts_of behind)
     → with_segments front (contents_in version size parts) ≡ all → image_of size all ≡ Err fault
 at_fault version size front fault line behind parts all e none found so_far =
-    let all_is : all
-    ≡ with_segments front (entry_alone (Err fault)) =
-    at_other version size front line behind parts all e none so_far
-    ∙ ap (λ (entry : Result ℕ ImageFault). with_segments front (entry_alone entry)) (sym found) in
-    ap (image_of size) all_is
+    at_last version size front (Err fault) line behind parts all e none found so_far
 
 -- no line feed follows
 pub at_rest : (version : Version) (size : ℕ) (front : List Segment) (rest : List ℕ) (parts : List (List ℕ))

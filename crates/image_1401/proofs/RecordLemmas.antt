@@ -10,6 +10,8 @@ use Rattle.std.proofs.lemmas.List.{append-nil, append_assoc, nil_from_length}
 use Rattle.std.proofs.lemmas.Option.{cond_some, same_Some}
 use Rattle.bcd_1401.specs.declared.cell.Cell.{Cell}
 use Rattle.core_1401.specs.Storage.{is_core_size}
+use Rattle.notation_1401.specs.Prefix.{after_prefix}
+use Rattle.notation_1401.proofs.PrefixLemmas.{after_prefix_takes, after_prefix_again}
 use Rattle.image_1401.specs.declared.image.Segment.{Segment}
 use Rattle.image_1401.specs.declared.version.Version.{Version}
 use Rattle.image_1401.specs.declared.version.Version.TheVariants.{One, Two}
@@ -18,10 +20,10 @@ use Rattle.notation_1401.specs.Cells.{cells_text}
 use Rattle.notation_1401.specs.Digits.{number_in}
 use Rattle.image_1401.specs.ImageText.{number_text, header_text, segment_text, end_text, is_character}
 use Rattle.image_1401.specs.ImageText.{is_segment}
-use Rattle.image_1401.specs.Reading.{◌>>=◌, behind, number_at, few_cells_in, header_with}
+use Rattle.image_1401.specs.Reading.{◌>>=◌, number_at, few_cells_in, header_with}
 use Rattle.image_1401.specs.Reading.{in_version, header_in, segment_in, end_in}
 use Rattle.image_1401.proofs.NumberLemmas.{number_takes, number_again}
-use Rattle.image_1401.proofs.SpellingLemmas.{behind_takes, behind_again, few_cells_takes, few_cells_again}
+use Rattle.image_1401.proofs.SpellingLemmas.{few_cells_takes, few_cells_again}
 
 -- the value of a step that wasn't missed
 pub record Step {A B : Type 0} (o : Option A) (f : A → Option B) (y : B) : Type 0 where
@@ -43,12 +45,12 @@ header_with_takes : (version : Version) (line : List ℕ) (size : ℕ) → heade
     → (line ≡ header_text version size) × (has_size version size ≡ true)
 unfolding header_with header_text
 header_with_takes version line size h =
-    let name = step (behind (name_of version) line) _ size h in
+    let name = step (after_prefix (name_of version) line) _ size h in
     let number = step (number_at (address_digits version) name.value) _ size name.then_is in
     let good =
     cond_some (nat_le (length number.value.1) 0
     && has_size version number.value.0) number.value.0 size number.then_is in
-    let named = behind_takes (name_of version) line name.value name.is in
+    let named = after_prefix_takes (name_of version) line name.value name.is in
     let digits = number_takes (address_digits version) name.value number.value number.is in
     let done : number.value.1
     ≡ [] =
@@ -62,16 +64,22 @@ header_with_takes version line size h =
           ∙ (and_parts _ _ good.0).1,
     )
 
+-- a number that nothing follows
+number_alone : (places number : ℕ) → number < 10 ^ places
+    → number_at places (number_text places number) ≡ Some (number, [])
+number_alone places number small =
+    ap (number_at places) (sym (append-nil (number_text places number))) ∙ number_again places number [] small
+
 header_with_again : (version : Version) (size : ℕ) → has_size version size ≡ true
     → header_with version (header_text version size) ≡ Some size
 unfolding header_with header_text
 header_with_again version size h =
     let digits = address_digits version in
-    let number : number_at digits (number_text digits size)
-    ≡ Some (size, []) =
-    ap (number_at digits) (sym (append-nil (number_text digits size)))
-    ∙ number_again digits size [] (size_bound version size h) in
-    rw (behind_again (name_of version) (number_text digits size), number, h)
+    rw (
+      after_prefix_again (name_of version) (number_text digits size),
+      number_alone digits size (size_bound version size h),
+      h,
+    )
 
 -- the versions' headers begin with other bytes
 header_with_other : (size : ℕ) → header_with One (header_text Two size) ≡ None
@@ -111,10 +119,10 @@ pub end_takes : (version : Version) (line : List ℕ) (start : ℕ) → end_in v
     ≡ end_text version start
 unfolding end_in end_text
 end_takes version line start h =
-    let name = step (behind (codes "END ") line) _ start h in
+    let name = step (after_prefix (codes "END ") line) _ start h in
     let number = step (number_at (address_digits version) name.value) _ start name.then_is in
     let good = cond_some (nat_le (length number.value.1) 0) number.value.0 start number.then_is in
-    let named = behind_takes (codes "END ") line name.value name.is in
+    let named = after_prefix_takes (codes "END ") line name.value name.is in
     let digits = number_takes (address_digits version) name.value number.value number.is in
     let done : number.value.1
     ≡ [] =
@@ -128,7 +136,7 @@ pub end_small : (version : Version) (line : List ℕ) (start : ℕ) → end_in v
     → start < 10 ^ address_digits version
 unfolding end_in
 end_small version line start h =
-    let name = step (behind (codes "END ") line) _ start h in
+    let name = step (after_prefix (codes "END ") line) _ start h in
     let number = step (number_at (address_digits version) name.value) _ start name.then_is in
     let good = cond_some (nat_le (length number.value.1) 0) number.value.0 start number.then_is in
     let digits = number_takes (address_digits version) name.value number.value number.is in
@@ -137,12 +145,7 @@ end_small version line start h =
 pub end_again : (version : Version) (start : ℕ) → start < 10 ^ address_digits version
     → end_in version (end_text version start) ≡ Some start
 unfolding end_in end_text
-end_again version start small =
-    let digits = address_digits version in
-    let number : number_at digits (number_text digits start)
-    ≡ Some (start, []) =
-    ap (number_at digits) (sym (append-nil (number_text digits start))) ∙ number_again digits start [] small in
-    rw number
+end_again version start small = rw (number_alone (address_digits version) start small)
 
 -- the last line is no segment
 pub end_is_no_segment : (version : Version) (start : ℕ) → segment_in version (end_text version start) ≡ None
@@ -176,9 +179,9 @@ unfolding segment_in segment_text
 segment_takes version line segment h =
     let digits = address_digits version in
     let a = step (number_at digits line) _ segment h in
-    let b = step (behind (codes " ") a.value.1) _ segment a.then_is in
+    let b = step (after_prefix (codes " ") a.value.1) _ segment a.then_is in
     let n = step (number_at 2 b.value) _ segment b.then_is in
-    let d = step (behind (codes " ") n.value.1) _ segment n.then_is in
+    let d = step (after_prefix (codes " ") n.value.1) _ segment n.then_is in
     let e = step (few_cells_in d.value) _ segment d.then_is in
     let good = made_segment (length e.value == n.value.0) a.value.0 e.value segment e.then_is in
     let cells_are : e.value ≡ segment.cells = good.2 in
@@ -187,14 +190,14 @@ segment_takes version line segment h =
     let front = number_takes digits line a.value a.is in
     let middle = number_takes 2 b.value n.value n.is in
     let cells_text_is : d.value ≡ cells_text segment.cells = found.spells.text_is ∙ ap cells_text cells_are in
-    let last : n.value.1 ≡ 32 ∷ cells_text segment.cells = behind_takes (codes " ") n.value.1 d.value d.is
+    let last : n.value.1 ≡ 32 ∷ cells_text segment.cells = after_prefix_takes (codes " ") n.value.1 d.value d.is
     ∙ ap (λ (rest : List ℕ). 32 ∷ rest) cells_text_is in
     let third : b.value ≡ number_text 2 (length segment.cells) ++ (32 ∷ cells_text segment.cells) = middle.parts
     ∙ (ap (λ k. number_text 2 k ++ n.value.1) count
     ∙ ap (λ (rest : List ℕ). number_text 2 (length segment.cells) ++ rest) last) in
     let second : a.value.1 ≡ 32
     ∷ (number_text 2 (length segment.cells) ++ (32 ∷ cells_text segment.cells)) =
-    behind_takes (codes " ") a.value.1 b.value b.is ∙ ap (λ (rest : List ℕ). 32 ∷ rest) third in
+    after_prefix_takes (codes " ") a.value.1 b.value b.is ∙ ap (λ (rest : List ℕ). 32 ∷ rest) third in
     let whole : line ≡ number_text digits segment.address
     ++ (32 ∷ (number_text 2 (length segment.cells) ++ (32 ∷ cells_text segment.cells))) =
     front.parts

@@ -6,12 +6,10 @@ use Rattle.std.specs.Prelude.{filter_map, position}
 use Rattle.std.specs.Option.{option_map}
 use Rattle.std.specs.List.{flat_map, list_all}
 use Rattle.std.specs.Result.{result_ok}
-use Rattle.std.specs.Str.{bytes_eq}
 use Rattle.std.proofs.lemmas.Bool.{and_from, and_parts, eqb-true, eq-eqb, leb-true, false≢true}
 use Rattle.std.proofs.lemmas.List.{take_all, take_at, drop_at, take-append-drop, length-map}
 use Rattle.std.proofs.lemmas.List.Quantifiers.{position-Some}
 use Rattle.std.proofs.lemmas.Option.{cond_some, same_Some}
-use Rattle.std.proofs.lemmas.Slice.Eq.{bytes_eq-Decides}
 use Rattle.bcd_1401.specs.declared.cell.Cell.{Cell}
 use Rattle.bcd_1401.specs.Graphic.{graphics}
 use Rattle.notation_1401.specs.declared.fault.CellsFault.{CellsFault}
@@ -20,21 +18,7 @@ use Rattle.notation_1401.specs.Cells.{cell_of, cell_text, cells_of, cells_text, 
 use Rattle.notation_1401.proofs.SpelledLemmas.{cells_of-some}
 use Rattle.image_1401.specs.declared.image.Segment.{Segment}
 use Rattle.image_1401.specs.ImageText.{is_char, is_character, is_segment}
-use Rattle.image_1401.specs.Reading.{behind, few_cells_in}
-
--- the text begins with these bytes
-pub behind_takes : (front text rest : List ℕ) → behind front text ≡ Some rest → text ≡ front ++ rest
-behind_takes front text rest h =
-    let found = cond_some (bytes_eq (take (length front) text) front) (drop (length front) text) rest h in
-    let same : take (length front) text ≡ front = (bytes_eq-Decides (take (length front) text) front).0 found.0 in
-    sym (take-append-drop (length front) text)
-    ∙ (ap (λ (more : List ℕ). more ++ drop (length front) text) same
-    ∙ ap (λ (more : List ℕ). front ++ more) found.1)
-
-pub behind_again : (front rest : List ℕ) → behind front (front ++ rest) ≡ Some rest
-behind_again front rest =
-    let same : bytes_eq front front ≡ true = (bytes_eq-Decides front front).1 refl in
-    rw (take_at front rest (length front) refl, drop_at front rest (length front) refl, same)
+use Rattle.image_1401.specs.Reading.{few_cells_in}
 
 -- a cell is read from a byte
 pub record IsRead (mark : Bool) (byte : ℕ) (cell : Cell) : Type 0 where
@@ -78,6 +62,15 @@ cell_again cell own =
     let place = place_from (position (λ each. each == slice_index graphics cell.char) graphics) cell.char own in
     ap (option_map (λ char. record { char = char; mark = cell.mark })) place
 
+-- no character has a byte that is no graphic
+pub no_character : (byte : ℕ) → position (λ each. each == byte) graphics ≡ None → (cell : Cell)
+    → (slice_index graphics cell.char == byte) ≡ true → is_character cell ≡ true → ⊥
+no_character byte nowhere cell e own =
+    let there : slice_index graphics cell.char ≡ byte = eqb-true _ _ e in
+    let none : position (λ each. each == slice_index graphics cell.char) graphics
+    ≡ None = ap (λ n. position (λ each. each == n) graphics) there ∙ nowhere in
+    false≢true (sym (ap (λ place. is_char place cell.char) none) ∙ own)
+
 no_place : position (λ each. each == 126) graphics ≡ None
 unfolding graphics
 no_place = refl
@@ -86,11 +79,7 @@ no_place = refl
 pub no_tilde : (cell : Cell) (is_tilde : Bool) → (slice_index graphics cell.char == 126) ≡ is_tilde → is_character cell
     ≡ true → is_tilde ≡ false
 no_tilde cell false e own = refl
-no_tilde cell true e own =
-    let tilde : slice_index graphics cell.char ≡ 126 = eqb-true _ _ e in
-    let none : position (λ each. each == slice_index graphics cell.char) graphics
-    ≡ None = ap (λ n. position (λ each. each == n) graphics) tilde ∙ no_place in
-    absurd (false≢true (sym (ap (λ place. is_char place cell.char) none) ∙ own))
+no_tilde cell true e own = absurd (no_character 126 no_place cell e own)
 
 -- cells that are read are spelled so
 pub record Spells (text : List ℕ) (cells : List Cell) : Type 0 where

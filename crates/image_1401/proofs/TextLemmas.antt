@@ -4,7 +4,7 @@ use Rattle.std.proofs.Common.{length, slice_index, Option, Some, None, Result, O
 use Rattle.std.proofs.Common.{arith}
 use Rattle.std.specs.Prelude.{codes, not, nat_le, nat_lt, position, if◌then◌else◌}
 use Rattle.std.specs.List.{list_all, flat_map, join_with_byte, All}
-use Rattle.std.proofs.lemmas.Bool.{and_from, and_parts, eqb-true, le-leb, leb-true, ltb-true, false≢true}
+use Rattle.std.proofs.lemmas.Bool.{and_from, and_parts, le-leb, leb-true, ltb-true, false≢true}
 use Rattle.std.proofs.lemmas.Bool.Decides.{nat_tests}
 use Rattle.std.proofs.lemmas.List.{append-nil, append_assoc}
 use Rattle.std.proofs.lemmas.List.Folds.{list_all-append}
@@ -23,7 +23,7 @@ use Rattle.image_1401.specs.Image.{is_inside}
 use Rattle.notation_1401.specs.Cells.{cell_text, cells_text}
 use Rattle.notation_1401.specs.Digits.{is_digit}
 use Rattle.image_1401.specs.ImageText.{number_text, header_text, segment_text, end_text, line_of}
-use Rattle.image_1401.specs.ImageText.{segments_text, image_text, is_char, is_character, is_segment, HasText, HasTexts}
+use Rattle.image_1401.specs.ImageText.{segments_text, image_text, is_character, is_segment, HasText, HasTexts}
 use Rattle.image_1401.specs.ImageText.{IsTextOf}
 use Rattle.image_1401.specs.Reading.{segment_in, end_in, header_in, parts_of, is_done, Contents}
 use Rattle.image_1401.specs.Reading.{with_segments, entry_alone, entry_by, contents_by, contents_in, image_of, image_by}
@@ -33,6 +33,7 @@ use Rattle.image_1401.proofs.ContentsLemmas.{contents_in-line, image_in-line}
 use Rattle.image_1401.proofs.NumberLemmas.{digits-number_text}
 use Rattle.image_1401.proofs.RecordLemmas.{size_bound, header_takes, header_again, segment_takes, segment_again}
 use Rattle.image_1401.proofs.RecordLemmas.{end_takes, end_again, end_is_no_segment}
+use Rattle.image_1401.proofs.SpellingLemmas.{no_character}
 
 -- ---- no line feed stands in a line
 
@@ -65,11 +66,7 @@ no_graphic = refl
 graphic_goes_on : (cell : Cell) (is_feed : Bool) → (slice_index graphics cell.char == 10) ≡ is_feed → is_character cell
     ≡ true → not is_feed ≡ true
 graphic_goes_on cell false e own = refl
-graphic_goes_on cell true e own =
-    let feed : slice_index graphics cell.char ≡ 10 = eqb-true _ _ e in
-    let none : position (λ each. each == slice_index graphics cell.char) graphics
-    ≡ None = ap (λ n. position (λ each. each == n) graphics) feed ∙ no_graphic in
-    absurd (false≢true (sym (ap (λ place. is_char place cell.char) none) ∙ own))
+graphic_goes_on cell true e own = absurd (no_character 10 no_graphic cell e own)
 
 cell_goes_on : (mark : Bool) (cell : Cell) → cell.mark ≡ mark → is_character cell ≡ true → IsLine (cell_text cell)
 cell_goes_on true cell e own =

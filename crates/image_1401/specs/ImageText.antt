@@ -5,7 +5,7 @@ use Rattle.std.specs.Prelude.{nat_lt, codes}
 use Rattle.std.specs.List.{flat_map, list_all}
 use Rattle.bcd_1401.specs.declared.cell.Cell.{Cell}
 use Rattle.bcd_1401.specs.Graphic.{graphics}
-use Rattle.notation_1401.specs.Cells.{cells_text}
+use Rattle.notation_1401.specs.Cells.{cells_text, most_cells}
 use Rattle.image_1401.specs.declared.fault.ImageFault.{ImageFault}
 use Rattle.image_1401.specs.declared.fault.ImageFault.TheVariants.{Memory, Header, BadRecord, Range, Truncated}
 use Rattle.image_1401.specs.declared.image.Image.{Image}
@@ -66,7 +66,7 @@ is_character cell = is_char (position (λ each. each == slice_index graphics cel
 -- whether it has 1 to 40 cells, as every segment of the machine has
 abbrev pub is_segment : Segment → Bool
 is_segment segment =
-    nat_le 1 (length segment.cells) && nat_le (length segment.cells) 40 && list_all is_character segment.cells
+    nat_le 1 (length segment.cells) && nat_le (length segment.cells) most_cells && list_all is_character segment.cells
 
 -- an image that has a text of this version
 pub record HasText (version : Version) (image : Image) : Type 0 where

@@ -5,10 +5,10 @@ use Rattle.std.specs.Prelude.{IsOk, option_and_then, codes}
 use Rattle.std.specs.Option.{option_map, option_or}
 use Rattle.std.specs.Result.{result_ok}
 use Rattle.std.specs.List.{slice_split}
-use Rattle.std.specs.Str.{bytes_eq}
 use Rattle.bcd_1401.specs.declared.cell.Cell.{Cell}
 use Rattle.notation_1401.specs.Cells.{cells_of, spelled}
 use Rattle.notation_1401.specs.Digits.{number_in}
+use Rattle.notation_1401.specs.Prefix.{after_prefix}
 use Rattle.image_1401.specs.declared.fault.ImageFault.{ImageFault}
 use Rattle.image_1401.specs.declared.fault.ImageFault.TheVariants.{Memory, Header, BadRecord, Range, Truncated}
 use Rattle.image_1401.specs.declared.image.Image.{Image}
@@ -22,10 +22,6 @@ use Rattle.image_1401.specs.Version.{name_of, address_digits, has_size}
 infixl 10 ◌>>=◌
 abbrev pub ◌>>=◌ : {A B : Type 0} → Option A → (A → Option B) → Option B
 o >>= f = option_and_then f o
-
--- what follows these bytes, if the text begins with them
-abbrev pub behind : List ℕ → List ℕ → Option (List ℕ)
-behind front text = if bytes_eq (take (length front) text) front then Some (drop (length front) text) else None
 
 -- a number of this many digits at the front
 unfoldable pub number_at : ℕ → List ℕ → Option (ℕ × List ℕ)
@@ -41,7 +37,7 @@ few_cells_in text = result_ok (cells_of (spelled text))
 -- the size that a header of this version names
 unfoldable pub header_with : Version → List ℕ → Option ℕ
 header_with version line = do
-  text ← behind (name_of version) line
+  text ← after_prefix (name_of version) line
   size ← number_at (address_digits version) text
   if nat_le (length size.1) 0 && has_size version size.0 then Some size.0 else None
 
@@ -57,9 +53,9 @@ header_in line = option_or (in_version One (header_with One line)) (in_version T
 unfoldable pub segment_in : Version → List ℕ → Option Segment
 segment_in version line = do
   address ← number_at (address_digits version) line
-  text ← behind (codes " ") address.1
+  text ← after_prefix (codes " ") address.1
   count ← number_at 2 text
-  text ← behind (codes " ") count.1
+  text ← after_prefix (codes " ") count.1
   cells ← few_cells_in text
   if length cells == count.0 then Some (record { address = address.0; cells = cells }) else None
 
@@ -74,7 +70,7 @@ inside_of size segment = if is_inside size segment then Ok segment else Err Rang
 -- the entry
 unfoldable pub end_in : Version → List ℕ → Option ℕ
 end_in version line = do
-  text ← behind (codes "END ") line
+  text ← after_prefix (codes "END ") line
   start ← number_at (address_digits version) text
   if nat_le (length start.1) 0 then Some start.0 else None
 

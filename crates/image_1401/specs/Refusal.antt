@@ -1,6 +1,6 @@
 -- What is wrong with a text that is no image's (own): the first wrong line decides, and what a line is wrong in is said
--- by the texts of right lines alone. A text is given by its parts between line feeds: its lines, and last what stands
--- behind the last line feed, which is empty where the text ends with one.
+-- by the texts of right lines alone. A text is given by its parts between line feeds: its lines, and last what
+-- follows the last line feed, which is empty if the text ends with one.
 use Rattle.std.specs.Prelude.{◌≡◌, ◌≢◌, ℕ, ◌^◌, ◌<◌, ◌≤◌, true, false, List, [], ◌∷◌}
 use Rattle.image_1401.specs.declared.fault.ImageFault.{ImageFault}
 use Rattle.image_1401.specs.declared.fault.ImageFault.TheVariants.{Memory, Header, BadRecord, Range, Truncated}

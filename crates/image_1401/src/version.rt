@@ -1,10 +1,10 @@
-//! The versions of the text of an image. What sets one apart from another stands here alone.
+//! The versions of the text of an image. All that they differ in is here.
 ghost use Rattle.std.specs.Prelude.{◌≡◌, ◌≤◌, Some, None, if◌then◌else◌};
 ghost use Rattle.image_1401.specs.Version.{name_of, address_digits, most_places, has_size};
 
 use core_1401::{Core, SIZES};
 
-/// How many places an image of version 1 has at the most: the third of the sizes.
+/// The most places of an image of version 1: the third of the sizes.
 const MOST_PLACES: u16 = SIZES[2];
 
 /// A version of the text of an image.

@@ -1,6 +1,6 @@
--- The paper as a text (own): each line at its place of the form, and a form feed for each new form.
-use Rattle.std.specs.Prelude.{ℕ, ◌+◌, ◌-◌, ◌%◌, ◌==◌, ◌&&◌, nat_lt, if◌then◌else◌, List, [], ◌∷◌, ◌++◌, length, map, take}
-use Rattle.std.specs.Prelude.{replicate, slice_index}
+-- The paper as a text (own): each line at its place on the form, and a form feed for each new form.
+use Rattle.std.specs.Prelude.{ℕ, ◌+◌, ◌-◌, ◌%◌, ◌==◌, ◌&&◌, nat_lt, if◌then◌else◌, List, [], ◌∷◌, ◌++◌, length, map}
+use Rattle.std.specs.Prelude.{take, replicate, slice_index}
 use Rattle.std.specs.List.{suffix_len}
 use Rattle.bcd_1401.specs.Graphic.{graphics}
 use Rattle.devices_1401.specs.Carriage.{forms}
@@ -16,7 +16,7 @@ line_feed = 10
 abbrev pub form_feed : ℕ
 form_feed = 12
 
--- characters without the blanks at their end
+-- characters without trailing blanks
 unfoldable pub trimmed : List ℕ → List ℕ
 trimmed chars = take (length chars - suffix_len (λ char. char == blank_code) chars) chars
 
@@ -24,20 +24,20 @@ trimmed chars = take (length chars - suffix_len (λ char. char == blank_code) ch
 unfoldable pub graphics_of : List ℕ → List ℕ
 graphics_of chars = map (λ char. slice_index graphics char) chars
 
--- how many forms lie between a place and a line, by their numbers
+-- how many forms a line is further on than a place, by their numbers
 abbrev pub forms_on : Place → PrintLine → ℕ
 forms_on place line = (line.form + forms - place.form % forms) % forms
 
--- how many new forms the paper comes to: a line above the place is one of a later form with the same number
+-- how many new forms the paper comes to: a line above the place is on a later form with the same number
 abbrev pub new_forms : Place → PrintLine → ℕ
 new_forms place line =
     if (forms_on place line == 0) && nat_lt line.line place.line then forms else forms_on place line
 
--- the line at which the text goes on, on the line's form
+-- the first line that is free on the line's form
 abbrev pub begun_at : Place → PrintLine → ℕ
 begun_at place line = if new_forms place line == 0 then place.line else 1
 
--- a line behind a text that goes on at a place: new forms, empty lines, and its characters
+-- what a line adds to a text that has reached a place: new forms, empty lines, and its characters
 unfoldable pub line_text : Place → PrintLine → List ℕ
 line_text place line =
     replicate (new_forms place line) form_feed ++ replicate (line.line - begun_at place line) line_feed
@@ -47,12 +47,12 @@ line_text place line =
 abbrev pub place_after : PrintLine → Place
 place_after line = record { form = line.form; line = line.line + 1 }
 
--- lines behind a text that goes on at a place
+-- what lines add to a text that has reached a place
 abbrev pub paper_text : Place → List PrintLine → List ℕ
 paper_text place [] = []
 paper_text place (line ∷ lines) = line_text place line ++ paper_text (place_after line) lines
 
--- where it goes on behind them
+-- the place that it reaches then
 abbrev pub place_behind : Place → List PrintLine → Place
 place_behind place [] = place
 place_behind place (line ∷ lines) = place_behind (place_after line) lines

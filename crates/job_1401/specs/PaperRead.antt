@@ -1,4 +1,4 @@
--- The paper as it is read (own): from its text, and as it was printed.
+-- What can be read off the paper and off its text (own).
 use Rattle.std.specs.Prelude.{◌≡◌, ℕ, ◌+◌, ◌%◌, ◌==◌, ◌<◌, ◌≤◌, if◌then◌else◌, List, [], ◌∷◌, ◌++◌}
 use Rattle.std.specs.List.{All, flat_map}
 use Rattle.devices_1401.specs.Carriage.{forms}
@@ -6,17 +6,17 @@ use Rattle.devices_1401.specs.declared.print_line.PrintLine.{PrintLine}
 use Rattle.job_1401.specs.declared.paper.Place.{Place}
 use Rattle.job_1401.specs.Paper.{form_feed, graphics_of, line_feed, paper_text, trimmed}
 
--- a line with something on it: its place, and its graphics without the blanks at their end
+-- a line that isn't blank: its place, and its graphics without trailing blanks
 pub record ReadLine : Type 0 where
   pub place : Place
   pub graphics : List ℕ
 
--- what is read at a place: nothing where nothing is on the line
+-- the line at a place, if it isn't blank
 abbrev pub read_at : Place → List ℕ → List ReadLine
 read_at place [] = []
 read_at place (graphic ∷ graphics) = record { place = place; graphics = graphic ∷ graphics } ∷ []
 
--- what a printed line leaves to be read, and what lines leave
+-- what can be read of a printed line, and of a paper
 abbrev pub read_of_line : PrintLine → List ReadLine
 read_of_line line = read_at (record { form = line.form; line = line.line }) (graphics_of (trimmed line.text))
 
@@ -31,8 +31,8 @@ next_form place = record { form = (place.form + 1) % forms; line = 1 }
 abbrev pub next_line : Place → Place
 next_line place = record { form = place.form; line = place.line + 1 }
 
--- a text read on from a place, of whose line these graphics were read: a form feed leads to the next form, a line feed
--- to the next line, and any other byte is a graphic
+-- a text read from a place on, after these graphics of its line: a form feed leads to the next form, a line feed to the
+-- next line, and any other byte is a graphic
 abbrev pub read_on : Place → List ℕ → List ℕ → List ReadLine
 read_on place graphics [] = read_at place graphics
 read_on place graphics (byte ∷ bytes) =
@@ -46,7 +46,7 @@ read_on place graphics (byte ∷ bytes) =
 abbrev pub read_back : Place → List ℕ → List ReadLine
 read_back place text = read_on place [] text
 
--- a form and a line that there are
+-- a line with the number of a form, and a line number from 1 on
 pub record IsOnForm (line : PrintLine) : Type 0 where
   pub form : line.form < forms
   pub first : 1 ≤ line.line

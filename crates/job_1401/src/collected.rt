@@ -1,12 +1,12 @@
 //! Paper and punched cards kept in memory.
-ghost use Rattle.std.specs.Prelude.{◌≡◌, []};
+ghost use Rattle.std.specs.Prelude.{◌≡◌, [], false};
 
 use crate::fault::JobFault;
 use crate::output::Output;
 use devices_1401::{Card, PrintLine};
 use std::alloc::Global;
 
-/// All lines and cards so far.
+/// An output that keeps all lines and cards in memory.
 #[derive(Drop)]
 pub struct Collected {
     pub lines: Vec<PrintLine>,
@@ -14,7 +14,7 @@ pub struct Collected {
 }
 
 impl Collected {
-    /// Nothing yet.
+    /// An empty output.
     pub fn new(alloc: Global) -> Collected
         ensures lines { result.lines.items ≡ [] }
         ensures cards { result.cards.items ≡ [] }
@@ -30,6 +30,8 @@ impl Output for Collected {
     ghost lines = { λ c. c.lines.items };
 
     ghost cards = { λ c. c.cards.items };
+
+    ghost has_failed = { λ _. false };
 
     fn put_line(&mut self, line: &PrintLine) -> Result<(), JobFault> {
         match self.lines.push(PrintLine {

@@ -1,64 +1,62 @@
 //! A deck as a text: a card on each line.
-ghost use Rattle.std.specs.Prelude.{◌≡◌, ◌++◌, length, IfOk, OnOk};
-ghost use Rattle.std.specs.List.{flat_map};
+ghost use Rattle.std.specs.Char.{is_ascii_lowercase};
+ghost use Rattle.std.specs.List.{flat_map, list_any};
+ghost use Rattle.std.specs.Prelude.{◌≡◌, ◌≢◌, ◌++◌, length, Ok, Err, IfOk, IfErr, OnOk};
 ghost use Rattle.source_1401.specs.SourceLine.{lines_of};
-ghost use Rattle.job_1401.specs.DeckText.{card_text};
+ghost use Rattle.job_1401.specs.DeckText.{card_of_line, card_text, deck_of};
 
 use crate::paper::put_trimmed;
 use bcd_1401::Char;
 use devices_1401::Card;
 use source_1401::split_line;
 use std::alloc::{AllocError, Global};
-use std::fmt;
+use thiserror::Error;
 
 /// How many columns a card has.
 const COLUMNS: usize = 80;
 
-/// Why a text is no deck: the first byte that no card has.
-#[derive(Clone, Copy, Debug, PartialEq, Eq)]
+/// Why a text isn't a deck.
+#[derive(Clone, Copy, Debug, PartialEq, Eq, Error)]
 pub enum DeckFault {
     /// The memory for the cards was refused.
+    #[error("memory refused")]
     Memory,
     /// A byte is the graphic of no character.
+    #[error("line {line}, column {column}: no card has this character")]
     Graphic {
         /// The line, from 1 on.
         line: u64,
-        /// The column, from 1 on.
+        /// The column, from 1 to 80.
         column: u8,
     },
     /// A line has more than 80 bytes.
+    #[error("line {line}, column 81: a card has 80 columns")]
     Length {
         /// The line, from 1 on.
         line: u64,
     },
 }
 
-impl fmt::Display for DeckFault {
-    fn fmt<W: fmt::Write>(&self, f: &mut fmt::Formatter<W>) -> fmt::Result {
-        match self {
-            DeckFault::Memory => f.write_str("memory refused"),
-            DeckFault::Graphic { line, column } => {
-                write!(
-                    f,
-                    "line {line}, column {column}: no card has this character"
-                )
-            }
-            DeckFault::Length { line } => {
-                write!(f, "line {line}, column 81: a card has 80 columns")
-            }
-        }
-    }
+/// A deck that was read from a text.
+#[derive(Debug, Drop)]
+pub struct ReadDeck {
+    /// Its cards, first to last.
+    pub cards: Vec<Card>,
+    /// Whether the text has small letters, which are read as capitals.
+    pub has_small_letters: bool,
 }
 
-/// The card of a line, which goes on in blanks. A lower case letter is read as its capital.
+/// The card of a line: its characters, small letters as capitals, and then blanks.
 ///
 /// # Errors
 ///
-/// `Graphic` where a byte is the graphic of no character, else `Length` where there are more than 80.
-fn card_of(number: u64, line: &[u8]) -> Result<Card, DeckFault> {
+/// `Graphic` if one of the first 80 bytes is the graphic of no character, else `Length` if there are more.
+fn card_of(number: u64, line: &[u8]) -> Result<Card, DeckFault>
+    ensures { result ≡ card_of_line number line.now }
+{
     let mut columns = [Char::BLANK; COLUMNS];
     for (i, byte) in line.iter().enumerate() {
-        if i >= COLUMNS {
+        if i == COLUMNS {
             return Err(DeckFault::Length { line: number });
         }
         let Some(char) = Char::from_graphic(byte.to_ascii_uppercase()) else {
@@ -72,14 +70,21 @@ fn card_of(number: u64, line: &[u8]) -> Result<Card, DeckFault> {
     Ok(Card(columns))
 }
 
-/// The cards of a text, one for each line. A carriage return before a line feed is no column.
+/// Reads a deck, a card from each line. A carriage return before a line feed is no column, and small letters are read
+/// as capitals.
 ///
 /// # Errors
 ///
-/// The fault of the first line that is no card, or `Memory`.
-pub fn read_deck(alloc: Global, text: &[u8]) -> Result<Vec<Card>, DeckFault>
-    ensures { IfOk result (λ cards. length cards.items ≡ length (lines_of text.now)) }
+/// `Graphic` or `Length` for the first byte that is on no card, or `Memory`.
+pub fn read_deck(alloc: Global, text: &[u8]) -> Result<ReadDeck, DeckFault>
+    ensures deck { IfOk result (λ deck. deck_of text.now ≡ Ok deck.cards.items) }
+    ensures count { IfOk result (λ deck. length deck.cards.items ≡ length (lines_of text.now)) }
+    ensures small { IfOk result (λ deck. deck.has_small_letters ≡ list_any is_ascii_lowercase text.now) }
+
+    // Without a fault of the text only memory can be refused.
+    ensures fault { IfErr result (λ why. why ≢ DeckFault.Memory → deck_of text.now ≡ Err why) }
 {
+    let has_small_letters = text.iter().any(|byte| byte.is_ascii_lowercase());
     let mut cards = Vec::new(alloc);
     let mut rest = text;
     while let Some((line, behind)) = split_line(rest) {
@@ -90,14 +95,17 @@ pub fn read_deck(alloc: Global, text: &[u8]) -> Result<Vec<Card>, DeckFault>
         }
         rest = behind;
     }
-    Ok(cards)
+    Ok(ReadDeck {
+        cards,
+        has_small_letters,
+    })
 }
 
-/// Adds cards to a text, each as a line without the blanks at its end.
+/// Adds each card to a text as a line, without its trailing blanks.
 ///
 /// # Errors
 ///
-/// Where there is no room for the text.
+/// If the memory for the text is refused. Part of it may have been added.
 pub fn put_cards(text: &mut Vec<u8>, cards: &[Card]) -> Result<(), AllocError>
     ensures { OnOk result (text.new.items ≡ text.old.items ++ flat_map card_text cards.now) }
 {

@@ -5,10 +5,10 @@ use thiserror::Error;
 /// Why a job breaks off.
 #[derive(Clone, Copy, Debug, PartialEq, Eq, Error)]
 pub enum JobFault {
-    /// A card can't be read.
+    /// A read of the deck failed.
     #[error("a card can't be read")]
     Read,
-    /// A line or a card can't be written.
+    /// A write of the paper or of the punched cards failed.
     #[error("a line or a card can't be written")]
     Write,
     /// The memory for a line or a card was refused.

@@ -1,6 +1,7 @@
-//! A job: a deck, a machine, and steps until it stops.
-ghost use Rattle.std.specs.Prelude.{◌≡◌, ◌≢◌, ◌≤◌, IfOk, OnOk, OnErr};
-ghost use Rattle.job_1401.specs.Unattended.{AtEnd, Begins, GoesOn, IsPartOf, after_output, unattended, with_deck};
+//! Running a machine with a deck until it stops.
+ghost use Rattle.std.specs.Prelude.{◌≡◌, ◌≢◌, ◌≤◌, IfOk, IfErr, OnOk, OnErr};
+ghost use Rattle.job_1401.specs.Unattended.{AtEnd, Begins, GoesOn, IsPartOf, IsWhyBroken, after_output, failed};
+ghost use Rattle.job_1401.specs.Unattended.{unattended, with_deck};
 
 use crate::cards::Cards;
 use crate::fault::JobFault;
@@ -8,9 +9,10 @@ use crate::feeding::fill_hopper;
 use crate::output::Output;
 use crate::taking::take_all;
 use cpu_1401::{Machine, Stop, step_law};
+use devices_1401::MOST_HELD;
 
-/// The most steps of one stretch: each reads, prints and punches one at the most, and 500 of each have room.
-const STRETCH: u32 = 500;
+/// The most steps between two feedings: a step reads, prints and punches at most one, and there is room for 500.
+pub const STRETCH: u32 = MOST_HELD as u32;
 
 /// How a job ended.
 #[derive(Clone, Copy, Debug, PartialEq, Eq)]
@@ -21,13 +23,13 @@ pub struct JobEnd {
     pub stop: Stop,
 }
 
-/// Runs a deck until the machine stops, or until this many instructions were carried out: what is written is what a
-/// machine writes whose hopper holds all the cards and whose paper and stacker never fill.
+/// Runs a machine with a deck until it stops, or until this many instructions were carried out. It writes what a
+/// machine writes whose hopper holds the whole deck and whose paper and stacker never fill.
 ///
 /// # Errors
 ///
-/// `Read` where a card can't be read, `Write` or `Memory` where a line or a card isn't received. What was received is a
-/// beginning of what would have been.
+/// `Read` if a read of the deck fails, `Write` if a write fails, else `Memory`. What was written is a beginning of what
+/// the whole job writes.
 pub fn run_job<R: Cards, W: Output>(
     machine: &mut Machine,
     cards: &mut R,
@@ -44,11 +46,11 @@ pub fn run_job<R: Cards, W: Output>(
           lines = W.lines output.new;
           cards = W.cards output.new;
         }) }
-    // The limit is met exactly.
+    // LIMIT comes after exactly as many steps as the limit.
     ensures most { IfOk result (λ end. end.steps ≤ limit) }
     ensures limit { IfOk result (λ end. end.stop ≡ Stop.Limit → end.steps ≡ limit) }
 
-    // Two calls join: a job of more steps goes on where this call met its limit, and has ended where it stopped.
+    // Calls join: a job of more steps goes on from here after LIMIT, and is the same job after any other stop.
     ensures goes_on { IfOk result (λ end. end.stop ≡ Stop.Limit
         → GoesOn limit (with_deck (R.left cards.old) machine.old)) }
     ensures at_end { IfOk result (λ end. end.stop ≢ Stop.Limit
@@ -58,6 +60,13 @@ pub fn run_job<R: Cards, W: Output>(
     ensures part { OnErr result (IsPartOf (W.lines output.new) (W.cards output.new)
         (after_output (W.lines output.old) (W.cards output.old) 0
         (unattended limit (with_deck (R.left cards.old) machine.old)))) }
+
+    // Read means that a read has failed, Write that a write has, and Memory that neither has.
+    ensures why { IfErr result (λ why. IsWhyBroken why
+        (failed (R.has_failed cards.old) (W.has_failed output.old))
+        (failed (R.has_failed cards.new) (W.has_failed output.new))) }
+    ensures good { OnOk result (failed (R.has_failed cards.new) (W.has_failed output.new)
+        ≡ failed (R.has_failed cards.old) (W.has_failed output.old)) }
 {
     step_law();
     take_all(machine, output)?;

@@ -7,9 +7,9 @@
 //! output.lines                            // all that was printed, however much
 //! ```
 //!
-//! Hopper, stacker and paper hold 500 each. A job feeds the hopper and takes what was printed and punched every 500
-//! steps, of which each reads, prints and punches one at most: so the machine meets neither an empty hopper while there
-//! are cards nor a full stacker.
+//! Hopper, stacker and paper hold 500 each, and a step reads, punches and prints at most one. So a job that fills the
+//! hopper and empties stacker and paper every 500 steps never shows the machine an empty hopper while cards are left,
+//! nor a full stacker or full paper.
 #![tactic(auto)]
 
 pub mod cards;
@@ -27,9 +27,9 @@ mod taking;
 pub use cards::Cards;
 pub use collected::Collected;
 pub use deck::Deck;
-pub use deck_text::{DeckFault, put_cards, read_deck};
+pub use deck_text::{DeckFault, ReadDeck, put_cards, read_deck};
 pub use fault::JobFault;
-pub use job::{JobEnd, run_job};
+pub use job::{JobEnd, STRETCH, run_job};
 pub use loading::press_load_key;
 pub use output::Output;
 pub use paper::{Place, put_paper};

@@ -1,5 +1,5 @@
-//! The load key pressed before a deck is run.
-ghost use Rattle.std.specs.Prelude.{◌≡◌, ◌==◌, false, not, length, IfOk, OnOk, OnErr, IfErr};
+//! Pressing the load key before a deck is run.
+ghost use Rattle.std.specs.Prelude.{◌≡◌, ◌==◌, false, not, length, IsTrue, IfOk, OnOk, OnErr, IfErr};
 ghost use Rattle.cpu_1401.specs.CardsAndPrinter.{load};
 ghost use Rattle.job_1401.specs.Unattended.{with_deck};
 
@@ -8,12 +8,12 @@ use crate::fault::JobFault;
 use crate::feeding::fill_hopper;
 use cpu_1401::Machine;
 
-/// Presses the load key of a machine whose hopper holds the deck: its first card is read, and the next instruction is
-/// taken from there. Tells whether there was a card; if not, nothing is done.
+/// Fills the hopper and presses the load key: the first card is read, and the machine takes its next instruction from
+/// there. Returns false, and does nothing, if there is no card.
 ///
 /// # Errors
 ///
-/// `Read` where a card can't be read.
+/// `Read` if a card can't be read.
 #[tactic(auto, using(crate::proofs::LoadLemmas::nothing_loaded))]
 pub fn press_load_key<R: Cards>(machine: &mut Machine, cards: &mut R) -> Result<bool, JobFault>
     ensures loaded { OnOk result
@@ -25,6 +25,8 @@ pub fn press_load_key<R: Cards>(machine: &mut Machine, cards: &mut R) -> Result<
     ensures err { OnErr result
         (with_deck (R.left cards.new) machine.new ≡ with_deck (R.left cards.old) machine.old) }
     ensures fault { IfErr result (λ why. why ≡ JobFault.Read) }
+    ensures good { OnOk result (R.has_failed cards.new ≡ R.has_failed cards.old) }
+    ensures failed { OnErr result (IsTrue (R.has_failed cards.new)) }
 {
     fill_hopper(machine, cards)?;
     let loaded = machine.load_key();

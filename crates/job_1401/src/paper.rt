@@ -1,4 +1,4 @@
-//! The paper as a text: each line at its place of the form, and a form feed for each new form.
+//! The paper as a text: each line at its place on the form, and a form feed for each new form.
 ghost use Rattle.std.specs.Prelude.{◌≡◌, ◌-◌, ◌≤◌, ◌==◌, ◌++◌, length, replicate, IfOk, OnOk};
 ghost use Rattle.std.specs.List.{suffix_len};
 ghost use Rattle.job_1401.specs.Paper.{blank_code, trimmed, graphics_of, line_text, new_forms, paper_text};
@@ -9,10 +9,10 @@ use bcd_1401::Char;
 use devices_1401::PrintLine;
 use std::alloc::AllocError;
 
-/// How many forms are counted before their count begins again.
+/// Forms are numbered modulo 10,000.
 const FORMS: u32 = 10_000;
 
-/// Where a text of the paper goes on: the form, and the line of it that comes next.
+/// The place at which the next line of a text is.
 #[derive(Clone, Copy, Debug, PartialEq, Eq)]
 pub struct Place {
     /// The form.
@@ -26,7 +26,7 @@ impl Place {
     pub const FIRST: Place = Place { form: 1, line: 1 };
 }
 
-/// How many blanks characters end with.
+/// How many trailing blanks there are.
 fn blanks_at_end(chars: &[Char]) -> usize
     ensures value { result ≡ suffix_len (λ char. char == blank_code) chars.now }
     ensures bound { result ≤ length chars.now }
@@ -38,7 +38,7 @@ fn blanks_at_end(chars: &[Char]) -> usize
         .count()
 }
 
-/// Characters without the blanks at their end.
+/// The characters without trailing blanks.
 #[tactic(auto, unfolding(crate::specs::Paper::trimmed))]
 fn trimmed(chars: &[Char]) -> &[Char]
     ensures { result.now ≡ trimmed chars.now }
@@ -57,14 +57,14 @@ fn put_graphics(text: &mut Vec<u8>, chars: &[Char]) -> Result<(), AllocError>
     Ok(())
 }
 
-/// Adds characters by their graphics, without the blanks at their end.
+/// Adds characters by their graphics, without trailing blanks.
 pub(crate) fn put_trimmed(text: &mut Vec<u8>, chars: &[Char]) -> Result<(), AllocError>
     ensures { OnOk result (text.new.items ≡ text.old.items ++ graphics_of (trimmed chars.now)) }
 {
     put_graphics(text, trimmed(chars))
 }
 
-/// Adds one byte a number of times.
+/// Adds a byte as many times as asked for.
 fn put_times(text: &mut Vec<u8>, count: u32, byte: u8) -> Result<(), AllocError>
     ensures { OnOk result (text.new.items ≡ text.old.items ++ replicate count byte) }
 {
@@ -76,8 +76,8 @@ fn put_times(text: &mut Vec<u8>, count: u32, byte: u8) -> Result<(), AllocError>
     Ok(())
 }
 
-/// How many forms the paper moves on from a place to a line: the carriage goes down alone, so a line above the place
-/// is one of 10,000 forms on.
+/// How many new forms the paper comes to between a place and a line. The carriage only goes down, so a line above the
+/// place on a form of the same number is 10,000 forms further on.
 fn new_forms(place: Place, line: &PrintLine) -> u32
     ensures { result ≡ new_forms place line.now }
 {
@@ -89,7 +89,7 @@ fn new_forms(place: Place, line: &PrintLine) -> u32
     }
 }
 
-/// Adds a printed line behind a text that goes on at a place, and tells where it then goes on.
+/// Adds a printed line to a text that has reached a place, and returns the place below the line.
 #[tactic(auto, unfolding(crate::specs::Paper::line_text))]
 fn put_line(text: &mut Vec<u8>, place: Place, line: &PrintLine) -> Result<Place, AllocError>
     ensures text { OnOk result (text.new.items ≡ text.old.items ++ line_text place line.now) }
@@ -108,16 +108,16 @@ fn put_line(text: &mut Vec<u8>, place: Place, line: &PrintLine) -> Result<Place,
     })
 }
 
-/// Adds printed lines behind a text that goes on at a place, and tells where it then goes on.
+/// Adds printed lines to a text that has reached a place, and returns the place that it reaches then.
 ///
 /// # Errors
 ///
-/// Where there is no room for the text.
+/// If the memory for the text is refused. Part of it may have been added.
 pub fn put_paper(text: &mut Vec<u8>, place: Place, lines: &[PrintLine]) -> Result<Place, AllocError>
     ensures text { OnOk result (text.new.items ≡ text.old.items ++ paper_text place lines.now) }
     ensures place { IfOk result (λ next. next ≡ place_behind place lines.now) }
 
-    // Form, line and graphics of each line can be read off the text, and no paper that differs in them has it.
+    // The text shows the form, the line and the graphics of each line, and no paper that differs in them has this text.
     ensures again { OnOk result (IsReadBack place lines.now) }
     ensures only { OnOk result (IsOnlyPaper place lines.now) }
 {

@@ -1,10 +1,10 @@
 //! Jobs, worked out by hand from the manual's rules.
 
-ghost use Rattle.std.specs.Prelude.{[]};
+ghost use Rattle.std.specs.Prelude.{[], true};
 
 use crate::{
-    Cards, Collected, Deck, DeckFault, JobEnd, JobFault, Output, Place, put_cards, put_paper,
-    read_deck, run_job,
+    Cards, Collected, Deck, DeckFault, JobEnd, JobFault, Output, Place, press_load_key, put_cards,
+    put_paper, read_deck, run_job,
 };
 use bcd_1401::{Cell, Char};
 use cpu_1401::{Machine, Stop};
@@ -16,7 +16,7 @@ use std::test::Fail;
 /// Columns 1 to 4 of each card are listed and punched, until it was the last one.
 const LIST_AND_PUNCH: &[u8] = b"~,001101~1~M004204~M004104~2~4~B533A~B507~.~ ";
 
-/// A machine with these cells from 500 on, where it begins: a graphic each, with a word mark where a `~` stands before it.
+/// A machine with these cells from 500 on, where it begins: a graphic each, with a word mark after a `~`.
 fn machine_with(rt: &impl Abort, alloc: Global, text: &[u8]) -> Machine {
     let mut machine = Machine::power_on(alloc, 1_400).expect(rt, "a machine");
     let mut mark = false;
@@ -111,6 +111,8 @@ struct Jammed;
 impl Cards for Jammed {
     ghost left = { λ _. [] };
 
+    ghost has_failed = { λ _. true };
+
     fn next_card(&mut self) -> Result<Option<Card>, JobFault> {
         Err(JobFault::Read)
     }
@@ -124,6 +126,8 @@ impl Output for Broken {
     ghost lines = { λ _. [] };
 
     ghost cards = { λ _. [] };
+
+    ghost has_failed = { λ _. true };
 
     fn put_line(&mut self, _line: &PrintLine) -> Result<(), JobFault> {
         Err(JobFault::Write)
@@ -152,18 +156,86 @@ fn a_failed_read_and_a_failed_write_are_told_apart(rt: HostRuntime) -> Result<()
 }
 
 #[test]
+fn the_load_key_reads_the_first_card(rt: HostRuntime) -> Result<(), Fail> {
+    let read = read_deck(rt.alloc(), b",008009.\nREST\n")?;
+    let mut machine = Machine::power_on(rt.alloc(), 1_400).expect(&rt, "a machine");
+    let mut deck = Deck::new(read.cards.as_slice());
+    let mut output = Collected::new(rt.alloc());
+    assert_eq!(rt; press_load_key(&mut machine, &mut deck), Ok(true));
+    assert_eq!(rt; (machine.regs().i, machine.regs().hopper), (1, 1));
+    let end = run_job(&mut machine, &mut deck, 10, &mut output);
+    let stop = Stop::Halt;
+    assert_eq!(rt; end, Ok(JobEnd { steps: 2, stop }));
+    assert_eq!(rt; (machine.regs().i, machine.regs().hopper), (9, 1));
+    Ok(())
+}
+
+#[test]
+fn the_load_key_finds_no_card_or_a_jammed_reader(rt: HostRuntime) -> Result<(), Fail> {
+    let mut machine = Machine::power_on(rt.alloc(), 1_400).expect(&rt, "a machine");
+    let before = machine.regs();
+    assert_eq!(rt;
+        press_load_key(&mut machine, &mut Deck::new(&[])),
+        Ok(false)
+    );
+    assert_eq!(rt; machine.regs(), before);
+    assert_eq!(rt;
+        press_load_key(&mut machine, &mut Jammed),
+        Err(JobFault::Read)
+    );
+    assert_eq!(rt; machine.regs(), before);
+    Ok(())
+}
+
+#[test]
 fn a_deck_is_a_card_a_line(rt: HostRuntime) -> Result<(), Fail> {
-    let cards = read_deck(rt.alloc(), b"a b\r\n\nLAST  ")?;
-    let mut text = Vec::new(rt.alloc());
-    put_cards(&mut text, cards.as_slice())?;
-    assert_eq!(rt; text.as_slice(), b"A B\n\nLAST\n".as_slice());
+    for (text, small, wanted) in [
+        (
+            b"a b\r\n\nLAST  ".as_slice(),
+            true,
+            b"A B\n\nLAST\n".as_slice(),
+        ),
+        (b"A\r\nB", false, b"A\nB\n"),
+        (b"\n\nz\n", true, b"\n\nZ\n"),
+        (b"", false, b""),
+    ] {
+        let deck = read_deck(rt.alloc(), text)?;
+        assert_eq!(rt; deck.has_small_letters, small);
+        let mut again = Vec::new(rt.alloc());
+        put_cards(&mut again, deck.cards.as_slice())?;
+        assert_eq!(rt; again.as_slice(), wanted);
+    }
+    Ok(())
+}
+
+#[test]
+fn a_byte_that_no_card_has_is_told_with_its_place(rt: HostRuntime) -> Result<(), Fail> {
     let mut long = [b'A'; 82];
     long[0] = b'\n';
-    let fault = read_deck(rt.alloc(), &long).err();
-    assert_eq!(rt; fault, Some(DeckFault::Length { line: 2 }));
-    let (line, column) = (2, 3);
-    let fault = read_deck(rt.alloc(), b"\nAB~").err();
-    assert_eq!(rt; fault, Some(DeckFault::Graphic { line, column }));
+    for (text, fault, told) in [
+        (
+            b"\nAB~~".as_slice(),
+            DeckFault::Graphic { line: 2, column: 3 },
+            "line 2, column 3: no card has this character",
+        ),
+        (
+            long.as_slice(),
+            DeckFault::Length { line: 2 },
+            "line 2, column 81: a card has 80 columns",
+        ),
+        (
+            b"A\rB\n~",
+            DeckFault::Graphic { line: 1, column: 2 },
+            "line 1, column 2: no card has this character",
+        ),
+    ] {
+        assert_eq!(rt; read_deck(rt.alloc(), text).err(), Some(fault));
+        let shown = format!(in rt.alloc(); "{fault}")?;
+        assert_eq!(rt; shown.as_str(), told);
+    }
+    let fault = DeckFault::Memory;
+    let shown = format!(in rt.alloc(); "{fault}")?;
+    assert_eq!(rt; shown.as_str(), "memory refused");
     Ok(())
 }
 

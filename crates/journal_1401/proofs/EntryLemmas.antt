@@ -9,20 +9,19 @@ use Rattle.std.specs.Fmt.{decimal, digits}
 use Rattle.std.specs.Int.Digits.{digits_of}
 use Rattle.std.specs.List.{list_all, flat_map, prefix_len}
 use Rattle.std.specs.Option.{ok_or}
-use Rattle.std.specs.Str.{bytes_eq}
 use Rattle.std.proofs.lemmas.Bool.{and_parts, cases_lt, eqb-true, ltb-true}
 use Rattle.std.proofs.lemmas.Bool.Decides.{nat_tests}
 use Rattle.std.proofs.lemmas.Fmt.{decimal_digit, decimal-digits_of}
-use Rattle.std.proofs.lemmas.List.{append_assoc, take_at, drop_at, take-append-drop}
+use Rattle.std.proofs.lemmas.List.{append_assoc, take_at}
 use Rattle.std.proofs.lemmas.List.Folds.{list_all-append}
-use Rattle.std.proofs.lemmas.Option.{cond_some}
-use Rattle.std.proofs.lemmas.Slice.Eq.{bytes_eq-Decides}
 use Rattle.bcd_1401.specs.declared.cell.Cell.{Cell}
 use Rattle.bcd_1401.specs.Graphic.{graphics}
 use Rattle.cpu_1401.specs.declared.switch_name.SwitchName.{SwitchName}
 use Rattle.cpu_1401.specs.declared.switch_name.SwitchName.TheVariants as switch
 use Rattle.notation_1401.specs.Cells.{cell_text, cells_text}
 use Rattle.notation_1401.specs.Digits.{digits_in, number_in}
+use Rattle.notation_1401.specs.Prefix.{after_prefix}
+use Rattle.notation_1401.proofs.PrefixLemmas.{after_prefix_again, after_prefix_takes}
 use Rattle.command_1401.specs.declared.answer.Answer.{Answer}
 use Rattle.command_1401.specs.declared.command.Command.{Command}
 use Rattle.command_1401.specs.declared.command.Command.TheVariants as command
@@ -44,22 +43,8 @@ use Rattle.room_1401.specs.Journal.{answer_to, entry, is_full}
 use Rattle.journal_1401.specs.declared.fault.Wrong.{Wrong}
 use Rattle.journal_1401.specs.declared.fault.Wrong.TheVariants as wrong
 use Rattle.journal_1401.specs.JournalText.{CanBeKept, entry_text, tab, with_feed, with_tab}
-use Rattle.journal_1401.specs.Reading.{◌>>=◌, answer_at, behind, command_at, entry_at, field, if_command}
+use Rattle.journal_1401.specs.Reading.{◌>>=◌, answer_at, command_at, entry_at, field, if_command}
 use Rattle.journal_1401.specs.Reading.{if_seat, number_at, seat_at, seat_in}
-
--- the text begins with these bytes
-pub behind_takes : (front text rest : List ℕ) → behind front text ≡ Some rest → text ≡ front ++ rest
-behind_takes front text rest h =
-    let found = cond_some (bytes_eq (take (length front) text) front) (drop (length front) text) rest h in
-    let same : take (length front) text ≡ front = (bytes_eq-Decides (take (length front) text) front).0 found.0 in
-    sym (take-append-drop (length front) text)
-    ∙ ap (λ (more : List ℕ). more ++ drop (length front) text) same
-    ∙ ap (λ (more : List ℕ). front ++ more) found.1
-
-pub behind_again : (front rest : List ℕ) → behind front (front ++ rest) ≡ Some rest
-behind_again front rest =
-    let same : bytes_eq front front ≡ true = (bytes_eq-Decides front front).1 refl in
-    rw (take_at front rest (length front) refl, drop_at front rest (length front) refl, same)
 
 -- what was read first, and what then
 pub first_read : {A B : Type 0} (read : Result A Wrong) (more : A → Result B Wrong) (found : B)
@@ -118,19 +103,19 @@ CanSay command = CanBeSaid (line.Command command)
 
 found_by : {A : Type 0} (spell : A → List ℕ) (IsGood : A → Type 0) (text : List ℕ) (read : Option A) (why : Wrong)
     (found : A × List ℕ)
-    → (ok_or read why >>= λ value. (ok_or (behind (spell value) text) why >>= λ rest. Ok (value, rest))) ≡ Ok found
+    → (ok_or read why >>= λ value. (ok_or (after_prefix (spell value) text) why >>= λ rest. Ok (value, rest))) ≡ Ok found
     → ((value : A) → read ≡ Some value → IsGood value) → Found spell IsGood text found
 found_by {A} spell IsGood text read why found h good =
     let first =
     first_read (ok_or read why)
-    (λ value. (ok_or (behind (spell value) text) why >>= λ rest. Ok (value, rest))) found h in
+    (λ value. (ok_or (after_prefix (spell value) text) why >>= λ rest. Ok (value, rest))) found h in
     let value : A = first.0 in
-    let second = first_read (ok_or (behind (spell value) text) why) (λ rest. Ok (value, rest)) found first.2 in
+    let second = first_read (ok_or (after_prefix (spell value) text) why) (λ rest. Ok (value, rest)) found first.2 in
     let rest : List ℕ = second.0 in
     let pair : A × List ℕ = (value, rest) in
     let same : pair ≡ found = cc second.2 in
     let here : Found spell IsGood text pair = record {
-      text_is = behind_takes (spell value) text rest (there_is (behind (spell value) text) why rest second.1);
+      text_is = after_prefix_takes (spell value) text rest (there_is (after_prefix (spell value) text) why rest second.1);
       good = good value (there_is read why value first.1);
     } in
     subst (Found spell IsGood text) same here
@@ -172,12 +157,12 @@ pub record Answered (journal : List Entry) (answer : Answer) (text rest : List �
   pub text_is : text ≡ with_feed (answer_text answer) ++ rest
 
 answered : (full : Bool) (answer : Answer) (text rest : List ℕ)
-    → (if full then Err wrong.Full else ok_or (behind (with_feed (answer_text answer)) text) wrong.Answer) ≡ Ok rest
+    → (if full then Err wrong.Full else ok_or (after_prefix (with_feed (answer_text answer)) text) wrong.Answer) ≡ Ok rest
     → (full ≡ false) × (text ≡ with_feed (answer_text answer) ++ rest)
 answered true answer text rest h = absurd cc
 answered false answer text rest h =
     let front = with_feed (answer_text answer) in
-    (refl, behind_takes front text rest (there_is (behind front text) wrong.Answer rest h))
+    (refl, after_prefix_takes front text rest (there_is (after_prefix front text) wrong.Answer rest h))
 
 regroup : (number seat command answer rest : List ℕ)
     → (((number ++ seat) ++ command) ++ answer) ++ rest ≡ number ++ (seat ++ (command ++ (answer ++ rest)))
@@ -202,7 +187,7 @@ entry_takes size journal text found h =
     let d = first_read (answer_at journal answer c.0.1) _ found c.2 in
     let pair : Entry × List ℕ = (entry b.0.0 c.0.0 answer, d.0) in
     let same : pair ≡ found = cc d.2 in
-    let number : text ≡ due ++ a.0 = behind_takes due text a.0 (there_is (behind due text) wrong.Number a.0 a.1) in
+    let number : text ≡ due ++ a.0 = after_prefix_takes due text a.0 (there_is (after_prefix due text) wrong.Number a.0 a.1) in
     let seat = seat_takes a.0 b.0 b.1 in
     let command = command_takes b.0.1 c.0 c.1 in
     let last = answered (is_full journal) answer c.0.1 d.0 d.1 in
@@ -373,7 +358,7 @@ seat_is seat below = found_is (seat_in (digits_in 1 seat)) seat (one_found 256 s
 -- a field that is read, written again, and found at the front
 abbrev read_field : {A : Type 0} → (A → List ℕ) → (List ℕ → Option A) → Wrong → List ℕ → Result (A × List ℕ) Wrong
 read_field spell read why text =
-    ok_or (read (field text)) why >>= λ value. (ok_or (behind (spell value) text) why >>= λ rest. Ok (value, rest))
+    ok_or (read (field text)) why >>= λ value. (ok_or (after_prefix (spell value) text) why >>= λ rest. Ok (value, rest))
 
 read_again : {A : Type 0} (spell : A → List ℕ) (read : List ℕ → Option A) (why : Wrong) (value : A)
     (word text rest : List ℕ)
@@ -385,15 +370,15 @@ read_again {A} spell read why value word text rest spelled all reads is =
     let first_field : field text ≡ word = ap field named ∙ field_is word rest all in
     let found : ok_or (read (field text)) why ≡ Ok value =
     ap (λ (w : List ℕ). ok_or (read w) why) first_field ∙ there_is_ok (read word) why value reads in
-    let left : ok_or (behind (spell value) text) why ≡ Ok rest =
-    there_is_ok (behind (spell value) text) why rest (ap (behind (spell value)) is ∙ behind_again (spell value) rest) in
+    let left : ok_or (after_prefix (spell value) text) why ≡ Ok rest =
+    there_is_ok (after_prefix (spell value) text) why rest (ap (after_prefix (spell value)) is ∙ after_prefix_again (spell value) rest) in
     let pair : A × List ℕ = (value, rest) in
     let done : Result (A × List ℕ) Wrong = Ok pair in
     let last : List ℕ → Result (A × List ℕ) Wrong = λ rest. Ok (value, rest) in
     let more : A → Result (A × List ℕ) Wrong =
-    λ value. (ok_or (behind (spell value) text) why >>= λ rest. Ok (value, rest)) in
+    λ value. (ok_or (after_prefix (spell value) text) why >>= λ rest. Ok (value, rest)) in
     then_read (ok_or (read (field text)) why) value more done found
-    (then_read (ok_or (behind (spell value) text) why) rest last done left refl)
+    (then_read (ok_or (after_prefix (spell value) text) why) rest last done left refl)
 
 seat_again : (seat : ℕ) (rest : List ℕ) → seat < 256 → seat_at (seat_text seat ++ rest) ≡ Ok (seat, rest)
 unfolding seat_at
@@ -418,12 +403,12 @@ command_again command rest can =
 
 answer_again : (full : Bool) (due answer : Answer) (rest : List ℕ) → full ≡ false → answer ≡ due
     → (if full then Err wrong.Full
-    else ok_or (behind (with_feed (answer_text due)) (with_feed (answer_text answer) ++ rest)) wrong.Answer) ≡ Ok rest
+    else ok_or (after_prefix (with_feed (answer_text due)) (with_feed (answer_text answer) ++ rest)) wrong.Answer) ≡ Ok rest
 answer_again true due answer rest h same = absurd cc
 answer_again false due answer rest h same =
     let front : List ℕ = with_feed (answer_text due) in
-    ap (λ (each : Answer). ok_or (behind front (with_feed (answer_text each) ++ rest)) wrong.Answer) same
-    ∙ there_is_ok (behind front (front ++ rest)) wrong.Answer rest (behind_again front rest)
+    ap (λ (each : Answer). ok_or (after_prefix front (with_feed (answer_text each) ++ rest)) wrong.Answer) same
+    ∙ there_is_ok (after_prefix front (front ++ rest)) wrong.Answer rest (after_prefix_again front rest)
 
 -- the line of an entry is read as the entry, where the machine answers as it says
 pub entry_again : (size : ℕ) (journal : List Entry) (e : Entry) (rest : List ℕ) → CanBeKept e
@@ -439,7 +424,7 @@ entry_again size journal e rest can not_full answered_so =
     let parts : entry_text (length journal + 1) e ++ rest ≡ due ++ from_seat =
     regroup due (seat_text e.seat) (command_part e.command) (with_feed (answer_text e.answer)) rest in
     let number : number_at (length journal + 1) (due ++ from_seat) ≡ Ok from_seat =
-    there_is_ok (behind due (due ++ from_seat)) wrong.Number from_seat (behind_again due from_seat) in
+    there_is_ok (after_prefix due (due ++ from_seat)) wrong.Number from_seat (after_prefix_again due from_seat) in
     let seat : seat_at from_seat ≡ Ok (e.seat, from_command) = seat_again e.seat from_command can.1 in
     let said : command_at from_command ≡ Ok (e.command, last) = command_again e.command last can.0 in
     let compared : answer_at journal answer last ≡ Ok rest =
@@ -483,24 +468,24 @@ of_seat : (text : List ℕ) → IfErr (seat_at text) IsOfEntry
 unfolding seat_at
 of_seat text =
     of_both (ok_or (seat_in (field text)) wrong.Seat) _ (of_option (seat_in (field text)) wrong.Seat tt) (λ seat.
-    of_both (ok_or (behind (seat_text seat) text) wrong.Seat) (λ rest. Ok (seat, rest))
-    (of_option (behind (seat_text seat) text) wrong.Seat tt) (λ rest. tt))
+    of_both (ok_or (after_prefix (seat_text seat) text) wrong.Seat) (λ rest. Ok (seat, rest))
+    (of_option (after_prefix (seat_text seat) text) wrong.Seat tt) (λ rest. tt))
 
 of_command : (text : List ℕ) → IfErr (command_at text) IsOfEntry
 unfolding command_at
 of_command text =
     let found : Option Command = if_command (said_by (field text)) in
     of_both (ok_or found wrong.Command) _ (of_option found wrong.Command tt) (λ said.
-    of_both (ok_or (behind (command_part said) text) wrong.Command) (λ rest. Ok (said, rest))
-    (of_option (behind (command_part said) text) wrong.Command tt) (λ rest. tt))
+    of_both (ok_or (after_prefix (command_part said) text) wrong.Command) (λ rest. Ok (said, rest))
+    (of_option (after_prefix (command_part said) text) wrong.Command tt) (λ rest. tt))
 
 pub of_entry : (size : ℕ) (journal : List Entry) (text : List ℕ) → IfErr (entry_at size journal text) IsOfEntry
 unfolding entry_at number_at answer_at
 of_entry size journal text =
     let due : List ℕ = with_tab (digits_in 1 (length journal + 1)) in
-    of_both (number_at (length journal + 1) text) _ (of_option (behind due text) wrong.Number tt) (λ from_seat.
+    of_both (number_at (length journal + 1) text) _ (of_option (after_prefix due text) wrong.Number tt) (λ from_seat.
     of_both (seat_at from_seat) _ (of_seat from_seat) (λ seat.
     of_both (command_at seat.1) _ (of_command seat.1) (λ said.
     of_both (answer_at journal (answer_to size journal said.0) said.1) _
-    (of_answer (is_full journal) (behind (with_feed (answer_text (answer_to size journal said.0))) said.1))
+    (of_answer (is_full journal) (after_prefix (with_feed (answer_text (answer_to size journal said.0))) said.1))
     (λ rest. tt))))

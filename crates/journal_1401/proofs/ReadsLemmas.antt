@@ -13,6 +13,8 @@ use Rattle.std.proofs.lemmas.List.Folds.{list_any-append}
 use Rattle.core_1401.specs.Storage.{core_sizes, is_core_size}
 use Rattle.cpu_1401.specs.State.{State, power_on}
 use Rattle.notation_1401.specs.Digits.{digits_in}
+use Rattle.notation_1401.specs.Prefix.{after_prefix}
+use Rattle.notation_1401.proofs.PrefixLemmas.{after_prefix_again, after_prefix_takes}
 use Rattle.command_1401.specs.CarryOut.{carry_out}
 use Rattle.text_1401.specs.AnswerText.{answer_text}
 use Rattle.text_1401.specs.CommandText.{command_text}
@@ -24,10 +26,10 @@ use Rattle.journal_1401.specs.declared.fault.Wrong.TheVariants as wrong
 use Rattle.journal_1401.specs.JournalText.{CanBeKept, IsJournal, entries_text, entry_text, header_text, journal_text}
 use Rattle.journal_1401.specs.JournalText.{line_feed, with_feed, with_tab}
 use Rattle.journal_1401.specs.Reading.{HasHeader, IsRefusedIn, IsTextOf, IsThat, IsWhy}
-use Rattle.journal_1401.specs.Reading.{IsCut, Takes}
-use Rattle.journal_1401.specs.Reading.{behind, entry_at, has_line, size_at}
+use Rattle.journal_1401.specs.Reading.{IsCut, IsWrongAt, Takes}
+use Rattle.journal_1401.specs.Reading.{entry_at, has_line, size_at}
 use Rattle.journal_1401.specs.Reading.IsCut.{in_entry, in_header}
-use Rattle.journal_1401.proofs.EntryLemmas.{IsOfEntry, behind_again, behind_takes, entry_again, entry_takes, of_entry}
+use Rattle.journal_1401.proofs.EntryLemmas.{IsOfEntry, entry_again, entry_takes, of_entry}
 use Rattle.journal_1401.proofs.TextLemmas.{journal_text-push}
 
 -- A journal's text goes on behind these entries: with more of its own, and what stands behind them.
@@ -76,7 +78,7 @@ pub start : (text : List ℕ) (size : ℕ) (rest : List ℕ) → is_core_size si
 start text size rest core header = record {
   of = record { core = core; legal = refl; bound = omega arith; kept = All-nil CanBeKept };
   text_is =
-      behind_takes (header_text size) text rest header.rest_is
+      after_prefix_takes (header_text size) text rest header.rest_is
       ∙ ap (λ (t : List ℕ). t ++ rest) (sym (append-nil (header_text size)));
   again =
       λ size' whole last is.
@@ -86,9 +88,9 @@ start text size rest core header = record {
       let named : size_at text ≡ Some size' = ap size_at parts ∙ size_again size' behind_it is.of.core in
       let some : Some size ≡ Some size' = sym header.size_is ∙ named in
       let same : size ≡ size' = cc some in
-      let left : behind (header_text size) text ≡ Some behind_it =
-      ap (λ n. behind (header_text n) text) same ∙ ap (behind (header_text size')) parts
-      ∙ behind_again (header_text size') behind_it in
+      let left : after_prefix (header_text size) text ≡ Some behind_it =
+      ap (λ n. after_prefix (header_text n) text) same ∙ ap (after_prefix (header_text size')) parts
+      ∙ after_prefix_again (header_text size') behind_it in
       let rests : Some rest ≡ Some behind_it = sym header.rest_is ∙ left in
       record { same = same; more = whole; journal_is = refl; rest_is = cc rests };
 }
@@ -293,6 +295,21 @@ off : {A : Type 0} (read : Result A Wrong) (why : Wrong) → IfErr read IsOfEntr
 off (Ok value) why h is = absurd cc
 off (Err found) why h is = let same : found ≡ why = cc is in subst IsOfEntry same h
 
+-- what is wrong with the line after those of a journal
+wrong_at : (text : List ℕ) (size : ℕ) (journal : List Entry) (rest : List ℕ) (number : ℕ) (why : Wrong)
+    → Reads text size journal rest → has_line rest ≡ true → number ≡ length journal + 2
+    → entry_at size journal rest ≡ Err why → IsWrongAt text number why
+wrong_at text size journal rest number why reads some number_is is = record {
+  size = size;
+  journal = journal;
+  rest = rest;
+  of = reads.of;
+  text_is = reads.text_is;
+  some_line = some;
+  number_is = number_is;
+  why_is = is;
+}
+
 refused_by : (text : List ℕ) (size : ℕ) (journal : List Entry) (rest : List ℕ) (number : ℕ) (why : Wrong)
     → Reads text size journal rest → has_line rest ≡ true → number ≡ length journal + 2
     → IsWhy (entry_at size journal rest) why → IfErr (entry_at size journal rest) IsOfEntry
@@ -300,56 +317,16 @@ refused_by : (text : List ℕ) (size : ℕ) (journal : List Entry) (rest : List 
 refused_by text size journal rest number wrong.Memory reads some number_is is of = tt
 refused_by text size journal rest number wrong.Header reads some number_is is of =
     absurd (off (entry_at size journal rest) wrong.Header of is)
-refused_by text size journal rest number wrong.Number reads some number_is is of = record {
-  size = size;
-  journal = journal;
-  rest = rest;
-  of = reads.of;
-  text_is = reads.text_is;
-  some_line = some;
-  number_is = number_is;
-  why_is = is;
-}
-refused_by text size journal rest number wrong.Seat reads some number_is is of = record {
-  size = size;
-  journal = journal;
-  rest = rest;
-  of = reads.of;
-  text_is = reads.text_is;
-  some_line = some;
-  number_is = number_is;
-  why_is = is;
-}
-refused_by text size journal rest number wrong.Command reads some number_is is of = record {
-  size = size;
-  journal = journal;
-  rest = rest;
-  of = reads.of;
-  text_is = reads.text_is;
-  some_line = some;
-  number_is = number_is;
-  why_is = is;
-}
-refused_by text size journal rest number wrong.Answer reads some number_is is of = record {
-  size = size;
-  journal = journal;
-  rest = rest;
-  of = reads.of;
-  text_is = reads.text_is;
-  some_line = some;
-  number_is = number_is;
-  why_is = is;
-}
-refused_by text size journal rest number wrong.Full reads some number_is is of = record {
-  size = size;
-  journal = journal;
-  rest = rest;
-  of = reads.of;
-  text_is = reads.text_is;
-  some_line = some;
-  number_is = number_is;
-  why_is = is;
-}
+refused_by text size journal rest number wrong.Number reads some number_is is of =
+    wrong_at text size journal rest number wrong.Number reads some number_is is
+refused_by text size journal rest number wrong.Seat reads some number_is is of =
+    wrong_at text size journal rest number wrong.Seat reads some number_is is
+refused_by text size journal rest number wrong.Command reads some number_is is of =
+    wrong_at text size journal rest number wrong.Command reads some number_is is
+refused_by text size journal rest number wrong.Answer reads some number_is is of =
+    wrong_at text size journal rest number wrong.Answer reads some number_is is
+refused_by text size journal rest number wrong.Full reads some number_is is of =
+    wrong_at text size journal rest number wrong.Full reads some number_is is
 refused_by text size journal rest number wrong.Unfinished reads some number_is is of =
     absurd (off (entry_at size journal rest) wrong.Unfinished of is)
 

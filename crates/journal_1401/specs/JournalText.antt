@@ -17,7 +17,7 @@ tab = 9
 abbrev pub line_feed : ℕ
 line_feed = 10
 
--- a field, and the tab behind it
+-- a field and its tab
 abbrev pub with_tab : List ℕ → List ℕ
 with_tab field = field ++ tab ∷ []
 

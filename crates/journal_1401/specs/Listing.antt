@@ -8,11 +8,11 @@ use Rattle.room_1401.specs.declared.entry.Entry.{Entry}
 use Rattle.journal_1401.specs.declared.listing.View.{View}
 use Rattle.journal_1401.specs.JournalText.{lines_by, with_feed}
 
--- how many columns a command has at the least
+-- the least number of columns that a command has
 abbrev pub command_columns : ℕ
 command_columns = 27
 
--- a text with blanks behind it, up to the columns of a command
+-- a text followed by blanks, up to the columns of a command
 abbrev pub padded : List ℕ → List ℕ
 padded text = text ++ replicate (command_columns - length text) 32
 
@@ -26,7 +26,7 @@ listed_line number entry =
     front_columns number entry.seat ++ padded (command_text entry.command) ++ codes "  "
     ++ with_feed (answer_text entry.answer)
 
--- whether a seat is listed: each one where none is named
+-- whether a seat is listed: each one if none is named
 abbrev pub is_seat : Option ℕ → ℕ → Bool
 is_seat None seat = true
 is_seat (Some named) seat = seat == named

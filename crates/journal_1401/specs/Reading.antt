@@ -5,9 +5,9 @@ use Rattle.std.specs.Prelude.{List, [], ◌∷◌, ◌++◌, length, take, drop,
 use Rattle.std.specs.Prelude.{Ok, Err}
 use Rattle.std.specs.List.{before_first, list_any}
 use Rattle.std.specs.Option.{ok_or}
-use Rattle.std.specs.Str.{bytes_eq}
 use Rattle.core_1401.specs.Storage.{core_sizes}
 use Rattle.notation_1401.specs.Digits.{digits_in, number_in}
+use Rattle.notation_1401.specs.Prefix.{after_prefix}
 use Rattle.command_1401.specs.declared.answer.Answer.{Answer}
 use Rattle.command_1401.specs.declared.command.Command.{Command}
 use Rattle.text_1401.specs.declared.line.Line.{Line}
@@ -29,32 +29,28 @@ abbrev pub ◌>>=◌ : {A B : Type 0} → Result A Wrong → (A → Result B Wro
 Ok value >>= more = more value
 Err why >>= more = Err why
 
--- what stands behind these bytes, where the text begins with them
-abbrev pub behind : List ℕ → List ℕ → Option (List ℕ)
-behind front text = if bytes_eq (take (length front) text) front then Some (drop (length front) text) else None
-
--- the first field of a text: what stands before its first tab
+-- the first field of a text: up to its first tab
 abbrev pub field : List ℕ → List ℕ
 field text = before_first (λ byte. byte == tab) text
 
--- what stands behind the number that is due
+-- what follows the number that is due
 unfoldable pub number_at : ℕ → List ℕ → Result (List ℕ) Wrong
-number_at number text = ok_or (behind (with_tab (digits_in 1 number)) text) wrong.Number
+number_at number text = ok_or (after_prefix (with_tab (digits_in 1 number)) text) wrong.Number
 
 -- a seat's number, if it is one
 abbrev pub if_seat : Option ℕ → Option ℕ
 if_seat None = None
 if_seat (Some number) = if nat_lt number 256 then Some number else None
 
--- the seat that a field names, in three digits at the most
+-- the seat that a field names, in at most three digits
 unfoldable pub seat_in : List ℕ → Option ℕ
 seat_in text = if nat_le (length text) 3 then if_seat (number_in text) else None
 
--- a seat, and what stands behind it
+-- a seat, and what follows it
 unfoldable pub seat_at : List ℕ → Result (ℕ × List ℕ) Wrong
 seat_at text = do
   seat ← ok_or (seat_in (field text)) wrong.Seat
-  rest ← ok_or (behind (with_tab (digits_in 1 seat)) text) wrong.Seat
+  rest ← ok_or (after_prefix (with_tab (digits_in 1 seat)) text) wrong.Seat
   Ok (seat, rest)
 
 -- the command that a line says, if it says one
@@ -65,19 +61,19 @@ if_command (Ok (line.Glance address)) = None
 if_command (Ok line.Quit) = None
 if_command (Err fault) = None
 
--- a command in its own text, and what stands behind it
+-- a command in its own text, and what follows it
 unfoldable pub command_at : List ℕ → Result (Command × List ℕ) Wrong
 command_at text = do
   command ← ok_or (if_command (said_by (field text))) wrong.Command
-  rest ← ok_or (behind (with_tab (command_text command)) text) wrong.Command
+  rest ← ok_or (after_prefix (with_tab (command_text command)) text) wrong.Command
   Ok (command, rest)
 
--- what stands behind the machine's answer and its line feed, where the journal has room for an entry more
+-- what follows the machine's answer and its line feed, if the journal has room for an entry more
 unfoldable pub answer_at : List Entry → Answer → List ℕ → Result (List ℕ) Wrong
 answer_at journal answer text =
-    if is_full journal then Err wrong.Full else ok_or (behind (with_feed (answer_text answer)) text) wrong.Answer
+    if is_full journal then Err wrong.Full else ok_or (after_prefix (with_feed (answer_text answer)) text) wrong.Answer
 
--- the entry that a text begins with behind these entries of a machine of this size, and what stands behind its line
+-- the entry that a text begins with after these entries of a machine of this size, and what follows its line
 unfoldable pub entry_at : ℕ → List Entry → List ℕ → Result (Entry × List ℕ) Wrong
 entry_at size journal text = do
   text ← number_at (length journal + 1) text
@@ -88,16 +84,16 @@ entry_at size journal text = do
 
 -- the size, of these, that the first line names
 abbrev pub size_among : List ℕ → List ℕ → Option ℕ
-size_among sizes text = find (λ size. is_some (behind (header_text size) text)) sizes
+size_among sizes text = find (λ size. is_some (after_prefix (header_text size) text)) sizes
 
 -- the size that the first line names
 unfoldable pub size_at : List ℕ → Option ℕ
 size_at text = size_among core_sizes text
 
--- The first line names this size, and this stands behind it.
+-- The first line names this size, and this follows it.
 pub record HasHeader (text : List ℕ) (size : ℕ) (rest : List ℕ) : Type 0 where
   pub size_is : size_at text ≡ Some size
-  pub rest_is : behind (header_text size) text ≡ Some rest
+  pub rest_is : after_prefix (header_text size) text ≡ Some rest
 
 -- why none of these sizes is read
 abbrev pub IsNoHeader : List ℕ → List ℕ → Wrong → Type 0
@@ -125,13 +121,13 @@ IsWhy read wrong.Answer = read ≡ Err wrong.Answer
 IsWhy read wrong.Full = read ≡ Err wrong.Full
 IsWhy read wrong.Unfinished = read ≡ Err wrong.Unfinished
 
--- The text is that of a journal, and behind it stands what is no line yet.
+-- The text is a journal's, followed by what is no line yet.
 pub record IsTextOf (text : List ℕ) (size : ℕ) (journal : List Entry) (rest : List ℕ) : Type 0 where
   pub of : IsJournal size journal
   pub text_is : text ≡ journal_text size journal ++ rest
   pub no_line : has_line rest ≡ false
 
--- What a call gives for a journal's text: the size, the journal, and what stands behind it.
+-- What a call gives for a journal's text: the size, the journal, and what follows it.
 pub record IsThat (size : ℕ) (journal : List Entry) (rest : List ℕ) (size' : ℕ) (journal' : List Entry)
     (rest' : List ℕ) : Type 0 where
   pub size_is : size ≡ size'
@@ -169,7 +165,7 @@ IsRefusedIn text number wrong.Unfinished = IsCut text number
 abbrev pub IsRefused : List ℕ → JournalFault → Type 0
 IsRefused text fault = IsRefusedIn text fault.line fault.why
 
--- What one entry read gives: the entry, the journal with it, and what stands behind its line.
+-- What one entry read gives: the entry, the journal with it, and what follows its line.
 pub record Takes (size : ℕ) (journal : List Entry) (text : List ℕ) (journal' : List Entry) (rest : List ℕ)
     : Type 0 where
   pub entry : Entry

@@ -35,7 +35,7 @@ pub enum Wrong {
 #[derive(Clone, Copy, Debug, PartialEq, Eq, Error)]
 #[error("line {line}: {why}")]
 pub struct JournalFault {
-    /// The line's number; the first line has 1, and entry N stands in line N + 1.
+    /// The line's number; the first line has 1, and entry N is line N + 1.
     pub line: u32,
     /// What is wrong with it.
     pub why: Wrong,

@@ -8,7 +8,7 @@ use room_1401::{Command, Entry};
 use std::alloc::{AllocError, Global};
 use text_1401::{put_command, reply_text};
 
-/// How many columns a command has at the least.
+/// The least number of columns that a command has.
 const COMMAND_COLUMNS: usize = 27;
 
 /// Which entries of a journal are listed.
@@ -89,7 +89,7 @@ fn put_front(text: &mut Vec<u8>, number: u64, seat: u8) -> Result<(), AllocError
     text.extend_from_slice(b"  ")
 }
 
-/// A command's text with blanks behind it, up to the columns of a command.
+/// A command's text, followed by blanks up to the columns of a command.
 fn padded(alloc: Global, command: &Command) -> Result<Vec<u8>, AllocError>
     ensures { IfOk result (λ text. text.items ≡ padded (command_text command.now)) }
 {

@@ -3,13 +3,14 @@ ghost use Rattle.std.specs.Prelude.{◌≡◌, ◌+◌, ◌==◌, ◌≤◌, ℕ
 ghost use Rattle.std.specs.Option.{ok_or};
 ghost use Rattle.std.specs.List.{position_or_len};
 ghost use Rattle.notation_1401.specs.Digits.{digits_in};
+ghost use Rattle.notation_1401.specs.Prefix.{after_prefix};
 ghost use Rattle.text_1401.specs.AnswerText.{answer_text};
 ghost use Rattle.text_1401.specs.CommandText.{command_text};
 ghost use Rattle.room_1401.specs.declared.entry.Entry.{Entry};
 ghost use Rattle.room_1401.specs.Journal.{IsLegal, most_entries};
 ghost use Rattle.journal_1401.specs.JournalText.{header_text, tab, with_feed, with_tab};
 ghost use Rattle.journal_1401.specs.Reading.{HasHeader, IsNoHeader, IsRefused, IsRefusedIn, IsTextOf, IsThat, IsWhy};
-ghost use Rattle.journal_1401.specs.Reading.{Takes, behind, command_at, entry_at, field, has_line, number_at, seat_at};
+ghost use Rattle.journal_1401.specs.Reading.{Takes, command_at, entry_at, field, has_line, number_at, seat_at};
 ghost use Rattle.journal_1401.specs.Reading.{seat_in, size_among};
 
 use crate::fault::{JournalFault, Wrong};
@@ -25,8 +26,8 @@ use text_1401::{Line, parse_line, put_command, reply_text};
 ///
 /// # Errors
 ///
-/// The first line that is none of a journal, and what is wrong with it; `Unfinished` where the text ends before its
-/// last line does. `Memory` where memory was refused before it was known.
+/// The first line that no journal has, and what is wrong with it; `Unfinished` if the text ends before its last line
+/// does. `Memory` if memory was refused before that was known.
 pub fn read_journal(alloc: Global, text: &[u8]) -> Result<Room, JournalFault>
     // What is read is the room whose journal's text this is.
     ensures read { IfOk result (λ room. IsTextOf text.now room.size room.journal []) }
@@ -54,7 +55,7 @@ pub fn read_journal(alloc: Global, text: &[u8]) -> Result<Room, JournalFault>
     }
 }
 
-/// As `read_journal`, where the last line may be unfinished: also gives what of it is there, which has no line feed.
+/// As `read_journal`, but the last line may be unfinished: also gives what there is of it, which has no line feed.
 ///
 /// # Errors
 ///
@@ -101,7 +102,7 @@ fn has_line(text: &[u8]) -> bool
     text.contains(&b'\n')
 }
 
-/// The size that the first line names, and what stands behind that line.
+/// The size that the first line names, and what follows that line.
 #[tactic(auto, unfolding(crate::specs::Reading::size_at))]
 fn split_first(alloc: Global, text: &[u8]) -> Result<(u16, &[u8]), Wrong>
     ensures ok { IfOk result (λ found. HasHeader text.now found.0 found.1.now) }
@@ -116,10 +117,10 @@ fn split_first(alloc: Global, text: &[u8]) -> Result<(u16, &[u8]), Wrong>
     }
 }
 
-/// The size, of these, that the first line names, and what stands behind that line.
+/// The size, of these, that the first line names, and what follows that line.
 fn split_header<'a>(alloc: Global, text: &'a [u8], sizes: &[u16]) -> Result<(u16, &'a [u8]), Wrong>
     ensures size { IfOk result (λ found. size_among sizes.now text.now ≡ Some found.0) }
-    ensures rest { IfOk result (λ found. behind (header_text found.0) text.now ≡ Some found.1.now) }
+    ensures rest { IfOk result (λ found. after_prefix (header_text found.0) text.now ≡ Some found.1.now) }
     ensures err { IfErr result (IsNoHeader sizes.now text.now) }
 {
     let [size, more @ ..] = sizes else {
@@ -144,7 +145,7 @@ fn header(alloc: Global, size: u16) -> Result<Vec<u8>, AllocError>
 }
 
 /// Reads the entry that a text begins with, has the machine carry its command out, and compares the answer. Gives what
-/// stands behind its line.
+/// follows its line.
 #[tactic(auto, unfolding(crate::specs::Reading::entry_at, crate::specs::Reading::answer_at))]
 fn read_entry<'a>(alloc: Global, room: &mut Room, text: &'a [u8]) -> Result<&'a [u8], Wrong>
     ensures read { IfOk result (λ rest. Takes room.old.size room.old.journal text.now room.new.journal rest.now) }
@@ -178,7 +179,7 @@ fn read_entry<'a>(alloc: Global, room: &mut Room, text: &'a [u8]) -> Result<&'a 
     }
 }
 
-/// How many bytes stand before the first tab.
+/// The number of bytes before the first tab.
 fn bytes_before_tab(text: &[u8]) -> usize
     ensures value { result ≡ position_or_len (λ byte. byte == tab) text.now }
     ensures bound { result ≤ length text.now }
@@ -186,14 +187,14 @@ fn bytes_before_tab(text: &[u8]) -> usize
     text.iter().take_while(|byte| **byte != b'\t').count()
 }
 
-/// What stands before the first tab.
+/// What is before the first tab.
 fn field(text: &[u8]) -> &[u8]
     ensures { result.now ≡ field text.now }
 {
     &text[..bytes_before_tab(text)]
 }
 
-/// What stands behind the number that is due and its tab.
+/// What follows the number that is due and its tab.
 #[tactic(auto, unfolding(crate::specs::Reading::number_at))]
 fn split_number(alloc: Global, number: u64, text: &[u8]) -> Result<&[u8], Wrong>
     ensures ok { IfOk result (λ rest. number_at number text.now ≡ Ok rest.now) }
@@ -205,7 +206,7 @@ fn split_number(alloc: Global, number: u64, text: &[u8]) -> Result<&[u8], Wrong>
     text.strip_prefix(front.as_slice()).ok_or(Wrong::Number)
 }
 
-/// A number with the tab behind it.
+/// A number and its tab.
 fn number_front(alloc: Global, number: u64) -> Result<Vec<u8>, AllocError>
     ensures { IfOk result (λ text. text.items ≡ with_tab (digits_in 1 number)) }
 {
@@ -215,7 +216,7 @@ fn number_front(alloc: Global, number: u64) -> Result<Vec<u8>, AllocError>
     Ok(text)
 }
 
-/// A seat, and what stands behind it and its tab.
+/// A seat, and what follows it and its tab.
 #[tactic(auto, unfolding(crate::specs::Reading::seat_at))]
 fn split_seat(alloc: Global, text: &[u8]) -> Result<(u8, &[u8]), Wrong>
     ensures ok { IfOk result (λ found. seat_at text.now ≡ Ok (found.0, found.1.now)) }
@@ -247,7 +248,7 @@ fn seat(text: &[u8]) -> Option<u8>
     }
 }
 
-/// A command in its own text, and what stands behind it and its tab.
+/// A command in its own text, and what follows it and its tab.
 #[tactic(auto, unfolding(crate::specs::Reading::command_at))]
 fn split_command(alloc: Global, text: &[u8]) -> Result<(Command, &[u8]), Wrong>
     ensures ok { IfOk result (λ found. command_at text.now ≡ Ok (found.0, found.1.now)) }
@@ -265,7 +266,7 @@ fn split_command(alloc: Global, text: &[u8]) -> Result<(Command, &[u8]), Wrong>
     }
 }
 
-/// A command's text with the tab behind it.
+/// A command's text and its tab.
 fn command_front(alloc: Global, command: &Command) -> Result<Vec<u8>, AllocError>
     ensures { IfOk result (λ text. text.items ≡ with_tab (command_text command.now)) }
 {
@@ -275,10 +276,11 @@ fn command_front(alloc: Global, command: &Command) -> Result<Vec<u8>, AllocError
     Ok(text)
 }
 
-/// What stands behind an answer and its line feed.
+/// What follows an answer and its line feed.
 fn split_answer<'a>(alloc: Global, answer: &Answer, text: &'a [u8]) -> Result<&'a [u8], Wrong>
-    ensures ok { IfOk result (λ rest. behind (with_feed (answer_text answer.now)) text.now ≡ Some rest.now) }
-    ensures why { IfErr result (IsWhy (ok_or (behind (with_feed (answer_text answer.now)) text.now) Wrong.Answer)) }
+    ensures ok { IfOk result (λ rest. after_prefix (with_feed (answer_text answer.now)) text.now ≡ Some rest.now) }
+    ensures why { IfErr result
+        (IsWhy (ok_or (after_prefix (with_feed (answer_text answer.now)) text.now) Wrong.Answer)) }
 {
     let Ok(front) = answer_front(alloc, answer) else {
         return Err(Wrong::Memory);
@@ -286,7 +288,7 @@ fn split_answer<'a>(alloc: Global, answer: &Answer, text: &'a [u8]) -> Result<&'
     text.strip_prefix(front.as_slice()).ok_or(Wrong::Answer)
 }
 
-/// An answer's text with the line feed behind it.
+/// An answer's text and its line feed.
 fn answer_front(alloc: Global, answer: &Answer) -> Result<Vec<u8>, AllocError>
     ensures { IfOk result (λ text. text.items ≡ with_feed (answer_text answer.now)) }
 {

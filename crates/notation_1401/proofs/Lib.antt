@@ -1,4 +1,5 @@
 pub mod DigitLemmas
 pub mod MissingLemmas
 pub mod NumberLemmas
+pub mod PrefixLemmas
 pub mod SpelledLemmas

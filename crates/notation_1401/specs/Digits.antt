@@ -12,7 +12,7 @@ digits_in width number = replicate (width - length (decimal number)) 48 ++ decim
 abbrev pub is_digit : ℕ → Bool
 is_digit byte = nat_le 48 byte && nat_le byte 57
 
--- the number that digits stand for, highest first
+-- the value of digits, highest first
 abbrev pub value_of : List ℕ → ℕ
 value_of digits = fold (λ number digit. 10 * number + (digit - 48)) 0 digits
 

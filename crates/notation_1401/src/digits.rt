@@ -19,7 +19,7 @@ pub fn put_digits(text: &mut Vec<u8>, width: u8, number: u64) -> Result<(), Allo
     Ok(())
 }
 
-/// The number that up to nine digits stand for, if all of the bytes are digits. Without a digit it is 0.
+/// The value of up to nine digits, if all of the bytes are digits. Without a digit it is 0.
 #[tactic(auto, unfolding(crate::specs::Digits::number_in))]
 pub fn read_digits(digits: &[u8]) -> Option<u32>
     requires { length digits.now ≤ most_read }

@@ -3,7 +3,7 @@ use std::marker::Brand;
 use std::sync::ledger::Ledger;
 
 /// What names one shared room: its ledger, its history, its size and the number of its seats. A function that makes a
-/// room is generic in it, and its caller picks what it stands for.
+/// room is generic in it, and its caller picks the names.
 pub trait Naming: Ledger {
     ghost use Rattle.std.specs.Prelude.{ℕ};
     ghost use Rattle.logbook.specs.Pages.{Book};

@@ -1,37 +1,42 @@
 -- The texts of answers, glances and faults of lines (own).
-use Rattle.std.specs.Prelude.{◌≡◌, ℕ, Bool, if◌then◌else◌, List, ◌++◌, length, drop, map}
-use Rattle.std.specs.Prelude.{Ok, codes}
-use Rattle.std.specs.List.{zip}
+use Rattle.std.specs.Prelude.{◌≡◌, ℕ, Bool, if◌then◌else◌, List, ◌++◌, length, drop}
+use Rattle.std.specs.Prelude.{false, Ok, codes, slice_index_or}
 use Rattle.bcd_1401.specs.declared.cell.Cell.{Cell}
 use Rattle.notation_1401.specs.Cells.{cell_text, cells_of, cells_text, spelled}
 use Rattle.notation_1401.specs.Digits.{digits_in}
 use Rattle.cpu_1401.specs.declared.regs.Regs.{Regs}
 use Rattle.cpu_1401.specs.declared.stop.Stop.{Stop}
+use Rattle.cpu_1401.specs.declared.switch_name.SwitchName.{SwitchName}
+use Rattle.cpu_1401.specs.declared.switch_name.SwitchName.TheVariants.{A, B, C, D, E, F, G}
 use Rattle.cpu_1401.specs.Stop.{stop_number, stop_name}
+use Rattle.cpu_1401.specs.SwitchName.{switch_number}
 use Rattle.devices_1401.specs.declared.card.Card.{Card}
 use Rattle.devices_1401.specs.declared.print_line.PrintLine.{PrintLine}
 use Rattle.command_1401.specs.declared.answer.Answer.{Answer}
 use Rattle.command_1401.specs.declared.answer.Answer.TheVariants as answer
-use Rattle.command_1401.specs.declared.answer.Refusal.{Refusal}
-use Rattle.command_1401.specs.declared.answer.Refusal.TheVariants as refusal
+use Rattle.command_1401.specs.RefusalText.{refusal_text}
 use Rattle.command_1401.specs.declared.command.Command.TheVariants as command
 use Rattle.text_1401.specs.declared.line.LineFault.{LineFault}
 use Rattle.text_1401.specs.declared.line.LineFault.TheVariants as line_fault
 use Rattle.text_1401.specs.declared.line.Line.TheVariants as line
 use Rattle.text_1401.specs.CardText.{graphics_of, trimmed}
 use Rattle.text_1401.specs.ConsoleLine.{feed_of}
+use Rattle.text_1401.specs.Words.{letter_of}
 
 -- an indicator: 1 if it is on
 abbrev pub indicator_text : Bool → List ℕ
 indicator_text on = if on then codes "1" else codes "0"
 
 -- the letter of a switch that is on, and - for one that is off
-abbrev pub switch_text : Bool → ℕ → ℕ
-switch_text on letter = if on then letter else 45
+abbrev pub switch_text : List Bool → SwitchName → List ℕ
+switch_text switches switch =
+    if slice_index_or switches (switch_number switch) false then letter_of switch else codes "-"
 
 -- the switches A to G
 unfoldable pub switches_text : List Bool → List ℕ
-switches_text switches = map (λ (switch : Bool × ℕ). switch_text switch.0 switch.1) (zip switches (codes "ABCDEFG"))
+switches_text on =
+    switch_text on A ++ switch_text on B ++ switch_text on C ++ switch_text on D ++ switch_text on E
+    ++ switch_text on F ++ switch_text on G
 
 -- the registers: five digits for an address, three for cards and lines, of which there are at most 500, four for
 -- the form and two for the line
@@ -60,15 +65,6 @@ line_text line =
 -- a card: its characters without the blanks at their end
 unfoldable pub card_text : Card → List ℕ
 card_text card = codes "CARD " ++ graphics_of (trimmed card.0)
-
--- a refusal by number and name
-abbrev pub refusal_text : Refusal → List ℕ
-refusal_text refusal.Address = codes "REFUSED 1 ADDRESS"
-refusal_text refusal.Hopper = codes "REFUSED 2 HOPPER"
-refusal_text refusal.Reader = codes "REFUSED 3 READER"
-refusal_text refusal.Empty = codes "REFUSED 4 EMPTY"
-refusal_text refusal.Limit = codes "REFUSED 5 LIMIT"
-refusal_text refusal.Count = codes "REFUSED 6 COUNT"
 
 -- an answer
 unfoldable pub answer_text : Answer → List ℕ

@@ -1,4 +1,4 @@
--- How a line may be typed (own): its words and numbers, whatever blanks stand between them.
+-- How a line may be typed (own): its words and numbers, with any blanks between them.
 use Rattle.std.specs.Prelude.{◌≡◌, ℕ, ◌^◌, ◌<◌, ◌≤◌, Bool, true, false, All, List, [], ◌∷◌, ◌++◌, length, drop}
 use Rattle.std.specs.Prelude.{replicate, codes}
 use Rattle.std.specs.Fmt.{decimal}

@@ -4,15 +4,16 @@ ghost use Rattle.notation_1401.specs.Digits.{digits_in};
 ghost use Rattle.notation_1401.specs.Cells.{cells_of, cells_text, spelled};
 ghost use Rattle.text_1401.specs.AnswerText.{answer_text, IsReadAgain, IsFedAgain};
 ghost use Rattle.text_1401.specs.AnswerText.{regs_text, ran_text};
-ghost use Rattle.text_1401.specs.AnswerText.{indicator_text, switch_text, switches_text, refusal_text};
+ghost use Rattle.text_1401.specs.AnswerText.{indicator_text, switch_text, switches_text};
 ghost use Rattle.text_1401.specs.AnswerText.{line_text, card_text, fault_text, glance_text};
 
 use crate::card_text::{put_chars, trimmed};
 use crate::line::LineFault;
+use crate::words::letter;
 use bcd_1401::Cell;
-use command_1401::{Answer, Refusal};
+use command_1401::Answer;
 use core_1401::Cells;
-use cpu_1401::{Regs, Stop};
+use cpu_1401::{Regs, Stop, SwitchName};
 use devices_1401::{Card, PrintLine};
 use notation_1401::{put_cell, put_cells, put_digits};
 use std::alloc::{AllocError, Global};
@@ -36,11 +37,11 @@ pub fn reply_text(alloc: Global, answer: &Answer) -> Result<Vec<u8>, AllocError>
         Answer::Ran { steps, stop, i } => ran_reply(alloc, *steps, *stop, *i),
         Answer::Line(line) => line_reply(alloc, line),
         Answer::Card(card) => card_reply(alloc, card),
-        Answer::Refused(why) => Vec::from_slice(alloc, refusal_reply(*why)),
+        Answer::Refused(why) => Vec::from_slice(alloc, why.text().as_bytes()),
     }
 }
 
-/// Cells by their graphics, each marked one with a tilde in front of it.
+/// Cells by their graphics, with a tilde before each marked one.
 fn cells_reply(alloc: Global, cells: &Cells) -> Result<Vec<u8>, AllocError>
     ensures text { IfOk result (λ text. text.items ≡ cells_text cells.now) }
     ensures again { IfOk result (λ text. cells_of (spelled text.items) ≡ Ok cells.now) }
@@ -132,37 +133,30 @@ fn put_indicator(text: &mut Vec<u8>, name: &[u8], on: bool) -> Result<(), AllocE
 }
 
 /// Adds a name, and then the letters of the switches that are on.
+#[tactic(auto, unfolding(crate::specs::AnswerText::switches_text))]
 fn put_switches(text: &mut Vec<u8>, name: &[u8], switches: [bool; 7]) -> Result<(), AllocError>
     ensures { OnOk result (text.new.items ≡ text.old.items ++ name.now ++ switches_text switches) }
 {
     text.extend_from_slice(name)?;
-    text.extend(
-        switches
-            .iter()
-            .zip(b"ABCDEFG")
-            .map(|(on, letter)| switch_letter(*on, *letter)),
-    )
+    put_switch_letter(text, switches, SwitchName::A)?;
+    put_switch_letter(text, switches, SwitchName::B)?;
+    put_switch_letter(text, switches, SwitchName::C)?;
+    put_switch_letter(text, switches, SwitchName::D)?;
+    put_switch_letter(text, switches, SwitchName::E)?;
+    put_switch_letter(text, switches, SwitchName::F)?;
+    put_switch_letter(text, switches, SwitchName::G)
 }
 
-/// The letter of a switch that is on, and - for one that is off.
-fn switch_letter(on: bool, letter: u8) -> u8
-    ensures { result ≡ switch_text on letter }
+/// Adds the letter of a switch that is on, and - for one that is off.
+fn put_switch_letter(
+    text: &mut Vec<u8>,
+    switches: [bool; 7],
+    switch: SwitchName,
+) -> Result<(), AllocError>
+    ensures { OnOk result (text.new.items ≡ text.old.items ++ switch_text switches switch) }
 {
-    if on { letter } else { b'-' }
-}
-
-/// The text of a refusal.
-fn refusal_reply(why: Refusal) -> &'static [u8]
-    ensures { result.now ≡ refusal_text why }
-{
-    match why {
-        Refusal::Address => b"REFUSED 1 ADDRESS",
-        Refusal::Hopper => b"REFUSED 2 HOPPER",
-        Refusal::Reader => b"REFUSED 3 READER",
-        Refusal::Empty => b"REFUSED 4 EMPTY",
-        Refusal::Limit => b"REFUSED 5 LIMIT",
-        Refusal::Count => b"REFUSED 6 COUNT",
-    }
+    let on = switches[usize::from(switch.number())];
+    text.extend_from_slice(if on { letter(switch) } else { b"-" })
 }
 
 /// A glance: after how many commands, and the cell there then.

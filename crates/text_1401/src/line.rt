@@ -46,7 +46,7 @@ pub enum LineFault {
     Graphic,
     /// 4: a text is too short or too long, or the line has more than 200 bytes.
     Length,
-    /// 5: something follows where the line should end.
+    /// 5: something follows the end of the line's command.
     Extra,
 }
 

@@ -98,7 +98,7 @@ fn blanks_in_front(text: &[u8]) -> usize
     text.iter().take_while(|byte| **byte == b' ').count()
 }
 
-/// How many bytes of a text stand before its first blank.
+/// The number of bytes before the first blank of a text.
 fn bytes_before_blank(text: &[u8]) -> usize
     ensures value { result ≡ position_or_len is_blank text.now }
     ensures bound { result ≤ length text.now }

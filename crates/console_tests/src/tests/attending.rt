@@ -10,7 +10,7 @@ use std::process::Abort;
 use std::sync::Wait;
 use std::test::Fail;
 
-/// Notes each call: `<` before a line is carried out and `>` after its reply is written, behind the seat's number and
+/// Notes each call: `<` before a line is carried out and `>` after its reply is written, after the seat's number and
 /// before the line's.
 #[derive(Drop)]
 struct Watch<'a> {
@@ -18,7 +18,7 @@ struct Watch<'a> {
 }
 
 impl Watch<'_> {
-    /// Adds a call, where there is memory for it.
+    /// Adds a call, if there is memory for it.
     fn note(&self, seat: u8, mark: u8, line: u64) {
         if let Ok(mut calls) = self.calls.try_borrow_mut() {
             let call = [b'0' + seat % 10, mark, b'0' + (line % 10) as u8];

@@ -1,9 +1,10 @@
 //! Reads and writes that fail.
 ghost use Rattle.std.specs.Prelude.{Some};
 
-use console_1401::{Failed, FromReader, ServeFault, SessionEnd, Sink, Source, ToWriter, session};
-use room_1401::Room;
+use crate::tests::{answers, hold};
+use console_1401::{Failed, FromReader, ServeFault, SessionEnd, Sink, Source, ToWriter};
 use std::alloc::Global;
+use std::process::Abort;
 use std::test::Fail;
 
 // Gives its bytes, and then fails.
@@ -43,7 +44,7 @@ impl Source for BreaksOff<'_> {
     }
 }
 
-// Takes `width` bytes at the most with each put, and fails once it has `limit` bytes.
+// Takes at most `width` bytes with each put, and fails once it has `limit` bytes.
 #[derive(Drop)]
 pub struct Narrow {
     pub received: Vec<u8>,
@@ -90,49 +91,60 @@ impl Sink for Narrow {
 
 #[test]
 fn a_failed_read_leaves_the_unfinished_line(rt: HostRuntime) -> Result<(), Fail> {
-    let mut room = Room::power_on(rt.alloc(), 4000)?;
     let mut reader = BreaksOff::new(b"DEPOSIT 0500 K\nEXAMINE 0500");
-    let mut writer = ToWriter::new(Vec::new(rt.alloc()));
-    let ended = session(rt.alloc(), &mut room, &mut reader, &mut writer);
+    let (ended, written, recorded) = answers(rt.alloc(), &mut reader)?;
     assert_eq!(rt; ended, SessionEnd::Read);
-    assert_eq!(rt; writer.into_inner().as_slice(), b"OK\n".as_slice());
-    assert_eq!(rt; room.journal().len(), 1);
+    assert_eq!(rt; written.as_slice(), b"OK\n".as_slice());
+    assert_eq!(rt; recorded, 1);
     Ok(())
 }
 
-#[test]
-fn a_failed_write_leaves_the_command(rt: HostRuntime) -> Result<(), Fail> {
-    for (width, limit, end, output, commands) in [
-        (1, 99, SessionEnd::EndOfInput, "OK\n~0K\n", 2),
-        (2, 99, SessionEnd::EndOfInput, "OK\n~0K\n", 2),
-        (3, 99, SessionEnd::EndOfInput, "OK\n~0K\n", 2),
-        (9, 0, SessionEnd::Write, "", 1),
-        (2, 2, SessionEnd::Write, "OK", 1),
-        (9, 3, SessionEnd::Write, "OK\n", 2),
-        (1, 6, SessionEnd::Write, "OK\n~0K", 2),
-    ] {
-        let mut room = Room::power_on(rt.alloc(), 4000)?;
-        let mut reader = FromReader::new(b"DEPOSIT 0500 ~0K\nEXAMINE 0500 2\n".as_slice());
-        let mut writer = Narrow::new(rt.alloc(), width, limit);
-        let ended = session(rt.alloc(), &mut room, &mut reader, &mut writer);
-        assert_eq!(rt; ended, end, "{width} {limit}");
+/// Compares how these lines are answered at sinks of these widths and limits: the end, the output, and the commands.
+pub fn expect_narrow(
+    rt: &impl Abort,
+    alloc: Global,
+    lines: &str,
+    rows: &[(usize, usize, SessionEnd, &str, usize)],
+) -> Result<(), Fail> {
+    for (width, limit, end, output, commands) in rows {
+        let mut reader = FromReader::new(lines.as_bytes());
+        let mut writer = Narrow::new(alloc, *width, *limit);
+        let (ended, recorded) = hold(alloc, &mut reader, &mut writer)?;
+        assert_eq!(rt; ended, *end, "{width} {limit}");
         assert_eq!(rt;
             writer.received.as_slice(),
             output.as_bytes(),
             "{width} {limit}"
         );
-        assert_eq!(rt; room.journal().len(), commands, "{width} {limit}");
+        assert_eq!(rt; recorded, *commands, "{width} {limit}");
     }
     Ok(())
 }
 
 #[test]
+fn a_failed_write_leaves_the_command(rt: HostRuntime) -> Result<(), Fail> {
+    expect_narrow(
+        &rt,
+        rt.alloc(),
+        "DEPOSIT 0500 ~0K\nEXAMINE 0500 2\n",
+        &[
+            (1, 99, SessionEnd::EndOfInput, "OK\n~0K\n", 2),
+            (2, 99, SessionEnd::EndOfInput, "OK\n~0K\n", 2),
+            (3, 99, SessionEnd::EndOfInput, "OK\n~0K\n", 2),
+            (9, 0, SessionEnd::Write, "", 1),
+            (2, 2, SessionEnd::Write, "OK", 1),
+            (9, 3, SessionEnd::Write, "OK\n", 2),
+            (1, 6, SessionEnd::Write, "OK\n~0K", 2),
+        ],
+    )
+}
+
+#[test]
 fn a_writer_that_takes_nothing_has_failed(rt: HostRuntime) -> Result<(), Fail> {
-    let mut room = Room::power_on(rt.alloc(), 4000)?;
     let mut space = [0; 4];
     let mut reader = FromReader::new(b"HELLO\nQUIT\n".as_slice());
     let mut writer = ToWriter::new(space.as_mut_slice());
-    let ended = session(rt.alloc(), &mut room, &mut reader, &mut writer);
+    let (ended, _) = hold(rt.alloc(), &mut reader, &mut writer)?;
     assert_eq!(rt; ended, SessionEnd::Write);
     assert_eq!(rt; space, *b"ERRO");
     Ok(())

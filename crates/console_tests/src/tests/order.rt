@@ -1,4 +1,4 @@
-//! The order of reads and writes, and that of a line and of what its console is told.
+//! The order of reads and writes, and of a line and what its console is told.
 ghost use Rattle.std.specs.Prelude.{◌≡◌};
 
 use console_1401::{Door, FromReader, SessionEnd, ToWriter, attend, session};
@@ -12,7 +12,7 @@ use std::process::Abort;
 use std::sync::Wait;
 use std::test::Fail;
 
-/// What a reader and a writer were asked, in order: each byte that was read stands as it is, the end of input as `.`,
+/// What a reader and a writer were asked, in order: each byte that was read as it is, the end of input as `.`,
 /// the bytes of a write in brackets, and what failed as `!`.
 type Record = RefCell<Vec<u8>>;
 
@@ -32,7 +32,7 @@ fn is_record(record: &Record, expected: &str) -> bool {
     }
 }
 
-/// Gives its bytes, and would give as many at once as it is asked for. Fails once, where `fails_at` bytes are left.
+/// Gives its bytes, and would give as many at once as it is asked for. Fails once, when `fails_at` bytes are left.
 #[derive(Drop)]
 struct Typed<'a> {
     bytes: &'a [u8],
@@ -57,7 +57,7 @@ impl Read for Typed<'_> {
     }
 }
 
-/// Takes `width` bytes at the most with each write. Fails once, where it has taken `fails_at` bytes.
+/// Takes at most `width` bytes with each write. Fails once, after `fails_at` bytes.
 #[derive(Drop)]
 struct Paper<'a> {
     width: usize,
@@ -90,7 +90,7 @@ impl Write for Paper<'_> {
 /// A place that isn't reached.
 const NEVER: usize = usize::MAX;
 
-/// The lines, on a reader that fails once where `fails_at` bytes are left.
+/// The lines, on a reader that fails once, when `fails_at` bytes are left.
 fn type_lines<'a>(record: &'a Record, lines: &'a str, fails_at: usize) -> Typed<'a> {
     Typed {
         bytes: lines.as_bytes(),
@@ -100,7 +100,7 @@ fn type_lines<'a>(record: &'a Record, lines: &'a str, fails_at: usize) -> Typed<
     }
 }
 
-/// A writer that takes `width` bytes at once, and fails once where it has taken `fails_at` bytes.
+/// A writer that takes `width` bytes at once, and fails once, after `fails_at` bytes.
 fn load_paper(record: &Record, width: usize, fails_at: usize) -> Paper<'_> {
     Paper {
         width,

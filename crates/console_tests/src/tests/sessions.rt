@@ -1,19 +1,8 @@
 //! Whole sessions at a new room, with their replies written by hand.
 
-use console_1401::{FromReader, SessionEnd, ToWriter, session};
-use room_1401::Room;
-use std::alloc::Global;
-use std::io;
+use crate::tests::answers;
+use console_1401::{FromReader, SessionEnd};
 use std::test::Fail;
-
-// How a session of these bytes ends, what it writes, and how many commands it leaves in the journal.
-fn answers(alloc: Global, input: &[u8]) -> Result<(SessionEnd, Vec<u8>, usize), Fail> {
-    let mut room = Room::power_on(alloc, 4000)?;
-    let mut reader = FromReader::new(input);
-    let mut writer = ToWriter::new(Vec::new(alloc));
-    let end = session(alloc, &mut room, &mut reader, &mut writer);
-    Ok((end, writer.into_inner(), room.journal().len()))
-}
 
 #[test]
 fn each_line_has_its_reply(rt: HostRuntime) -> Result<(), Fail> {
@@ -55,7 +44,10 @@ fn each_line_has_its_reply(rt: HostRuntime) -> Result<(), Fail> {
             0,
         ),
     ] {
-        let (ended, written, recorded) = answers(rt.alloc(), input.as_bytes())?;
+        let (ended, written, recorded) = answers(
+            rt.alloc(),
+            &mut FromReader::new(input.as_bytes()),
+        )?;
         assert_eq!(rt; ended, end, "{input}");
         assert_eq!(rt; written.as_slice(), output.as_bytes(), "{input}");
         assert_eq!(rt; recorded, commands, "{input}");
@@ -68,27 +60,16 @@ fn a_line_has_200_bytes_at_the_most(rt: HostRuntime) -> Result<(), Fail> {
     let mut input = [b' '; 214];
     input[..12].copy_from_slice(b"EXAMINE 0500");
     input[200..].copy_from_slice(b"\r\nEXAMINE 0600");
-    let (ended, written, recorded) = answers(rt.alloc(), &input)?;
+    let (ended, written, recorded) = answers(rt.alloc(), &mut FromReader::new(input.as_slice()))?;
     assert_eq!(rt; ended, SessionEnd::EndOfInput);
     assert_eq!(rt; written.as_slice(), b" \n \n".as_slice());
     assert_eq!(rt; recorded, 2);
 
     input[200] = b' ';
-    let (ended, written, recorded) = answers(rt.alloc(), &input)?;
+    let (ended, written, recorded) = answers(rt.alloc(), &mut FromReader::new(input.as_slice()))?;
     assert_eq!(rt; ended, SessionEnd::EndOfInput);
     assert_eq!(rt; written.as_slice(), b"ERROR 4 LENGTH\n \n".as_slice());
     assert_eq!(rt; recorded, 1);
-    Ok(())
-}
-
-#[test]
-fn endless_input_ends_at_the_bound(rt: HostRuntime) -> Result<(), Fail> {
-    let mut room = Room::power_on(rt.alloc(), 4000)?;
-    let mut reader = FromReader::new(io::repeat(b' '));
-    let mut writer = ToWriter::new(Vec::new(rt.alloc()));
-    let ended = session(rt.alloc(), &mut room, &mut reader, &mut writer);
-    assert_eq!(rt; ended, SessionEnd::Bound);
-    assert!(rt; writer.into_inner().is_empty());
     Ok(())
 }
 
@@ -97,7 +78,7 @@ fn forty_marked_cells_are_shown(rt: HostRuntime) -> Result<(), Fail> {
     let cells = "~A~B~C~D~E~F~G~H~I~J~K~L~M~N~O~P~Q~R~S~T~U~V~W~X~Y~Z~0~1~2~3~4~5~6~7~8~9~,~.~-~ ";
     let lines = format!(in rt.alloc(); "DEPOSIT 0500 {cells}\nEXAMINE 0500 40\nQUIT\n")?;
     let replies = format!(in rt.alloc(); "OK\n{cells}\nBYE\n")?;
-    let (ended, written, recorded) = answers(rt.alloc(), lines.as_bytes())?;
+    let (ended, written, recorded) = answers(rt.alloc(), &mut FromReader::new(lines.as_bytes()))?;
     assert_eq!(rt; ended, SessionEnd::Quit);
     assert_eq!(rt; written.as_slice(), replies.as_bytes());
     assert_eq!(rt; recorded, 2);
@@ -114,7 +95,7 @@ fn a_full_journal_takes_no_command(rt: HostRuntime) -> Result<(), Fail> {
     }
     lines.extend_from_slice(b"DEPOSIT 0500 K\nHELLO\nEXAMINE 0500\nQUIT\n")?;
     replies.extend_from_slice(b"FAULT 2 JOURNAL FULL\nERROR 1 WORD\nFAULT 2 JOURNAL FULL\nBYE\n")?;
-    let (ended, written, recorded) = answers(rt.alloc(), lines.as_slice())?;
+    let (ended, written, recorded) = answers(rt.alloc(), &mut FromReader::new(lines.as_slice()))?;
     assert_eq!(rt; ended, SessionEnd::Quit);
     assert!(rt; written == replies);
     assert_eq!(rt; recorded, 100_000);

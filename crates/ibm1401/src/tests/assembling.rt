@@ -2,11 +2,13 @@
 
 use crate::assembling::{check_size, write_assembly};
 use crate::fault::Fault;
-use arguments_1401::{Call, Product, read_call};
+use crate::source_faults::fault_lines;
+use arguments_1401::{Assembling, Call, Product, Told, read_call};
 use autocoder_1401::{AsmFault, AsmKind, assemble};
 use console_1401::{FromReader, SessionEnd, ToWriter, put_image, session};
 use core_1401::Core;
 use room_1401::Room;
+use std::alloc::Global;
 use std::process::Abort;
 use std::test::Fail;
 
@@ -138,16 +140,24 @@ fn a_size_that_is_not_made_is_refused(rt: HostRuntime) {
     }
 }
 
+/// What `assemble` asks for with these words behind it.
+fn asked_by(alloc: Global, words: &[&str]) -> Result<Assembling, Fail> {
+    match read_call(alloc, words)? {
+        Call::Assemble(asked) => Ok(asked),
+        _ => Err(Fail::new("these words ask for something else")),
+    }
+}
+
 #[test]
 fn a_source_is_named_with_its_size_and_what_is_written(rt: HostRuntime) -> Result<(), Fail> {
     for (words, size, product) in [
         (
-            ["ibm1401", "assemble", "a source", "", ""].as_slice(),
+            ["ibm1401", "assemble", "a source"].as_slice(),
             4_000,
             Product::Image,
         ),
         (
-            ["ibm1401", "assemble", "--list", "a source", ""].as_slice(),
+            ["ibm1401", "assemble", "--list", "a source"].as_slice(),
             4_000,
             Product::Listing,
         ),
@@ -157,17 +167,78 @@ fn a_source_is_named_with_its_size_and_what_is_written(rt: HostRuntime) -> Resul
             Product::Image,
         ),
     ] {
-        let count = words.iter().take_while(|word| !word.is_empty()).count();
-        let file = String::from_str(rt.alloc(), "a source")?;
-        let call = read_call(rt.alloc(), &words[..count])?;
-        assert_eq!(rt;
-            call,
-            Call::Assemble {
-                file,
-                size,
-                product
-            }
-        );
+        let asked = asked_by(rt.alloc(), words)?;
+        assert_eq!(rt; asked.file.as_str(), "a source");
+        assert_eq!(rt; (asked.size, asked.product), (size, product));
+        assert_eq!(rt; (asked.out.is_none(), asked.told), (true, Told::First));
     }
+    Ok(())
+}
+
+#[test]
+fn an_output_is_named_and_all_faults_are_asked_for(rt: HostRuntime) -> Result<(), Fail> {
+    for words in [
+        ["ibm1401", "assemble", "a source", "--all", "-o", "an image"].as_slice(),
+        [
+            "ibm1401",
+            "assemble",
+            "--output=an image",
+            "--all",
+            "a source",
+        ]
+        .as_slice(),
+    ] {
+        let asked = asked_by(rt.alloc(), words)?;
+        assert_eq!(rt; asked.file.as_str(), "a source");
+        assert_eq!(rt;
+            asked.out.as_ref().map(|name| name.as_str()),
+            Some("an image")
+        );
+        assert_eq!(rt; asked.told, Told::All);
+    }
+    Ok(())
+}
+
+#[test]
+fn each_fault_has_a_line_that_editors_read(rt: HostRuntime) -> Result<(), Fail> {
+    let mut faults = Vec::new(rt.alloc());
+    for (number, kind) in [
+        AsmKind::LongLine,
+        AsmKind::Graphic,
+        AsmKind::Label,
+        AsmKind::DoubleLabel,
+        AsmKind::Operation,
+        AsmKind::Undefined,
+        AsmKind::Operand,
+        AsmKind::OutOfCore,
+        AsmKind::NoEnd,
+        AsmKind::AfterEnd,
+        AsmKind::Memory,
+    ]
+    .iter()
+    .enumerate()
+    {
+        faults.push(AsmFault {
+            line: number as u64 + 2,
+            kind: *kind,
+        })?;
+    }
+    let lines = fault_lines(rt.alloc(), "a.source", faults.as_slice())?;
+    assert_eq!(rt;
+        lines.as_str(),
+        "\
+a.source:2:81: LONG LINE: a line has at most 80 columns
+a.source:3:1: GRAPHIC: a byte can't stand in its column
+a.source:4:6: LABEL: columns 6 to 15 hold no label, or lack one, or hold one where there is none
+a.source:5:6: DOUBLE LABEL: an earlier line has the same label
+a.source:6:16: OPERATION: columns 16 to 20 hold no operation, or a field has no areas above it
+a.source:7:21: UNDEFINED: a symbol is the label of no line, or for EQU and ORG of no earlier one
+a.source:8:21: OPERAND: the operands aren't as the operation asks
+a.source:9:1: OUT OF CORE: a place or an address isn't in core
+a.source:10:1: NO END: the source ends without END
+a.source:11:1: AFTER END: only comments may follow END
+a.source:12:1: MEMORY: memory was refused
+"
+    );
     Ok(())
 }

@@ -2,7 +2,7 @@
 
 use crate::fault::{Fault, report};
 use crate::job_report::JobReport;
-use crate::running::{job_outcome, tell_report};
+use crate::running::{job_outcome, tell_report, tell_small_letters};
 use crate::tests::recorder::Recorder;
 use arguments_1401::{Call, Job, Start, read_call};
 use cpu_1401::Stop;
@@ -37,6 +37,16 @@ fn each_end_of_a_job_is_one_line(rt: HostRuntime) -> Result<(), Fail> {
         assert_eq!(rt; text.as_str(), wanted.as_str());
     }
     assert!(rt; job_outcome(report_of(Stop::Halt, 0)).is_ok());
+    Ok(())
+}
+
+#[test]
+fn small_letters_of_a_deck_are_told(rt: HostRuntime) -> Result<(), Fail> {
+    let told = Recorder::new(rt.alloc());
+    tell_small_letters(&told, "a deck");
+    let text = told.text(rt.alloc())?;
+    let wanted = "ibm1401: a deck: small letters are read as capitals\n";
+    assert_eq!(rt; text.as_str(), wanted);
     Ok(())
 }
 

@@ -1,10 +1,15 @@
--- The cards so far and the lines that are left are as many as all lines.
+-- The cards so far, and those of the lines that are left behind them, are the deck.
 use Rattle.std.proofs.Common.{◌≡◌, ◌+◌, length}
 use Rattle.source_1401.specs.SourceLine.{lines_of}
+use Rattle.job_1401.specs.DeckText.{deck_from, deck_of}
+use Rattle.job_1401.proofs.DeckTextLemmas.{behind}
 use Rattle.job_1401.proofs.deck_text.read_deck.Given as goal
 
 abbrev pub invariant-loop-line : goal.invariant-loop-line
-invariant-loop-line l = length l.cards.items + length (lines_of l.rest) ≡ length (lines_of l.text)
+invariant-loop-line l = record {
+  deck : deck_of l.text ≡ behind l.cards.items (deck_from (length l.cards.items + 1) (lines_of l.rest));
+  count : length l.cards.items + length (lines_of l.rest) ≡ length (lines_of l.text);
+}
 
 abbrev pub decreases-loop-line : goal.decreases-loop-line
 decreases-loop-line l = length l.rest

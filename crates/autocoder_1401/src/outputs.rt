@@ -1,0 +1,158 @@
+//! What a source stands for, made line by line once all labels have their values: the segments of its image, and its
+//! listing.
+ghost use Rattle.std.specs.Prelude.{◌≡◌, ◌∷◌, ◌++◌, ◌+◌, ◌<◌, ◌^◌, ◌⊎◌, ℕ, List, [], length, map, Some, None, IfOk};
+ghost use Rattle.std.specs.Prelude.{IfErr, OnOk};
+ghost use Rattle.bcd_1401.specs.declared.cell.Cell.{Cell as ACell};
+ghost use Rattle.source_1401.specs.SourceLine.{lines_of};
+ghost use Rattle.source_1401.specs.Statement.{line_of};
+ghost use Rattle.autocoder_1401.specs.Built.{built};
+ghost use Rattle.autocoder_1401.specs.Cells.{place_of, numbered, statement_cells, cells_from};
+ghost use Rattle.autocoder_1401.specs.Fault.{IsMemory};
+ghost use Rattle.autocoder_1401.specs.Listing.{literal_lines, literals_in, line_for, listing_from};
+ghost use Rattle.autocoder_1401.specs.Placement.{nothing_placed, after_line};
+ghost use Rattle.autocoder_1401.specs.Segments.{segments_of};
+ghost use Rattle.autocoder_1401.specs.Values.{first_outside_from};
+ghost use Rattle.autocoder_1401.specs.View.{places_of};
+
+use crate::fault::{AsmFault, AsmKind};
+use crate::kept_line::KeptLine;
+use crate::listing::ListingLine;
+use crate::placing::Placing;
+use crate::segments::{Builder, lines_behind};
+use image_1401::Segment;
+use source_1401::split_line;
+use std::alloc::Global;
+
+/// What is made of the lines so far.
+#[derive(Drop)]
+pub(crate) struct Output {
+    /// What is placed so far.
+    pub so_far: Placing,
+    /// The segments.
+    pub builder: Builder,
+    /// The lines of the listing.
+    pub listing: Vec<ListingLine>,
+}
+
+/// The segments and the listing of a source.
+#[derive(Drop)]
+pub(crate) struct Made {
+    /// The segments.
+    pub segments: Vec<Segment>,
+    /// The lines of the listing.
+    pub listing: Vec<ListingLine>,
+}
+
+impl Output {
+    /// Makes what a line stands for, with these lines after it, and places it.
+    fn put_line(
+        &mut self,
+        alloc: Global,
+        all: &Placing,
+        number: u64,
+        source: &[u8],
+        line: &KeptLine,
+        behind: &[KeptLine],
+    ) -> Result<(), AsmFault>
+        ensures built { OnOk result ((rest : List (ℕ × ACell)) → built self.new.builder rest
+            ≡ built self.old.builder (numbered (place_of (places_of self.old.so_far).next)
+            (statement_cells (places_of all.now) (places_of self.old.so_far) line.now.statement behind.now) ++ rest)) }
+        ensures listed { OnOk result (self.new.listing.items ≡ self.old.listing.items
+            ++ (literal_lines (places_of self.old.so_far).next
+            (literals_in (places_of self.old.so_far) line.now.statement)
+            ++ line_for (places_of all.now) (places_of self.old.so_far) number source.now line.now.statement behind.now
+            ∷ [])) }
+        ensures placed { OnOk result
+            (places_of self.new.so_far ≡ after_line (places_of self.old.so_far) line.now) }
+        ensures err { IfErr result IsMemory }
+    {
+        self.builder
+            .put_line(alloc, all, &self.so_far, line, behind)?;
+        self.so_far.list_line(alloc, all, number, source, line, behind, &mut self.listing)?;
+        self.so_far.place(line)?;
+        Ok(())
+    }
+
+    /// Makes what the lines of a source stand for, up to the first of which something isn't in core.
+    fn put_lines(
+        &mut self,
+        alloc: Global,
+        all: &Placing,
+        size: u16,
+        source: &[u8],
+        lines: &[KeptLine],
+    ) -> Result<(), AsmFault>
+        requires lines { lines.now ≡ map line_of (lines_of source.now) }
+        requires few { length lines.now < 2 ^ 32 }
+        ensures inside { OnOk result
+            (first_outside_from size (places_of all.now) 1 (places_of self.old.so_far) lines.now ≡ None) }
+        ensures built { OnOk result (built self.new.builder []
+            ≡ built self.old.builder (cells_from (places_of all.now) (places_of self.old.so_far) lines.now)) }
+        ensures listed { OnOk result (self.new.listing.items ≡ self.old.listing.items
+            ++ listing_from (places_of all.now) (places_of self.old.so_far) 1 (lines_of source.now)) }
+        ensures err { IfErr result (λ fault. IsMemory fault
+            ⊎ (first_outside_from size (places_of all.now) 1 (places_of self.old.so_far) lines.now ≡ Some fault)) }
+    {
+        let mut sources = source;
+        for (i, line) in lines.iter().enumerate() {
+            if self.so_far.is_line_outside(size, all, line)? {
+                return Err(AsmFault {
+                    line: i as u64 + 1,
+                    kind: AsmKind::OutOfCore,
+                });
+            }
+            let Some((text, behind)) = split_line(sources) else {
+                unreachable!()
+            };
+            let later = lines_behind(lines, i);
+            self.put_line(alloc, all, i as u64 + 1, text, line, later)?;
+            sources = behind;
+        }
+        Ok(())
+    }
+
+    /// The segments and the listing.
+    fn finish(self) -> Result<Made, AsmFault>
+        ensures segments { IfOk result (λ made. made.segments.items ≡ built self.builder []) }
+        ensures listing { IfOk result (λ made. made.listing ≡ self.listing) }
+        ensures err { IfErr result IsMemory }
+    {
+        let segments = self.builder.finish()?;
+        Ok(Made {
+            segments,
+            listing: self.listing,
+        })
+    }
+}
+
+/// The segments and the listing of a source, which says these lines, once all is placed.
+///
+/// # Errors
+///
+/// `OutOfCore` for the first line of which something isn't in core; `Memory` if there is no room.
+pub(crate) fn make_outputs(
+    alloc: Global,
+    all: &Placing,
+    size: u16,
+    source: &[u8],
+    lines: &[KeptLine],
+) -> Result<Made, AsmFault>
+    requires lines { lines.now ≡ map line_of (lines_of source.now) }
+    requires few { length lines.now < 2 ^ 32 }
+    ensures inside { OnOk result (first_outside_from size (places_of all.now) 1 nothing_placed lines.now ≡ None) }
+    ensures segments { IfOk result (λ made. made.segments.items
+        ≡ segments_of (cells_from (places_of all.now) nothing_placed lines.now)) }
+    ensures listing { IfOk result (λ made. made.listing.items
+        ≡ listing_from (places_of all.now) nothing_placed 1 (lines_of source.now)) }
+    ensures err { IfErr result (λ fault. IsMemory fault
+        ⊎ (first_outside_from size (places_of all.now) 1 nothing_placed lines.now ≡ Some fault)) }
+{
+    let mut output = Output {
+        so_far: Placing::new(alloc, all.hashing),
+        builder: Builder::new(alloc),
+        listing: Vec::new(alloc),
+    };
+    output.put_lines(alloc, all, size, source, lines)?;
+    let made = output.finish()?;
+    Ok(made)
+}

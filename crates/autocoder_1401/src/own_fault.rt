@@ -1,0 +1,167 @@
+//! The faults of a line that don't only follow from one told before.
+ghost use Rattle.std.specs.Prelude.{◌≡◌, ◌<◌, ◌^◌};
+ghost use Rattle.indexmap.specs.IndexMap.{get};
+ghost use Rattle.autocoder_1401.specs.OwnFault.{loses_areas_at, before_next, own_bad_operation, is_late};
+ghost use Rattle.autocoder_1401.specs.OwnFault.{undefined_anywhere, own_undefined, own_in, told};
+ghost use Rattle.autocoder_1401.specs.Symbols.{same_label};
+
+use crate::fault::AsmKind;
+use crate::first_fault::{Place, has_double_label, has_undefined, is_undefined, lowest_kind};
+use crate::kept_line::KeptLine;
+use crate::symbols::Labels;
+use source_1401::{Addressing, AreaRole, Body, Bytes, OperandField, Statement};
+
+/// What the lines before a line tell of its faults.
+#[derive(Clone, Copy, Debug, PartialEq, Eq)]
+pub(crate) struct Before {
+    /// What they tell of it anyway.
+    pub at: Place,
+    /// Whether none of them has a fault.
+    pub is_clean: bool,
+    /// Whether a fault has lost the areas that a field here would divide.
+    pub lost_areas: bool,
+    /// Whether there is a statement between END and the line.
+    pub is_past_end: bool,
+    /// Whether the last statement has an operation that isn't known, and so may have been END.
+    pub lost_end: bool,
+}
+
+impl Before {
+    /// Before the first line.
+    pub(crate) const NOTHING: Before = Before {
+        at: Place::FIRST,
+        is_clean: true,
+        lost_areas: false,
+        is_past_end: false,
+        lost_end: false,
+    };
+
+    /// Whether a fault has lost the areas that a field after this statement would divide.
+    fn loses_areas(self, body: Body) -> bool
+        ensures { result ≡ loses_areas_at self body }
+    {
+        let row = body.describe();
+        match row.areas {
+            AreaRole::Ends => !row.is_known && (self.lost_areas || self.at.areas.is_some()),
+            AreaRole::Makes(None) => true,
+            AreaRole::Makes(Some(_)) => false,
+            AreaRole::Divides(_) => self.lost_areas,
+        }
+    }
+
+    /// What is before the line after this one.
+    pub(crate) fn next(self, labels: &Labels, line: &KeptLine) -> Before
+        requires { self.at.number < 2 ^ 33 }
+        ensures { result ≡ before_next (get same_label labels.now) self line.now }
+    {
+        let at = self.at.behind(line);
+        let is_clean = self.is_clean && lowest_kind(labels, self.at, line).is_none();
+        match line.line().statement {
+            Some(Statement { body, .. }) => Before {
+                at,
+                is_clean,
+                lost_areas: self.loses_areas(body),
+                is_past_end: self.is_past_end || self.at.is_ended,
+                lost_end: !body.describe().is_known,
+            },
+            None => Before {
+                at,
+                is_clean,
+                ..self
+            },
+        }
+    }
+
+    /// Whether the operation isn't known, or is a field under no areas that no fault has lost.
+    fn has_own_bad_operation(self, body: Body) -> bool
+        ensures { result ≡ own_bad_operation self body }
+    {
+        let is_field = matches!(body.describe().areas, AreaRole::Divides(_));
+        self.at.has_bad_operation(body) && !(self.lost_areas && is_field)
+    }
+}
+
+/// Whether an operand's symbol is the label of lines after END alone.
+fn is_late(labels: &Labels, anywhere: &Labels, field: OperandField) -> bool
+    ensures { result ≡ is_late (get same_label labels.now) (get same_label anywhere.now) field }
+{
+    is_undefined(labels, field) && !is_undefined(anywhere, field)
+}
+
+/// Whether a symbol here is the label of no line, those after END included.
+fn is_undefined_anywhere(labels: &Labels, anywhere: &Labels, addressing: Addressing) -> bool
+    ensures { result ≡ undefined_anywhere (get same_label labels.now) (get same_label anywhere.now) addressing }
+{
+    match addressing {
+        Addressing::Nothing => false,
+        Addressing::Addresses(operands) => {
+            is_undefined(anywhere, operands.a) || is_undefined(anywhere, operands.b)
+        },
+        Addressing::EarlierValue(operands) => !is_late(labels, anywhere, operands.a),
+        Addressing::Value(operands) | Addressing::Entry(operands) => {
+            is_undefined(anywhere, operands.a)
+        },
+    }
+}
+
+/// Whether a line here names a symbol that it can't, and not because END is too early.
+fn has_own_undefined(labels: &Labels, anywhere: &Labels, number: u64, body: Body) -> bool
+    ensures { result ≡ own_undefined (get same_label labels.now) (get same_label anywhere.now) number body }
+{
+    has_undefined(labels, number, body)
+        && is_undefined_anywhere(labels, anywhere, body.describe().addressing)
+}
+
+/// The lowest kind of a line's own faults, of a statement up to END.
+fn own_in_statement(
+    labels: &Labels,
+    anywhere: &Labels,
+    before: Before,
+    statement: Statement,
+) -> Option<AsmKind>
+    ensures { result ≡ own_in (get same_label labels.now) (get same_label anywhere.now) before statement }
+{
+    if before.at.has_bad_label(statement) {
+        return Some(AsmKind::Label);
+    }
+    if has_double_label(labels, before.at.number, statement.label) {
+        return Some(AsmKind::DoubleLabel);
+    }
+    if before.has_own_bad_operation(statement.body) {
+        return Some(AsmKind::Operation);
+    }
+    if has_own_undefined(labels, anywhere, before.at.number, statement.body) {
+        return Some(AsmKind::Undefined);
+    }
+    if before.at.has_bad_operands(statement) {
+        return Some(AsmKind::Operand);
+    }
+    None
+}
+
+/// What is told of a line.
+pub(crate) fn told_of(
+    labels: &Labels,
+    anywhere: &Labels,
+    before: Before,
+    line: &KeptLine,
+) -> Option<AsmKind>
+    ensures { result ≡ told (get same_label labels.now) (get same_label anywhere.now) before line.now }
+{
+    if before.is_clean {
+        return lowest_kind(labels, before.at, line);
+    }
+    match (line.line().bytes, line.line().statement) {
+        (Bytes::Long, _) => Some(AsmKind::LongLine),
+        (Bytes::Foreign, _) => Some(AsmKind::Graphic),
+        (Bytes::Good, None) => None,
+        (Bytes::Good, Some(_)) if before.at.is_ended => {
+            if before.is_past_end {
+                None
+            } else {
+                Some(AsmKind::AfterEnd)
+            }
+        },
+        (Bytes::Good, Some(statement)) => own_in_statement(labels, anywhere, before, statement),
+    }
+}

@@ -1,0 +1,88 @@
+//! The subcommand `assemble`, from the source's file to what is written.
+
+use crate::assembling::{assembly_text, check_size, write_assembly};
+use crate::fault::Fault;
+use crate::loading::read_file;
+use crate::source_faults::fault_lines;
+use crate::whole_file::write_whole;
+use arguments_1401::{Assembling, Product, Told};
+use autocoder_1401::{AsmKind, faults};
+use console_1401::ToWriter;
+use std::alloc::Global;
+use std::rt::Files;
+use std::{fs, io};
+
+/// Writes what a source stands for to standard output, or to the file of this name.
+fn write_product<R: Files + Print + AllocGlobal>(
+    rt: &R,
+    source: &[u8],
+    size: u16,
+    product: Product,
+    out: Option<String>,
+) -> Result<(), Fault> {
+    check_size(size)?;
+    match out {
+        Some(name) => {
+            let text = assembly_text(rt.alloc(), source, size, product)?;
+            write_whole(rt, name, text.as_slice())
+        }
+        None => {
+            let mut writer = ToWriter::new(io::writer(rt));
+            write_assembly(rt.alloc(), source, size, product, &mut writer)
+        }
+    }
+}
+
+/// The fault of a source of this name with each of its faults on a line of its own, in place of the first of them.
+fn all_told(alloc: Global, name: &str, source: &[u8], size: u16, first: Fault) -> Fault {
+    match faults(alloc, source, size) {
+        Ok(found) if !found.is_empty() => match fault_lines(alloc, name, found.as_slice()) {
+            Ok(lines) => Fault::Faulty(lines),
+            Err(_) => Fault::Memory,
+        },
+        Ok(_) => first,
+        Err(_) => Fault::Memory,
+    }
+}
+
+/// Assembles the source of a file, and writes its image or its listing.
+///
+/// # Errors
+///
+/// `Size` where no core storage of the size named is made, `Unread` where the file can't be read; `Source` or `Faulty`
+/// where it can't be assembled, and nothing is written then; `Output` or `Unwritten` where the text isn't written; or
+/// `Memory`.
+pub fn assemble_file<R: Files + Print + AllocGlobal>(
+    rt: &R,
+    asked: Assembling,
+) -> Result<(), Fault> {
+    let Assembling {
+        file,
+        size,
+        product,
+        out,
+        told,
+    } = asked;
+    check_size(size)?;
+    // Standard streams that are closed stay so: no file that is made takes the place of one.
+    let _input = fs::open(rt, "/").ok();
+    let _output = fs::open(rt, "/").ok();
+    let _errors = fs::open(rt, "/").ok();
+    let Ok(name) = file.clone() else {
+        return Err(Fault::Memory);
+    };
+    let source = read_file(rt, file)?;
+    match (
+        write_product(rt, source.as_slice(), size, product, out),
+        told,
+    ) {
+        (Err(Fault::Source(first)), Told::All) if first.kind != AsmKind::Memory => Err(all_told(
+            rt.alloc(),
+            name.as_str(),
+            source.as_slice(),
+            size,
+            Fault::Source(first),
+        )),
+        (outcome, Told::First | Told::All) => outcome,
+    }
+}
