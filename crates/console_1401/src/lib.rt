@@ -45,6 +45,3 @@ pub use sink::{Sink, put_all};
 pub use source::Source;
 pub use text_1401::{LINE_LIMIT, Line, LineFault, parse_line, reply_text};
 pub use to_writer::ToWriter;
-
-#[cfg(test)]
-mod tests;

@@ -44,10 +44,3 @@ pub use naming::Naming;
 pub use room::Room;
 pub use seat::{Glance, Seat, Told};
 pub use shared_room::SharedRoom;
-
-#[cfg(test)]
-mod fault_tests;
-#[cfg(test)]
-mod shared_room_tests;
-#[cfg(test)]
-mod tests;

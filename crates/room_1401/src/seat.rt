@@ -153,8 +153,8 @@ impl<J: Naming> Seat<J> {
         self.made
     }
 
-    /// How many commands it has seen.
-    pub(crate) fn len(&self) -> u64
+    /// How many commands it has seen, its own and those of other seats: the first so many of the journal.
+    pub fn len(&self) -> u64
         ensures { result ≡ length self.now.list }
     {
         self.front.len()

@@ -1,8 +1,0 @@
--- The room's names are those of what was opened.
-use Rattle.console_1401.proofs.tests.serving.consoles_go_on_after_a_refused_connection.Given as goal
-
-abbrev pub ghosts-no_connection-J-Ledger : goal.ghosts-no_connection-J-Ledger
-ghosts-no_connection-J-Ledger g a = record { name = a.opened.ledger; parts = a.opened.parts }
-
-abbrev pub ghosts-no_connection-J-Naming : goal.ghosts-no_connection-J-Naming
-ghosts-no_connection-J-Naming g a = record { book = a.opened.book; size = 1400; seats = 3 }

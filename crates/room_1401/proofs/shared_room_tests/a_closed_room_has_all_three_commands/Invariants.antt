@@ -1,8 +1,0 @@
--- The room's names are those of what was opened.
-use Rattle.room_1401.proofs.shared_room_tests.a_closed_room_has_all_three_commands.Given as goal
-
-abbrev pub ghosts-two_operators-J-Ledger : goal.ghosts-two_operators-J-Ledger
-ghosts-two_operators-J-Ledger g a = record { name = a.opened.ledger; parts = a.opened.parts }
-
-abbrev pub ghosts-two_operators-J-Naming : goal.ghosts-two_operators-J-Naming
-ghosts-two_operators-J-Naming g a = record { book = a.opened.book; size = 4000; seats = 2 }

@@ -1,8 +1,0 @@
--- The room's names are those of what was opened.
-use Rattle.room_1401.proofs.shared_room_tests.a_full_journal_is_seen_by_both_seats.Given as goal
-
-abbrev pub ghosts-full_journal-J-Ledger : goal.ghosts-full_journal-J-Ledger
-ghosts-full_journal-J-Ledger g a = record { name = a.opened.ledger; parts = a.opened.parts }
-
-abbrev pub ghosts-full_journal-J-Naming : goal.ghosts-full_journal-J-Naming
-ghosts-full_journal-J-Naming g a = record { book = a.opened.book; size = 1400; seats = 2 }

@@ -1,8 +1,0 @@
--- The room's names are those of what was opened.
-use Rattle.room_1401.proofs.shared_room_tests.a_seat_outlives_its_room.Given as goal
-
-abbrev pub ghosts-kept_back-J-Ledger : goal.ghosts-kept_back-J-Ledger
-ghosts-kept_back-J-Ledger g a = record { name = a.opened.ledger; parts = a.opened.parts }
-
-abbrev pub ghosts-kept_back-J-Naming : goal.ghosts-kept_back-J-Naming
-ghosts-kept_back-J-Naming g a = record { book = a.opened.book; size = 4000; seats = 1 }
