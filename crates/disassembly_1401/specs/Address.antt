@@ -1,4 +1,4 @@
--- An address in decimal (Autocoder, "Operand", "Indexing"; three digits at the least own).
+-- An address in decimal (Autocoder, "Operand", "Indexing"; at least three digits: own).
 use Rattle.std.specs.Prelude.{ℕ, ◌+◌, ◌/◌, ◌%◌, ◌==◌, nat_lt, if◌then◌else◌, List, [], ◌∷◌, ◌++◌, codes}
 use Rattle.bcd_1401.specs.Character.{zone_of}
 use Rattle.core_1401.specs.Address.{value_of}
@@ -7,7 +7,7 @@ use Rattle.core_1401.specs.Address.{value_of}
 abbrev pub digit : ℕ → ℕ
 digit number = 48 + number % 10
 
--- the digits in front of the last three, where there are any
+-- the digits before the last three, if there are any
 abbrev pub thousands_text : ℕ → List ℕ
 thousands_text value =
     if nat_lt value 1000 then []

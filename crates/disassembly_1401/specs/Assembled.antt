@@ -28,7 +28,7 @@ takes_d (kinds.Fixed graphic) (Some d) = graphic == d
 takes_d kinds.Optional d = true
 takes_d kinds.Required d = is_some d
 
--- whether a row of the assembler's mnemonics is for this operation, with so many addresses and this d-character
+-- whether a row of the assembler's mnemonics is for this operation, with this number of addresses and this d-character
 abbrev pub is_for : ℕ → ℕ → Option ℕ → ARow → Bool
 is_for operation addresses d row =
     (row.1 == operation) && nat_le row.2 addresses && nat_le addresses row.3 && takes_d row.4 d
@@ -43,7 +43,7 @@ is_spelling h t u =
     nat_lt (value_of h t u) addresses
     && bytes_eq (with_index (register_in t) (spelling_of (value_of h t u))) (h ∷ t ∷ u ∷ [])
 
--- whether the cells behind an operation are up to two addresses in that spelling, and a d-character or none
+-- whether the cells after an operation are up to two addresses in that spelling, and a d-character or none
 abbrev pub is_spelled : List Cell → Bool
 is_spelled [] = true
 is_spelled (d ∷ []) = true
@@ -65,7 +65,7 @@ has_word (operation ∷ behind) =
 abbrev pub IsOwn : Cell → Type 0
 IsOwn cell = position (λ each. each == graphic_of cell) graphics ≡ Some cell.char
 
--- the same of a d-character, where there is one
+-- the same of a d-character, if there is one
 abbrev pub IsOwnD : List Cell → Type 0
 IsOwnD [] = Unit {0}
 IsOwnD (d ∷ []) = IsOwn d
@@ -76,7 +76,7 @@ IsOwnD (h ∷ t ∷ u ∷ behind) = IsOwnD behind
 abbrev pub line_with : List ℕ → List ℕ
 line_with text = replicate 15 32 ++ text
 
--- a line without a fault of its own that places these cells, whatever stands around it and wherever it is placed
+-- a line without a fault of its own that places these cells, whatever is around it and wherever it is placed
 pub record IsAssembled (line : Line) (wanted : List Cell) : Type 0 where
   pub bytes : line.bytes ≡ bytes.Good
   pub label : option_map_or has_bad_label line.statement true ≡ false

@@ -29,7 +29,7 @@ abbrev pub as_instruction : List Cell → List ℕ
 as_instruction cells =
     map graphic_of cells ++ drop (length cells) (codes "        ") ++ codes " " ++ instruction_text cells
 
--- data by their characters, with a tilde in front of one with a word mark
+-- data by their characters, with a tilde before one with a word mark
 abbrev pub as_data : List Cell → List ℕ
 as_data cells = codes "         " ++ cells_text cells
 
@@ -37,7 +37,7 @@ as_data cells = codes "         " ++ cells_text cells
 abbrev pub what_stands : List Cell → List ℕ
 what_stands cells = if is_instruction cells then as_instruction cells else as_data cells
 
--- the line of a stretch: its address, and what stands there
+-- the line of a stretch: its address, and what is there
 unfoldable pub stretch_line : Segment → List ℕ
 stretch_line stretch =
     digits_in 5 stretch.address ++ codes " " ++ what_stands stretch.cells ++ codes "\n"
@@ -50,7 +50,7 @@ start_text start = number_text start ++ codes "\n"
 unfoldable pub entry_text : ℕ → List ℕ
 entry_text start = codes " END  " ++ start_text start
 
--- what stands behind the address of the last line
+-- what follows the address of the last line
 unfoldable pub end_text : ℕ → List ℕ
 end_text start = codes "         " ++ entry_text start
 

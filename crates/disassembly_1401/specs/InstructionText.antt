@@ -11,7 +11,7 @@ use Rattle.disassembly_1401.specs.declared.mnemonic.Mnemonic.{Mnemonic}
 abbrev pub graphic_of : Cell → ℕ
 graphic_of cell = slice_index graphics cell.char
 
--- how many addresses the cells behind an operation are
+-- how many addresses the cells after an operation are
 abbrev pub addresses_in : List Cell → ℕ
 addresses_in behind = length behind / 3
 
@@ -22,8 +22,8 @@ d_in (d ∷ []) = Some (graphic_of d)
 d_in (x ∷ y ∷ []) = None
 d_in (h ∷ t ∷ u ∷ behind) = d_in behind
 
--- addresses as far as there are any, and the character behind them, with commas; two characters that are neither an
--- address nor a d-character stand by themselves
+-- addresses as far as there are any, and the character after them, with commas; two characters that are neither an
+-- address nor a d-character are written as they are
 unfoldable pub operands_text : List Cell → List ℕ
 operands_text [] = []
 operands_text (d ∷ []) = graphic_of d ∷ []

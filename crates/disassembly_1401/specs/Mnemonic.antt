@@ -72,7 +72,7 @@ operations_with_d =
     (byte "2", 0, byte ")", codes "WM   ") ∷
     (byte "2", 1, byte ")", codes "WM   ") ∷ []
 
--- the mnemonic of an operation; a character that is none stands for itself
+-- the mnemonic of an operation; a character that is none is its own
 abbrev pub columns_of : ℕ → List ℕ
 columns_of operation =
     unwrap_or (option_map (λ (row : ARow). row.1) (find (λ (row : ARow). row.0 == operation) operations))
@@ -82,7 +82,7 @@ columns_of operation =
 abbrev pub is_switch : ℕ → Bool
 is_switch d = nat_le (byte "B") d && nat_le d (byte "G")
 
--- the mnemonic of an operation with a d-character behind its addresses: a branch by the character at its second address
+-- the mnemonic of an operation with a d-character after its addresses: a branch by the character at its second address
 -- and one by a sense switch have their own
 abbrev pub columns_before_d : ℕ → ℕ → ℕ → List ℕ
 columns_before_d operation addresses d =
@@ -98,7 +98,7 @@ abbrev pub row_or : Option ARowWithD → List ℕ → Mnemonic
 row_or None columns = record { columns = columns; says_d = false }
 row_or (Some row) columns = record { columns = row.3; says_d = true }
 
--- the mnemonic of an operation with so many addresses, and a d-character or none
+-- the mnemonic of an operation with this number of addresses, and a d-character or none
 abbrev pub mnemonic_of : ℕ → ℕ → Option ℕ → Mnemonic
 mnemonic_of operation addresses None = record { columns = columns_of operation; says_d = false }
 mnemonic_of operation addresses (Some d) =

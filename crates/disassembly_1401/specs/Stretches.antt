@@ -12,7 +12,7 @@ use Rattle.disassembly_1401.specs.declared.stretches.Builder.{Builder}
 abbrev pub placed_cells : List Segment → List (ℕ × Cell)
 placed_cells segments = flat_map (λ (segment : Segment). numbered segment.address segment.cells) segments
 
--- a cell goes on with a stretch where it stands at the next place and has no word mark
+-- a cell goes on with a stretch if it is at the next place and has no word mark
 abbrev pub goes_on : ℕ → List Cell → ℕ → Bool → Bool
 goes_on at cells next mark = (next == at + length cells) && not mark && nat_lt (length cells) most_cells
 
@@ -22,14 +22,14 @@ closed at cells =
     if nat_le 1 (length cells) && nat_le (length cells) most_cells
     then record { address = within at; cells = cells } ∷ [] else []
 
--- the stretches of the cells so far, and of those behind them
+-- the stretches of the cells so far, and of those after them
 abbrev pub cut : ℕ → List Cell → List (ℕ × Cell) → List Segment
 cut at cells [] = closed at cells
 cut at cells (next ∷ more) =
     if goes_on at cells next.0 next.1.mark then cut at (cells ++ next.1 ∷ []) more
     else closed at cells ++ cut next.0 (next.1 ∷ []) more
 
--- the stretches of segments: from each word mark up to the next one, or up to a gap, forty cells at the most
+-- the stretches of segments: from each word mark up to the next one, or up to a gap, at most 40 cells
 abbrev pub stretches_of : List Segment → List Segment
 stretches_of segments = cut 0 [] (placed_cells segments)
 

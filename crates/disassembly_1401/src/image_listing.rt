@@ -126,7 +126,7 @@ fn put_as_instruction(text: &mut Vec<u8>, cells: &[Cell]) -> Result<(), AllocErr
     put_instruction(text, cells)
 }
 
-/// Adds cells, as an instruction where they are one, else as data.
+/// Adds cells, as an instruction if they are one, else as data.
 fn put_what_stands(text: &mut Vec<u8>, cells: &Cells) -> Result<(), AllocError>
     ensures { OnOk result (text.new.items ≡ text.old.items ++ what_stands cells.now) }
 {
@@ -177,7 +177,7 @@ fn put_entry(text: &mut Vec<u8>, start: u16) -> Result<(), AllocError>
     put_start_number(text, start)
 }
 
-/// Adds what stands behind the address of the last line.
+/// Adds what follows the address of the last line.
 #[tactic(auto, unfolding(crate::specs::ImageListing::end_text))]
 fn put_end(text: &mut Vec<u8>, start: u16) -> Result<(), AllocError>
     ensures { OnOk result (text.new.items ≡ text.old.items ++ end_text start) }

@@ -16,7 +16,7 @@ fn digit(number: u16) -> u8
     b'0' + (number % 10) as u8
 }
 
-/// Adds the digits in front of the last three, where there are any.
+/// Adds the digits before the last three, if there are any.
 fn put_thousands(text: &mut Vec<u8>, number: u16) -> Result<(), AllocError>
     ensures { OnOk result (text.new.items ≡ text.old.items ++ thousands_text number) }
 {
@@ -61,7 +61,7 @@ fn put_address(text: &mut Vec<u8>, h: Char, t: Char, u: Char) -> Result<(), Allo
     put_index(text, index)
 }
 
-/// Adds addresses and the characters behind them, with commas.
+/// Adds addresses and the characters after them, with commas.
 #[tactic(auto, unfolding(crate::specs::InstructionText::operands_text))]
 fn put_operands(text: &mut Vec<u8>, cells: &[Cell]) -> Result<(), AllocError>
     ensures { OnOk result (text.new.items ≡ text.old.items ++ operands_text cells.now) }
@@ -84,7 +84,7 @@ fn put_operands(text: &mut Vec<u8>, cells: &[Cell]) -> Result<(), AllocError>
     }
 }
 
-/// The graphic of the d-character of an instruction, by the cells behind its operation; none where it has none.
+/// The graphic of the d-character of an instruction, by the cells after its operation, if it has one.
 fn d_in(behind: &[Cell]) -> Option<u8>
     ensures value { result ≡ d_in behind.now }
     ensures own { IsOwnD behind.now }

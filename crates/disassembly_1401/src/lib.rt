@@ -5,8 +5,8 @@
 //! list_image(alloc, &image)?              // 00600 M510509  MCW  510,509, and so on
 //! ```
 //!
-//! The text of an instruction is what stands from column 16 of a line on. Where the assembler has a word for the
-//! instruction, it makes the same cells of that line again.
+//! The text of an instruction is a source line from column 16 on. If the assembler has a word for the instruction, it
+//! makes the same cells of that line again.
 #![tactic(auto)]
 
 pub mod image_listing;

@@ -9,7 +9,7 @@ ghost use Rattle.disassembly_1401.specs.Mnemonic.{columns_before_d, is_of, mnemo
 pub struct Mnemonic {
     /// The columns 16 to 20.
     pub columns: [u8; 5],
-    /// Whether the mnemonic says the d-character, so that it isn't written behind the addresses.
+    /// Whether the mnemonic says the d-character, so that it isn't written after the addresses.
     pub says_d: bool,
 }
 
@@ -99,14 +99,14 @@ fn row_of(rows: &[Row], operation: u8) -> Option<Row>
     rows.iter().copied().find(|row| row.0 == operation)
 }
 
-/// The row of this operation with so many addresses and this d-character.
+/// The row of this operation with this number of addresses and this d-character.
 fn row_with_d(rows: &[RowWithD], operation: u8, addresses: u8, d: u8) -> Option<RowWithD>
     ensures { result ≡ find (is_of operation addresses d) rows.now }
 {
     rows.iter().copied().find(|row| row.0 == operation && row.1 == addresses && row.2 == d)
 }
 
-/// The mnemonic of an operation; a character that is none stands for itself.
+/// The mnemonic of an operation; a character that is none is its own.
 fn columns_of(operation: u8) -> [u8; 5]
     ensures { result ≡ columns_of operation }
 {
@@ -126,7 +126,7 @@ fn is_switch(d: u8) -> bool
     b'B' <= d && d <= b'G'
 }
 
-/// The mnemonic of an operation with a d-character behind its addresses.
+/// The mnemonic of an operation with a d-character after its addresses.
 fn columns_before_d(operation: u8, addresses: u8, d: u8) -> [u8; 5]
     ensures { result ≡ columns_before_d operation addresses d }
 {
@@ -140,8 +140,8 @@ fn columns_before_d(operation: u8, addresses: u8, d: u8) -> [u8; 5]
 }
 
 impl Mnemonic {
-    /// The mnemonic of an operation by its graphic, with so many addresses and a d-character, by its graphic, or none.
-    /// A character that is no operation stands for itself.
+    /// The mnemonic of an operation by its graphic, with this number of addresses and a d-character, by its graphic,
+    /// or none. A character that is no operation is its own mnemonic.
     pub fn of(operation: u8, addresses: u8, d: Option<u8>) -> Mnemonic
         ensures { result ≡ mnemonic_of operation addresses d }
     {

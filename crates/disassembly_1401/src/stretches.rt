@@ -22,7 +22,7 @@ pub(crate) struct Builder {
     pub cells: Vec<Cell>,
 }
 
-/// An address, and 0 where it is none.
+/// A place that is an address, or 0.
 fn within(at: usize) -> u16
     ensures { result ≡ within at }
 {
@@ -117,7 +117,7 @@ impl Builder {
     }
 }
 
-/// The stretches of segments: from each word mark up to the next one, or up to a gap, forty cells at the most.
+/// The stretches of segments: from each word mark up to the next one, or up to a gap, at most 40 cells.
 pub(crate) fn stretches(alloc: Global, segments: &[Segment]) -> Result<Vec<Segment>, AllocError>
     ensures { IfOk result (λ stretches. stretches.items ≡ stretches_of segments.now) }
 {
