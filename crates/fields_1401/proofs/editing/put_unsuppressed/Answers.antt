@@ -28,14 +28,14 @@ loop-i-preserved c =
     let place : ℕ = c.from-units.result - i in
     let own = c.char_at-own.result in
     let more : (after : List ℕ) (from next char : ℕ) (taken : Option ℕ)
-        → taken ≡ taken_down c.loop-i.chars o.a o.taken own c.loop-i.behind
-        → char ≡ shown o.taken c.args.rules.replaceable c.args.rules.sign c.loop-i.behind false taken own
-        → after ≡ set c.loop-i.chars place char
-        → ((is_replaceable own ≡ true) × (from ≡ c.loop-i.behind + 1))
-        ⊎ ((is_replaceable own ≡ false) × (from ≡ c.loop-i.behind))
-        → ((is_significant taken ≡ true) × (next ≡ o.len - 1 - i))
-        ⊎ ((is_significant taken ≡ false) × (next ≡ c.loop-i.significant))
-        → ArePut s after o.a o.taken o.b o.len (i + 1) from next =
+    → taken ≡ taken_down c.loop-i.chars o.a o.taken own c.loop-i.behind
+    → char ≡ shown o.taken c.args.rules.replaceable c.args.rules.sign c.loop-i.behind false taken own
+    → after ≡ set c.loop-i.chars place char
+    → ((is_replaceable own ≡ true) × (from ≡ c.loop-i.behind + 1))
+    ⊎ ((is_replaceable own ≡ false) × (from ≡ c.loop-i.behind))
+    → ((is_significant taken ≡ true) × (next ≡ o.len - 1 - i))
+    ⊎ ((is_significant taken ≡ false) × (next ≡ c.loop-i.significant))
+    → ArePut s after o.a o.taken o.b o.len (i + 1) from next =
     λ after from next char taken takes shows made counts tells.
     put_more s c.loop-i.chars after o.a o.taken o.b o.len i place c.loop-i.behind from c.loop-i.significant next own char
     c.args.rules.replaceable c.args.rules.sign taken c.requires.a o.a_above c.requires.b o.b_above o.apart (omega arith)
@@ -44,15 +44,21 @@ loop-i-preserved c =
     elim c.match-takes_of.branch [
       | in-Some w ↦ more c.match-takes_of.chars c.match-takes_of.behind c.match-takes_of.significant w.in-Some.char
           (Some w.in-Some.char) w.in-Some.ensures (sym (taken_plain w.in-Some.char)) (w.chars-is ∙ w.put_char.ensures)
-          (inl (takes_replaceable c.loop-i.chars o.a o.taken own c.loop-i.behind w.in-Some.char w.in-Some.ensures,
-          w.behind-is))
+          (inl (
+            takes_replaceable c.loop-i.chars o.a o.taken own c.loop-i.behind w.in-Some.char w.in-Some.ensures,
+            w.behind-is,
+          ))
           (elim w.if-not-is_replaceable.branch [
-            | then-not-is_replaceable v ↦ inl (significant_is w.in-Some.char
-                ∙ ap not (sym w.is_replaceable.ensures ∙ v.if-not-is_replaceable.true),
-                w.significant-is ∙ v.significant-is ∙ omega (arith, c.from-len.ensures))
-            | else-not-is_replaceable v ↦ inr (significant_is w.in-Some.char
-                ∙ ap not (sym w.is_replaceable.ensures ∙ v.if-not-is_replaceable.false),
-                w.significant-is ∙ v.significant-is)
+            | then-not-is_replaceable v ↦ inl (
+              significant_is w.in-Some.char
+                  ∙ ap not (sym w.is_replaceable.ensures ∙ v.if-not-is_replaceable.true),
+              w.significant-is ∙ v.significant-is ∙ omega (arith, c.from-len.ensures),
+            )
+            | else-not-is_replaceable v ↦ inr (
+              significant_is w.in-Some.char
+                  ∙ ap not (sym w.is_replaceable.ensures ∙ v.if-not-is_replaceable.false),
+              w.significant-is ∙ v.significant-is,
+            )
           ])
       | in-None+then-is_replaceable w ↦ more c.match-takes_of.chars c.match-takes_of.behind
           c.match-takes_of.significant w.kept_char.result None w.in-None.ensures
