@@ -1,5 +1,5 @@
 -- What cells say, wherever they stand.
-use Rattle.std.proofs.Common.{◌≡◌, ℕ, ◌+◌, ◌-◌, ◌<◌, ◌≤◌, suc, zero, min, Bool, true, false, List, [], ◌∷◌}
+use Rattle.std.proofs.Common.{◌≡◌, ◌≢◌, ◌⊎◌, ℕ, ◌+◌, ◌-◌, ◌<◌, ◌≤◌, suc, zero, min, Bool, true, false, List, [], ◌∷◌}
 use Rattle.std.proofs.Common.{length, arith, refl, sym, ◌∙◌, ap, subst, drop, cond, get_or, inl, inr, not}
 use Rattle.std.proofs.lemmas.Bool.{cases_lt, lt-ltb, le-leb, lt-leb}
 use Rattle.std.proofs.lemmas.List.{get_or-drop, length-drop, get_or_past}
@@ -13,6 +13,8 @@ use Rattle.core_1401.specs.EightCells.{AreEightCells, codes_at}
 use Rattle.core_1401.specs.Storage.{Storage, blank, cell_at}
 use Rattle.cpu_1401.specs.declared.decoded.Address.{Address}
 use Rattle.cpu_1401.specs.declared.decoded.Decoded.{Decoded}
+use Rattle.cpu_1401.specs.declared.decoded.Spelled.{Spelled}
+use Rattle.cpu_1401.specs.declared.decoded.Spelled.TheVariants.{Both, Only, NotAll}
 use Rattle.cpu_1401.specs.declared.operation.Operation.{Operation}
 use Rattle.cpu_1401.specs.Decoded.{AlwaysSay, IsAddress, Says}
 use Rattle.cpu_1401.specs.Instruction.{instruction_of, length_at, longest_at}
@@ -148,28 +150,54 @@ pub always_say : (s : Storage) (at codes marks : ℕ) (this : Decoded) → at + 
 always_say s at codes marks this inside are says =
     λ t to t_inside t_are. says_again s t at to this (same_cells s t at to codes marks inside t_inside are t_are) says
 
+-- a value of three
+cases_spelled : (spelled : Spelled) → (spelled ≡ Both) ⊎ ((spelled ≡ Only) ⊎ (spelled ≡ NotAll))
+cases_spelled Both = inl refl
+cases_spelled Only = inr (inl refl)
+cases_spelled NotAll = inr (inr refl)
+
 -- an address with its index register
 pub effective_is : (s : Storage) (at : ℕ) (address : Address) → IsAddress s at address
     → indexed_by s address.value address.register ≡ effective_at s at
 effective_is s at address is = rw (sym is.value, sym is.register) refl
+
+-- the A address of an instruction with an address
+pub a_of_one : (s : State) (this : Decoded) → Says s.storage s.i this → 4 ≤ this.len
+    → indexed_by s.storage this.a.value this.a.register ≡ (instruction_of this.operation this.len s).a
+a_of_one s this says h = rw (le-leb 4 this.len h) (effective_is s.storage (s.i + 1) this.a (says.a h))
 
 -- the B address of an instruction with two, and of one whose only address is for both
 pub b_of_two : (s : State) (this : Decoded) → Says s.storage s.i this → 7 ≤ this.len
     → indexed_by s.storage this.b.value this.b.register ≡ (instruction_of this.operation this.len s).b
 b_of_two s this says h = rw (le-leb 7 this.len h) (effective_is s.storage (s.i + 4) this.b (says.b h))
 
-pub plain_a_is : (s : State) (this : Decoded) → Says s.storage s.i this → this.is_plain ≡ true
-    → indexed_by s.storage this.a.value 0 ≡ (instruction_of this.operation this.len s).a
-plain_a_is s this says plain =
-    let h : 4 ≤ this.len = omega (arith, this.plain_len plain) in
-    rw (le-leb 4 this.len h) (ap (λ (n : ℕ). indexed_by s.storage this.a.value n) (sym (this.plain_a plain))
-    ∙ effective_is s.storage (s.i + 1) this.a (says.a h))
+-- an instruction that takes an address as it is spelled has it without an index register
+spelled_of : (this : Decoded) → this.spelled ≢ NotAll → (4 ≤ this.len) × (this.a.register ≡ 0)
+spelled_of this spelled =
+    elim (cases_spelled this.spelled) [
+      | inl both ↦ (omega (arith, this.both_len both), this.both_a both)
+      | inr (inl only) ↦ ((this.only_len only).0, this.only_a only)
+      | inr (inr not_all) ↦ absurd (spelled not_all)
+    ]
 
-pub plain_b_is : (s : State) (this : Decoded) → Says s.storage s.i this → this.is_plain ≡ true
+pub spelled_a_is : (s : State) (this : Decoded) → Says s.storage s.i this → this.spelled ≢ NotAll
+    → indexed_by s.storage this.a.value 0 ≡ (instruction_of this.operation this.len s).a
+spelled_a_is s this says spelled =
+    let of = spelled_of this spelled in
+    ap (λ (n : ℕ). indexed_by s.storage this.a.value n) (sym of.1) ∙ a_of_one s this says of.0
+
+pub spelled_b_is : (s : State) (this : Decoded) → Says s.storage s.i this → this.spelled ≡ Both
     → indexed_by s.storage this.b.value 0 ≡ (instruction_of this.operation this.len s).b
-plain_b_is s this says plain =
-    ap (λ (n : ℕ). indexed_by s.storage this.b.value n) (sym (this.plain_b plain))
-    ∙ b_of_two s this says (this.plain_len plain)
+spelled_b_is s this says both =
+    ap (λ (n : ℕ). indexed_by s.storage this.b.value n) (sym (this.both_b both))
+    ∙ b_of_two s this says (this.both_len both)
+
+-- beside an only address for the A register the B register stays
+pub only_b_is : (s : State) (this : Decoded) → Says s.storage s.i this → this.spelled ≡ Only
+    → s.b ≡ (instruction_of this.operation this.len s).b
+only_b_is s this says only =
+    let len = this.only_len only in
+    rw (lt-leb 7 this.len len.1, le-leb 4 this.len len.0, this.only_alone only) refl
 
 pub b_of_one : (s : State) (this : Decoded) → Says s.storage s.i this → 4 ≤ this.len → this.len < 7
     → (form_of this.operation).loads_both ≡ true

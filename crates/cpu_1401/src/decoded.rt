@@ -1,6 +1,8 @@
 //! What an instruction says by itself, whatever the registers hold.
-ghost use Rattle.std.specs.Prelude.{◌≡◌, ◌<◌, ◌≤◌, true};
+ghost use Rattle.std.specs.Prelude.{◌≡◌, ◌<◌, ◌≤◌, false};
 ghost use Rattle.core_1401.specs.Address.{addresses};
+ghost use Rattle.cpu_1401.specs.Operation.{form_of};
+ghost use Rattle.cpu_1401.specs.declared.decoded.Spelled.{Spelled};
 
 use crate::operation::Operation;
 use bcd_1401::Char;
@@ -16,6 +18,17 @@ pub(crate) struct Address {
     ghost register_range: { register < 4 },
 }
 
+/// Which addresses an instruction takes as they are spelled.
+#[derive(Clone, Copy)]
+pub(crate) enum Spelled {
+    /// Both of its two.
+    Both,
+    /// Its only one, which goes into the A register alone.
+    Only,
+    /// Not all: it has none, or one for both registers, or an index register.
+    NotAll,
+}
+
 /// What an instruction says by itself.
 #[derive(Clone, Copy)]
 pub(crate) struct Decoded {
@@ -29,26 +42,40 @@ pub(crate) struct Decoded {
     pub(crate) a: Address,
     /// The B address, if it has two.
     pub(crate) b: Address,
-    /// Whether it has two addresses, and neither has an index register.
-    pub(crate) is_plain: bool,
+    /// Which addresses it takes as they are spelled.
+    pub(crate) spelled: Spelled,
     ghost some: { 0 < len },
     ghost most: { len ≤ 8 },
-    ghost plain_len: { is_plain ≡ true → 7 ≤ len },
-    ghost plain_a: { is_plain ≡ true → a.register ≡ 0 },
-    ghost plain_b: { is_plain ≡ true → b.register ≡ 0 },
+    ghost both_len: { spelled ≡ Spelled.Both → 7 ≤ len },
+    ghost both_a: { spelled ≡ Spelled.Both → a.register ≡ 0 },
+    ghost both_b: { spelled ≡ Spelled.Both → b.register ≡ 0 },
+    ghost only_len: { spelled ≡ Spelled.Only → (4 ≤ len) × (len < 7) },
+    ghost only_a: { spelled ≡ Spelled.Only → a.register ≡ 0 },
+    ghost only_alone: { spelled ≡ Spelled.Only → (form_of operation).loads_both ≡ false },
 }
 
-/// Whether an instruction of this length has two addresses, and neither of these has an index register.
-pub(crate) fn is_plain(len: u16, a: Address, b: Address) -> bool
-    ensures len { result ≡ true → 7 ≤ len }
-    ensures a { result ≡ true → a.register ≡ 0 }
-    ensures b { result ≡ true → b.register ≡ 0 }
+/// Which addresses of an instruction of this length are taken as they are spelled.
+pub(crate) fn as_spelled(operation: Operation, len: u16, a: Address, b: Address) -> Spelled
+    ensures both_len { result ≡ Spelled.Both → 7 ≤ len }
+    ensures both_a { result ≡ Spelled.Both → a.register ≡ 0 }
+    ensures both_b { result ≡ Spelled.Both → b.register ≡ 0 }
+    ensures only_len { result ≡ Spelled.Only → (4 ≤ len) × (len < 7) }
+    ensures only_a { result ≡ Spelled.Only → a.register ≡ 0 }
+    ensures only_alone { result ≡ Spelled.Only → (form_of operation).loads_both ≡ false }
 {
+    if len < 4 || a.register != 0 {
+        return Spelled::NotAll;
+    }
     if len < 7 {
-        return false;
+        return if operation.loads_both() {
+            Spelled::NotAll
+        } else {
+            Spelled::Only
+        };
     }
-    if a.register != 0 {
-        return false;
+    if b.register == 0 {
+        Spelled::Both
+    } else {
+        Spelled::NotAll
     }
-    b.register == 0
 }

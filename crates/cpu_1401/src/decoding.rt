@@ -6,7 +6,7 @@ ghost use Rattle.cpu_1401.specs.Instruction.{begins_at, length_at, longest_at};
 ghost use Rattle.cpu_1401.specs.Step.{step};
 ghost use Rattle.cpu_1401.specs.Stepped.{stopped};
 
-use crate::decoded::{Address, Decoded, is_plain};
+use crate::decoded::{Address, Decoded, as_spelled};
 use crate::machine::Machine;
 use crate::operation::{Operation, is_unfitted};
 use crate::stop::Stop;
@@ -47,7 +47,7 @@ impl Machine {
             d: self.core.get(self.i + len - 1).char,
             a,
             b,
-            is_plain: is_plain(len, a, b),
+            spelled: as_spelled(operation, len, a, b),
         })
     }
 

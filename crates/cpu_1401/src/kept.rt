@@ -3,7 +3,7 @@ ghost use Rattle.std.specs.Prelude.{◌≡◌, ◌+◌, ◌<◌, ◌≤◌, IfOk
 ghost use Rattle.core_1401.specs.Address.{addresses};
 ghost use Rattle.cpu_1401.specs.Decoded.{AlwaysSay, Says};
 
-use crate::decoded::{Address, Decoded};
+use crate::decoded::{Address, Decoded, Spelled};
 use crate::operation::Operation;
 use bcd_1401::Char;
 use core_1401::{Core, EightCells};
@@ -100,7 +100,7 @@ fn nothing_kept() -> Kept {
             d: Char::BLANK,
             a: none,
             b: none,
-            is_plain: false,
+            spelled: Spelled::NotAll,
         },
     }
 }

@@ -1,5 +1,5 @@
 //! One step of the machine: the instruction, kept or decoded, then what the operation does.
-ghost use Rattle.std.specs.Prelude.{◌≡◌, ◌≢◌, ◌<◌, length, true, Some, IfSome, IfOk, IfErr};
+ghost use Rattle.std.specs.Prelude.{◌≡◌, ◌≢◌, ◌<◌, length, Some, IfSome, IfOk, IfErr};
 ghost use Rattle.core_1401.specs.Address.{addresses};
 ghost use Rattle.cpu_1401.specs.Instruction.{instruction_of};
 ghost use Rattle.cpu_1401.specs.Step.{perform, step};
@@ -7,7 +7,7 @@ ghost use Rattle.cpu_1401.specs.Decoded.{Says};
 ghost use Rattle.cpu_1401.specs.Stepped.{stopped};
 
 use crate::asked::CardWork;
-use crate::decoded::Decoded;
+use crate::decoded::{Decoded, Spelled};
 use crate::instruction::Instruction;
 use crate::machine::Machine;
 use crate::operation::Operation;
@@ -74,46 +74,54 @@ impl Machine {
         } else {
             self.i + len - ADDRESSES
         };
-        if said.is_plain {
-            return Instruction {
-                len,
-                a: self.plain_a(said),
-                b: self.plain_b(said),
-                next,
-                d: said.d,
-            };
-        }
+        let (a, b) = match said.spelled {
+            Spelled::Both => (self.spelled_a(said), self.spelled_b(said)),
+            Spelled::Only => (self.spelled_a(said), self.only_b(said)),
+            Spelled::NotAll => (self.a_address(said), self.b_address(said)),
+        };
         Instruction {
             len,
-            a: self.a_address(said),
-            b: self.b_address(said),
+            a,
+            b,
             next,
             d: said.d,
         }
     }
 
-    /// The A address of an instruction with two and without index registers.
+    /// The A address of an instruction that takes it as it is spelled.
     #[inline(always)]
-    #[tactic(auto, using(crate::proofs::DecodedLemmas::plain_a_is))]
-    fn plain_a(&self, said: &Decoded) -> u16
+    #[tactic(auto, using(crate::proofs::DecodedLemmas::spelled_a_is))]
+    fn spelled_a(&self, said: &Decoded) -> u16
         requires says { Says self.now.storage self.now.i said.now }
-        requires plain { said.now.is_plain ≡ true }
+        requires spelled { said.now.spelled ≢ Spelled.NotAll }
         ensures value { result ≡ (instruction_of said.now.operation said.now.len self.now).a }
         ensures range { result < addresses }
     {
         self.core.indexed(said.a.value, 0)
     }
 
-    /// The B address of an instruction with two and without index registers.
+    /// The B address of an instruction that takes both as they are spelled.
     #[inline(always)]
-    #[tactic(auto, using(crate::proofs::DecodedLemmas::plain_b_is))]
-    fn plain_b(&self, said: &Decoded) -> u16
+    #[tactic(auto, using(crate::proofs::DecodedLemmas::spelled_b_is))]
+    fn spelled_b(&self, said: &Decoded) -> u16
         requires says { Says self.now.storage self.now.i said.now }
-        requires plain { said.now.is_plain ≡ true }
+        requires both { said.now.spelled ≡ Spelled.Both }
         ensures value { result ≡ (instruction_of said.now.operation said.now.len self.now).b }
         ensures range { result < addresses }
     {
         self.core.indexed(said.b.value, 0)
+    }
+
+    /// The B address beside an only one that goes into the A register alone: the B register as it stands.
+    #[inline(always)]
+    #[tactic(auto, using(crate::proofs::DecodedLemmas::only_b_is))]
+    fn only_b(&self, said: &Decoded) -> u16
+        requires says { Says self.now.storage self.now.i said.now }
+        requires only { said.now.spelled ≡ Spelled.Only }
+        ensures value { result ≡ (instruction_of said.now.operation said.now.len self.now).b }
+        ensures range { result < addresses }
+    {
+        self.b
     }
 
     /// What the instruction has for its A address: its own, or the A register as it stands.

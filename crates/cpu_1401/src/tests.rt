@@ -8,6 +8,8 @@ use fields_1401::FieldStop;
 use std::process::Abort;
 use std::test::Fail;
 
+mod rewritten;
+
 /// Puts cells from a place on: a graphic each, with a word mark where a `~` stands before it.
 fn put(rt: &impl Abort, machine: &mut Machine, at: u16, text: &[u8]) {
     let mut mark = false;

@@ -6,6 +6,7 @@ mod CompareExamples
 pub mod CompareLemmas
 mod EditExamples
 mod EditLemmas
+mod EditPassLemmas
 mod ExampleCells
 mod ExampleGraphics
 mod FieldLemmas

@@ -31,11 +31,11 @@ pub(crate) fn unzoned_char(core: &Core, at: u16, n: u16, i: u16) -> Char
 
 /// The character of place i, counted from the units at an address: the units without their zone.
 #[inline(always)]
-pub(crate) fn unzoned_down(chars: &[Char], at: u16, i: u16) -> Char
+pub(crate) fn unzoned_down(chars: &[Char], at: usize, i: usize) -> Char
     requires at { at < length chars.now }
     requires i { i ≤ at }
     ensures { result ≡ unzoned_down chars.now at i }
 {
-    let char = chars[usize::from(at - i)];
+    let char = chars[at - i];
     if i == 0 { char.with_zone(0) } else { char }
 }

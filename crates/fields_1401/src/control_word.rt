@@ -4,7 +4,7 @@ ghost use Rattle.std.specs.Prelude.{IfSome};
 ghost use Rattle.core_1401.specs.Address.{addresses};
 ghost use Rattle.core_1401.specs.Field.{field_len_of};
 ghost use Rattle.fields_1401.specs.Across.{chars_across};
-ghost use Rattle.fields_1401.specs.Edit.{is_replaceable, replaceable_in, taken_down, is_significant};
+ghost use Rattle.fields_1401.specs.Edit.{is_replaceable, replaceable_in, taken_down};
 ghost use Rattle.fields_1401.specs.Edit.{limit_of, taken_at, is_shared, edit_lengths_at};
 ghost use Rattle.fields_1401.specs.Refusal.{used_len_of};
 
@@ -86,12 +86,12 @@ impl ControlWord {
     /// What a place with this character takes of the A field, by how many replaceable places stand right of it: of the
     /// characters by address.
     #[inline(always)]
-    pub(crate) fn takes_of(self, chars: &[Char], own: Char, behind: u16) -> Option<Char>
+    pub(crate) fn takes_of(self, chars: &[Char], own: Char, behind: usize) -> Option<Char>
         requires { self.a < length chars.now }
         ensures { result ≡ taken_down chars.now self.a self.taken own behind }
     {
-        if is_replaceable(own) && behind < self.taken {
-            Some(unzoned_down(chars, self.a, behind))
+        if is_replaceable(own) && behind < usize::from(self.taken) {
+            Some(unzoned_down(chars, usize::from(self.a), behind))
         } else {
             None
         }
@@ -104,19 +104,6 @@ pub(crate) fn is_replaceable(char: Char) -> bool
     ensures { result ≡ is_replaceable char }
 {
     (REPLACEABLE >> char.code()) & 1 == 1
-}
-
-/// Whether what a place took is a character other than zero and blank.
-pub(crate) fn is_significant(taken: Option<Char>) -> bool
-    ensures { result ≡ is_significant taken }
-{
-    match taken {
-        Some(char) => {
-            let code = char.code();
-            !(code == ZERO || code == 0)
-        }
-        None => false,
-    }
 }
 
 /// How many replaceable places n places that end at an address have.

@@ -6,13 +6,13 @@ ghost use Rattle.core_1401.specs.Storage.{Storage};
 ghost use Rattle.fields_1401.specs.Across.{chars_across, units_unzoned, with_across, char_to, IsUnmarked};
 ghost use Rattle.fields_1401.specs.Across.{IsSameOutside};
 ghost use Rattle.fields_1401.specs.Edit.{replaceable_in, before_significant, is_left_over, is_comma_blanked};
-ghost use Rattle.fields_1401.specs.Edit.{is_sign_char, is_sign_blanked, is_blanked, kept_char, shown, unsuppressed};
+ghost use Rattle.fields_1401.specs.Edit.{is_sign_char, is_sign_blanked, is_blanked, kept_char, unsuppressed};
 ghost use Rattle.fields_1401.specs.Edit.{edited, sign_at, taken_at, edit_at, suppressed_to, without_zero, IsPlain};
 ghost use Rattle.fields_1401.specs.Edit.{ShowsWithBlanks};
 ghost use Rattle.fields_1401.specs.Outcome.{CarriesOut};
 ghost use Rattle.fields_1401.specs.Places.{with_chars};
 
-use crate::control_word::{ControlWord, is_replaceable, is_significant, limit};
+use crate::control_word::{ControlWord, is_replaceable, limit};
 use crate::done::{Done, FieldStop};
 use crate::registers::{below, registers};
 use crate::sign::Sign;
@@ -37,9 +37,9 @@ const LETTER_R: u8 = 41;
 #[derive(Clone, Copy)]
 struct Rules {
     /// How many characters of the A field are taken.
-    taken: u16,
+    taken: usize,
     /// How many places of the control word are replaceable.
-    replaceable: u16,
+    replaceable: usize,
     /// The sign of the A field.
     sign: Sign,
 }
@@ -69,8 +69,8 @@ pub fn edit(core: &mut Core, a: u16, b: u16) -> Result<Done, FieldStop>
 {
     let word = ControlWord::at(core, a, b)?;
     let rules = Rules {
-        taken: word.taken,
-        replaceable: word.replaceable,
+        taken: usize::from(word.taken),
+        replaceable: usize::from(word.replaceable),
         sign: Sign::of_units(core.get(a).char),
     };
     put_edited(core, word, rules);
@@ -89,7 +89,7 @@ fn put_edited(core: &mut Core, word: ControlWord, rules: Rules)
         core.new ≡ with_across core.old word.b (edited control digits (sign_at core.old word.a)) }
     ensures size { length core.new ≡ length core.old }
 {
-    let limit = limit(core, word.b, word.len);
+    let limit = usize::from(limit(core, word.b, word.len));
     let significant = put_unsuppressed(core, word, rules);
     suppress_places(core, word, significant.min(limit));
     core.clear_marks(word.b, word.len);
@@ -98,7 +98,7 @@ fn put_edited(core: &mut Core, word: ControlWord, rules: Rules)
 /// Puts what each place shows before zeros and commas are suppressed, from the right, and counts the places left of the
 /// first significant one. Word marks stay.
 #[inline(always)]
-fn put_unsuppressed(core: &mut Core, word: ControlWord, rules: Rules) -> u16
+fn put_unsuppressed(core: &mut Core, word: ControlWord, rules: Rules) -> usize
     requires a { word.a < length core.old }
     requires b { word.b < length core.old }
     requires taken { rules.taken ≡ word.taken }
@@ -114,19 +114,26 @@ fn put_unsuppressed(core: &mut Core, word: ControlWord, rules: Rules) -> u16
     ensures most { result ≤ word.len }
     ensures size { length core.new ≡ length core.old }
 {
+    let (units, len) = (usize::from(word.b), usize::from(word.len));
     let chars = core.chars_mut();
     let mut behind = 0;
-    let mut significant = word.len;
-    for i in 0..word.len {
-        let at = usize::from(word.b - i);
-        let own = char_at(chars, at);
-        if is_significant(word.takes_of(chars, own, behind)) {
-            significant = word.len - 1 - i;
-        }
-        let char = rules.shown(behind, word.takes_of(chars, own, behind), own);
-        put_char(chars, at, char);
-        if is_replaceable(own) {
-            behind += 1;
+    let mut significant = len;
+    for i in 0..len {
+        let own = char_at(chars, units - i);
+        match word.takes_of(chars, own, behind) {
+            Some(char) => {
+                if !is_replaceable(char) {
+                    significant = len - 1 - i;
+                }
+                put_char(chars, units - i, char);
+                behind += 1;
+            }
+            None => {
+                put_char(chars, units - i, rules.kept_char(behind, own));
+                if is_replaceable(own) {
+                    behind += 1;
+                }
+            }
         }
     }
     significant
@@ -134,7 +141,7 @@ fn put_unsuppressed(core: &mut Core, word: ControlWord, rules: Rules) -> u16
 
 /// Suppresses the zeros and commas of this many places of the control word, from the left.
 #[inline(always)]
-fn suppress_places(core: &mut Core, word: ControlWord, count: u16)
+fn suppress_places(core: &mut Core, word: ControlWord, count: usize)
     requires b { word.b < length core.old }
     requires count { count ≤ word.len }
     ensures suppressed { (before : Storage) → (char_of : ℕ → ℕ) → core.old ≡ with_chars before word.b word.len char_of
@@ -143,7 +150,7 @@ fn suppress_places(core: &mut Core, word: ControlWord, count: u16)
 {
     let low = usize::from(word.b + 1 - word.len);
     let chars = core.chars_mut();
-    for i in 0..usize::from(count) {
+    for i in 0..count {
         let char = char_at(chars, low + i);
         put_char(chars, low + i, without_zero(char));
     }
@@ -162,19 +169,8 @@ fn without_zero(char: Char) -> Char
 }
 
 impl Rules {
-    /// What a place shows before zeros and commas are suppressed, by how many replaceable places stand right of it, by
-    /// what it took of A and by its own character.
-    fn shown(self, behind: u16, taken: Option<Char>, own: Char) -> Char
-        ensures { result ≡ shown self.taken self.replaceable self.sign behind false taken own }
-    {
-        match taken {
-            Some(char) => char,
-            None => self.kept_char(behind, own),
-        }
-    }
-
     /// A character of the control word that took none of A.
-    fn kept_char(self, behind: u16, own: Char) -> Char
+    fn kept_char(self, behind: usize, own: Char) -> Char
         ensures { result ≡ kept_char self.taken self.replaceable self.sign behind false own }
     {
         if self.is_blanked(behind, own) {
@@ -185,7 +181,7 @@ impl Rules {
     }
 
     /// Whether a character of the control word becomes blank though nothing is suppressed.
-    fn is_blanked(self, behind: u16, own: Char) -> bool
+    fn is_blanked(self, behind: usize, own: Char) -> bool
         ensures { result ≡ is_blanked self.taken self.replaceable self.sign behind false own }
     {
         is_replaceable(own)
@@ -195,14 +191,14 @@ impl Rules {
     }
 
     /// Whether a comma becomes blank: with what is left over, and behind all replaceable places.
-    fn is_comma_blanked(self, behind: u16) -> bool
+    fn is_comma_blanked(self, behind: usize) -> bool
         ensures { result ≡ is_comma_blanked self.taken self.replaceable behind false }
     {
         self.is_left_over(behind) || behind == 0
     }
 
     /// Whether a part of a sign becomes blank: behind all replaceable places, unless A is minus.
-    fn is_sign_blanked(self, behind: u16) -> bool
+    fn is_sign_blanked(self, behind: usize) -> bool
         ensures { result ≡ is_sign_blanked self.sign behind }
     {
         match self.sign {
@@ -213,7 +209,7 @@ impl Rules {
 
     /// Whether the characters of A were too few for the replaceable places, and all places that took one stand right
     /// of a place with this many replaceable ones right of it.
-    fn is_left_over(self, behind: u16) -> bool
+    fn is_left_over(self, behind: usize) -> bool
         ensures { result ≡ is_left_over self.taken self.replaceable behind }
     {
         self.taken < self.replaceable && self.taken <= behind

@@ -118,7 +118,7 @@ fn put_figures(core: &mut Core, a: u16, b: u16, n: u16, blanks: u16)
         let char = if n - i <= blanks {
             Char::BLANK
         } else {
-            unzoned_down(chars, a, i)
+            unzoned_down(chars, usize::from(a), usize::from(i))
         };
         put_char(chars, usize::from(b - i), char);
     }

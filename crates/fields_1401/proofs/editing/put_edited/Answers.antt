@@ -1,5 +1,5 @@
 -- What each place shows was put, zeros and commas suppressed, and the word marks cleared.
-use Rattle.std.proofs.Common.{ℕ, ◌-◌, ap, ◌∙◌, arith, min}
+use Rattle.std.proofs.Common.{ℕ, ap, ◌∙◌, arith, min}
 use Rattle.fields_1401.specs.Across.{chars_across, units_unzoned, char_to}
 use Rattle.fields_1401.specs.Edit.{edited, unsuppressed, sign_at, before_significant}
 use Rattle.fields_1401.proofs.AcrossLemmas.{length-across, across_cleared}
@@ -23,7 +23,7 @@ returns-clause-put c =
     let put = c.suppress_places.ensures.suppressed s (char_to (unsuppressed control digits sign))
     c.put_unsuppressed-significant.ensures.put
     ∙ edited_again s o.b o.len control digits sign count control_size
-    (c.min.ensures ∙ ap (λ (n : ℕ). min n c.limit-limit.result) c.put_unsuppressed-significant.ensures.significant
-    ∙ ap (λ (n : ℕ). min (before_significant control digits) n) c.limit-limit.ensures) in
+    (c.min.ensures ∙ ap (λ (n : ℕ). min n c.from-limit.result) c.put_unsuppressed-significant.ensures.significant
+    ∙ ap (λ (n : ℕ). min (before_significant control digits) n) (c.from-limit.ensures ∙ c.limit.ensures)) in
     across_cleared s c.suppress_places.new.core c.clear_marks.new.self o.b o.len (edited control digits sign)
     put c.clear_marks.ensures.value size c.requires.b

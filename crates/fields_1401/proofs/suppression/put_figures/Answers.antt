@@ -1,8 +1,8 @@
 -- Each step writes one place more; what it reads of A is as it was.
-use Rattle.std.proofs.Common.{◌≡◌, ◌-◌, length, set, get_or, sym, ◌∙◌, ap, arith}
+use Rattle.std.proofs.Common.{◌≡◌, ℕ, ◌-◌, length, set, get_or, sym, ◌∙◌, ap, arith}
 use Rattle.std.proofs.lemmas.List.{length-set}
 use Rattle.core_1401.specs.Storage.{Storage, with_char}
-use Rattle.fields_1401.specs.Across.{chars_across, units_unzoned, char_to}
+use Rattle.fields_1401.specs.Across.{chars_across, units_unzoned, unzoned_down, char_to}
 use Rattle.fields_1401.specs.Places.{with_chars, with_all_chars}
 use Rattle.fields_1401.specs.Suppress.{suppressed}
 use Rattle.fields_1401.proofs.AcrossLemmas.{length-unzoned_across, unzoned_down_is}
@@ -38,12 +38,14 @@ loop-i-preserved c =
     let kept = char_to (suppressed xs) in
     let held = c.loop-i.invariant.size in
     let put = c.loop-i.invariant.put in
-    let place : c.from.result ≡ b - i = c.from.ensures in
+    let place : c.from-in-loop-i.result ≡ b - i = c.from-in-loop-i.ensures in
     let j = length (suppressed xs) - 1 - i in
     let shows : c.if-n-i.char ≡ get_or (suppressed xs) j 0 =
     elim c.if-n-i.branch [
       | then-n-i w ↦ w.char-is ∙ sym (suppressed_left xs j (let lt = w.if-n-i.true in omega arith))
       | else-n-i w ↦ w.char-is ∙ w.unzoned_down-char.ensures
+          ∙ ap (λ (k : ℕ). unzoned_down chars k w.from-else-n-i.result) w.from.ensures
+          ∙ ap (λ (k : ℕ). unzoned_down chars a k) w.from-else-n-i.ensures
           ∙ unzoned_down_is old chars a n i a_in c.requires.a_places (omega arith)
           (still_lent old chars b i (a - i) kept held put (omega arith)
           (not_reached a n b n i c.requires.apart c.requires.a_places (omega arith) (omega arith)))
@@ -58,7 +60,7 @@ loop-i-preserved c =
           ∙ ap (λ (s : Storage). with_char s (b - i) c.if-n-i.char) put
           ∙ ap (λ k. with_char (with_chars old b i kept) (b - i) k) shows
           ∙ with_chars_more old b i kept c.requires.b_in (omega arith);
-      size = ap length c.put_char.ensures ∙ length-set chars c.from.result _ ∙ held;
+      size = ap length c.put_char.ensures ∙ length-set chars c.from-in-loop-i.result _ ∙ held;
     }
 
 pub returns-clause-put : goal.returns-clause-put

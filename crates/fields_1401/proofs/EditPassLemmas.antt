@@ -1,0 +1,135 @@
+-- The pass of an edit from the right.
+use Rattle.std.proofs.Common.{◌≡◌, set, ℕ, ◌+◌, ◌-◌, ◌<◌, ◌≤◌, ◌⊎◌, ◌==◌, true, false, List, Option, Some}
+use Rattle.std.proofs.Common.{length, get_or, drop, ap, sym, ◌∙◌, inl, inr, arith}
+use Rattle.std.specs.List.{count_by}
+use Rattle.std.specs.Prelude.{not, nat_lt, ◌&&◌}
+use Rattle.std.proofs.lemmas.Bool.{cases_eq, cases_Bool, and_left, cond-false}
+use Rattle.std.proofs.lemmas.Bool.Decides.{nat_tests}
+use Rattle.std.proofs.lemmas.List.{length-set, drop_all}
+use Rattle.std.proofs.lemmas.Option.{none-some}
+use Rattle.core_1401.specs.Storage.{Storage, cell_at, with_char}
+use Rattle.fields_1401.specs.declared.sign.Sign.{Sign}
+use Rattle.fields_1401.specs.Across.{chars_across, units_unzoned, char_to}
+use Rattle.fields_1401.specs.Edit.{is_replaceable, is_significant, replaceable_in, replaceable_behind, taken_by}
+use Rattle.fields_1401.specs.Edit.{taken_char, taken_down, unsuppressed, sign_at, shown, is_shared}
+use Rattle.fields_1401.specs.Places.{with_chars, with_all_chars, chars_of}
+use Rattle.fields_1401.proofs.AcrossLemmas.{length-across, char_across, length-unzoned_across}
+use Rattle.fields_1401.proofs.EditLemmas.{not_shared, length-unsuppressed, shown_place, replaceable_more}
+use Rattle.fields_1401.proofs.EditLemmas.{taken_down_is, takes_here}
+use Rattle.fields_1401.proofs.LendingLemmas.{lent_at_first, length-chars_of, still_lent, lent-set}
+use Rattle.fields_1401.proofs.PlacesLemmas.{is_within-below, with_chars_none, with_chars_more}
+
+-- The i places put so far, from the right, show what they are to show before anything is suppressed. So many of them
+-- were replaceable, and significant is the first significant one, counted from the left.
+pub record ArePut (s : Storage) (chars : List ℕ) (a t b m i behind significant : ℕ) : Type 0 where
+  pub put : with_all_chars s chars
+      ≡ with_chars s b i
+      (char_to (unsuppressed (chars_across s b m) (units_unzoned (chars_across s a t)) (sign_at s a)))
+  pub counted : behind ≡ count_by is_replaceable (drop (m - i) (chars_across s b m))
+  pub bound : behind ≤ i
+  pub size : length chars ≡ length s
+  pub most : significant ≤ m
+  pub none : (k : ℕ) → m - i ≤ k → k < significant
+      → is_significant (taken_by (chars_across s b m) (units_unzoned (chars_across s a t)) k) ≡ false
+  pub here : significant < m
+      → is_significant (taken_by (chars_across s b m) (units_unzoned (chars_across s a t)) significant) ≡ true
+
+-- before the first
+pub put_none : (s : Storage) (chars : List ℕ) (a t b m : ℕ) → b < length s → m ≤ b + 1 → chars ≡ chars_of s
+    → ArePut s chars a t b m 0 0 m
+put_none s chars a t b m b_in above lent =
+    let control : List ℕ = chars_across s b m in
+    let size : length control ≡ m = length-across s b m b_in above in
+    record {
+      put = lent_at_first s chars lent ∙ with_chars_none s b _;
+      counted = sym (ap (count_by is_replaceable) (drop_all (m - 0) control (omega arith)));
+      bound = omega arith;
+      size = ap length lent ∙ length-chars_of s;
+      most = omega arith;
+      none = λ k from lt. absurd (omega (arith, from, lt));
+      here = λ lt. absurd (omega (arith, lt));
+    }
+
+-- a place that took a character is replaceable
+pub takes_replaceable : (chars : List ℕ) (a t own behind char : ℕ) → Some char ≡ taken_down chars a t own behind
+    → is_replaceable own ≡ true
+takes_replaceable chars a t own behind char took =
+    elim (cases_Bool (is_replaceable own)) [
+      | inl is ↦ is
+      | inr fails ↦ absurd (none-some char (sym (took ∙ cond-false (is_replaceable own && nat_lt behind t) _ _
+          (and_left (is_replaceable own) (nat_lt behind t) fails))))
+    ]
+
+-- a character that is neither zero nor blank is significant
+pub significant_is : (char : ℕ) → is_significant (Some char) ≡ not (is_replaceable char)
+significant_is char = grind (arith, nat_tests)
+
+-- a character that was taken shows itself where nothing is suppressed
+pub taken_plain : (char : ℕ) → taken_char false char ≡ char
+taken_plain char = grind (arith, nat_tests)
+
+-- one more
+pub put_more : (s : Storage) (chars after : List ℕ) (a t b m i place behind from significant next own char : ℕ)
+    (replaceable : ℕ) (sign : Sign) (taken : Option ℕ) → a < length s → t ≤ a + 1 → b < length s → m ≤ b + 1
+    → is_shared a t b m ≡ false → i < m → place ≡ b - i → sign ≡ sign_at s a
+    → replaceable ≡ replaceable_in (chars_across s b m) → own ≡ get_or chars place 0
+    → taken ≡ taken_down chars a t own behind → char ≡ shown t replaceable sign behind false taken own
+    → after ≡ set chars place char
+    → ((is_replaceable own ≡ true) × (from ≡ behind + 1)) ⊎ ((is_replaceable own ≡ false) × (from ≡ behind))
+    → ((is_significant taken ≡ true) × (next ≡ m - 1 - i)) ⊎ ((is_significant taken ≡ false) × (next ≡ significant))
+    → ArePut s chars a t b m i behind significant → ArePut s after a t b m (i + 1) from next
+put_more s chars after a t b m i place behind from significant next own char replaceable sign taken
+    a_in a_above b_in b_above apart lt here e_sign e_replaceable read takes shows made counts tells before =
+    let j : ℕ = m - 1 - i in
+    let control : List ℕ = chars_across s b m in
+    let digits : List ℕ = units_unzoned (chars_across s a t) in
+    let full : List ℕ = unsuppressed control digits (sign_at s a) in
+    let kept : ℕ → ℕ = char_to full in
+    let size : length control ≡ m = length-across s b m b_in b_above in
+    let full_size : length full ≡ length control = length-unsuppressed control digits (sign_at s a) in
+    let digits_size : length digits ≡ t = length-unzoned_across s a t a_in a_above in
+    let of_own : own ≡ get_or control j 0 =
+    read ∙ ap (λ (q : ℕ). get_or chars q 0) here
+    ∙ still_lent s chars b i (b - i) kept before.size before.put (omega (arith, b_in))
+    (is_within-below b i (b - i) (omega (arith, lt, b_above)))
+    ∙ ap (λ (q : ℕ). (cell_at s q).char) (omega (arith, lt, b_above))
+    ∙ sym (char_across s b m j b_in b_above (omega (arith, lt))) in
+    let right : behind ≡ replaceable_behind control j =
+    before.counted ∙ ap (λ (k : ℕ). count_by is_replaceable (drop k control)) (omega (arith, lt)) in
+    let of_taken : taken ≡ taken_by control digits j =
+    takes_here control digits j own behind taken of_own right
+    (takes ∙ taken_down_is s chars a t own behind a_in a_above
+    (λ k less. still_lent s chars b i (a - k) kept before.size before.put (omega (arith, a_in))
+    (not_shared a t b m i k apart a_above less (omega (arith, lt))))) in
+    let shown_here : char ≡ get_or full (length full - 1 - i) 0 =
+    shows ∙ shown_place control digits sign j t replaceable behind taken own (omega (arith, lt, size))
+    (sym digits_size) e_replaceable right of_taken of_own
+    ∙ ap (λ (x : Sign). get_or (unsuppressed control digits x) j 0) e_sign
+    ∙ ap (λ (k : ℕ). get_or full k 0) (omega (arith, size, full_size)) in
+    let more : from ≡ count_by is_replaceable (drop j control) =
+    replaceable_more control j own behind from (omega (arith, lt, size)) of_own right counts in
+    record {
+      put = ap (with_all_chars s) made ∙ ap (λ (q : ℕ). with_all_chars s (set chars q char)) here
+          ∙ lent-set s chars (b - i) char (omega (arith, b_in)) before.size
+          ∙ ap (λ (x : Storage). with_char x (b - i) char) before.put
+          ∙ ap (λ (k : ℕ). with_char (with_chars s b i kept) (b - i) k) shown_here
+          ∙ with_chars_more s b i kept b_in (omega (arith, lt, b_above));
+      counted = more ∙ ap (λ (k : ℕ). count_by is_replaceable (drop k control)) (omega (arith, lt));
+      bound = elim counts [ inl w ↦ omega (arith, w.1, before.bound) | inr w ↦ omega (arith, w.1, before.bound) ];
+      size = ap length made ∙ length-set chars place char ∙ before.size;
+      most = elim tells [ inl w ↦ omega (arith, w.1, lt) | inr w ↦ omega (arith, w.1, before.most) ];
+      none = λ k least less. elim tells [
+        | inl w ↦ absurd (omega (arith, w.1, least, less, lt))
+        | inr w ↦ elim (cases_eq k j) [
+          | inl same ↦ ap (λ (p : ℕ). is_significant (taken_by control digits p)) same
+              ∙ sym (ap is_significant of_taken) ∙ w.0
+          | inr other ↦ before.none k (omega (arith, least, other, lt)) (omega (arith, less, w.1))
+        ]
+      ];
+      here = λ less. elim tells [
+        | inl w ↦ ap (λ (p : ℕ). is_significant (taken_by control digits p)) w.1
+            ∙ sym (ap is_significant of_taken) ∙ w.0
+        | inr w ↦ ap (λ (p : ℕ). is_significant (taken_by control digits p)) w.1
+            ∙ before.here (omega (arith, less, w.1))
+      ];
+    }
