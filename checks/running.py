@@ -36,10 +36,16 @@ def counted(number, name):
     return f"{number} {name}" if number == 1 else f"{number} {name}s"
 
 
-def told(stop, address, steps, read=0, printed=0, punched=0):
-    """The last line of a run."""
+def told(stop, address, steps, read=0, printed=0, punched=0, shown="", why=""):
+    """The last line of a run: the instruction as it is shown, and why."""
+    shown, why = f" ({shown})" if shown else "", f": {why}" if why else ""
     counts = f"{counted(read, 'card')} read, {counted(printed, 'line')} printed, {counted(punched, 'card')} punched"
-    return f"ibm1401: {stop} at {address:04} after {counted(steps, 'step')}; {counts}\n"
+    return f"ibm1401: {stop} at {address:04}{shown}{why} after {counted(steps, 'step')}; {counts}\n"
+
+
+# The ends of the program that lists and punches, of the examples with sales, and what a reader and a limit tell.
+DONE, SALES, NO_CARD = "line 10, DONE H *-3", "line 19, H *-3", "no card in the hopper"
+LIMIT = "the limit of steps was reached"
 
 
 def running():
@@ -48,18 +54,20 @@ def running():
     words = ["--cards", sales.with_suffix(".cards"), "--switches", "A"]
     ran = run([PROGRAM, "run", sales, *words])
     paper = sales.with_suffix(".paper").read_bytes()
-    expect("sales.source: its paper", ran, 0, paper, told("HALT", 463, 24, 3, 2))
+    expect("sales.source: its paper", ran, 0, paper, told("HALT", 463, 24, 3, 2, shown=SALES))
     ran = run([PROGRAM, "run", sales.with_suffix(".image"), *words])
-    expect("sales.image: its paper", ran, 0, paper, told("HALT", 463, 24, 3, 2))
+    expect("sales.image: its paper", ran, 0, paper, told("HALT", 463, 24, 3, 2, shown="H 463"))
     for page in TOP / "README.md", TOP / "docs/RUNNING.md":
         shown = re.search(r"```sh\n(\./ibm1401 run [^\n]*)\n```\n\n```text\n(.*?)```", page.read_text(), re.DOTALL)
         call, printed = shown.groups() if shown else ("exit 3", "")
-        expect(f"what {page.name} runs", run(["bash", "-c", call], cwd=TOP), 0, printed, told("HALT", 463, 24, 3, 2))
+        end = told("HALT", 463, 24, 3, 2, shown=SALES)
+        expect(f"what {page.name} runs", run(["bash", "-c", call], cwd=TOP), 0, printed, end)
     programs()
     with tempfile.TemporaryDirectory() as name:
         folder = Path(name)
         long_deck(folder)
         faults(folder)
+        stops(folder)
         decks(folder)
         places(folder)
         outputs(folder)
@@ -67,6 +75,13 @@ def running():
         closed_streams(folder)
     while_it_runs()
     how_far()
+
+
+def statement(listing, address):
+    """The number of the line that a listing has at an address, its label, operation and operands."""
+    line = next(each for each in listing.splitlines() if each[5:10] == f"{address:05}" and each[11:19].strip())
+    fields = line[25:35], line[35:40], line[40:].partition(" ")[0]
+    return f"line {int(line[:4])}, {' '.join(each.strip() for each in fields if each.strip())}"
 
 
 def programs():
@@ -85,7 +100,8 @@ def programs():
         with tempfile.TemporaryDirectory() as folder:
             punch = Path(folder) / "punch"
             ran = run([PROGRAM, "run", deck.with_suffix(".source"), "--cards", deck, "--punch", punch, *switches])
-            paper, end = deck.with_suffix(".paper").read_bytes(), told("HALT", int(address), int(steps), *counts)
+            shown = statement(deck.with_suffix(".listing").read_text(), int(address))
+            paper, end = deck.with_suffix(".paper").read_bytes(), told("HALT", int(address), int(steps), *counts, shown)
             expect(f"{deck.name}: its paper", ran, 0, paper, end)
             punched = deck.with_suffix(".punched")
             wanted = punched.read_bytes() if punched.exists() else b""
@@ -108,19 +124,20 @@ def long_deck(folder):
     deck.write_text("".join(f"{card} AND MORE\n" for card in cards))
     for given in deck, folder / "again":
         ran = run([PROGRAM, "run", source, "--cards", given, "--punch", punch, "--paper", paper, "--switches", "A"])
-        expect("a deck of 1,203 cards", ran, 0, "", told("HALT", 433, 8_422, 1_203, 1_203, 1_203))
+        expect("a deck of 1,203 cards", ran, 0, "", told("HALT", 433, 8_422, 1_203, 1_203, 1_203, DONE))
         wrong = difference("the paper", paper.read_bytes(), forms)
         wrong += difference("the cards", punch.read_bytes(), "".join(f"{card}\n" for card in cards))
         tell("a deck of 1,203 cards: its paper and its cards", "; ".join(wrong))
         punch.rename(folder / "again")
     ran = run([PROGRAM, "run", source, "--cards", deck, "--paper", paper])
-    expect("a deck that runs out", ran, 1, "", told("READER", 407, 8_422, 1_203, 1_203, 1_203))
+    end = told("READER", 407, 8_422, 1_203, 1_203, 1_203, "line 3, NEXT R", NO_CARD)
+    expect("a deck that runs out", ran, 1, "", end)
     ran = run([PROGRAM, "run", source, "--cards", deck, "--paper", paper, "--switches", "A", "--limit", "8421"])
-    expect("a limit one step too low", ran, 1, "", told("LIMIT", 433, 8_421, 1_203, 1_203, 1_203))
+    expect("a limit one step too low", ran, 1, "", told("LIMIT", 433, 8_421, 1_203, 1_203, 1_203, DONE, LIMIT))
     ran = run([PROGRAM, "run", source, "--cards", deck, "--paper", paper, "--switches", "A", "--limit", "8422"])
-    expect("a halt as the last step", ran, 0, "", told("HALT", 433, 8_422, 1_203, 1_203, 1_203))
+    expect("a halt as the last step", ran, 0, "", told("HALT", 433, 8_422, 1_203, 1_203, 1_203, DONE))
     ran = run([PROGRAM, "run", source, "--limit", "0"])
-    expect("a limit of no step", ran, 1, "", told("LIMIT", 400, 0))
+    expect("a limit of no step", ran, 1, "", told("LIMIT", 400, 0, shown="line 2, START SW 1,101", why=LIMIT))
 
 
 def faults(folder):
@@ -130,8 +147,10 @@ def faults(folder):
     long.write_bytes(b" " * (MOST_BYTES + 1))
     for text, words, fault in [
         (HALT, ["--size", "1401"], "size refused"),
-        (HALT, ["--cards", none], f"cannot read {none}"),
-        (HALT, ["--cards", long], f"cannot read {long}"),
+        (HALT, ["--cards", none], f"{none}: no such file"),
+        (HALT, ["--cards", folder], f"{folder}: is a folder"),
+        (HALT, ["--cards", source / "deck"], f"{source / 'deck'}: no such file"),
+        (HALT, ["--cards", long], f"{long}: is larger than {MOST_BYTES} bytes"),
         (HALT, ["--punch", folder], f"cannot write {folder}"),
         (HALT, ["--paper", none / "paper"], f"cannot write {none / 'paper'}"),
         ("               ZZZ\n", [], "line 1: 6 OPERATION"),
@@ -143,8 +162,8 @@ def faults(folder):
         ran = run([PROGRAM, "run", source, *words])
         expect(f"run {' '.join(map(str, words))}: {fault}", ran, 1, "", f"ibm1401: {fault}\n")
     source.write_text(HALT)
-    for name in none, folder, long:
-        expect(f"run {name} ends with 1", run([PROGRAM, "run", name]), 1, "", f"ibm1401: cannot read {name}\n")
+    for name, fault in (none, "no such file"), (folder, "is a folder"), (long, f"is larger than {MOST_BYTES} bytes"):
+        expect(f"run {name} ends with 1", run([PROGRAM, "run", name]), 1, "", f"ibm1401: {name}: {fault}\n")
     for words in [], ["a", "b"], ["--size", "x", "a"], ["--switches", "H", "a"], ["--limit", "-1", "a"]:
         expect(f"run {' '.join(words)} ends with 2", run([PROGRAM, "run", *words]), 2, "", "error: ...")
     bad = "no card has this character"
@@ -158,6 +177,39 @@ def faults(folder):
         ran = run([PROGRAM, "run", source, "--cards", deck, "--punch", none])
         expect(f"a deck refused: {fault}", ran, 1, "", f"ibm1401: {deck}: {fault}\n")
     tell("nothing is made where a deck is refused", "there is a file" if none.exists() else "")
+
+
+def stops(folder):
+    """What each stop of the machine tells: the statement, or the instruction, and why."""
+    source = folder / "source"
+    for lines, address, stop, shown, why in [
+        (["     PRINT     MLC  10,210"], 400, "ADDRESS", "line 2, PRINT MLC 10,210",
+         "no word mark from 010 down to 000 in the A field, nor from 210 down to 200 in the B field"),
+        (["               MLC  10,10"], 400, "ADDRESS", "line 2, MLC 10,10", "no word mark from 010 down to 000"),
+        (["               LCA  10,500"], 400, "ADDRESS", "line 2, LCA 10,500",
+         "no word mark from 010 down to 000 in the A field"),
+        (["               DCW  @.1@"], 400, "LENGTH", "line 2, DCW @.1@",
+         "the operation . has no instruction of 2 characters"),
+        (["               DCW  @X@"], 400, "NOTFITTED", "line 2, DCW @X@", "the operation X isn't fitted"),
+        (["               DCW  @$@"], 400, "OPCODE", "line 2, DCW @$@", "the character $ is no operation"),
+        (["               CC   5"], 400, "CARRIAGE", "line 2, CC 5", "the carriage tape has no hole in channel 5"),
+        (["               DC   @A@"], 400, "NOMARK", "", "no word mark at 400"),
+        (["               B    3999", "               H    *-3"], 3999, "NOMARK", "", "no word mark at 3999"),
+    ]:
+        text = ["               ORG  400", *lines, "               DCW  @A@", "               END  400\n"]
+        source.write_text("\n".join(text))
+        steps = 0 if address == 400 else 1
+        ran = run([PROGRAM, "run", source])
+        expect(f"{stop} told: {why}", ran, 1, "", told(stop, address, steps, shown=shown, why=why))
+    source.write_text("""\
+               ORG  400
+     START     MLC  NEW,CHANGE+3
+     CHANGE    B    403
+     NEW       DCW  @9@
+               END  START
+""")
+    ran = run([PROGRAM, "run", source, "--limit", "1"])
+    expect("a changed instruction is disassembled", ran, 1, "", told("LIMIT", 407, 1, shown="B 409", why=LIMIT))
 
 
 def decks(folder):
@@ -174,7 +226,7 @@ def decks(folder):
         deck.write_text(text, newline="")
         count = wanted.count("\n")
         ran = run([PROGRAM, "run", source, "--cards", deck, "--punch", punch, "--switches", "A"])
-        end = told("HALT", 433, 7 * count + 1, count, count, count)
+        end = told("HALT", 433, 7 * count + 1, count, count, count, DONE)
         expect("a deck's lines", ran, 0, paper_of(wanted), letters + end)
         tell("a deck's lines, punched", "; ".join(difference("the deck", punch.read_bytes(), wanted)))
 
@@ -200,18 +252,20 @@ def places(folder):
                END  START
 """)
     paper = "\n" * 3 + "1\n" + "\n" * 55 + "2\n" + "\f" + "\n" * 62 + "2\n2\n"
-    expect("lines at their places", run([PROGRAM, "run", source]), 0, paper, told("HALT", 426, 11, 0, 4))
+    end = told("HALT", 426, 11, 0, 4, shown="line 12, DONE H *-3")
+    expect("lines at their places", run([PROGRAM, "run", source]), 0, paper, end)
 
 
 def outputs(folder):
     """Outputs that are closed or take nothing."""
     sales = TOP / "examples/sales"
     call = f'"$0" run {sales}.source --cards {sales}.cards --switches A'
-    end, cannot = told("HALT", 463, 24, 3, 2), "ibm1401: cannot write"
+    end, cannot = told("HALT", 463, 24, 3, 2, shown=SALES), "ibm1401: cannot write"
     for words, status, output, error in [
         (">&-", 1, "", f"{cannot}\n"),
         (">/dev/full", 1, "", f"{cannot}\n"),
         ("--paper /dev/full", 1, "", f"{cannot} /dev/full\n"),
+        ("--punch /dev/full", 0, sales.with_suffix(".paper").read_bytes(), end),
         ("--paper /dev/null >&-", 0, "", end),
         ("2>&-", 0, sales.with_suffix(".paper").read_bytes(), ""),
         ("--limit 3 2>/dev/full", 1, "", ""),
@@ -224,23 +278,25 @@ def loaded_decks(folder):
     deck = TOP / "examples/listing.deck"
     paper = TOP / "examples/listing.paper"
     ran = run([PROGRAM, "run", "--load", deck, "--switches", "A"])
-    expect("run --load: its paper", ran, 0, paper.read_bytes(), told("HALT", 461, 253, 27, 23, 21))
+    end = told("HALT", 461, 253, 27, 23, 21, "H 461")
+    expect("run --load: its paper", ran, 0, paper.read_bytes(), end)
     cards = deck.read_text().splitlines(keepends=True)
     first, behind = folder / "first", folder / "behind"
     first.write_text("".join(cards[:6]))
     behind.write_text("".join(cards[6:]))
     ran = run([PROGRAM, "run", "--load", first, "--cards", behind, "--switches", "A"])
-    expect("run --load with more cards", ran, 0, paper.read_bytes(), told("HALT", 461, 253, 27, 23, 21))
+    expect("run --load with more cards", ran, 0, paper.read_bytes(), end)
     first.write_text("")
-    expect("run --load without a card", run([PROGRAM, "run", "--load", first]), 1, "", told("READER", 0, 0))
+    end = told("READER", 0, 0, why=NO_CARD)
+    expect("run --load without a card", run([PROGRAM, "run", "--load", first]), 1, "", end)
     first.write_text(",008009.\n")
     ran = run([PROGRAM, "run", "--load", first, "--size", "1400"])
-    expect("run --load: one card", ran, 0, "", told("HALT", 9, 2, 1))
+    expect("run --load: one card", ran, 0, "", told("HALT", 8, 2, 1, shown="H"))
     expect("run --load --size 1401", run([PROGRAM, "run", "--load", first, "--size", "1401"]), 1, "", SIZE)
     first.write_text("A\n" * 6 + " " * 11 + "~\n")
     fault = f"ibm1401: {first}: line 7, column 12: no card has this character\n"
     expect("run --load: a fault of the deck", run([PROGRAM, "run", "--load", first]), 1, "", fault)
-    fault = f"ibm1401: cannot read {folder / 'none'}\n"
+    fault = f"ibm1401: {folder / 'none'}: no such file\n"
     expect("run --load: no deck", run([PROGRAM, "run", "--load", folder / "none"]), 1, "", fault)
 
 
@@ -282,7 +338,7 @@ def how_far():
     """A run of more than a second shows how far it is, where standard error is a terminal; a short one doesn't."""
     sales = TOP / "examples/sales"
     words = [f"{sales}.source", "--cards", f"{sales}.cards", "--switches", "A"]
-    wanted = told("HALT", 463, 24, 3, 2).replace("\n", "\r\n").encode()
+    wanted = told("HALT", 463, 24, 3, 2, shown=SALES).replace("\n", "\r\n").encode()
     tell("a short run on a terminal", "; ".join(difference("standard error", on_a_terminal(words), wanted)))
     with tempfile.TemporaryDirectory() as name:
         file = Path(name) / "source"

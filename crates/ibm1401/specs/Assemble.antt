@@ -32,6 +32,7 @@ IsWhyNotAssembled size source (fault.Usage refusal) = ⊥
 IsWhyNotAssembled size source fault.Output = ⊥
 IsWhyNotAssembled size source fault.Size = ⊥
 IsWhyNotAssembled size source (fault.Unread name) = ⊥
+IsWhyNotAssembled size source (fault.File name why) = ⊥
 IsWhyNotAssembled size source (fault.Image why) = ⊥
 IsWhyNotAssembled size source (fault.Faulty told) = ⊥
 IsWhyNotAssembled size source (fault.Source why) = IsMemory why ⊎ (assembly_in size source ≡ Err why)

@@ -21,6 +21,7 @@ IsWhyNotListed text (fault.Usage refusal) = ⊥
 IsWhyNotListed text fault.Output = ⊥
 IsWhyNotListed text fault.Size = ⊥
 IsWhyNotListed text (fault.Unread name) = ⊥
+IsWhyNotListed text (fault.File name why) = ⊥
 IsWhyNotListed text (fault.Image why) = IsRefused text why
 IsWhyNotListed text (fault.Faulty told) = ⊥
 IsWhyNotListed text (fault.Source why) = ⊥

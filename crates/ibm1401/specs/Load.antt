@@ -34,6 +34,7 @@ IsWhyNotLoaded text (fault.Usage refusal) = ⊥
 IsWhyNotLoaded text fault.Output = ⊥
 IsWhyNotLoaded text fault.Size = ⊥
 IsWhyNotLoaded text (fault.Unread name) = ⊥
+IsWhyNotLoaded text (fault.File name why) = ⊥
 IsWhyNotLoaded text (fault.Image why) = IsRefused text why
 IsWhyNotLoaded text (fault.Faulty told) = ⊥
 IsWhyNotLoaded text (fault.Source why) = ⊥

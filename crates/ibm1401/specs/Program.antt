@@ -1,5 +1,5 @@
 -- The program that a run begins with, and the machine that has it (own).
-use Rattle.std.specs.Prelude.{◌≡◌, ◌⊎◌, ℕ, ◌||◌, ◌==◌, Bool, List, [], ◌∷◌, Result, Ok, Err, codes}
+use Rattle.std.specs.Prelude.{◌≡◌, ◌⊎◌, ℕ, ◌||◌, ◌==◌, Bool, List, [], ◌∷◌, None, Some, Result, Ok, Err, codes}
 use Rattle.std.specs.List.{starts_with}
 use Rattle.autocoder_1401.specs.Assembly.{assembly_in}
 use Rattle.autocoder_1401.specs.Fault.{IsMemory}
@@ -12,6 +12,7 @@ use Rattle.image_1401.specs.declared.image.Segment.{Segment}
 use Rattle.image_1401.specs.ImageText.{IsTextOf}
 use Rattle.image_1401.specs.Refusal.{IsRefused}
 use Rattle.autocoder_1401.specs.declared.fault.AsmFault.{AsmFault}
+use Rattle.ibm1401.specs.declared.programs.Program.{Program}
 use Rattle.ibm1401.specs.declared.fault.Fault.{Fault}
 use Rattle.ibm1401.specs.declared.fault.Fault.TheVariants as fault
 
@@ -20,15 +21,16 @@ unfoldable pub is_meant_as_image : List ℕ → Bool
 is_meant_as_image text =
     starts_with (λ a b. a == b) text (codes "IMAGE1 ") || starts_with (λ a b. a == b) text (codes "IMAGE2 ")
 
--- what an image's text is read as: the image, or its fault
-abbrev pub IsImageOf : List ℕ → Result Image Fault → Type 0
-IsImageOf text (Ok image) = IsTextOf text image
+-- what an image's text is read as: the image, without a listing, or its fault
+abbrev pub IsImageOf : List ℕ → Result Program Fault → Type 0
+IsImageOf text (Ok program) = IsTextOf text program.image × (program.listing ≡ None)
 IsImageOf text (Err told) = (why : ImageFault) × (told ≡ fault.Image why) × IsRefused text why
 
--- what a source stands for in core storage of this size: the image, or its fault or want of memory
-abbrev pub IsAssembled : ℕ → List ℕ → Result Image Fault → Type 0
-IsAssembled size source (Ok image) =
-    (assembly : Assembly) × (assembly_in size source ≡ Ok assembly) × (image ≡ assembly.image)
+-- what a source stands for in core storage of this size: the image and the listing, or its fault or want of memory
+abbrev pub IsAssembled : ℕ → List ℕ → Result Program Fault → Type 0
+IsAssembled size source (Ok program) =
+    (assembly : Assembly) × (assembly_in size source ≡ Ok assembly) × (program.image ≡ assembly.image)
+    × (program.listing ≡ Some assembly.listing)
 IsAssembled size source (Err told) =
     (why : AsmFault) × (told ≡ fault.Source why) × (IsMemory why ⊎ (assembly_in size source ≡ Err why))
 

@@ -4,24 +4,24 @@ use Rattle.cpu_1401.specs.declared.stop.Stop.{Stop}
 use Rattle.cpu_1401.specs.declared.stop.Stop.TheVariants as stop
 use Rattle.ibm1401.specs.declared.fault.Fault.{Fault}
 use Rattle.ibm1401.specs.declared.fault.Fault.TheVariants as fault
-use Rattle.ibm1401.specs.declared.job_report.JobReport.{JobReport}
+use Rattle.ibm1401.specs.declared.ending.Ending.{Ending}
 
 -- a halt is no fault, and any other stop is one
-abbrev pub outcome_after : Stop → JobReport → Result ⊤ Fault
-outcome_after stop.Limit report = Err (fault.Stopped report)
-outcome_after stop.Halt report = Ok tt
-outcome_after stop.Reader report = Err (fault.Stopped report)
-outcome_after stop.Forms report = Err (fault.Stopped report)
-outcome_after stop.Stacker report = Err (fault.Stopped report)
-outcome_after stop.NoMark report = Err (fault.Stopped report)
-outcome_after stop.OpCode report = Err (fault.Stopped report)
-outcome_after stop.Length report = Err (fault.Stopped report)
-outcome_after stop.Address report = Err (fault.Stopped report)
-outcome_after stop.Overlap report = Err (fault.Stopped report)
-outcome_after stop.Carriage report = Err (fault.Stopped report)
-outcome_after stop.NotFitted report = Err (fault.Stopped report)
-outcome_after stop.DChar report = Err (fault.Stopped report)
+abbrev pub outcome_after : Stop → Ending → Result ⊤ Fault
+outcome_after stop.Limit ending = Err (fault.Stopped ending)
+outcome_after stop.Halt ending = Ok tt
+outcome_after stop.Reader ending = Err (fault.Stopped ending)
+outcome_after stop.Forms ending = Err (fault.Stopped ending)
+outcome_after stop.Stacker ending = Err (fault.Stopped ending)
+outcome_after stop.NoMark ending = Err (fault.Stopped ending)
+outcome_after stop.OpCode ending = Err (fault.Stopped ending)
+outcome_after stop.Length ending = Err (fault.Stopped ending)
+outcome_after stop.Address ending = Err (fault.Stopped ending)
+outcome_after stop.Overlap ending = Err (fault.Stopped ending)
+outcome_after stop.Carriage ending = Err (fault.Stopped ending)
+outcome_after stop.NotFitted ending = Err (fault.Stopped ending)
+outcome_after stop.DChar ending = Err (fault.Stopped ending)
 
 -- what the end of a job is for the program
-abbrev pub job_outcome : JobReport → Result ⊤ Fault
-job_outcome report = outcome_after report.stop report
+abbrev pub job_outcome : Ending → Result ⊤ Fault
+job_outcome ending = outcome_after ending.report.stop ending

@@ -16,6 +16,7 @@ status_of (fault.Usage refusal) = 2
 status_of fault.Output = 1
 status_of fault.Size = 1
 status_of (fault.Unread name) = 1
+status_of (fault.File name why) = 1
 status_of (fault.Image why) = 1
 status_of (fault.Source why) = 1
 status_of (fault.Faulty told) = 1

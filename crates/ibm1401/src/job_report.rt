@@ -1,4 +1,4 @@
-//! How a job ended, in a line.
+//! What a job carried out, read and wrote, in words.
 
 use cpu_1401::Stop;
 use std::fmt;
@@ -39,15 +39,9 @@ impl fmt::Display for Count<'_> {
     }
 }
 
-/// Where and why the machine stopped.
-fn put_stop<W: fmt::Write>(f: &mut fmt::Formatter<W>, report: &JobReport) -> fmt::Result {
-    write!(f, "{} at {:04}", report.stop, report.i)
-}
-
 impl fmt::Display for JobReport {
     fn fmt<W: fmt::Write>(&self, f: &mut fmt::Formatter<W>) -> fmt::Result {
-        put_stop(f, self)?;
-        write!(f, " after {}; ", counted(u64::from(self.steps), "step"))?;
+        write!(f, "{}; ", counted(u64::from(self.steps), "step"))?;
         write!(f, "{} read, ", counted(self.read, "card"))?;
         write!(f, "{} printed, ", counted(self.printed, "line"))?;
         write!(f, "{} punched", counted(self.punched, "card"))

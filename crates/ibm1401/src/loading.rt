@@ -3,7 +3,7 @@ ghost use Rattle.std.specs.Prelude.{◌≡◌, IfOk, IfErr};
 ghost use Rattle.ibm1401.specs.Console.{streams};
 ghost use Rattle.ibm1401.specs.Load.{LoadDid, IsLoadedRoom, IsWhyNotLoaded};
 
-use crate::fault::{Fault, ended};
+use crate::fault::{Fault, FileFault, ended};
 use console_1401::{Sink, Source, put_image, session};
 use core_1401::CoreFault;
 use image_1401::read_image;
@@ -27,6 +27,30 @@ pub fn read_file(rt: &(impl Files + AllocGlobal), name: String) -> Result<Vec<u8
         Ok(Some(bytes)) => Ok(bytes),
         Err(error) if error.kind() == io::ErrorKind::OutOfMemory => Err(Fault::Memory),
         Ok(None) | Err(_) => Err(Fault::Unread(name)),
+    }
+}
+
+/// The bytes of a file, of which it is told why it can't be read.
+///
+/// # Errors
+///
+/// `File`, with the name as it was given; else `Memory`.
+pub fn read_named_file(rt: &(impl Files + AllocGlobal), name: String) -> Result<Vec<u8>, Fault> {
+    match bytes_of(rt, name.as_str()) {
+        Ok(Some(bytes)) => Ok(bytes),
+        Ok(None) => Err(Fault::File(name, FileFault::TooLong)),
+        Err(error) if error.kind() == io::ErrorKind::OutOfMemory => Err(Fault::Memory),
+        Err(error) => Err(Fault::File(name, file_fault(error.kind()))),
+    }
+}
+
+/// Why a file can't be read, by what the system says.
+pub(crate) fn file_fault(kind: io::ErrorKind) -> FileFault {
+    match kind {
+        io::ErrorKind::NotFound | io::ErrorKind::NotADirectory => FileFault::NotThere,
+        io::ErrorKind::IsADirectory => FileFault::Folder,
+        io::ErrorKind::PermissionDenied => FileFault::Denied,
+        _ => FileFault::Unreadable,
     }
 }
 

@@ -4,7 +4,9 @@
 mod assembling;
 mod deck_running;
 mod disassembling;
+mod ending;
 mod fault;
+mod instruction_text;
 mod job_report;
 mod loading;
 mod programs;
@@ -21,7 +23,7 @@ mod whole_file;
 
 use crate::disassembling::write_disassembly;
 use crate::fault::{Fault, report};
-use crate::loading::{load, read_file};
+use crate::loading::{load, read_file, read_named_file};
 use crate::running::{ErrorOutput, run_file};
 use crate::serving::open_room;
 use crate::source_file::assemble_file;
@@ -79,7 +81,7 @@ fn run<
             load(rt.alloc(), text.as_slice(), &mut reader, &mut writer)
         }
         Ok(Call::Disassemble { file }) => {
-            let text = read_file(rt, file)?;
+            let text = read_named_file(rt, file)?;
             let mut writer = ToWriter::new(io::writer(rt));
             write_disassembly(rt.alloc(), text.as_slice(), &mut writer)
         }

@@ -7,7 +7,7 @@ ghost use Rattle.ibm1401.specs.Program.{IsAssembled, IsImageOf, is_meant_as_imag
 ghost use Rattle.ibm1401.specs.Program.{with_segments};
 
 use crate::fault::Fault;
-use autocoder_1401::assemble;
+use autocoder_1401::{Assembly, Listing, assemble};
 use command_1401::{Command, carry_out};
 use core_1401::CoreFault;
 use cpu_1401::Machine;
@@ -22,25 +22,43 @@ fn is_image(text: &[u8]) -> bool
     text.starts_with(b"IMAGE1 ") || text.starts_with(b"IMAGE2 ")
 }
 
-/// The image that a text is, or that it is the source of.
+/// A program to be run.
+#[derive(Drop)]
+pub struct Program {
+    /// Its core image.
+    pub image: Image,
+    /// The listing of its source, if it has one.
+    pub listing: Option<Listing>,
+}
+
+/// The program that a text is the image of, or the source.
 ///
 /// # Errors
 ///
 /// `Image` or `Source` where it is none, or where memory is refused.
-pub fn program_of(alloc: Global, text: &[u8], size: u16) -> Result<Image, Fault>
+pub fn program_of(alloc: Global, text: &[u8], size: u16) -> Result<Program, Fault>
     requires { is_core_size size ≡ true }
     ensures image { is_meant_as_image text.now ≡ true → IsImageOf text.now result }
     ensures source { is_meant_as_image text.now ≡ false → IsAssembled size text.now result }
-    ensures in_core { IfOk result IsInCore }
+    ensures in_core { IfOk result (λ program. IsInCore program.image) }
 {
     if is_image(text) {
         return match read_image(alloc, text) {
-            Ok(image) => Ok(image),
+            Ok(image) => Ok(Program {
+                image,
+                listing: None,
+            }),
             Err(fault) => Err(Fault::Image(fault)),
         };
     }
     match assemble(alloc, text, size) {
-        Ok(assembly) => Ok(assembly.image),
+        Ok(assembly) => {
+            let Assembly { image, listing } = assembly;
+            Ok(Program {
+                image,
+                listing: Some(listing),
+            })
+        }
         Err(fault) => Err(Fault::Source(fault)),
     }
 }

@@ -4,13 +4,15 @@ ghost use Rattle.ibm1401.specs.Run.{job_outcome};
 
 use crate::assembling::check_size;
 use crate::deck_running::{Broken, run_started};
+use crate::ending::Ending;
 use crate::fault::Fault;
 use crate::job_report::JobReport;
-use crate::loading::read_file;
+use crate::loading::read_named_file;
 use crate::programs::{loaded_machine, program_of};
 use crate::punch_file::PunchFile;
 use crate::watching::{Shown, Unwatched, Watch};
 use arguments_1401::{Job, Start};
+use autocoder_1401::Listing;
 use console_1401::{Sink, ToWriter};
 use core_1401::CoreFault;
 use cpu_1401::{Machine, Stop};
@@ -34,15 +36,15 @@ pub enum ErrorOutput {
 /// # Errors
 ///
 /// Any stop but a halt.
-pub fn job_outcome(report: JobReport) -> Result<(), Fault>
-    ensures { result ≡ job_outcome report }
+pub fn job_outcome(ending: Ending) -> Result<(), Fault>
+    ensures { result ≡ job_outcome ending }
 {
-    match report.stop {
+    match ending.report.stop {
         Stop::Halt => Ok(()),
-        Stop::Limit | Stop::Reader | Stop::Forms | Stop::Stacker => Err(Fault::Stopped(report)),
-        Stop::NoMark | Stop::OpCode | Stop::Length => Err(Fault::Stopped(report)),
-        Stop::Address | Stop::Overlap | Stop::Carriage => Err(Fault::Stopped(report)),
-        Stop::NotFitted | Stop::DChar => Err(Fault::Stopped(report)),
+        Stop::Limit | Stop::Reader | Stop::Forms | Stop::Stacker => Err(Fault::Stopped(ending)),
+        Stop::NoMark | Stop::OpCode | Stop::Length => Err(Fault::Stopped(ending)),
+        Stop::Address | Stop::Overlap | Stop::Carriage => Err(Fault::Stopped(ending)),
+        Stop::NotFitted | Stop::DChar => Err(Fault::Stopped(ending)),
     }
 }
 
@@ -62,12 +64,12 @@ pub fn tell_small_letters(rt: &impl Eprint, name: &str) {
 ///
 /// # Errors
 ///
-/// `Unread` if the file can't be read, `Deck` if a line is no card, or `Memory`.
+/// `File` if the file can't be read, `Deck` if a line is no card, or `Memory`.
 fn read_cards(rt: &(impl Files + Eprint + AllocGlobal), name: String) -> Result<Vec<Card>, Fault> {
     let Ok(label) = name.clone() else {
         return Err(Fault::Memory);
     };
-    let text = read_file(rt, name)?;
+    let text = read_named_file(rt, name)?;
     match read_deck(rt.alloc(), text.as_slice()) {
         Ok(deck) => {
             if deck.has_small_letters {
@@ -80,29 +82,29 @@ fn read_cards(rt: &(impl Files + Eprint + AllocGlobal), name: String) -> Result<
     }
 }
 
-/// A machine with the program of a file, and the cards that come before those of the deck.
+/// A machine with the program of a file, the cards that come before those of the deck, and the listing of a source.
 ///
 /// # Errors
 ///
-/// `Unread` where the file can't be read; `Source`, `Image` or `Deck` where it has no program; or `Memory`.
+/// `File` where the file can't be read; `Source`, `Image` or `Deck` where it has no program; or `Memory`.
 fn read_program(
     rt: &(impl Files + Eprint + AllocGlobal),
     file: String,
     start: Start,
     size: u16,
-) -> Result<(Machine, Vec<Card>), Fault> {
+) -> Result<(Machine, Vec<Card>, Option<Listing>), Fault> {
     check_size(size)?;
     match start {
         Start::Entry => {
-            let text = read_file(rt, file)?;
-            let image = program_of(rt.alloc(), text.as_slice(), size)?;
-            let machine = loaded_machine(rt.alloc(), &image)?;
-            Ok((machine, Vec::new(rt.alloc())))
+            let text = read_named_file(rt, file)?;
+            let program = program_of(rt.alloc(), text.as_slice(), size)?;
+            let machine = loaded_machine(rt.alloc(), &program.image)?;
+            Ok((machine, Vec::new(rt.alloc()), program.listing))
         }
         Start::LoadKey => {
             let cards = read_cards(rt, file)?;
             match Machine::power_on(rt.alloc(), size) {
-                Ok(machine) => Ok((machine, cards)),
+                Ok(machine) => Ok((machine, cards, None)),
                 Err(CoreFault::Size) => Err(Fault::Size),
                 Err(CoreFault::Memory) => Err(Fault::Memory),
             }
@@ -167,7 +169,7 @@ fn run_shown<R: Eprint + Clock + AllocGlobal, W: Sink, P: Sink>(
 ///
 /// # Errors
 ///
-/// `Size` where no core storage of the size named is made; `Unread`, `Source`, `Image` or `Deck` where there is no
+/// `Size` where no core storage of the size named is made; `File`, `Source`, `Image` or `Deck` where there is no
 /// program or no deck; `Unwritten` or `Output` where a file can't be made, or paper or cards aren't written; `Stopped`
 /// where the machine stopped otherwise than by a halt; or `Memory`.
 pub fn run_file<R: Files + Print + Eprint + Clock + AllocGlobal>(
@@ -189,7 +191,7 @@ pub fn run_file<R: Files + Print + Eprint + Clock + AllocGlobal>(
     let _input = fs::open(rt, "/").ok();
     let _output = fs::open(rt, "/").ok();
     let _errors = fs::open(rt, "/").ok();
-    let (mut machine, mut deck) = read_program(rt, file, start, size)?;
+    let (mut machine, mut deck, listing) = read_program(rt, file, start, size)?;
     if let Some(name) = cards {
         let behind = read_cards(rt, name)?;
         if deck.extend_from_slice(behind.as_slice()).is_err() {
@@ -234,7 +236,10 @@ pub fn run_file<R: Files + Print + Eprint + Clock + AllocGlobal>(
         }
     };
     match ended {
-        Ok(report) => tell_report(rt, report),
+        Ok(report) => {
+            let listing = listing.as_ref();
+            tell_ending(rt, Ending::of(rt.alloc(), report, &machine, listing))
+        }
         Err(Broken::Memory) => Err(Fault::Memory),
         Err(Broken::Paper) => Err(unwritten(paper)),
         Err(Broken::Punch) => Err(unwritten(punch)),
@@ -242,12 +247,11 @@ pub fn run_file<R: Files + Print + Eprint + Clock + AllocGlobal>(
 }
 
 /// Tells on standard error how a program ended that halted; any other stop is a fault, which tells it.
-pub fn tell_report(rt: &impl Eprint, report: JobReport) -> Result<(), Fault>
-    ensures { result ≡ job_outcome report }
+pub fn tell_ending(rt: &impl Eprint, ending: Ending) -> Result<(), Fault>
+    ensures { result ≡ job_outcome ending }
 {
-    let outcome = job_outcome(report);
-    if outcome.is_ok() {
-        let _ = eprintln!(rt; "ibm1401: {report}");
+    if ending.report.stop == Stop::Halt {
+        let _ = eprintln!(rt; "ibm1401: {ending}");
     }
-    outcome
+    job_outcome(ending)
 }

@@ -1,6 +1,6 @@
 //! What a run may fail by, its one line, and the status that it ends with.
 
-use crate::fault::{Fault, ended, report};
+use crate::fault::{Fault, FileFault, ended, report};
 use crate::subcommands::tell;
 use crate::tests::recorder::{Full, Recorder};
 use arguments_1401::read_call;
@@ -37,6 +37,27 @@ fn each_fault_is_one_line(rt: HostRuntime) -> Result<(), Fail> {
         assert_eq!(rt; report(&told, Err(fault)), status, "{line}");
         let text = told.text(rt.alloc())?;
         assert_eq!(rt; text.as_str(), line);
+    }
+    Ok(())
+}
+
+#[test]
+fn why_a_file_cannot_be_read_is_told(rt: HostRuntime) -> Result<(), Fail> {
+    for (fault, text) in [
+        (FileFault::NotThere, "ibm1401: a deck: no such file\n"),
+        (FileFault::Folder, "ibm1401: a deck: is a folder\n"),
+        (FileFault::Denied, "ibm1401: a deck: permission denied\n"),
+        (
+            FileFault::TooLong,
+            "ibm1401: a deck: is larger than 16777216 bytes\n",
+        ),
+        (FileFault::Unreadable, "ibm1401: a deck: cannot be read\n"),
+    ] {
+        let told = Recorder::new(rt.alloc());
+        let name = String::from_str(rt.alloc(), "a deck")?;
+        assert_eq!(rt; report(&told, Err(Fault::File(name, fault))), 1);
+        let found = told.text(rt.alloc())?;
+        assert_eq!(rt; found.as_str(), text);
     }
     Ok(())
 }

@@ -1,42 +1,62 @@
 //! Programs that are run with a deck, and what is told of them.
 
+use crate::ending::Ending;
 use crate::fault::{Fault, report};
 use crate::job_report::JobReport;
-use crate::running::{job_outcome, tell_report, tell_small_letters};
+use crate::running::{job_outcome, tell_ending, tell_small_letters};
 use crate::tests::recorder::Recorder;
 use arguments_1401::{Call, Job, Start, read_call};
 use cpu_1401::Stop;
 use job_1401::DeckFault;
 use std::test::Fail;
+use stop_reasons_1401::Reason;
 
-/// How a job ended whose counts are one to four.
-fn report_of(stop: Stop, i: u16) -> JobReport {
-    JobReport {
-        stop,
-        i,
-        steps: 1,
-        read: 2,
-        printed: 3,
-        punched: 4,
+/// How a job ended whose counts are one to four, at an instruction without a text.
+fn ending_of(stop: Stop, at: u16, reason: Option<Reason>) -> Ending {
+    Ending {
+        report: JobReport {
+            stop,
+            i: at,
+            steps: 1,
+            read: 2,
+            printed: 3,
+            punched: 4,
+        },
+        at,
+        instruction: None,
+        reason,
     }
 }
 
 #[test]
 fn each_end_of_a_job_is_one_line(rt: HostRuntime) -> Result<(), Fail> {
-    for (stop, i, status, line) in [
-        (Stop::Halt, 7, 0, "HALT at 0007"),
-        (Stop::Reader, 418, 1, "READER at 0418"),
-        (Stop::Limit, 15_999, 1, "LIMIT at 15999"),
+    let no_card = Some(Reason::NoCard);
+    for (stop, at, reason, status, line) in [
+        (Stop::Halt, 7, None, 0, "HALT at 0007"),
+        (
+            Stop::Reader,
+            418,
+            no_card,
+            1,
+            "READER at 0418: no card in the hopper",
+        ),
+        (
+            Stop::Limit,
+            15_999,
+            None,
+            1,
+            "LIMIT at 15999: the limit of steps was reached",
+        ),
     ] {
         let told = Recorder::new(rt.alloc());
-        let outcome = tell_report(&told, report_of(stop, i));
+        let outcome = tell_ending(&told, ending_of(stop, at, reason));
         assert_eq!(rt; report(&told, outcome), status, "{line}");
         let counts = "2 cards read, 3 lines printed, 4 cards punched";
         let wanted = format!(in rt.alloc(); "ibm1401: {line} after 1 step; {counts}\n")?;
         let text = told.text(rt.alloc())?;
         assert_eq!(rt; text.as_str(), wanted.as_str());
     }
-    assert!(rt; job_outcome(report_of(Stop::Halt, 0)).is_ok());
+    assert!(rt; job_outcome(ending_of(Stop::Halt, 0, None)).is_ok());
     Ok(())
 }
 

@@ -1,0 +1,2 @@
+mod AcrossLemmas
+mod StopLemmas

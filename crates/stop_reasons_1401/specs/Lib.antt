@@ -1,0 +1,4 @@
+pub mod FieldReason
+pub mod Halting
+pub mod Reason
+pub mod Said

@@ -1,0 +1,34 @@
+//! Why the machine stops, in words with the places.
+//!
+//! ```text
+//! stop_reason(&machine)                   // why the next step stops the machine: a Reason, or None
+//! reason_told(&machine, stop)             // why a run ended so
+//! reason.stop()                           // the Stop that it is told as
+//! halt_address(&machine)                  // where the halt is that was carried out last
+//! format!("{reason}")                     // no word mark from 010 down to 000 in the A field
+//! ```
+#![tactic(auto)]
+
+// the reasons and their texts
+pub mod field_reason;
+pub mod reason;
+
+// why the operations on fields can't be carried out
+mod control_word;
+mod fields;
+
+// the instruction at the I register, and why it stops the machine
+mod devices;
+mod operations;
+pub mod stopping;
+
+// the instruction that has halted
+pub mod halting;
+
+pub use field_reason::{FieldReason, Operand, Span};
+pub use halting::{halt_address, instruction_len};
+pub use reason::Reason;
+pub use stopping::{reason_told, stop_reason};
+
+#[cfg(test)]
+mod tests;
