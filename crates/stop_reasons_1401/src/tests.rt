@@ -7,6 +7,7 @@ use crate::stopping::{reason_told, stop_reason};
 use bcd_1401::{Cell, Char};
 use cpu_1401::{Machine, Stop};
 use std::alloc::Global;
+use std::process::Abort;
 use std::test::Fail;
 
 /// A machine at power-on with cells from place 500 on, `~` in front of a marked one, whose next instruction is there.
@@ -133,6 +134,20 @@ fn each_reason_of_operands_names_the_places(rt: HostRuntime) -> Result<(), Fail>
     Ok(())
 }
 
+/// Checks that a machine with this program stops so, and tells this.
+fn tells(rt: &impl Abort, alloc: Global, text: &[u8], stop: Stop, told: &str) -> Result<(), Fail> {
+    let machine = machine_with(alloc, text)?;
+    let Some(why) = stop_reason(&machine) else {
+        return Err(Fail::new("this machine stops"));
+    };
+    assert_eq!(rt; why.stop(), stop, "{told}");
+    assert_eq!(rt; reason_told(&machine, stop), Some(why));
+    assert_eq!(rt; reason_told(&machine, Stop::Limit), None);
+    let found = format!(in alloc; "{why}")?;
+    assert_eq!(rt; found.as_str(), told);
+    Ok(())
+}
+
 #[test]
 fn a_machine_tells_why_it_stops(rt: HostRuntime) -> Result<(), Fail> {
     for (text, stop, told) in [
@@ -173,15 +188,7 @@ fn a_machine_tells_why_it_stops(rt: HostRuntime) -> Result<(), Fail> {
             "loading to 500 writes over the A field's word mark at 500 before it is read",
         ),
     ] {
-        let machine = machine_with(rt.alloc(), text)?;
-        let Some(why) = stop_reason(&machine) else {
-            return Err(Fail::new("this machine stops"));
-        };
-        assert_eq!(rt; why.stop(), stop, "{told}");
-        let found = format!(in rt.alloc(); "{why}")?;
-        assert_eq!(rt; found.as_str(), told);
-        assert_eq!(rt; reason_told(&machine, stop), Some(why));
-        assert_eq!(rt; reason_told(&machine, Stop::Limit), None);
+        tells(&rt, rt.alloc(), text, stop, told)?;
     }
     Ok(())
 }
