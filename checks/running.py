@@ -57,11 +57,17 @@ def running():
     expect("sales.source: its paper", ran, 0, paper, told("HALT", 463, 24, 3, 2, shown=SALES))
     ran = run([PROGRAM, "run", sales.with_suffix(".image"), *words])
     expect("sales.image: its paper", ran, 0, paper, told("HALT", 463, 24, 3, 2, shown="H 463"))
-    for page in TOP / "README.md", TOP / "docs/RUNNING.md":
-        shown = re.search(r"```sh\n(\./ibm1401 run [^\n]*)\n```\n\n```text\n(.*?)```", page.read_text(), re.DOTALL)
+    of_sales = told("HALT", 463, 24, 3, 2, shown=SALES)
+    of_sum = told("HALT", 446, 73, printed=10, shown="line 12, H *-3")
+    for name, end in ("README.md", of_sales), ("docs/RUNNING.md", of_sales), ("docs/TUTORIAL.md", of_sum):
+        text = (TOP / name).read_text()
+        shown = re.search(r"```sh\n(\./ibm1401 run [^\n]*)\n```\n\n```text\n(.*?)```", text, re.DOTALL)
         call, printed = shown.groups() if shown else ("exit 3", "")
-        end = told("HALT", 463, 24, 3, 2, shown=SALES)
-        expect(f"what {page.name} runs", run(["bash", "-c", call], cwd=TOP), 0, printed, end)
+        expect(f"what {name} runs", run(["bash", "-c", call], cwd=TOP), 0, printed, end)
+        tell(f"the end that {name} tells", "" if end[:-1] in " ".join(text.split()) else "it is another")
+    tutorial = re.search(r"```autocoder\n(.*?)```", (TOP / "docs/TUTORIAL.md").read_text(), re.DOTALL)
+    same = tutorial is not None and tutorial[1] == (TOP / "examples/sum_to_ten.source").read_text()
+    tell("the source that TUTORIAL.md shows is its example", "" if same else "it is another")
     programs()
     with tempfile.TemporaryDirectory() as name:
         folder = Path(name)
