@@ -1,0 +1,117 @@
+-- The line of a step (own).
+use Rattle.std.specs.Prelude.{ℕ, ◌+◌, ◌-◌, ◌==◌, ◌&&◌, nat_lt, min, Bool, if◌then◌else◌, List, [], ◌∷◌, ◌++◌, length}
+use Rattle.std.specs.Prelude.{Option, None, Some, codes, drop, replicate, take}
+use Rattle.bcd_1401.specs.declared.cell.Cell.{Cell}
+use Rattle.core_1401.specs.Field.{next_mark_from}
+use Rattle.core_1401.specs.Storage.{Storage, cell_at, is_in_core}
+use Rattle.cpu_1401.specs.declared.operation.Operation.{Operation}
+use Rattle.cpu_1401.specs.declared.stop.Stop.{Stop}
+use Rattle.cpu_1401.specs.Operation.{form_of, operation_of}
+use Rattle.cpu_1401.specs.State.{State}
+use Rattle.cpu_1401.specs.Stepped.{Stepped}
+use Rattle.cpu_1401.specs.Stop.{stop_name}
+use Rattle.devices_1401.specs.Carriage.{form_of as form_at, line_of as line_at}
+use Rattle.disassembly_1401.specs.InstructionText.{instruction_text}
+use Rattle.notation_1401.specs.Cells.{cells_text}
+use Rattle.notation_1401.specs.Digits.{digits_in}
+use Rattle.trace_1401.specs.declared.work.Work.{Work}
+use Rattle.trace_1401.specs.Changes.{changes_of, changes_text}
+
+-- what a line compares the machine with: core storage, the I register, and the position of the carriage
+pub record Seen : Type 0 where
+  pub storage : Storage
+  pub i : ℕ
+  pub form : ℕ
+  pub line : ℕ
+
+abbrev pub seen_of : State → Seen
+seen_of s = record {
+  storage = s.storage;
+  i = s.i;
+  form = form_at s.devices.carriage;
+  line = line_at s.devices.carriage;
+}
+
+-- how many characters of an instruction are looked at, by its fifth; eight of what is no operation
+abbrev pub longest_of : Option Operation → ℕ → ℕ
+longest_of None fifth = 8
+longest_of (Some operation) fifth = (form_of operation).longest fifth
+
+-- how many cells the instruction at a place has, by the place of the next word mark
+abbrev pub cells_at : Storage → ℕ → ℕ
+cells_at storage at =
+    min (longest_of (operation_of (cell_at storage at).char) (cell_at storage (at + 4)).char)
+    (next_mark_from storage at)
+
+-- the cells of the instruction at a place; none outside of core
+unfoldable pub instruction_at : Storage → ℕ → List Cell
+instruction_at storage at = if is_in_core storage at then take (cells_at storage at) (drop at storage) else []
+
+-- a text with blanks behind it, up to a width
+abbrev pub padded : ℕ → List ℕ → List ℕ
+padded width text = text ++ replicate (width - length text) 32
+
+-- an instruction by its cells, and as Autocoder writes it
+unfoldable pub instruction_columns : List Cell → List ℕ
+instruction_columns cells = padded 9 (cells_text cells) ++ codes "\t" ++ padded 20 (instruction_text cells)
+
+-- the instruction: where it is, and what it is
+unfoldable pub fetched_text : Storage → ℕ → List ℕ
+fetched_text storage i = digits_in 5 i ++ codes "\t" ++ instruction_columns (instruction_at storage i)
+
+-- the A and the B register
+unfoldable pub registers_text : ℕ → ℕ → List ℕ
+registers_text a b = codes "\t" ++ digits_in 5 a ++ codes "\t" ++ digits_in 5 b
+
+-- a form and a line of it
+unfoldable pub position_text : ℕ → ℕ → List ℕ
+position_text form line = digits_in 4 form ++ codes "/" ++ digits_in 2 line
+
+-- a text, if there is cause for it
+abbrev pub text_if : Bool → List ℕ → List ℕ
+text_if holds text = if holds then text else []
+
+-- the line printed, by its place, the card read and the card punched
+unfoldable pub print_text : ℕ → ℕ → List ℕ
+print_text form line = codes "\tPRINT " ++ position_text form line
+
+unfoldable pub work_text : Seen → Work → List ℕ
+work_text before work =
+    text_if work.printed (print_text before.form before.line)
+    ++ text_if work.read (codes "\tREAD") ++ text_if work.punched (codes "\tPUNCH")
+
+-- where the carriage is, if it moved
+unfoldable pub moved_text : ℕ → ℕ → List ℕ
+moved_text form line = codes "\tCARRIAGE " ++ position_text form line
+
+unfoldable pub carriage_text : Seen → ℕ → ℕ → List ℕ
+carriage_text before form line =
+    if (before.form == form) && (before.line == line) then [] else moved_text form line
+
+-- what the devices did
+unfoldable pub devices_text : Seen → ℕ → ℕ → Work → List ℕ
+devices_text before form line work = work_text before work ++ carriage_text before form line
+
+-- the name of a stop, if there is one
+abbrev pub stop_text : Option Stop → List ℕ
+stop_text None = []
+stop_text (Some why) = codes "\t" ++ stop_name why
+
+-- the line of a step, by what was seen before it, what it did at the devices, why it stopped, and the machine after it
+unfoldable pub line_of : Seen → Work → Option Stop → State → List ℕ
+line_of before work why after =
+    fetched_text before.storage before.i ++ registers_text after.a after.b
+    ++ devices_text before (seen_of after).form (seen_of after).line work
+    ++ changes_text (changes_of before.storage after.storage) ++ stop_text why ++ codes "\n"
+
+-- what a step did at the devices: there is a line more, a card less, a punched card more
+abbrev pub work_of : State → State → Work
+work_of before after = record {
+  printed = nat_lt (length before.devices.paper) (length after.devices.paper);
+  read = nat_lt (length after.devices.hopper) (length before.devices.hopper);
+  punched = nat_lt (length before.devices.stacker) (length after.devices.stacker);
+}
+
+-- the line of a step: a function of the machine before it and of what it leaves
+abbrev pub trace_line : State → Stepped → List ℕ
+trace_line before t = line_of (seen_of before) (work_of before t.state) t.stop t.state

@@ -1,0 +1,60 @@
+//! What a line of the trace tells of registers, devices and stops.
+ghost use Rattle.std.specs.Prelude.{◌≡◌, ◌++◌, OnOk};
+ghost use Rattle.trace_1401.specs.TraceLine.{carriage_text, moved_text, position_text, print_text, registers_text};
+ghost use Rattle.trace_1401.specs.TraceLine.{stop_text};
+
+use cpu_1401::Stop;
+use notation_1401::put_digits;
+use std::alloc::AllocError;
+
+/// Adds the A and the B register.
+#[tactic(auto, unfolding(crate::specs::TraceLine::registers_text))]
+pub(crate) fn put_registers(text: &mut Vec<u8>, a: u16, b: u16) -> Result<(), AllocError>
+    ensures { OnOk result (text.new.items ≡ text.old.items ++ registers_text a b) }
+{
+    text.push(b'\t')?;
+    put_digits(text, 5, u64::from(a))?;
+    text.push(b'\t')?;
+    put_digits(text, 5, u64::from(b))
+}
+
+/// Adds a form and a line of it.
+#[tactic(auto, unfolding(crate::specs::TraceLine::position_text))]
+fn put_position(text: &mut Vec<u8>, form: u16, line: u8) -> Result<(), AllocError>
+    ensures { OnOk result (text.new.items ≡ text.old.items ++ position_text form line) }
+{
+    put_digits(text, 4, u64::from(form))?;
+    text.push(b'/')?;
+    put_digits(text, 2, u64::from(line))
+}
+
+/// Adds where a line was printed.
+#[tactic(auto, unfolding(crate::specs::TraceLine::print_text))]
+pub(crate) fn put_print(text: &mut Vec<u8>, form: u16, line: u8) -> Result<(), AllocError>
+    ensures { OnOk result (text.new.items ≡ text.old.items ++ print_text form line) }
+{
+    text.extend_from_slice(b"\tPRINT ".as_slice())?;
+    put_position(text, form, line)
+}
+
+/// Adds where the carriage moved to.
+#[tactic(auto, unfolding(crate::specs::TraceLine::moved_text))]
+pub(crate) fn put_moved(text: &mut Vec<u8>, form: u16, line: u8) -> Result<(), AllocError>
+    ensures { OnOk result (text.new.items ≡ text.old.items ++ moved_text form line) }
+{
+    text.extend_from_slice(b"\tCARRIAGE ".as_slice())?;
+    put_position(text, form, line)
+}
+
+/// Adds the name of a stop, if there is one.
+pub(crate) fn put_stop(text: &mut Vec<u8>, stop: Option<Stop>) -> Result<(), AllocError>
+    ensures { OnOk result (text.new.items ≡ text.old.items ++ stop_text stop) }
+{
+    match stop {
+        Some(why) => {
+            text.push(b'\t')?;
+            Ok(text.extend_from_slice(why.name().as_bytes())?)
+        }
+        None => Ok(()),
+    }
+}
