@@ -1,5 +1,5 @@
 //! A job: a deck, a machine, and steps until it stops.
-ghost use Rattle.std.specs.Prelude.{◌≡◌, ◌≢◌, ◌≤◌, IfOk, OnOk, OnErr};
+ghost use Rattle.std.specs.Prelude.{◌≡◌, ◌≢◌, ◌≤◌, length, IfOk, OnOk, OnErr};
 ghost use Rattle.job_1401.specs.Unattended.{AtEnd, Begins, GoesOn, IsPartOf, after_output, unattended, with_deck};
 
 use crate::cards::Cards;
@@ -44,6 +44,8 @@ pub fn run_job<R: Cards, W: Output>(
           lines = W.lines output.new;
           cards = W.cards output.new;
         }) }
+    ensures size { OnOk result (length machine.new.storage ≡ length machine.old.storage) }
+
     // The limit is met exactly.
     ensures most { IfOk result (λ end. end.steps ≤ limit) }
     ensures limit { IfOk result (λ end. end.stop ≡ Stop.Limit → end.steps ≡ limit) }
