@@ -14,6 +14,7 @@ mod serving;
 mod subcommands;
 #[cfg(test)]
 mod tests;
+mod tracing;
 mod watching;
 
 use crate::assembling::{check_size, write_assembly};

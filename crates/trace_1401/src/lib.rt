@@ -21,3 +21,6 @@ pub mod work;
 
 pub use snapshot::Snapshot;
 pub use work::Work;
+
+#[cfg(test)]
+mod tests;
