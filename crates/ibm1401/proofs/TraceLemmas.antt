@@ -76,7 +76,7 @@ more_lie n zero = search arith
 more_lie n (suc k) = search arith
 
 -- what was done at the devices, by what lies there
-work_by : Bool → Bool → Bool → Work
+abbrev pub work_by : Bool → Bool → Bool → Work
 work_by printed read punched = record { printed = printed; read = read; punched = punched }
 
 pub same_work : (a b c a' b' c' : Bool) → a ≡ a' → b ≡ b' → c ≡ c' → work_by a b c ≡ work_by a' b' c'

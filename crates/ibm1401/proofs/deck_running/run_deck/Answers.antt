@@ -3,6 +3,7 @@ use Rattle.std.proofs.Common.{◌≡◌, drop, refl, sym, subst, ap, ◌∙◌, 
 use Rattle.console_1401.specs.Sink.{AppendsPart}
 use Rattle.trace_1401.specs.TraceText.{trace_text}
 use Rattle.ibm1401.specs.RunTrace.{TracedStretch, seen_if, traced}
+use Rattle.ibm1401.proofs.WrittenLemmas.{nothing_yet}
 use Rattle.ibm1401.proofs.TraceLemmas.{all_traced, seen_is, trace_at_first, trace_goes_on, trace_part}
 use Rattle.std.specs.Prelude.{is_some, option_and_then}
 use Rattle.job_1401.specs.Unattended.{with_deck}
@@ -141,3 +142,12 @@ run_stretch-requires-clause-file g c =
     let is = is_some c.args.trace.now.file in
     ap (λ each. is_some each) c.loop-stretch.invariant.seen ∙ seen_is is c.loop-stretch.machine
     ∙ sym c.loop-stretch.invariant.file
+
+pub returns-in_err-begin-clause-traced_part : goal.returns-in_err-begin-clause-traced_part
+returns-in_err-begin-clause-traced_part g c =
+    let s = with_deck (drop c.args.deck.now.next c.args.deck.now.cards.now) c.args.machine.now in
+    let first = option_and_then g.F.Sink.received c.args.trace.now.file in
+    let text = traced (is_some c.args.trace.now.file) (trace_text c.args.limit s) in
+    let part = subst (λ each. AppendsPart first each text)
+    (sym (ap (λ each. option_and_then g.F.Sink.received each) c.begin.ensures.file)) (nothing_yet first text) in
+    search (rules, part)
