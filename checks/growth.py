@@ -3,6 +3,7 @@
 A small library stands in front of the C library's and refuses; it is built by cc, and without one nothing is tried. No
 run may do anything but what a run without a refusal does, up to a named end or with the one command refused."""
 import os
+import re
 import shutil
 import subprocess
 import tempfile
@@ -158,20 +159,23 @@ def disassemblies(refusing):
 
 
 def jobs(refusing):
-    """A source that is run with its deck: what went out is a beginning of the paper."""
+    """A source that is run with its deck: what went out is a beginning of the paper. The end is told in any case."""
     source = TOP / "examples/sales.source"
     words = ["run", source, "--cards", source.with_suffix(".cards"), "--switches", "A"]
     whole = run([PROGRAM, *words])
+    plain = re.sub(rb" \(line [^)]*\)", b"", whole.stderr)
     faults = [MEMORY, b"ibm1401: line 0: 1 MEMORY\n"]
 
     def job(how):
         ran = run([PROGRAM, *words], **how)
         if ran.returncode == 1 and ran.stderr in faults:
             return ran.stderr.decode().split(": ", 1)[1].strip(), "" if whole.stdout.startswith(ran.stdout) else f"{ran}"
+        if (ran.returncode, ran.stdout, ran.stderr) == (0, whole.stdout, plain):
+            return "without the instruction", ""
         is_whole = (ran.returncode, ran.stdout, ran.stderr) == (0, whole.stdout, whole.stderr)
         return "without an effect", "" if is_whole else f"{ran}"
 
-    return refusing.each("run", job, ["memory refused", "line 0: 1 MEMORY"])
+    return refusing.each("run", job, ["memory refused", "line 0: 1 MEMORY", "without the instruction"])
 
 
 def served_end(how):

@@ -319,7 +319,7 @@ def loaded_decks(folder):
     deck = TOP / "examples/listing.deck"
     paper = TOP / "examples/listing.paper"
     ran = run([PROGRAM, "run", "--load", deck, "--switches", "A"])
-    end = told("HALT", 461, 253, 27, 23, 21, "H 461")
+    end = told("HALT", 460, 253, 27, 23, 21, "H")
     expect("run --load: its paper", ran, 0, paper.read_bytes(), end)
     cards = deck.read_text().splitlines(keepends=True)
     first, behind = folder / "first", folder / "behind"
