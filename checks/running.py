@@ -91,14 +91,14 @@ def traces():
         sales = TOP / "examples/sales"
         words = [f"{sales}.source", "--cards", f"{sales}.cards", "--switches", "A"]
         paper, wanted = sales.with_suffix(".paper").read_bytes(), sales.with_suffix(".trace").read_bytes()
-        end, cannot = told("HALT", 463, 24, 3, 2), "ibm1401: cannot write"
+        end, cannot = told("HALT", 463, 24, 3, 2, shown=SALES), "ibm1401: cannot write"
         ran = run([PROGRAM, "run", *words, "--trace", trace])
         expect("sales.source: its paper with a trace", ran, 0, paper, end)
         tell("sales.source: its trace", difference("it", trace.read_bytes(), wanted))
         shown = re.search(r"## The trace\n.*?```text\n(.*?)```", (TOP / "docs/RUNNING.md").read_text(), re.DOTALL)
         tell("docs/RUNNING.md: lines of it", "" if shown and shown[1].encode() in wanted else "other lines")
         ran = run([PROGRAM, "run", *words, "--trace", trace, "--limit", "3"])
-        expect("a limit with a trace", ran, 1, "", told("LIMIT", 409, 3))
+        expect("a limit with a trace", ran, 1, "", told("LIMIT", 409, 3, shown="line 6, CC S", why=LIMIT))
         tell("a trace up to the limit", difference("it", trace.read_bytes(), b"".join(wanted.splitlines(True)[:3])))
         for out, fault in (name, name), ("/dev/full", "/dev/full"), (f"{name}/none/trace", f"{name}/none/trace"):
             ran = run([PROGRAM, "run", *words, "--trace", out, "--paper", "/dev/null"])
