@@ -1,6 +1,7 @@
 -- A step of a job, and its line.
-use Rattle.std.proofs.Common.{◌≡◌, ◌≢◌, ◌<◌, ◌≤◌, ◌⊎◌, ℕ, ◌+◌, ◌-◌, zero, suc, Bool, true, false, List, [], ◌++◌, length, min, Option, None, Some}
+use Rattle.std.proofs.Common.{◌≡◌, ◌≢◌, ◌<◌, ◌≤◌, ◌⊎◌, not, ℕ, ◌+◌, ◌-◌, zero, suc, Bool, true, false, List, [], ◌++◌, length, min, Option, None, Some}
 use Rattle.std.proofs.Common.{refl, sym, ◌∙◌, ap, subst, arith, append_assoc, length-append, inl, inr}
+use Rattle.std.proofs.lemmas.Bool.{not-false, not-true}
 use Rattle.std.proofs.lemmas.Option.{none-some}
 use Rattle.std.specs.Prelude.{nat_lt, ◌==◌, if◌then◌else◌, is_some}
 use Rattle.std.proofs.lemmas.List.{append-nil}
@@ -8,6 +9,7 @@ use Rattle.devices_1401.specs.declared.card.Card.{Card}
 use Rattle.devices_1401.specs.declared.print_line.PrintLine.{PrintLine}
 use Rattle.cpu_1401.specs.declared.stop.Stop.{Stop}
 use Rattle.cpu_1401.specs.declared.stop.Stop.TheVariants as stop
+use Rattle.cpu_1401.specs.CardsAndPrinter.{load}
 use Rattle.cpu_1401.specs.Run.{carried_out_by}
 use Rattle.cpu_1401.specs.State.{State}
 use Rattle.cpu_1401.specs.Step.{step}
@@ -19,7 +21,9 @@ use Rattle.trace_1401.specs.TraceText.{trace_on, trace_text}
 use Rattle.std.proofs.KnownBytes.{Appends-nil, Appends-trans}
 use Rattle.std.specs.Io.KnownBytes.{Appends}
 use Rattle.console_1401.specs.Sink.{AppendsPart}
-use Rattle.ibm1401.specs.RunTrace.{IsWhyUntraced, TracedStretch, line_if, lines_after, most_at_once, rest_traced, seen_if, traced}
+use Rattle.arguments_1401.specs.declared.call.Start.{Start}
+use Rattle.arguments_1401.specs.declared.call.Start.TheVariants as start
+use Rattle.ibm1401.specs.RunTrace.{IsWhyUntraced, TracedStretch, line_if, lines_after, most_at_once, rest_traced, seen_if, started_trace, traced}
 use Rattle.ibm1401.specs.declared.deck_running.Broken.{Broken}
 use Rattle.ibm1401.specs.declared.deck_running.Broken.TheVariants as broken
 use Rattle.ibm1401.proofs.WrittenLemmas.{part_behind, part_of_longer}
@@ -304,3 +308,22 @@ pub line_part : (is : Bool) (limit steps : ℕ) (found : Option Stop) (s now : S
     → AppendsPart old new text → AppendsPart old new (traced is (trace_text limit s))
 line_part is limit steps found s now old new text whole part =
     part_of_longer old new text (traced is (rest_traced found (limit - steps) now)) (traced is (trace_text limit s)) whole part
+
+-- the trace of a machine that has read its program's first card is that of the job started by the load key
+pub loaded_trace : (begun : Start) (limit : ℕ) (loaded : Bool) (s after : State) → begun ≡ start.LoadKey
+    → loaded ≡ not (length s.devices.hopper == 0) → loaded ≡ true → after ≡ load s
+    → trace_text limit after ≡ started_trace begun limit s
+loaded_trace begun limit loaded s after by_key card some e =
+    let held : (length s.devices.hopper == 0) ≡ false = not-true (length s.devices.hopper == 0) (sym card ∙ some) in
+    ap (λ (x : State). trace_text limit x) e
+    ∙ ap (λ (none : Bool). if none then [] else trace_text limit (load s)) (sym held)
+    ∙ ap (λ (x : Start). started_trace x limit s) (sym by_key)
+
+-- nothing is traced if the load key finds no card
+pub no_card_trace : (begun : Start) (limit : ℕ) (loaded : Bool) (s : State) → begun ≡ start.LoadKey
+    → loaded ≡ not (length s.devices.hopper == 0) → loaded ≡ false → [] ≡ started_trace begun limit s
+no_card_trace begun limit loaded s by_key card none_loaded =
+    let none : (length s.devices.hopper == 0) ≡ true =
+    not-false (length s.devices.hopper == 0) (sym card ∙ none_loaded) in
+    ap (λ (b : Bool). if b then [] else trace_text limit (load s)) (sym none)
+    ∙ ap (λ (x : Start). started_trace x limit s) (sym by_key)

@@ -275,7 +275,7 @@ fn cards_held<'d>(machine: &Machine, deck: &Deck<'d>) -> u64
 
 /// Tells of a machine whose load key finds no card that it stands at its reader, and writes what lies on its paper and
 /// in its stacker.
-#[tactic(auto, unfolding(job_1401::specs::Unattended::unattended))]
+#[tactic(auto, unfolding(job_1401::specs::Unattended::unattended, trace_1401::specs::TraceText::trace_text))]
 fn run_no_card<'d, W: Sink, P: Sink, F: Sink, T: Watch>(
     alloc: Global,
     machine: &mut Machine,
