@@ -13,7 +13,6 @@ use Rattle.cpu_1401.specs.CardsAndPrinter.{load}
 use Rattle.cpu_1401.specs.Run.{carried_out_by}
 use Rattle.cpu_1401.specs.State.{State}
 use Rattle.cpu_1401.specs.Step.{step}
-use Rattle.cpu_1401.specs.Stepped.{Stepped}
 use Rattle.job_1401.specs.Unattended.{Job, emptied, go_on, taken_first, unattended, with_deck}
 use Rattle.trace_1401.specs.declared.work.Work.{Work}
 use Rattle.trace_1401.specs.TraceLine.{Seen, line_of, seen_of, trace_line, work_of}

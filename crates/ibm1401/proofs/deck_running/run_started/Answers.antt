@@ -1,5 +1,5 @@
 -- A trace that breaks off is a beginning of the trace of the job that was started.
-use Rattle.std.proofs.Common.{◌≡◌, Bool, drop, length, not, subst, ap, ◌∙◌}
+use Rattle.std.proofs.Common.{◌≡◌, drop, length, not, subst, ap, ◌∙◌}
 use Rattle.std.specs.Prelude.{OnErr, ◌==◌, is_some, option_and_then}
 use Rattle.console_1401.specs.Sink.{AppendsPart}
 use Rattle.cpu_1401.specs.CardsAndPrinter.{load}
