@@ -69,6 +69,7 @@ def running():
     same = tutorial is not None and tutorial[1] == (TOP / "examples/sum_to_ten.source").read_text()
     tell("the source that TUTORIAL.md shows is its example", "" if same else "it is another")
     programs()
+    traces()
     with tempfile.TemporaryDirectory() as name:
         folder = Path(name)
         long_deck(folder)
@@ -81,6 +82,46 @@ def running():
         closed_streams(folder)
     while_it_runs()
     how_far()
+
+
+def same_run(ran, other):
+    """Whether two runs ended and wrote alike; what differs, if they didn't."""
+    alike = ran.returncode == other.returncode and ran.stderr == other.stderr
+    return difference("standard output", other.stdout, ran.stdout) if alike else [f"{other.returncode} {other.stderr!r}"]
+
+
+def traces():
+    """A run with a trace: the trace, and paper, cards and counts as without one."""
+    with tempfile.TemporaryDirectory() as name:
+        trace, punched, plain = Path(name) / "trace", Path(name) / "punched", Path(name) / "plain"
+        sales = TOP / "examples/sales"
+        words = [f"{sales}.source", "--cards", f"{sales}.cards", "--switches", "A"]
+        paper, wanted = sales.with_suffix(".paper").read_bytes(), sales.with_suffix(".trace").read_bytes()
+        end, cannot = told("HALT", 463, 24, 3, 2, shown=SALES), "ibm1401: cannot write"
+        ran = run([PROGRAM, "run", *words, "--trace", trace])
+        expect("sales.source: its paper with a trace", ran, 0, paper, end)
+        tell("sales.source: its trace", difference("it", trace.read_bytes(), wanted))
+        shown = re.search(r"## The trace\n.*?```text\n(.*?)```", (TOP / "docs/RUNNING.md").read_text(), re.DOTALL)
+        tell("docs/RUNNING.md: lines of it", "" if shown and shown[1].encode() in wanted else "other lines")
+        ran = run([PROGRAM, "run", *words, "--trace", trace, "--limit", "3"])
+        expect("a limit with a trace", ran, 1, "", told("LIMIT", 409, 3, shown="line 6, CC S", why=LIMIT))
+        tell("a trace up to the limit", difference("it", trace.read_bytes(), b"".join(wanted.splitlines(True)[:3])))
+        for out, fault in (name, name), ("/dev/full", "/dev/full"), (f"{name}/none/trace", f"{name}/none/trace"):
+            ran = run([PROGRAM, "run", *words, "--trace", out, "--paper", "/dev/null"])
+            expect(f"a trace to {out}", ran, 1, "", f"{cannot} {fault}\n")
+        listing = [TOP / "examples/listing.deck", "--load", "--switches", "A"]
+        ran, traced = run([PROGRAM, "run", *listing]), run([PROGRAM, "run", *listing, "--trace", trace])
+        tell("a deck that loads itself with a trace", same_run(ran, traced))
+        first = trace.read_bytes().split(b"\t")[0]
+        tell("its trace begins where the load key starts", difference("it", first, b"00001"))
+        source, deck = Path(name) / "source", Path(name) / "deck"
+        source.write_text(LIST_AND_PUNCH)
+        deck.write_text("".join(f"{number:04}\n" for number in range(700)))
+        words = [source, "--cards", deck, "--switches", "A", "--punch"]
+        ran, traced = run([PROGRAM, "run", *words, plain]), run([PROGRAM, "run", *words, punched, "--trace", trace])
+        tell("a long deck with a trace", same_run(ran, traced))
+        tell("a long deck with a trace: its cards", difference("it", punched.read_bytes(), plain.read_bytes()))
+        count("lines of its trace", len(trace.read_bytes().splitlines()), 1 + 700 * 7)
 
 
 def statement(listing, address):

@@ -66,6 +66,8 @@ pub struct Job {
     pub punch: Option<String>,
     /// The name of the file of the paper; without one it is standard output.
     pub paper: Option<String>,
+    /// The name of the file of the trace; without one there is none.
+    pub trace: Option<String>,
     /// How many places core storage has, where the file is no image.
     pub size: u16,
     /// How many instructions are carried out at the most.

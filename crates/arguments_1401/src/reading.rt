@@ -141,6 +141,10 @@ fn run_command<'a>(alloc: Global, sizes: &'a SizeTexts) -> Result<Command<'a>, A
         .long("paper")
         .value_name("OUT")
         .help("The file for the paper, in place of standard output");
+    let trace = Arg::new(alloc, "trace")
+        .long("trace")
+        .value_name("OUT")
+        .help("The file for a trace: a line for each step, with what it changed");
     let limit = Arg::new(alloc, "limit")
         .long("limit")
         .value_name("STEPS")
@@ -157,6 +161,7 @@ fn run_command<'a>(alloc: Global, sizes: &'a SizeTexts) -> Result<Command<'a>, A
         .arg(cards)?
         .arg(punch)?
         .arg(paper)?
+        .arg(trace)?
         .arg(size_arg(alloc, sizes))?
         .arg(limit)?
         .arg(switches)?
@@ -233,6 +238,7 @@ fn run_call(alloc: Global, matches: &ArgMatches<'_>, file: &str) -> Result<Call,
         cards: name_in(alloc, matches, "cards")?,
         punch: name_in(alloc, matches, "punch")?,
         paper: name_in(alloc, matches, "paper")?,
+        trace: name_in(alloc, matches, "trace")?,
         size: size_in(matches),
         limit: matches.get_one("limit").unwrap_or(DEFAULT_LIMIT),
         switches,

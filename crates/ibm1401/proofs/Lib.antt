@@ -1,2 +1,3 @@
 pub mod StretchLemmas
 pub mod WrittenLemmas
+pub mod TraceLemmas

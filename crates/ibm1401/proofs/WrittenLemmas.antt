@@ -18,17 +18,17 @@ pub nothing_yet : (old : Option (List ℕ)) (text : List ℕ) → AppendsPart ol
 nothing_yet old text = ([], (text, refl), Appends-nil old)
 
 -- all of a text is a part of it
-all_of_it : (old new : Option (List ℕ)) (text : List ℕ) → Appends old new text → AppendsPart old new text
+pub all_of_it : (old new : Option (List ℕ)) (text : List ℕ) → Appends old new text → AppendsPart old new text
 all_of_it old new text all = (text, ([], sym (append-nil text)), all)
 
 -- a part of a text is one of any text that begins with it
-part_of_longer : (old new : Option (List ℕ)) (text more whole : List ℕ) → whole ≡ text ++ more → AppendsPart old new text
+pub part_of_longer : (old new : Option (List ℕ)) (text more whole : List ℕ) → whole ≡ text ++ more → AppendsPart old new text
     → AppendsPart old new whole
 part_of_longer old new text more whole e part =
     (part.0, (part.1.0 ++ more, e ∙ ap (λ t. t ++ more) part.1.1 ∙ append_assoc part.0 part.1.0 more), part.2)
 
 -- a part of a text behind another
-part_behind : (old between new : Option (List ℕ)) (text more whole : List ℕ) → whole ≡ text ++ more
+pub part_behind : (old between new : Option (List ℕ)) (text more whole : List ℕ) → whole ≡ text ++ more
     → Appends old between text → AppendsPart between new more → AppendsPart old new whole
 part_behind old between new text more whole e all part = (
   text ++ part.0,

@@ -5,4 +5,5 @@ pub mod Load
 pub mod Program
 pub mod Run
 pub mod RunDeck
+pub mod RunTrace
 pub mod Status

@@ -53,11 +53,12 @@ abbrev pub failed_of : {P : Type 0} → (P → Bool) → Option P → Bool
 failed_of has_failed None = false
 failed_of has_failed (Some file) = has_failed file
 
--- why something wasn't written: a write of paper or of cards failed, or there was no memory, and then none failed
+-- why something wasn't written: a write of paper or of cards failed, or none of these failed
 abbrev pub IsWhyUnwritten : Broken → Bool → Bool → Bool → Bool → Type 0
 IsWhyUnwritten broken.Memory paper paper' punch punch' = (paper' ≡ paper) × (punch' ≡ punch)
 IsWhyUnwritten broken.Paper paper paper' punch punch' = IsTrue paper' × (punch' ≡ punch)
 IsWhyUnwritten broken.Punch paper paper' punch punch' = (paper' ≡ paper) × IsTrue punch'
+IsWhyUnwritten broken.Trace paper paper' punch punch' = (paper' ≡ paper) × (punch' ≡ punch)
 
 -- what is left of a job: nothing where it has stopped
 abbrev pub rest_of : Option Stop → ℕ → State → Job

@@ -18,6 +18,7 @@ mod source_file;
 mod subcommands;
 #[cfg(test)]
 mod tests;
+mod tracing;
 mod watching;
 mod whole_file;
 

@@ -10,6 +10,7 @@ use crate::job_report::JobReport;
 use crate::loading::read_named_file;
 use crate::programs::{loaded_machine, program_of};
 use crate::punch_file::PunchFile;
+use crate::tracing::Trace;
 use crate::watching::{Shown, Unwatched, Watch};
 use arguments_1401::{Job, Start};
 use autocoder_1401::Listing;
@@ -136,7 +137,7 @@ fn unwritten(name: Option<String>) -> Fault {
 }
 
 /// Runs a machine with its cards, and shows how far it is where standard error is a terminal.
-fn run_shown<R: Eprint + Clock + AllocGlobal, W: Sink, P: Sink>(
+fn run_shown<R: Eprint + Clock + AllocGlobal, W: Sink, P: Sink, F: Sink>(
     rt: &R,
     error_output: ErrorOutput,
     machine: &mut Machine,
@@ -145,13 +146,14 @@ fn run_shown<R: Eprint + Clock + AllocGlobal, W: Sink, P: Sink>(
     limit: u32,
     paper: &mut W,
     punch: &mut P,
+    trace: &mut Trace<F>,
 ) -> Result<JobReport, Broken> {
     let alloc = rt.alloc();
     match error_output {
         ErrorOutput::Terminal => {
             let mut shown = Shown::new(rt);
             let ended = run_started(
-                alloc, machine, cards, start, limit, paper, punch, &mut shown,
+                alloc, machine, cards, start, limit, paper, punch, trace, &mut shown,
             );
             shown.end();
             ended
@@ -159,7 +161,7 @@ fn run_shown<R: Eprint + Clock + AllocGlobal, W: Sink, P: Sink>(
         ErrorOutput::Other => {
             let mut watch = Unwatched;
             run_started(
-                alloc, machine, cards, start, limit, paper, punch, &mut watch,
+                alloc, machine, cards, start, limit, paper, punch, trace, &mut watch,
             )
         }
     }
@@ -183,6 +185,7 @@ pub fn run_file<R: Files + Print + Eprint + Clock + AllocGlobal>(
         cards,
         punch,
         paper,
+        trace,
         size,
         limit,
         switches,
@@ -208,6 +211,10 @@ pub fn run_file<R: Files + Print + Eprint + Clock + AllocGlobal>(
             None => None,
         },
     };
+    let mut tracer = Trace::new(match &trace {
+        Some(name) => Some(create(rt, name.as_str())?),
+        None => None,
+    });
     set_switches(&mut machine, &switches);
     let deck = deck.as_slice();
     let ended = match paper_file {
@@ -220,6 +227,7 @@ pub fn run_file<R: Files + Print + Eprint + Clock + AllocGlobal>(
             limit,
             &mut file,
             &mut punch_file,
+            &mut tracer,
         ),
         None => {
             let mut output = ToWriter::new(io::writer(rt));
@@ -232,6 +240,7 @@ pub fn run_file<R: Files + Print + Eprint + Clock + AllocGlobal>(
                 limit,
                 &mut output,
                 &mut punch_file,
+                &mut tracer,
             )
         }
     };
@@ -243,6 +252,7 @@ pub fn run_file<R: Files + Print + Eprint + Clock + AllocGlobal>(
         Err(Broken::Memory) => Err(Fault::Memory),
         Err(Broken::Paper) => Err(unwritten(paper)),
         Err(Broken::Punch) => Err(unwritten(punch)),
+        Err(Broken::Trace) => Err(unwritten(trace)),
     }
 }
 

@@ -8,4 +8,5 @@ mod loading;
 mod recorder;
 mod running;
 mod serving;
+mod tracing;
 mod wiring;

@@ -1,5 +1,5 @@
 //! Running a machine with a deck until it stops.
-ghost use Rattle.std.specs.Prelude.{◌≡◌, ◌≢◌, ◌≤◌, IfOk, IfErr, OnOk, OnErr};
+ghost use Rattle.std.specs.Prelude.{◌≡◌, ◌≢◌, ◌≤◌, length, IfOk, IfErr, OnOk, OnErr};
 ghost use Rattle.job_1401.specs.Unattended.{AtEnd, Begins, GoesOn, IsPartOf, IsWhyBroken, after_output, failed};
 ghost use Rattle.job_1401.specs.Unattended.{unattended, with_deck};
 
@@ -46,6 +46,8 @@ pub fn run_job<R: Cards, W: Output>(
           lines = W.lines output.new;
           cards = W.cards output.new;
         }) }
+    ensures size { OnOk result (length machine.new.storage ≡ length machine.old.storage) }
+
     // LIMIT comes after exactly as many steps as the limit.
     ensures most { IfOk result (λ end. end.steps ≤ limit) }
     ensures limit { IfOk result (λ end. end.stop ≡ Stop.Limit → end.steps ≡ limit) }

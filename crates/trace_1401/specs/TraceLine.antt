@@ -1,5 +1,5 @@
 -- The line of a step (own).
-use Rattle.std.specs.Prelude.{ℕ, ◌+◌, ◌-◌, ◌==◌, ◌&&◌, nat_lt, min, Bool, if◌then◌else◌, List, [], ◌∷◌, ◌++◌, length}
+use Rattle.std.specs.Prelude.{ℕ, ◌+◌, ◌-◌, ◌==◌, ◌&&◌, nat_lt, min, Bool, if◌then◌else◌, List, [], ◌++◌, length}
 use Rattle.std.specs.Prelude.{Option, None, Some, codes, drop, replicate, take}
 use Rattle.bcd_1401.specs.declared.cell.Cell.{Cell}
 use Rattle.core_1401.specs.Field.{next_mark_from}

@@ -1,5 +1,5 @@
 -- One cell more is added.
-use Rattle.std.proofs.Common.{◌≡◌, ◌++◌, arith, ap, ◌∙◌, ◌+◌, ◌-◌, List, ℕ, take, drop, rules}
+use Rattle.std.proofs.Common.{◌≡◌, ◌++◌, ap, ◌∙◌, ◌+◌, ◌-◌, List, ℕ, take, drop}
 use Rattle.notation_1401.specs.Cells.{cell_text, cells_text}
 use Rattle.core_1401.specs.Storage.{cell_at}
 use Rattle.bcd_1401.specs.declared.cell.Cell.{Cell}

@@ -1,5 +1,5 @@
 -- Each change is added, and copied.
-use Rattle.trace_1401.proofs.WalkLemmas.{IsCopied, all_same, all_text, at_first, at_next, first_text, next_text, takes_one}
+use Rattle.trace_1401.proofs.WalkLemmas.{IsCopied, all_same, all_text, at_first, at_next, first_text, next_text}
 use Rattle.std.proofs.Common.{◌<◌, ◌≤◌, ◌∙◌, length, sym, arith}
 use Rattle.trace_1401.proofs.changes.put_changes.Goals as goal
 

@@ -1,5 +1,5 @@
 -- One cell more is copied.
-use Rattle.std.proofs.Common.{◌≡◌, ◌+◌, List, arith, ap, ◌∙◌, rules, set, take, length, length-set}
+use Rattle.std.proofs.Common.{◌+◌, arith, ap, ◌∙◌, rules, set, take, length-set}
 use Rattle.bcd_1401.specs.declared.cell.Cell.{Cell}
 use Rattle.trace_1401.proofs.PlaceLemmas.{copy_more}
 use Rattle.trace_1401.proofs.fetched.fetch.Goals as goal

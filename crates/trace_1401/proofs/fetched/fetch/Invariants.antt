@@ -1,5 +1,5 @@
 -- The cells so far are those of core.
-use Rattle.std.proofs.Common.{◌≡◌, ◌≤◌, drop, length, take}
+use Rattle.std.proofs.Common.{◌≡◌, drop, length, take}
 use Rattle.trace_1401.proofs.fetched.fetch.Given as goal
 
 abbrev pub invariant-loop-i : goal.invariant-loop-i

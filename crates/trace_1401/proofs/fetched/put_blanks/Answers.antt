@@ -1,5 +1,5 @@
 -- One blank more is added.
-use Rattle.std.proofs.Common.{◌≡◌, ◌++◌, ◌+◌, ◌-◌, List, ℕ, ap, ◌∙◌, replicate}
+use Rattle.std.proofs.Common.{◌++◌, ◌+◌, ◌-◌, List, ℕ, ap, ◌∙◌, replicate}
 use Rattle.trace_1401.proofs.PlaceLemmas.{blank_more}
 use Rattle.trace_1401.proofs.fetched.put_blanks.Goals as goal
 
