@@ -324,7 +324,8 @@ fn run_no_card<'d, W: Sink, P: Sink, F: Sink, T: Watch>(
 ///
 /// # Errors
 ///
-/// `Paper` or `Punch` where a write failed, else `Memory`. What was written is a beginning of what would have been.
+/// `Paper`, `Punch` or `Trace` if that write failed, else `Memory`. What was written is a beginning of what would have
+/// been.
 pub fn run_started<W: Sink, P: Sink, F: Sink, T: Watch>(
     alloc: Global,
     machine: &mut Machine,

@@ -171,9 +171,9 @@ fn run_shown<R: Eprint + Clock + AllocGlobal, W: Sink, P: Sink, F: Sink>(
 ///
 /// # Errors
 ///
-/// `Size` where no core storage of the size named is made; `File`, `Source`, `Image` or `Deck` where there is no
-/// program or no deck; `Unwritten` or `Output` where a file can't be made, or paper or cards aren't written; `Stopped`
-/// where the machine stopped otherwise than by a halt; or `Memory`.
+/// `Size` if there is no core storage of the size named; `File`, `Source`, `Image` or `Deck` if there is no program or no
+/// deck; `Unwritten` or `Output` if a file can't be made, or paper, cards or trace aren't written; `Stopped` if the
+/// machine stopped otherwise than by a halt; or `Memory`.
 pub fn run_file<R: Files + Print + Eprint + Clock + AllocGlobal>(
     rt: &R,
     error_output: ErrorOutput,

@@ -120,7 +120,7 @@ fn one_is_counted_without_an_s(rt: HostRuntime) -> Result<(), Fail> {
         punched: 0,
     };
     let text = format!(in rt.alloc(); "{report}")?;
-    let wanted = "READER at 0001 after 2 steps; 1 card read, 1 line printed, 0 cards punched";
+    let wanted = "2 steps; 1 card read, 1 line printed, 0 cards punched";
     assert_eq!(rt; text.as_str(), wanted);
     Ok(())
 }
