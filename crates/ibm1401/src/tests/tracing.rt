@@ -52,7 +52,8 @@ fn a_trace_has_a_line_for_each_step(rt: HostRuntime) -> Result<(), Fail> {
             &mut Unwatched,
         );
         assert!(rt; ended.is_ok());
-        let Some(file) = traced.file else {
+        let Trace { file, .. } = traced;
+        let Some(file) = file else {
             return Err(Fail::new("there is a trace"));
         };
         let text = file.into_inner();
