@@ -36,7 +36,7 @@ REPLY = re.compile(
 IMAGE = re.compile(rf"IMAGE2 \d{{5}}\n(?:\d{{5}} \d\d (?:~?{ONE}){{1,40}}\n)*END \d{{5}}\n")
 LISTING = re.compile(rf"(?:\d{{5}} [^\n]*\n)+")
 JOB = re.compile(
-    rf"ibm1401: ({'|'.join(STOPS)}) at \d{{4,5}} after \d+ steps?;"
+    rf"ibm1401: ({'|'.join(STOPS)}) at \d{{4,5}}(?: \([^\n]+\))?(?:: [^\n]+)? after \d+ steps?;"
     r" \d+ cards? read, \d+ lines? printed, \d+ cards? punched\n"
 )
 WORDS = [
@@ -130,11 +130,14 @@ def deck(chance, file):
     file.write_bytes(text)
     words = ["run", source, "--cards", file, "--switches", "A", "--limit", "100000"]
     ran = run([PROGRAM, *words], timeout=SECONDS)
-    told = ran.stderr.decode("latin-1").removeprefix(f"ibm1401: {file}: ")
+    small = f"ibm1401: {file}: small letters are read as capitals\n"
+    has_told_small = ran.stderr.startswith(small.encode())
+    told = ran.stderr.decode("latin-1").removeprefix(small).removeprefix(f"ibm1401: {file}: ")
     refused = re.fullmatch(r"line (\d+), column (\d+): (?:no card has this character|a card has 80 columns)\n", told)
     is_refused = refused and not ran.stdout and int(refused[1]) <= text.count(b"\n") + 1 and int(refused[2]) <= 81
     ended = JOB.fullmatch(told)
-    is_ended = ended and (ran.returncode == 0) == (ended[1] == "HALT")
+    has_small = re.search(rb"[a-z]", text) is not None
+    is_ended = ended and (ran.returncode == 0) == (ended[1] == "HALT") and has_told_small == has_small
     is_so = ran.returncode in (0, 1) and (is_refused or is_ended)
     return "" if is_so else f"{text!r}: status {ran.returncode}, {ran.stderr!r}, {ran.stdout!r}"
 
