@@ -124,6 +124,16 @@ def traces():
         count("lines of its trace", len(trace.read_bytes().splitlines()), 1 + 700 * 7)
 
 
+def without_deck():
+    """The examples that read no card: paper and counts."""
+    ends = ("five_and_five", 0, 414, 3, "line 4"), ("sum_to_ten", 10, 446, 73, "line 12")
+    for name, lines, address, steps, shown in ends:
+        source = TOP / "examples" / f"{name}.source"
+        paper = source.with_suffix(".paper").read_bytes() if lines else b""
+        end = told("HALT", address, steps, printed=lines, shown=f"{shown}, H *-3")
+        expect(f"{source.name}: its paper", run([PROGRAM, "run", source]), 0, paper, end)
+
+
 def statement(listing, address):
     """The number of the line that a listing has at an address, its label, operation and operands."""
     line = next(each for each in listing.splitlines() if each[5:10] == f"{address:05}" and each[11:19].strip())
@@ -318,6 +328,12 @@ def outputs(folder):
         ("--limit 3 2>/dev/full", 1, "", ""),
     ]:
         expect(f"run {words}", run(["bash", "-c", f"{call} {words}", PROGRAM]), status, output, error)
+    copy = TOP / "examples/deck_copy"
+    words = ["run", f"{copy}.source", "--cards", f"{copy}.cards", "--punch", "/dev/full", "--switches", "A"]
+    ran = run([PROGRAM, *words])
+    is_part = (copy.with_suffix(".paper")).read_bytes().startswith(ran.stdout)
+    is_told = (ran.returncode, ran.stderr) == (1, f"{cannot} /dev/full\n".encode())
+    tell("cards that a full disk doesn't take", "" if is_part and is_told else f"{ran}")
 
 
 def loaded_decks(folder):
