@@ -1,15 +1,11 @@
-//! The order of reads and writes, and of a line and what its console is told.
-ghost use Rattle.std.specs.Prelude.{◌≡◌};
+//! The order of reads and writes.
 
-use console_1401::{Door, FromReader, SessionEnd, ToWriter, attend, session};
-use room_1401::{Naming, Opened, Room, SharedRoom};
+use console_1401::{FromReader, SessionEnd, ToWriter, session};
+use room_1401::Room;
 use std::alloc::Global;
 use std::cell::RefCell;
 use std::io;
 use std::io::{ErrorKind, Read, Write};
-use std::marker::Brand;
-use std::process::Abort;
-use std::sync::Wait;
 use std::test::Fail;
 
 /// What a reader and a writer were asked, in order: each byte that was read as it is, the end of input as `.`,
@@ -209,85 +205,6 @@ fn after_a_failed_write_nothing_is_read_or_written(rt: HostRuntime) -> Result<()
         assert_eq!(rt; second, SessionEnd::Write);
         assert!(rt; is_record(&record, after), "{width}");
         assert_eq!(rt; room.journal().len(), 3);
-    }
-    Ok(())
-}
-
-/// A door that notes what it is told, each line by its number: `<` before it is carried out, and `>` after its reply is
-/// written.
-#[derive(Drop)]
-struct Watched<'a> {
-    record: &'a Record,
-}
-
-impl Watched<'_> {
-    /// Notes a line's number.
-    fn tell(&self, mark: &[u8], line: u64) {
-        let digit = [b'0' + (line % 10) as u8];
-        let _noted = note(self.record, mark).is_ok() && note(self.record, &digit).is_ok();
-    }
-}
-
-impl Door for Watched<'_> {
-    fn before(&self, _seat: u8, line: u64) {
-        self.tell(b"<", line);
-    }
-
-    fn after(&self, _seat: u8, line: u64) {
-        self.tell(b">", line);
-    }
-}
-
-/// Has these lines answered at the one seat of a room, and compares how the console ends and what was recorded.
-fn expect_record<J: Naming, R: Wait + Abort>(
-    rt: &R,
-    alloc: Global,
-    opened: Opened,
-    lines: &str,
-    fails_at: usize,
-    end: SessionEnd,
-    expected: &str,
-) -> Result<(), Fail>
-    requires history { opened.book ≡ J.book }
-    requires ledger { (opened.ledger ≡ J.name) × (opened.parts ≡ J.parts) × (J.parts ≡ J.seats) }
-    requires named { (4000 ≡ J.size) × (1 ≡ J.seats) }
-{
-    let record = RefCell::new(Vec::new(alloc));
-    let (room, mut seats) = SharedRoom::<J, &R>::power_on(rt, alloc, 4_000, 1, opened)?;
-    let seat = seats.pop().ok_or("seat 1")?;
-    let door = Watched { record: &record };
-    let mut reader = FromReader::new(type_lines(&record, lines, NEVER));
-    let mut writer = ToWriter::new(load_paper(&record, 99, fails_at));
-    let (_seat, ended) = attend(alloc, rt, &room, seat, &mut reader, &mut writer, &door);
-    assert_eq!(rt; ended, end, "{lines}");
-    assert!(rt; is_record(&record, expected), "{lines}");
-    Ok(())
-}
-
-#[test]
-fn a_console_is_told_before_and_after_each_line(rt: HostRuntime) -> Result<(), Fail> {
-    for (lines, fails_at, end, expected) in [
-        (
-            "HELLO\n\nEXAMINE 0\nQUIT\n",
-            NEVER,
-            SessionEnd::Quit,
-            "HELLO\n<1[ERROR 1 WORD\n]>1\n<2>2EXAMINE 0\n<3[ \n]>3QUIT\n<4[BYE\n]>4",
-        ),
-        (
-            "EXAMINE 0\nEXAMINE 0",
-            NEVER,
-            SessionEnd::EndOfInput,
-            "EXAMINE 0\n<1[ \n]>1EXAMINE 0.<2[ \n]>2",
-        ),
-        (
-            "EXAMINE 0\nEXAMINE 0\n",
-            2,
-            SessionEnd::Write,
-            "EXAMINE 0\n<1[ \n]>1EXAMINE 0\n<2[!]",
-        ),
-    ] {
-        let opened = Opened::new(1);
-        expect_record::<Brand, _>(&rt, rt.alloc(), opened, lines, fails_at, end, expected)?;
     }
     Ok(())
 }
