@@ -1,4 +1,4 @@
-//! The Autocoder assembler: the core image and the listing that a source stands for, or the first line with a fault.
+//! The Autocoder assembler: the core image and the listing of a source, or the first line with a fault.
 //!
 //! ```text
 //! let assembly = assemble(alloc, source, 4_000)?;
@@ -32,8 +32,3 @@ pub use all_faults::faults;
 pub use assembly::{Assembly, assemble};
 pub use fault::{AsmFault, AsmKind};
 pub use listing::{Listing, ListingLine};
-
-#[cfg(test)]
-mod fault_tests;
-#[cfg(test)]
-mod tests;

@@ -16,6 +16,3 @@ pub mod punch;
 
 pub use cell::Cell;
 pub use character::{CODES, Char};
-
-#[cfg(test)]
-mod tests;

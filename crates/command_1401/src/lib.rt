@@ -19,6 +19,3 @@ pub mod answer;
 pub use answer::{Answer, Refusal};
 pub use carrying::carry_out;
 pub use command::Command;
-
-#[cfg(test)]
-mod tests;

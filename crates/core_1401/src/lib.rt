@@ -33,6 +33,3 @@ pub use cells::{Cells, MOST_CELLS};
 pub use eight_cells::EightCells;
 pub use fault::CoreFault;
 pub use storage::{Core, LEAST_SIZE, SIZES};
-
-#[cfg(test)]
-mod tests;

@@ -41,6 +41,3 @@ pub use regs::Regs;
 pub use running::Ran;
 pub use stop::Stop;
 pub use switch_name::SwitchName;
-
-#[cfg(test)]
-mod tests;

@@ -24,6 +24,3 @@ pub use card::Card;
 pub use devices::{Devices, MOST_HELD};
 pub use fault::{ControlFault, FormsFull, HopperFull, ReaderEmpty, StackerFull};
 pub use print_line::PrintLine;
-
-#[cfg(test)]
-mod tests;

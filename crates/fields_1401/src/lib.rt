@@ -53,6 +53,3 @@ pub use registers::below;
 pub use sign::Sign;
 pub use suppression::suppress;
 pub use zero_sums::{zero_add, zero_subtract};
-
-#[cfg(test)]
-mod tests;

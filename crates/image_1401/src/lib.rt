@@ -21,6 +21,3 @@ pub use fault::ImageFault;
 pub use image::{Image, Segment, Segments};
 pub use reading::read_image;
 pub use writing::write_image;
-
-#[cfg(test)]
-mod tests;

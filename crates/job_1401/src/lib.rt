@@ -33,6 +33,3 @@ pub use job::{JobEnd, STRETCH, run_job};
 pub use loading::press_load_key;
 pub use output::Output;
 pub use paper::{Place, put_paper};
-
-#[cfg(test)]
-mod tests;

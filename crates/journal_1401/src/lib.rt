@@ -21,6 +21,3 @@ pub use fault::{JournalFault, Wrong};
 pub use listing::{View, list_journal};
 pub use reading::{read_journal, recover_journal};
 pub use writing::{put_entry, write_journal};
-
-#[cfg(test)]
-mod tests;

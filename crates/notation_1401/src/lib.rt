@@ -18,6 +18,3 @@ pub mod fault;
 pub use cells::{put_cell, put_cells, read_cells};
 pub use digits::{put_digits, read_digits};
 pub use fault::CellsFault;
-
-#[cfg(test)]
-mod tests;

@@ -31,6 +31,3 @@ pub use lines::split_line;
 pub use mnemonic::{DCharacter, Form, Instruction, Operation};
 pub use operands::{Operand, OperandField, Operands};
 pub use statement::{Areas, Body, Bytes, Line, Span, Statement};
-
-#[cfg(test)]
-mod tests;

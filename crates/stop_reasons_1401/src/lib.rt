@@ -29,6 +29,3 @@ pub use field_reason::{FieldReason, Operand, Span};
 pub use halting::{halt_address, instruction_len};
 pub use reason::Reason;
 pub use stopping::{reason_told, stop_reason};
-
-#[cfg(test)]
-mod tests;

@@ -20,6 +20,3 @@ pub mod command_text;
 pub use answer_text::{fault_text, glance_text, reply_text};
 pub use command_text::put_command;
 pub use line::{LINE_LIMIT, Line, LineFault, parse_line};
-
-#[cfg(test)]
-mod tests;

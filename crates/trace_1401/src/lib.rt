@@ -21,6 +21,3 @@ pub mod work;
 
 pub use snapshot::Snapshot;
 pub use work::Work;
-
-#[cfg(test)]
-mod tests;

@@ -1,0 +1,6 @@
+//! Sources, their faults, and the images made of them.
+
+mod assembly;
+mod faults;
+mod images;
+mod lines;

@@ -1,0 +1,26 @@
+//! What an operator types and reads, and what is kept of it, worked out by hand.
+
+mod answers;
+mod commands;
+mod journals;
+mod lines;
+mod notation;
+
+use bcd_1401::{Cell, Char};
+use core_1401::Cells;
+
+/// Zero with a word mark, and K.
+fn marked_zero_and_k() -> Option<Cells> {
+    let zero = Char::from_code(10)?;
+    let k = Char::from_code(34)?;
+    Cells::from_slice(&[
+        Cell {
+            char: zero,
+            mark: true,
+        },
+        Cell {
+            char: k,
+            mark: false,
+        },
+    ])
+}

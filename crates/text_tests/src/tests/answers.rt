@@ -1,0 +1,97 @@
+//! Answers and their texts.
+
+use super::marked_zero_and_k;
+use bcd_1401::Char;
+use command_1401::{Answer, Refusal};
+use cpu_1401::{Regs, Stop};
+use devices_1401::{Card, PrintLine};
+use text_1401::reply_text;
+
+/// The registers at power-on.
+const POWER_ON: Regs = Regs {
+    i: 0,
+    a: 0,
+    b: 0,
+    unequal: false,
+    low: false,
+    high: false,
+    overflow: false,
+    switches: [false; 7],
+    hopper: 0,
+    stacker: 0,
+    paper: 0,
+    form: 1,
+    line: 1,
+};
+
+#[test]
+fn an_answer_has_its_text(rt: HostRuntime) {
+    let cells = marked_zero_and_k().expect(&rt, "two cells");
+    let after_a_run = Regs {
+        i: 41,
+        a: 56,
+        b: 15_999,
+        unequal: true,
+        high: true,
+        switches: [true, false, false, false, false, false, true],
+        paper: 500,
+        form: 8,
+        line: 40,
+        ..POWER_ON
+    };
+    for (answer, text) in [
+        (Answer::Done, "OK"),
+        (Answer::Cells(cells), "~0K"),
+        (
+            Answer::Regs(POWER_ON),
+            "I=00000 A=00000 B=00000 UNEQUAL=0 LOW=0 HIGH=0 OVERFLOW=0 SWITCHES=------- \
+             HOPPER=000 STACKER=000 PAPER=000 FORM=0001 LINE=01",
+        ),
+        (
+            Answer::Regs(after_a_run),
+            "I=00041 A=00056 B=15999 UNEQUAL=1 LOW=0 HIGH=1 OVERFLOW=0 SWITCHES=A-----G \
+             HOPPER=000 STACKER=000 PAPER=500 FORM=0008 LINE=40",
+        ),
+        (
+            Answer::Ran {
+                steps: 7,
+                stop: Stop::Reader,
+                i: 41,
+            },
+            "STOP 03 READER STEPS 7 I 00041",
+        ),
+        (
+            Answer::Ran {
+                steps: 1_000_000,
+                stop: Stop::NotFitted,
+                i: 600,
+            },
+            "STOP 12 NOTFITTED STEPS 1000000 I 00600",
+        ),
+        (Answer::Refused(Refusal::Address), "REFUSED 1 ADDRESS"),
+        (Answer::Refused(Refusal::Hopper), "REFUSED 2 HOPPER"),
+        (Answer::Refused(Refusal::Reader), "REFUSED 3 READER"),
+        (Answer::Refused(Refusal::Empty), "REFUSED 4 EMPTY"),
+        (Answer::Refused(Refusal::Limit), "REFUSED 5 LIMIT"),
+        (Answer::Refused(Refusal::Count), "REFUSED 6 COUNT"),
+    ] {
+        let reply = reply_text(rt.alloc(), &answer).expect(&rt, text);
+        assert_eq!(rt; reply.as_slice(), text.as_bytes(), "{text}");
+    }
+}
+
+#[test]
+fn a_line_and_a_card_have_their_texts(rt: HostRuntime) {
+    let mut text = [Char::BLANK; 132];
+    text[1] = Char::of_digit(7, 3);
+    let line = Answer::Line(PrintLine {
+        form: 1,
+        line: 4,
+        text,
+    });
+    let reply = reply_text(rt.alloc(), &line).expect(&rt, "a line");
+    assert_eq!(rt; reply.as_slice(), b"LINE 0001 04  G".as_slice());
+    let card = Answer::Card(Card([Char::BLANK; 80]));
+    let reply = reply_text(rt.alloc(), &card).expect(&rt, "a card");
+    assert_eq!(rt; reply.as_slice(), b"CARD ".as_slice());
+}

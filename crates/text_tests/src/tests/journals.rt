@@ -1,0 +1,162 @@
+//! A small journal, written down by hand, and texts that are none.
+
+use journal_1401::{
+    JournalFault, View, Wrong, list_journal, read_journal, recover_journal, write_journal,
+};
+use std::test::Fail;
+
+/// Two operators: an address past core, cells deposited and shown, the registers, a switch, and a card.
+const SESSION: &str = "JOURNAL1 1400\n\
+    1\t0\tSTART 0005\tOK\n\
+    2\t0\tSTART 1400\tREFUSED 1 ADDRESS\n\
+    3\t2\tDEPOSIT 0700 ~999\tOK\n\
+    4\t2\tEXAMINE 0700 3\t~999\n\
+    5\t0\tSWITCH G ON\tOK\n\
+    6\t255\tFEED  0\tOK\n\
+    7\t0\tREGS\tI=00005 A=00000 B=00000 UNEQUAL=0 LOW=0 HIGH=0 OVERFLOW=0 SWITCHES=------G HOPPER=001 \
+    STACKER=000 PAPER=000 FORM=0001 LINE=01\n";
+
+#[test]
+fn a_journal_is_read_and_written_again(rt: HostRuntime) -> Result<(), Fail> {
+    let room = read_journal(rt.alloc(), SESSION.as_bytes())?;
+    assert_eq!(rt; room.journal().len(), 7);
+    assert_eq!(rt; room.machine().regs().i, 5);
+    assert_eq!(rt; room.machine().regs().hopper, 1);
+    let text = write_journal(rt.alloc(), 1_400, room.journal())?;
+    assert!(rt; text.as_slice() == SESSION.as_bytes());
+    Ok(())
+}
+
+#[test]
+fn a_journal_without_an_entry_is_its_first_line(rt: HostRuntime) -> Result<(), Fail> {
+    for text in [
+        "JOURNAL1 1400\n",
+        "JOURNAL1 2000\n",
+        "JOURNAL1 4000\n",
+        "JOURNAL1 8000\n",
+        "JOURNAL1 12000\n",
+        "JOURNAL1 16000\n",
+    ] {
+        let room = read_journal(rt.alloc(), text.as_bytes())?;
+        assert_eq!(rt; room.journal().len(), 0, "{text}");
+        let again = write_journal(rt.alloc(), room.machine().core().size(), room.journal())?;
+        assert!(rt; again.as_slice() == text.as_bytes(), "{text}");
+    }
+    Ok(())
+}
+
+#[test]
+fn the_first_wrong_line_is_told(rt: HostRuntime) {
+    for (text, line, why) in [
+        ("", 1, Wrong::Unfinished),
+        ("JOURNAL1 1400", 1, Wrong::Unfinished),
+        ("\n", 1, Wrong::Header),
+        ("JOURNAL1 1401\n", 1, Wrong::Header),
+        ("JOURNAL1 01400\n", 1, Wrong::Header),
+        ("JOURNAL2 1400\n", 1, Wrong::Header),
+        ("JOURNAL1 1400 \n", 1, Wrong::Header),
+        ("JOURNAL1 1400\r\n", 1, Wrong::Header),
+        ("JOURNAL1 1400\n\n", 2, Wrong::Number),
+        ("JOURNAL1 1400\n2\t0\tSTART 0005\tOK\n", 2, Wrong::Number),
+        ("JOURNAL1 1400\n01\t0\tSTART 0005\tOK\n", 2, Wrong::Number),
+        ("JOURNAL1 1400\n1 0\tSTART 0005\tOK\n", 2, Wrong::Number),
+        ("JOURNAL1 1400\n1\t256\tSTART 0005\tOK\n", 2, Wrong::Seat),
+        ("JOURNAL1 1400\n1\t00\tSTART 0005\tOK\n", 2, Wrong::Seat),
+        ("JOURNAL1 1400\n1\t\tSTART 0005\tOK\n", 2, Wrong::Seat),
+        ("JOURNAL1 1400\n1\t0000\tSTART 0005\tOK\n", 2, Wrong::Seat),
+        ("JOURNAL1 1400\n1\t0\tSTART 5\tOK\n", 2, Wrong::Command),
+        ("JOURNAL1 1400\n1\t0\tSTART 0005 \tOK\n", 2, Wrong::Command),
+        ("JOURNAL1 1400\n1\t0\tGLANCE 0005\tOK\n", 2, Wrong::Command),
+        ("JOURNAL1 1400\n1\t0\tQUIT\tBYE\n", 2, Wrong::Command),
+        ("JOURNAL1 1400\n1\t0\t\tOK\n", 2, Wrong::Command),
+        ("JOURNAL1 1400\n1\t0\tEXAMINE 0005\t \n", 2, Wrong::Command),
+        ("JOURNAL1 1400\n1\t0\tSTART 0005\tok\n", 2, Wrong::Answer),
+        ("JOURNAL1 1400\n1\t0\tSTART 0005\tOK \n", 2, Wrong::Answer),
+        ("JOURNAL1 1400\n1\t0\tSTART 0005\t\n", 2, Wrong::Answer),
+        ("JOURNAL1 1400\n1\t0\tSTART 1400\tOK\n", 2, Wrong::Answer),
+        ("JOURNAL1 1400\n1\t0\tSTART 0005\tOK", 2, Wrong::Unfinished),
+        (
+            "JOURNAL1 1400\n1\t0\tSTART 0005\tOK\n2\t0\tLINE\tREFUSED 4 EMPTY\n3\t0\tCARD\tOK\n",
+            4,
+            Wrong::Answer,
+        ),
+        (
+            "JOURNAL1 1400\n1\t0\tSTART 0005\tOK\nx",
+            3,
+            Wrong::Unfinished,
+        ),
+    ] {
+        match read_journal(rt.alloc(), text.as_bytes()) {
+            Ok(_) => panic!(rt; "read: {text}"),
+            Err(fault) => {
+                assert_eq!(rt; fault.line, line, "{text}");
+                assert_eq!(rt; fault.why, why, "{text}");
+            }
+        }
+    }
+}
+
+#[test]
+fn an_unfinished_last_line_is_handed_out(rt: HostRuntime) -> Result<(), Fail> {
+    for (text, count, last) in [
+        ("JOURNAL1 1400\n", 0, ""),
+        ("JOURNAL1 1400\n1\t0\tLOA", 0, "1\t0\tLOA"),
+        (
+            "JOURNAL1 1400\n1\t0\tLOAD\tREFUSED 3 READER",
+            0,
+            "1\t0\tLOAD\tREFUSED 3 READER",
+        ),
+        ("JOURNAL1 1400\n1\t0\tLOAD\tREFUSED 3 READER\n", 1, ""),
+        ("JOURNAL1 1400\n1\t0\tLOAD\tREFUSED 3 READER\n2", 1, "2"),
+    ] {
+        let (room, rest) = recover_journal(rt.alloc(), text.as_bytes())?;
+        assert_eq!(rt; room.journal().len(), count, "{text}");
+        assert!(rt; rest == last.as_bytes(), "{text}");
+    }
+    Ok(())
+}
+
+#[test]
+fn a_fault_has_its_text(rt: HostRuntime) -> Result<(), Fail> {
+    for (why, text) in [
+        (Wrong::Memory, "line 12: 1 MEMORY"),
+        (Wrong::Header, "line 12: 2 HEADER"),
+        (Wrong::Number, "line 12: 3 NUMBER"),
+        (Wrong::Seat, "line 12: 4 SEAT"),
+        (Wrong::Command, "line 12: 5 COMMAND"),
+        (Wrong::Answer, "line 12: 6 ANSWER"),
+        (Wrong::Full, "line 12: 7 FULL"),
+        (Wrong::Unfinished, "line 12: 8 UNFINISHED"),
+    ] {
+        let fault = JournalFault { line: 12, why };
+        let told = format!(in rt.alloc(); "{fault}")?;
+        assert_eq!(rt; told.as_str(), text);
+    }
+    Ok(())
+}
+
+#[test]
+fn a_list_has_columns(rt: HostRuntime) -> Result<(), Fail> {
+    let room = read_journal(rt.alloc(), SESSION.as_bytes())?;
+    for (seat, from, lines) in [
+        (
+            Some(2),
+            1,
+            "3 seat 2  DEPOSIT 0700 ~999            OK\n4 seat 2  EXAMINE 0700 3               ~999\n",
+        ),
+        (
+            None,
+            5,
+            "5 seat 0  SWITCH G ON                  OK\n\
+            6 seat 255  FEED  0                      OK\n\
+            7 seat 0  REGS                         I=00005 A=00000 B=00000 UNEQUAL=0 LOW=0 HIGH=0 OVERFLOW=0 \
+            SWITCHES=------G HOPPER=001 STACKER=000 PAPER=000 FORM=0001 LINE=01\n",
+        ),
+        (None, 8, ""),
+        (Some(7), 0, ""),
+    ] {
+        let list = list_journal(rt.alloc(), room.journal(), View { seat, from })?;
+        assert!(rt; list.as_slice() == lines.as_bytes(), "{lines}");
+    }
+    Ok(())
+}
