@@ -9,7 +9,7 @@ pub enum Product {
     Listing,
 }
 
-/// A source that is assembled, and where what it stands for goes.
+/// A source that is assembled, and where its image goes.
 #[derive(Debug, Drop, PartialEq, Eq)]
 pub struct Assembling {
     /// The name of the source's file.
@@ -68,9 +68,9 @@ pub struct Job {
     pub paper: Option<String>,
     /// The name of the file of the trace; without one there is none.
     pub trace: Option<String>,
-    /// How many places core storage has, where the file is no image.
+    /// How many places core storage has, if the file is no image.
     pub size: u16,
-    /// How many instructions are carried out at the most.
+    /// The most instructions that are carried out.
     pub limit: u32,
     /// The sense switches A to G.
     pub switches: [bool; 7],

@@ -7,7 +7,7 @@ use clap::{Arg, ArgAction, ArgMatches, Command, Error, value_parser};
 use std::alloc::{AllocError, Global};
 use std::convert::AsStr;
 
-/// How many instructions are carried out at the most where no number is named.
+/// The most instructions that are carried out if no number is named.
 const DEFAULT_LIMIT: u32 = 1_000_000_000;
 
 /// The lines of a session, for the help.
@@ -207,7 +207,7 @@ fn name_in(
     }
 }
 
-/// The switches that these letters name; none where a byte is no letter from A to G.
+/// The switches that these letters name; none if a byte is no letter from A to G.
 fn switches_of(letters: &str) -> Option<[bool; 7]> {
     let mut switches = [false; 7];
     for letter in letters.as_bytes() {

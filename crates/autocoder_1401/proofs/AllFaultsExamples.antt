@@ -20,7 +20,7 @@ lost_areas : told_of (codes "     REC       DA   2Y4\n     KEY            3,4\n 
 unfolding told_of
 lost_areas = refl
 
--- LATE is undefined since END is too early, and is told where it is the first fault; of what follows END, the first
+-- LATE is undefined since END is too early, and is told if it is the first fault; of what follows END, the first
 -- line is
 early : List ℕ
 early =

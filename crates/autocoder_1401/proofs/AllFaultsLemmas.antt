@@ -32,7 +32,7 @@ use Rattle.autocoder_1401.proofs.FirstFaultLemmas.{next_place_is}
 use Rattle.autocoder_1401.proofs.LawLemmas.{found_outside}
 use Rattle.autocoder_1401.proofs.LowestLemmas.{found}
 
--- of one line, and of those behind it
+-- of one line, and of those after it
 first_of_two : (number : ℕ) (told low : Option AsmKind) (rest : List AsmFault) (behind : Option AsmFault) → told ≡ low
     → (low ≡ None → first_in rest ≡ behind) → first_in (told_faults number told ++ rest) ≡ or_behind number low behind
 first_of_two number told None rest behind same later = rw same (later refl)
@@ -56,7 +56,7 @@ first_told declared anywhere this (line ∷ lines) clean =
 first_of_lines : (lines : List Line) → first_in (line_faults lines) ≡ first_fault lines
 first_of_lines lines = first_told (declared_at lines) (declared_anywhere lines) nothing_before lines refl
 
--- where no fault of a line is told, the assembler has no other than what isn't in core
+-- if no fault of a line is told, the assembler has no other than what isn't in core
 pub only_outside : {X : Type 0} (size : ℕ) (lines : List Line) (answer : X) → line_faults lines ≡ []
     → fault_in (unless_fault size lines answer) ≡ first_outside size lines
 only_outside {X} size lines answer none =
@@ -68,7 +68,7 @@ only_outside {X} size lines answer none =
     by None = refl
     by (Some fault) = refl
 
--- what the assembler tells where no fault of a line is told
+-- what the assembler tells if no fault of a line is told
 pub one_outside : {X : Type 0} (size : ℕ) (lines : List Line) (answer : X) (told : List AsmFault) (fault : AsmFault)
     → told ≡ line_faults lines → told ≡ [] → Some fault ≡ fault_in (unless_fault size lines answer)
     → told ++ fault ∷ [] ≡ all_faults size lines
@@ -139,7 +139,7 @@ told_is_there declared anywhere this line kind = by this.is_clean
     by false e =
         own_is_there declared anywhere this line kind (found (is_own declared anywhere this line) scanned kind e)
 
--- behind the last line
+-- after the last line
 end_is_there : (declared : Declared) (lines : List Line) (i : ℕ) (this : Before) → i ≡ length lines
     → this.at ≡ place_at lines i → All (IsThere declared lines) (told_end this)
 end_is_there declared lines i this whole here = by this.at.is_ended refl

@@ -15,7 +15,7 @@ use Rattle.autocoder_1401.specs.declared.assembly.Assembly.{Assembly}
 use Rattle.autocoder_1401.specs.declared.fault.AsmFault.{AsmFault}
 use Rattle.autocoder_1401.specs.declared.fault.AsmKind.TheVariants as kinds
 
--- what a source stands for in so many places, with all tables open
+-- what a source is in so many places, with all tables open
 in_places : ℕ → List ℕ → Result Assembly AsmFault
 unfolding columns_of instructions assembler_operations graphics number_text address_text characters_text
     without_last_blanks listing_line spelling digits
@@ -59,7 +59,7 @@ listing_of_two_uses =
     ∷ codes "0008 00400                         END  START"
     ∷ []
 
--- it is placed once, behind NAME
+-- it is placed once, after NAME
 one_literal_for_two_uses : stands_for two_uses
     ≡ Ok (record {
       image = record {
@@ -138,7 +138,7 @@ the_last_place_of_16_000 : in_places 16000 at_the_last_place
 unfolding in_places at_the_last_place
 the_last_place_of_16_000 = refl
 
--- behind 39 cells the next one closes the segment; a gap of two places parts the last
+-- after 39 cells the next one closes the segment; a gap of two places parts the last
 three_segments : cut 333 (replicate 39 (plain 0)) ((372, plain 1) ∷ (373, plain 2) ∷ (376, marked 49) ∷ [])
     ≡ record { address = 333; cells = replicate 39 (plain 0) ++ plain 1 ∷ [] }
     ∷ record { address = 373; cells = plain 2 ∷ [] }
@@ -153,7 +153,7 @@ signs_and_indices =
     ++ codes "               END  A   REMARK  " ++ 13 ∷ codes "\n     \n     * TRAILING  \n     *END"
 
 -- no more than eight characters are shown, and no blank at the end; EX places literals too; a literal has the line of
--- its first spelling; a comment has no address, and one behind END has a line
+-- its first spelling; a comment has no address, and one after END has a line
 listing_of_signs_and_indices : List (List ℕ)
 listing_of_signs_and_indices =
     codes "0001 00000                         ORG  0"

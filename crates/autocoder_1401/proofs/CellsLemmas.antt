@@ -19,7 +19,7 @@ pub in_turn : (before between after first second : List Cell) → between ≡ be
 in_turn before between after first second one two =
     two ∙ ap (λ (cells : List Cell). cells ++ second) one ∙ append_assoc before first second
 
--- one operand behind the other
+-- one operand after the other
 pub operands_in_turn : (all : Places) (here given : ℤ) (of : Operands) (before between after : List Cell) → given ≡ here
     → between ≡ before ++ map plain (operand_codes all given of.a)
     → after ≡ between ++ map plain (operand_codes all given of.b) → after ≡ before ++ operands_cells all here of
@@ -28,7 +28,7 @@ operands_in_turn all here given of before between after same one two =
     (in_turn before between after (map plain (operand_codes all given of.a))
     (map plain (operand_codes all given of.b)) one two)
 
--- an operation, its addresses and its d-character, one behind the other
+-- an operation, its addresses and its d-character, one after the other
 pub instruction_in_turn : (all : Places) (here given : ℤ) (instruction : Instruction) (of : Operands)
     (before first between after : List Cell) (operation : ℕ) → given ≡ here
     → operation ≡ char_of instruction.operation → first ≡ before ++ marked operation ∷ [] → between ≡ first

@@ -1,4 +1,4 @@
--- Where nothing of any line is outside core storage, the image lies in it.
+-- If nothing of any line is outside core storage, the image lies in it.
 use Rattle.std.proofs.Common.{◌≡◌, ℕ, zero, suc, ◌+◌, ◌-◌, ◌*◌, ◌<◌, ◌≤◌, ◌⊎◌, Bool, true, false, ◌&&◌, ◌||◌, cond, not}
 use Rattle.std.proofs.Common.{List, [], ◌∷◌, ◌++◌, length, map, take, replicate, ℤ, pos, negsuc, ◌+ℤ◌, Option}
 use Rattle.std.proofs.Common.{None}
@@ -58,7 +58,7 @@ use Rattle.autocoder_1401.specs.Values.{base_value, address_value, is_in_core, a
 use Rattle.autocoder_1401.specs.Values.{places_outside, literals_outside, next_outside, addresses_outside}
 use Rattle.autocoder_1401.specs.Values.{body_outside, line_outside, first_outside_from, first_outside, last_place}
 
--- the sizes of core storage are addresses, or the one behind the last
+-- the sizes of core storage are addresses, or the one after the last
 pub size_bound : (size : ℕ) → is_core_size size ≡ true → (0 < size) × (size ≤ 16000)
 size_bound size h = (grind (arith, nat_tests), grind (arith, nat_tests))
 
@@ -172,7 +172,7 @@ areas_few (Some areas) lines =
     repeated_length areas.count (area_cells areas.length (fields_behind lines)) ∙ ap (λ (n : ℕ). areas.count * n) one in
     omega (arith, all)
 
--- what literals take, one behind the other
+-- what literals take, one after the other
 pub behind_total : (from : ℤ) (literals : List Characters) → behind_literals from literals
     ≡ from +ℤ pos (total literals)
 behind_total from [] = sym (+ℤ_idr from)
@@ -190,7 +190,7 @@ literals_few (literal ∷ literals) =
       literals_few literals,
     )
 
--- literals that are in core, one behind the other
+-- literals that are in core, one after the other
 literals_below : (size : ℕ) (this : Places) → size ≤ 16000 → literals_outside size this ≡ false
     → are_below size (numbered (place_of this.next) (flat_map literal_cells (pending this))) ≡ true
 literals_below size this small inside = by (pending this) refl
@@ -224,7 +224,7 @@ literals_below size this small inside = by (pending this) refl
         let whole = place_inside size this.next n small (omega (arith, some, few)) fits in
         omega (arith, whole, few))
 
--- none of two is so where one of them isn't
+-- none of two is so if one of them isn't
 pub neither : (x y : Bool) → (x || y) ≡ false → (x ≡ false) × (y ≡ false)
 neither true y h = absurd (true≢false h)
 neither false y h = (refl, h)
@@ -277,7 +277,7 @@ line_below size all this line lines small inside = by line.statement inside
     by None h = refl
     by (Some statement) h = body_below size all this statement.body lines small h
 
--- where nothing is outside, nothing of the first line is, and nothing of those behind it
+-- if nothing is outside, nothing of the first line is, and nothing of those after it
 pub one_line : (size : ℕ) (all : Places) (number : ℕ) (this : Places) (line : Line) (lines : List Line)
     → first_outside_from size all number this (line ∷ lines) ≡ None
     → (line_outside size all this line ≡ false)
@@ -343,7 +343,7 @@ cut_inside size at cells (next ∷ more) small inside below =
         (list_all (is_inside size) (cut next.0 (next.1 ∷ []) more))
         (closed_inside size at cells small inside) (anew (λ some. omega (arith, low)) rest)
 
--- an asterisk has no value where it stands for no place
+-- an asterisk has no value if it is no place
 base_same : (all : Places) (base : Base) → base_value all (pos 0) base ≡ base_so_far all.values base
 base_same all (bases.Number number) = refl
 base_same all (bases.Symbol label) = refl

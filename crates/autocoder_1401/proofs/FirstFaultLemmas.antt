@@ -31,7 +31,7 @@ next_place lines i d h =
     λ is_ended after. record { number = i + 1 + 1; is_ended = is_ended; areas = after } in
     λ j. of (sym ended j) (sym areas j)
 
--- the place behind a line is that of the next
+-- the place after a line is that of the next
 pub next_place_is : (lines : List Line) (i : ℕ) (d : Line) (at after : Place) → i < length lines → at ≡ place_at lines i
     → after ≡ place_behind at (get_or lines i d)
     → after ≡ place_at lines (i + 1)

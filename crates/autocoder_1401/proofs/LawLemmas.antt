@@ -22,7 +22,7 @@ use Rattle.autocoder_1401.specs.declared.fault.AsmFault.{AsmFault}
 use Rattle.autocoder_1401.specs.declared.fault.AsmKind.TheVariants as kinds
 use Rattle.autocoder_1401.proofs.CoreLemmas.{size_bound, are_below, cells_below}
 
--- the first of lines with something outside, where these are placed before them, and they are counted from a number
+-- the first of lines with something outside, with these placed before them, and counted from a number
 record FoundFrom (size : ℕ) (all : Places) (number : ℕ) (this : Places) (lines : List Line)
     (fault : AsmFault) : Type 0 where
   index : ℕ
@@ -87,7 +87,7 @@ found_outside size lines (Some fault) e =
       here = f.here;
     }
 
--- what is found where all of these are placed is the first line with something outside
+-- what is found once all of these are placed is the first line with something outside
 pub refused_outside : (size : ℕ) (all : Places) (lines : List Line) (fault : AsmFault) → all ≡ placed lines
     → IsMemory fault ⊎ (first_outside_from size all 1 nothing_placed lines ≡ Some fault)
     → IsMemory fault ⊎ ((first_outside size lines ≡ Some fault) × IsFirstOutside size lines fault)
@@ -115,13 +115,13 @@ closed_is at cells low some few =
     let same : within at ≡ at = grind (arith, nat_tests) in
     rw (le-leb 1 (length cells) (omega (arith, some)), le-leb (length cells) 40 few) (rw same refl)
 
--- the segments of cells that stand at a place, with others behind them
+-- the segments of cells at a place, with others after them
 record CutFrom (at : ℕ) (cells : List Cell) (rest : List (ℕ × Cell)) (segments : List Segment) : Type 0 where
   whole : flat_map cells_in segments ≡ numbered at cells ++ rest
   few : list_all has_few segments ≡ true
   parted : are_parted segments ≡ true
 
--- the first segment stands at this address
+-- the first segment is at this address
 abbrev StartsAt : ℕ → List Segment → Type 0
 StartsAt at [] = ⊥
 StartsAt at (segment ∷ segments) = segment.address ≡ at
@@ -149,7 +149,7 @@ starts size at cells (next ∷ more) small some inside few below =
         subst (λ (segments : List Segment). StartsAt at (segments ++ cut next.0 (next.1 ∷ []) more))
         (sym (closed_is at cells (omega (arith, some, inside, small)) some few)) refl
 
--- a segment in front of those that begin at another address, or behind one that is full
+-- a segment in front of those that begin at another address, or after one that is full
 parted_on : (at : ℕ) (cells : List Cell) (next : ℕ) (segments : List Segment) → length cells ≤ 40
     → goes_on at cells next ≡ false → StartsAt next segments → are_parted segments ≡ true
     → are_parted (record { address = at; cells = cells } ∷ segments) ≡ true

@@ -1,4 +1,4 @@
--- What is listed where no line is left.
+-- What is listed if no line is left.
 use Rattle.std.proofs.Common.{◌≡◌, ℕ, ◌+◌, ◌≤◌, List, [], ◌∷◌, ◌++◌, length, map, drop, refl, sym, ap}
 use Rattle.std.proofs.Common.{◌∙◌}
 use Rattle.std.proofs.Common.{arith}
@@ -9,7 +9,7 @@ use Rattle.source_1401.specs.declared.statement.Line.{Line}
 use Rattle.autocoder_1401.specs.Listing.{listing_from}
 use Rattle.autocoder_1401.specs.Placement.{Places}
 
--- where no line is left, no byte of the source is
+-- if no line is left, no byte of the source is
 pub all_listed : (all here : Places) (lines : List Line) (i : ℕ) (sources : List ℕ) (listing whole : List (List ℕ))
     → length lines ≤ i → drop i lines ≡ map line_of (lines_of sources)
     → listing ++ listing_from all here (i + 1) (lines_of sources) ≡ whole → listing ≡ whole

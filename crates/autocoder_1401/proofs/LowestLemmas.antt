@@ -9,7 +9,7 @@ use Rattle.autocoder_1401.specs.Fault.{rank}
 use Rattle.autocoder_1401.specs.Symbols.{Declared}
 use Rattle.autocoder_1401.specs.FirstFault.{has_fault, first_of, scanned, lowest, IsClean, IsLowest}
 
--- a kind stands in a list
+-- a kind is in a list
 abbrev Stands : AsmKind → List AsmKind → Type 0
 Stands kind [] = ⊥
 Stands kind (first ∷ kinds) = (kind ≡ first) ⊎ Stands kind kinds

@@ -1,4 +1,4 @@
--- Where the literals stand that EX or END places.
+-- The places of the literals that EX or END places.
 use Rattle.std.proofs.Common.{◌≡◌, ℕ, zero, suc, ◌+◌, Bool, true, false, List, [], ◌∷◌, ◌++◌, length, take, drop}
 use Rattle.std.proofs.Common.{ℤ, pos, negsuc, ◌+ℤ◌, ◌<◌, ◌⊎◌, Option, None, Some, refl, sym, ap, subst, ◌∙◌, arith}
 use Rattle.std.proofs.Common.{slice_get, inl, inr}
@@ -36,13 +36,13 @@ use Rattle.autocoder_1401.specs.PlacementLaws.{total, places_by, places_in, plac
 use Rattle.autocoder_1401.specs.declared.characters.Characters.{Characters}
 use Rattle.autocoder_1401.proofs.CoreLemmas.{neither}
 
--- what a list has at a place, it has there with more behind it
+-- what a list has at a place, it has there with more after it
 more_at : {A : Type 0} (xs ys : List A) (i : ℕ) (v : A) → slice_get xs i ≡ Some v → slice_get (xs ++ ys) i ≡ Some v
 more_at [] ys i v h = cc
 more_at (x ∷ xs) ys zero v h = h
 more_at (x ∷ xs) ys (suc i) v h = more_at xs ys i v h
 
--- a place behind a list is one of those put there
+-- a place after a list is one of those put there
 append_at : {A : Type 0} (xs ys : List A) (k : ℕ) → slice_get (xs ++ ys) (length xs + k) ≡ slice_get ys k
 append_at [] ys k = let none : 0 + k ≡ k = omega arith in ap (slice_get ys) none
 append_at (x ∷ xs) ys k =
@@ -57,7 +57,7 @@ drop_at (suc n) (x ∷ xs) k =
     let behind : suc (n + k) ≡ suc n + k = omega arith in
     drop_at n xs k ∙ ap (slice_get (x ∷ xs)) behind
 
--- each literal stays where it stands, and with it its address
+-- each literal stays in its place, and with it its address
 record Grown (this after : Places) : Type 0 where
   literals : (i : ℕ) (v : Characters) → slice_get this.literals i ≡ Some v → slice_get after.literals i ≡ Some v
   addresses : (i : ℕ) (v : ℤ) → slice_get this.addresses i ≡ Some v → slice_get after.addresses i ≡ Some v
@@ -147,7 +147,7 @@ lines_grown this (line ∷ lines) =
     grown_on this (after_line this line) (fold after_line (after_line this line) lines) (line_grown this line)
     (lines_grown (after_line this line) lines)
 
--- literals stand one behind the other
+-- literals follow one another
 units_at : (from : ℤ) (literals : List Characters) (k : ℕ) (literal : Characters) → slice_get literals k ≡ Some literal
     → slice_get (units_from from literals) k ≡ Some (from +ℤ pos (total (take (suc k) literals)) +ℤ negsuc 0)
 units_at from [] k literal h = cc
@@ -222,7 +222,7 @@ line_units this line places = by line.statement places
         label_units (behind_body this statement.body) (well_formed statement.label) (label_value this statement.body)
         ∙ body statement.body h
 
--- what is nowhere in a list is first found behind it
+-- what is nowhere in a list is first found after it
 none_before : {A : Type 0} (p : A → Bool) (xs : List A) → list_any p xs ≡ false → position_or_len p xs ≡ length xs
 none_before p [] h = refl
 none_before p (x ∷ xs) h =
@@ -235,12 +235,12 @@ still_first : {A : Type 0} (p : A → Bool) (xs : List A) (y : A) (i : ℕ) → 
     → position_or_len p (xs ++ y ∷ []) ≡ i
 still_first p xs y i inside is = grind (arith, nat_tests, position_or_len_push p xs y, inside, is)
 
--- and the new one is found where it stands, if none before it is like it
+-- and the new one is found in its place, if none before it is like it
 new_first : {A : Type 0} (p : A → Bool) (xs : List A) (y : A) → list_any p xs ≡ false → p y ≡ true
     → position_or_len p (xs ++ y ∷ []) ≡ length xs
 new_first p xs y none is = grind (arith, nat_tests, position_or_len_push p xs y, none_before p xs none, is)
 
--- an element is one of a list, or the one behind it
+-- an element is one of a list, or the one after it
 either_place : {A : Type 0} (xs : List A) (y : A) (i : ℕ) (v : A) → slice_get (xs ++ y ∷ []) i ≡ Some v
     → (slice_get xs i ≡ Some v) ⊎ ((i ≡ length xs) × (v ≡ y))
 either_place [] y zero v h = inr (refl, cc)
@@ -249,7 +249,7 @@ either_place (x ∷ xs) y zero v h = inl h
 either_place (x ∷ xs) y (suc i) v h =
     elim (either_place xs y i v h) [ inl there ↦ inl there | inr last ↦ inr (ap suc last.0, last.1) ]
 
--- each literal is found where it stands
+-- each literal is found in its place
 abbrev IsDistinct : List Characters → Type 0
 IsDistinct used = (i : ℕ) (v : Characters) → slice_get used i ≡ Some v → position_or_len (same_characters v) used ≡ i
 
@@ -278,7 +278,7 @@ uses_distinct used [] distinct = distinct
 uses_distinct used (literal ∷ more) distinct =
     uses_distinct (with_use used literal) more (use_distinct used literal distinct)
 
--- the value of a literal is the address that stands where it does
+-- the value of a literal is the address in its place
 value_at : (all : Places) (i : ℕ) (literal : Characters) (units : ℤ) → IsDistinct all.literals
     → slice_get all.literals i ≡ Some literal → slice_get all.addresses i ≡ Some units
     → literal_value all literal ≡ units
@@ -286,7 +286,7 @@ value_at all i literal units distinct there is =
     let inside = slice_get_within all.literals i literal there in
     rw (distinct i literal there, lt-ltb i (length all.literals) inside, is) refl
 
--- a literal that a line places stands behind those that it places before it, whatever lines follow
+-- a literal that a line places follows those that it places before it, whatever lines follow
 pub stands_behind : (this all : Places) (line : Line) (rest : List Line) (more : List Characters) (k : ℕ)
     (literal : Characters) → all ≡ fold after_line (after_line this line) rest → all.literals ≡ fold with_use [] more
     → places_with line.statement ≡ true → slice_get (pending this) k ≡ Some literal

@@ -58,12 +58,12 @@ image_of size lines =
       start = place_of (entry_in (placed lines) lines);
     }
 
--- the fault where there is one, and else the answer
+-- the fault if there is one, and else the answer
 abbrev pub fault_or : {X : Type 0} → Option AsmFault → Result X AsmFault → Result X AsmFault
 fault_or None answer = answer
 fault_or (Some fault) answer = Err fault
 
--- what a source without a fault stands for
+-- the image and the listing of a source without a fault
 abbrev pub assembly_of : ℕ → List ℕ → Assembly
 assembly_of size source =
     record { image = image_of size (lines_in source); listing = listing_of (lines_of source) }
@@ -72,7 +72,7 @@ assembly_of size source =
 abbrev pub unless_fault : {X : Type 0} → ℕ → List Line → X → Result X AsmFault
 unless_fault size lines answer = fault_or (first_fault lines) (fault_or (first_outside size lines) (Ok answer))
 
--- the image and the listing that a source stands for, or its fault
+-- the image and the listing of a source, or its fault
 abbrev pub assembly_in : ℕ → List ℕ → Result Assembly AsmFault
 assembly_in size source = unless_fault size (lines_in source) (assembly_of size source)
 

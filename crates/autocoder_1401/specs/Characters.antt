@@ -40,6 +40,6 @@ char_with code = if nat_lt code 64 then code else 0
 abbrev pub codes_in : Characters → List ℕ
 codes_in this = map char_with (take this.len this.codes)
 
--- literals are equal where their characters are
+-- literals are equal if their characters are
 abbrev pub same_characters : Characters → Characters → Bool
 same_characters one other = pointwise ◌==◌ one.codes other.codes && (one.len == other.len)

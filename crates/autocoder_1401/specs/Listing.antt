@@ -28,7 +28,7 @@ unfoldable pub number_text : Option ℕ → List ℕ
 number_text None = codes "    "
 number_text (Some number) = digits_in 4 number
 
--- an address in five digits; five blanks where a line has none
+-- an address in five digits; five blanks if a line has none
 unfoldable pub address_text : Option ℤ → List ℕ
 address_text None = codes "     "
 address_text (Some address) = digits_in 5 (nat_abs address)
@@ -37,7 +37,7 @@ address_text (Some address) = digits_in 5 (nat_abs address)
 abbrev pub graphic_of : Cell → ℕ
 graphic_of cell = slice_index graphics cell.char
 
--- the first eight cells, with blanks after them where there are fewer
+-- the first eight cells, with blanks after them if there are fewer
 unfoldable pub characters_text : List Cell → List ℕ
 characters_text cells = padded 8 (map graphic_of (take 8 cells))
 

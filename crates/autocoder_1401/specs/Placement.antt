@@ -163,7 +163,7 @@ behind_row this row = with_uses (with_areas (moved this row row.next) this.next 
 abbrev pub behind_body : Places → Body → Places
 behind_body this body = behind_row this (describe body)
 
--- what a statement's point stands for, with its operand by these values of labels
+-- the place that a statement's point names, with its operand by these values of labels
 abbrev pub point_value : List (Label × ℤ) → Places → Description → Point → ℤ
 point_value values this row point.First = this.next
 point_value values this row point.Last = this.next +ℤ pos (contents_length row.contents) +ℤ negsuc 0

@@ -107,10 +107,10 @@ with_use used literal = if list_any (same_characters literal) used then used els
 
 -- how lines are placed, whatever is before and after them
 pub record IsPlacedInTurn (lines : List Line) : Type 0 where
-  -- Behind lines without an origin the next place is the one before them and their lengths.
+  -- After lines without an origin the next place is the one before them and their lengths.
   pub since : (before since rest : List Line) → lines ≡ before ++ since ++ rest → AreNoOrigins since
       → (placed (before ++ since)).next ≡ (placed before).next +ℤ pos (lengths_from (placed before) since)
-  -- Behind an origin it is the value of its operand.
+  -- After an origin it is the value of its operand.
   pub origin : (before : List Line) (line : Line) (rest : List Line) (of : Operands) → lines ≡ before ++ line ∷ rest
       → origin_with line.statement ≡ Some of
       → (placed (before ++ line ∷ [])).next ≡ value_so_far (placed before).values of.a

@@ -17,12 +17,12 @@ abbrev pub has_label : Label → Option Label → Bool
 has_label label None = false
 has_label label (Some other) = same_label other label
 
--- what was found, or else this number where the line has the label
+-- what was found, or else this number if the line has the label
 abbrev pub or_number : Option ℕ → ℕ → Bool → Option ℕ
 or_number (Some found) number has = Some found
 or_number None number has = if has then Some number else None
 
--- the first line with a label, where lines are counted from this number
+-- the first line with a label, counting lines from this number
 abbrev pub first_from : ℕ → List Line → Label → Option ℕ
 first_from number [] label = None
 first_from number (line ∷ lines) label =

@@ -24,7 +24,7 @@ use Rattle.autocoder_1401.specs.Symbols.{same_label}
 use Rattle.autocoder_1401.specs.declared.fault.AsmKind.TheVariants as kinds
 use Rattle.autocoder_1401.specs.declared.fault.AsmFault.{AsmFault}
 
--- the value of what an address is counted from, where an asterisk is this place
+-- the value of what an address is counted from, with this place for an asterisk
 abbrev pub base_value : Places → ℤ → Base → ℤ
 base_value all here (bases.Number number) = pos number
 base_value all here (bases.Symbol label) = unwrap_or (lookup (same_label label) all.values) (pos 0)

@@ -104,7 +104,7 @@ fn fault_of(alloc: Global, source: &[u8], size: u16) -> Result<Option<AsmFault>,
     }
 }
 
-/// Adds what isn't in core to a source's faults, where there are none.
+/// Adds what isn't in core to a source's faults, if there are no others.
 fn add_outside(
     alloc: Global,
     source: &[u8],
@@ -135,7 +135,7 @@ fn add_outside(
 pub fn faults(alloc: Global, source: &[u8], size: u16) -> Result<Vec<AsmFault>, AsmFault>
     ensures ok { IfOk result (λ faults. faults.items ≡ all_faults size (lines_in source.now)) }
 
-    // The first of them is the fault that the assembler tells; there is none exactly where it assembles.
+    // The first of them is the fault that the assembler tells; there is none exactly if it assembles.
     ensures first { IfOk result (λ faults. first_in faults.items ≡ fault_in (assembly_in size source.now)) }
 
     // Each is a fault of the line that it names.

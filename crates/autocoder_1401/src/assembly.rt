@@ -84,7 +84,7 @@ fn place_lines(
     Ok(all)
 }
 
-/// What a source stands for.
+/// The image and the listing of a source.
 #[derive(Debug, Drop)]
 pub struct Assembly {
     /// The core image.
@@ -127,7 +127,7 @@ fn make_assembly(
     })
 }
 
-/// The core image and the listing that a source stands for, in core storage of this size.
+/// The core image and the listing of a source, in core storage of this size.
 ///
 /// # Errors
 ///

@@ -18,7 +18,7 @@ pub enum AsmKind {
     /// 3: a byte can't stand in its column.
     #[error("3 GRAPHIC")]
     Graphic,
-    /// 4: columns 6 to 15 hold no label, or lack one, or hold one where there is none.
+    /// 4: columns 6 to 15 hold no label, or lack one, or hold one that may not be there.
     #[error("4 LABEL")]
     Label,
     /// 5: an earlier line has the same label.

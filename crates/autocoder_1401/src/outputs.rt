@@ -1,5 +1,4 @@
-//! What a source stands for, made line by line once all labels have their values: the segments of its image, and its
-//! listing.
+//! The image and the listing of a source, made line by line once all labels have their values.
 ghost use Rattle.std.specs.Prelude.{◌≡◌, ◌∷◌, ◌++◌, ◌+◌, ◌<◌, ◌^◌, ◌⊎◌, ℕ, List, [], length, map, Some, None, IfOk};
 ghost use Rattle.std.specs.Prelude.{IfErr, OnOk};
 ghost use Rattle.bcd_1401.specs.declared.cell.Cell.{Cell as ACell};
@@ -44,7 +43,7 @@ pub(crate) struct Made {
 }
 
 impl Output {
-    /// Makes what a line stands for, with these lines after it, and places it.
+    /// Makes the cells of a line, with these lines after it, and places them.
     fn put_line(
         &mut self,
         alloc: Global,

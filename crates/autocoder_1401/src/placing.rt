@@ -203,7 +203,7 @@ impl Placing {
         }
     }
 
-    /// What a statement's point stands for, with its operand by the values of labels that are given.
+    /// The place that a statement's point names, with its operand by the values of labels that are given.
     pub(crate) fn point_value(
         &self,
         values: &Placing,
@@ -271,7 +271,7 @@ impl Placing {
         Ok(())
     }
 
-    /// Moves the next place on, and places the literals used so far where the statement does.
+    /// Moves the next place on, and places the literals used so far if the statement does.
     fn move_on(&mut self, row: Description) -> Result<(), AsmFault>
         ensures ok { OnOk result (places_of self.new ≡ moved (places_of self.old) row row.next) }
         ensures err { IfErr result IsMemory }

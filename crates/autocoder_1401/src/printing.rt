@@ -17,7 +17,7 @@ const NUMBER_DIGITS: u8 = 4;
 /// How many digits an address has.
 const ADDRESS_DIGITS: u8 = 5;
 
-/// How many cells a line shows at the most.
+/// The most cells that a line shows.
 const SHOWN_CELLS: usize = 8;
 
 /// Adds blanks, as many as are asked for.
@@ -70,7 +70,7 @@ fn put_graphics(text: &mut Vec<u8>, cells: &[Cell]) -> Result<(), AsmFault>
     Ok(())
 }
 
-/// Adds the first eight cells by their graphics, with blanks after them where there are fewer.
+/// Adds the first eight cells by their graphics, with blanks after them if there are fewer.
 #[tactic(auto, unfolding(crate::specs::Listing::characters_text))]
 pub(crate) fn put_characters(text: &mut Vec<u8>, cells: &[Cell]) -> Result<(), AsmFault>
     ensures ok { OnOk result (text.new.items ≡ text.old.items ++ characters_text cells.now) }

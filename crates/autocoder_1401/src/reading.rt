@@ -9,7 +9,7 @@ use crate::kept_line::KeptLine;
 use source_1401::{Line, split_line};
 use std::alloc::Global;
 
-/// How many lines a source has at the most.
+/// The most lines that a source may have.
 const MOST_LINES: usize = 4_294_967_295;
 
 /// What the lines of a source say, each by itself.

@@ -45,7 +45,7 @@ fn are_places_outside(size: u16, first: i64, length: u32) -> Result<bool, AsmFau
 }
 
 impl Placing {
-    /// The value of what an address is counted from, once all is placed, where an asterisk is this place.
+    /// The value of what an address is counted from, once all is placed, with this place for an asterisk.
     fn base_value(&self, here: i64, base: Base) -> i64
         ensures { result ≡ base_value (places_of self.now) here base }
     {

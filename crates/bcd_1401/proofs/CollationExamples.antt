@@ -11,17 +11,17 @@ a_blank_is_lowest : order_of 0 ≡ 0
 unfolding collation graphics
 a_blank_is_lowest = refl
 
--- an A behind 25 special characters and plus zero
+-- an A after 25 special characters and plus zero
 an_a : order_of 49 ≡ 26
 unfolding collation graphics
 an_a = refl
 
--- minus zero behind I, and before J
+-- minus zero after I, and before J
 a_minus_zero : order_of 42 ≡ 35
 unfolding collation graphics
 a_minus_zero = refl
 
--- the record mark behind R, and before S
+-- the record mark after R, and before S
 a_record_mark : order_of 26 ≡ 45
 unfolding collation graphics
 a_record_mark = refl

@@ -13,7 +13,7 @@ use Rattle.bcd_1401.proofs.CardCodeLemmas.{of_each}
 abbrev char_at : ℕ → ℕ
 char_at place = position_or_len (λ each. each == slice_index_or collation place 0) graphics
 
--- whether a character stands at its own place
+-- whether a character is at its own place
 abbrev is_at_its_place : ℕ → Bool
 is_at_its_place char = char_at (order_of char) == char
 

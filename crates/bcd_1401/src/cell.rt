@@ -2,7 +2,7 @@
 
 use crate::character::Char;
 
-/// A character, and whether a word mark stands with it.
+/// A character, and whether it has a word mark.
 #[derive(Clone, Copy, Debug, PartialEq, Eq, Hash)]
 pub struct Cell {
     /// The character.

@@ -29,7 +29,7 @@ impl Char {
     /// The blank, code 0.
     pub const BLANK: Char = Char { code: 0 };
 
-    /// The character with this code; none where the code takes more than six bits.
+    /// The character with this code; none if the code takes more than six bits.
     pub fn from_code(code: u8) -> Option<Char>
         ensures { result ≡ (if nat_lt code 64 then Some code else None) }
     {

@@ -40,7 +40,7 @@ prefix_more xs x = (x ∷ [], refl)
 prefix_of_same : (xs ys : List Pair) → ys ≡ xs → IsPrefix xs ys
 prefix_of_same xs ys same = subst (λ list. IsPrefix xs list) (sym same) (prefix_self xs)
 
--- what stands beyond a list makes the other one go on from it
+-- what goes beyond a list makes the other one go on from it
 goes_on : (size seat : ℕ) (before : List Pair) (carried : List (Command × Answer)) (list : List Pair)
     → Stand size seat before carried list → IsPrefix before list
 goes_on size seat before [] list s = s
@@ -50,7 +50,7 @@ goes_on size seat before (one ∷ more) list s =
     (prefix_trans s.0 (s.0 ++ last ∷ []) list (prefix_more s.0 last)
     (goes_on size seat (s.0 ++ last ∷ []) more list s.3))
 
--- what stands beyond a list stands beyond a beginning of it
+-- what goes beyond a list goes beyond a beginning of it
 stand_from : (size seat : ℕ) (first before : List Pair) (carried : List (Command × Answer)) (list : List Pair)
     → IsPrefix first before → Stand size seat before carried list → Stand size seat first carried list
 stand_from size seat first before [] list p s = prefix_trans first before list p s
@@ -91,7 +91,7 @@ all_from size first before after [] p r = tt
 all_from size first before after (given ∷ more) p r =
     (reply_from size first before after given.said given.reply p r.0, all_from size first before after more p r.1)
 
--- One line in front of what is known of those behind it.
+-- One line in front of what is known of those after it.
 pub record Leads (size : ℕ) (before : Knows) (said : Said) (given : Option Reply) (middle after : Knows) : Type 0 where
   pub grows : IsPrefix before.list middle.list
   pub made_is : middle.made ≡ before.made + length (zip (command_in said) (answer_in given))

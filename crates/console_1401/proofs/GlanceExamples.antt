@@ -24,7 +24,7 @@ says : List ℕ → Said
 unfolding said_by said_in_words said_with ended glance_of word_in behind_word keyword_of number_of address_of
 says line = said_by line
 
--- each of these lines says what stands beside it
+-- each of these lines says what is beside it
 abbrev AllSay : List (List ℕ × Said) → Type 0
 AllSay lines = map (λ line. said_by line.0) lines ≡ map (λ line. line.1) lines
 
@@ -41,7 +41,7 @@ a_glance_has_an_address : AllSay (
 unfolding says
 a_glance_has_an_address = refl
 
--- blanks in front, between and behind, and zeros in front of the address
+-- blanks in front, between and after, and zeros in front of the address
 glance_with_blanks_and_zeros : IsLineOf (Glance 500) (codes " GLANCE  0500  ")
 unfolding digits
 glance_with_blanks_and_zeros = record {
@@ -63,7 +63,7 @@ unfoldable text : Reply → List ℕ
 unfolding text_of_reply glance_text digits graphics
 text given = text_of_reply given
 
--- each of these replies has the text that stands beside it
+-- each of these replies has the text beside it
 abbrev AllRead : List (Reply × List ℕ) → Type 0
 AllRead replies = map (λ given. text_of_reply given.0) replies ≡ map (λ given. given.1) replies
 

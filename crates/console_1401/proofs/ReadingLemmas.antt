@@ -20,7 +20,7 @@ use Rattle.console_1401.proofs.AnsweringLemmas.{answered_one, answered_more}
 use Rattle.console_1401.proofs.TextLemmas.{lines_of-feed, lines_of-byte, rest-feed, rest-byte, kept-byte, said_by-kept}
 use Rattle.console_1401.proofs.TextLemmas.{said_finished-kept}
 
--- A moment of a session: what the source has left, what the sink has received, and what stands behind the console.
+-- A moment of a session: what the source has left, what the sink has received, and what the console commands.
 pub record Moment (S : Type 0) : Type 0 where
   pub left : Option (List ℕ)
   pub received : Option (List ℕ)

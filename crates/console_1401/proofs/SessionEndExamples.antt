@@ -88,7 +88,7 @@ examine_answered_again = record {
   size_is = refl;
 }
 
--- QUIT ends a session, and what stands behind it is left
+-- QUIT ends a session, and what follows it is left
 ends_with_quit : SessionDid Answered end.Quit
     (Some (with_feed (codes "EXAMINE 5") ++ with_feed (codes "QUIT") ++ codes "REGS")) (Some (codes "REGS"))
     (Some (codes "OLD")) (Some (codes "OLD" ++ shown ++ with_feed (codes "BYE")))
@@ -210,7 +210,7 @@ unfolding cut_of
 blanks_alone zero = refl
 blanks_alone (suc n) = ap (in_front 32) (blanks_alone n)
 
--- as many blanks were read as a session reads bytes: they are no line, and QUIT behind them isn't read
+-- as many blanks were read as a session reads bytes: they are no line, and QUIT after them isn't read
 ends_at_the_bound : (n : ℕ) → n ≡ most_bytes → SessionDid Answered end.Bound
     (Some (replicate n 32 ++ codes "QUIT")) (Some (codes "QUIT")) (Some []) (Some []) (room_with []) (room_with [])
 ends_at_the_bound n all =

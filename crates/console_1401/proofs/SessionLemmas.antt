@@ -71,7 +71,7 @@ none_of_fewer fewer many turns few none =
     let P : Turn → Type 0 = λ turn. turn.memory_refused ≡ false in
     subst (All P) (take-take fewer many turns few) (All-take P fewer (take many turns) none)
 
--- one command in front: memory was refused at it only where nothing was spare
+-- one command in front: memory was refused at it only if nothing was spare
 none_in_front : (spare left : ℕ) (turn : Turn) (turns : List Turn) → (0 < spare → turn.memory_refused ≡ false)
     → spare ≤ left + 1 → NoneRefused (take left turns) → NoneRefused (take spare (turn ∷ turns))
 none_in_front zero left turn turns here few none = All-nil (λ (t : Turn). t.memory_refused ≡ false)

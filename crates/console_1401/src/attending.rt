@@ -101,7 +101,7 @@ pub fn attend<J: Naming, R: Wait + Drop, W: Wait, S: Source, K: Sink, D: Door>(
         (K.received writer.old) (K.received writer.new) seat result.0 }
     ensures number { result.0.number ≡ seat.number }
 
-    // It says that a read or a write failed only where it did.
+    // It says that a read or a write failed only if it did.
     ensures read { result.1 ≡ SessionEnd.Read → IsTrue (S.has_failed reader.new) }
     ensures write { result.1 ≡ SessionEnd.Write → IsTrue (K.has_failed writer.new) }
 

@@ -1,4 +1,4 @@
--- Where nothing is pending, a print moves the carriage one line.
+-- If nothing is pending, a print moves the carriage one line.
 use Rattle.std.proofs.Common.{◌≡◌, ℕ, ◌+◌, ◌%◌, Option, Some, None, unwrap_or, ap, ◌∙◌}
 use Rattle.devices_1401.specs.Carriage.{positions, moved}
 use Rattle.devices_1401.specs.Movement.{control_of, pending_of}

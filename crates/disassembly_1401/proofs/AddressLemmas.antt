@@ -19,7 +19,7 @@ use Rattle.disassembly_1401.specs.Address.{index_text, number_text}
 use Rattle.disassembly_1401.proofs.NumberLemmas.{IsNumber, number_again, short_number_of, no_other, no_higher}
 use Rattle.disassembly_1401.proofs.NumberLemmas.{operand_len-digits, prefix_len-digits}
 
--- a text that is an index register behind an address
+-- a text that is an index register after an address
 record IsIndex (index : ℕ) (text : List ℕ) : Type 0 where
   goes_on : (rest : List ℕ) → operand_len false (text ++ rest) ≡ length text + operand_len false rest
   ends_the_word : prefix_len is_letter_or_digit text ≡ 0
@@ -86,7 +86,7 @@ address_again word text value index number behind fits =
     (take-append_seam word text) (drop-append_seam word text) (base_again word value number fits) behind.no_adjustment
     behind.is
 
--- a word that is read as an address, whatever stands behind its end
+-- a word that is read as an address, whatever follows its end
 pub record IsAddress (word : List ℕ) (address : Address) : Type 0 where
   pub goes_on : (rest : List ℕ) → operand_len false (word ++ rest) ≡ length word + operand_len false rest
   pub begins : (rest : List ℕ) → is_ended (word ++ rest) ≡ false

@@ -132,7 +132,7 @@ d_read operation d instruction own mark own_d unmarked this = record {
       (operation_again operation instruction.operation own mark this.operation) (d_again d own_d unmarked);
 }
 
--- what stands behind addresses: nothing, or a comma and a d-character
+-- what follows addresses: nothing, or a comma and a d-character
 pub record IsTail (says_d : Bool) (form : Form) (addresses : ℕ) (tail : List ℕ) (d : Option ℕ) (behind : List Cell) :
     Type 0 where
   ends : (more : List ℕ) → operand_len false (tail ++ 32 ∷ more) ≡ 0
@@ -211,7 +211,7 @@ address_cells h t u rest behind placed e =
 abbrev field_at : Cell → Cell → Cell → Address
 field_at h t u = numbered (value_of h.char t.char u.char) (register_in t.char)
 
--- an operation, an address, and what stands behind it
+-- an operation, an address, and what follows it
 pub one_read : (operation h t u : Cell) (says_d : Bool) (tail : List ℕ) (d : Option ℕ) (behind : List Cell)
     (instruction : Instruction) → IsOwn operation → operation.mark ≡ true → IsPlaced h t u
     → IsFor says_d (graphic_of operation) 1 d instruction
@@ -239,7 +239,7 @@ one_read operation h t u says_d tail d behind instruction own mark placed this t
           (address_cells h t u (map plain (d_codes d)) behind placed that.cells);
     }
 
--- an operation, two addresses, and what stands behind them
+-- an operation, two addresses, and what follows them
 pub two_read : (operation h t u x y z : Cell) (says_d : Bool) (tail : List ℕ) (d : Option ℕ) (behind : List Cell)
     (instruction : Instruction) → IsOwn operation → operation.mark ≡ true → IsPlaced h t u → IsPlaced x y z
     → IsFor says_d (graphic_of operation) 2 d instruction

@@ -40,7 +40,7 @@ columns_again a b c d e operands few =
     let left : 80 - length (columns_with a b c d e operands) ≡ 60 - length operands = omega arith in
     rw whole (ap (λ (n : ℕ). columns_with a b c d e (operands ++ replicate n 32)) left)
 
--- the columns 21 to 72, and those behind
+-- the columns 21 to 72, and those after them
 operands_columns : (operands : List ℕ) → length operands ≤ 50
     → take 52 (rest_of operands) ≡ operands ++ 32 ∷ replicate (51 - length operands) 32
 operands_columns operands few =

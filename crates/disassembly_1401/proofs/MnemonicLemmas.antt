@@ -1,4 +1,4 @@
--- Where the assembler has a mnemonic, the one that is written is one of its own.
+-- If the assembler has a mnemonic, the one that is written is one of its own.
 use Rattle.std.proofs.Common.{◌≡◌, ℕ, ◌==◌, ◌&&◌, Bool, true, false, not, nat_le, nat_lt, List, [], ◌∷◌, length, map}
 use Rattle.std.proofs.Common.{Option, None, Some, refl}
 use Rattle.std.specs.Prelude.{slice_index, ◌||◌}
@@ -26,7 +26,7 @@ says says_d addresses (Some d) kinds.Optional = not says_d && nat_lt 0 addresses
 says says_d addresses (Some d) kinds.Required = not says_d
 
 -- whether an instruction of the assembler is of an operation with so many addresses, and a d-character as the mnemonic
--- says it; one that is written stands behind as many addresses as there can be
+-- says it; one that is written follows as many addresses as there can be
 abbrev pub is_as : Mnemonic → ℕ → ℕ → Option ℕ → Instruction → Bool
 is_as mnemonic operation addresses d instruction =
     (instruction.operation == operation) && nat_le instruction.form.least addresses
@@ -44,13 +44,13 @@ abbrev pub follows : Bool → Bool → Bool
 follows false b = true
 follows true b = b
 
--- whether what is written for an operation is good where the assembler has a mnemonic for it
+-- whether what is written for an operation is good if the assembler has a mnemonic for it
 abbrev pub is_written_well : ℕ → ℕ → Option ℕ → Bool
 is_written_well operation addresses d =
     follows (has_mnemonic operation addresses d)
     (is_good operation addresses d (mnemonic_of operation addresses d))
 
--- with a d-character behind this many addresses
+-- with a d-character after this many addresses
 abbrev pub with_d : ℕ → Bool
 with_d addresses =
     list_all (λ operation. list_all (λ d. is_written_well operation addresses (Some d)) graphics) graphics

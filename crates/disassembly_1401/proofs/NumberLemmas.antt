@@ -80,7 +80,7 @@ no_other byte other h low = grind (arith, nat_tests)
 pub no_higher : (byte other : ℕ) → is_digit byte ≡ true → 57 < other → (byte == other) ≡ false
 no_higher byte other h high = grind (arith, nat_tests)
 
--- an operand goes on behind digits
+-- an operand goes on after digits
 pub operand_len-digits : (digits rest : List ℕ) → list_all is_digit digits ≡ true
     → operand_len false (digits ++ rest) ≡ length digits + operand_len false rest
 operand_len-digits [] rest h = omega arith
@@ -93,7 +93,7 @@ operand_len-digits (byte ∷ digits) rest h =
       no_higher byte 64 parts.0 (omega arith),
     ) (omega (arith, further))
 
--- a word goes on behind digits
+-- a word goes on after digits
 pub prefix_len-digits : (digits rest : List ℕ) → list_all is_digit digits ≡ true
     → prefix_len is_letter_or_digit (digits ++ rest) ≡ length digits + prefix_len is_letter_or_digit rest
 prefix_len-digits [] rest h = omega arith

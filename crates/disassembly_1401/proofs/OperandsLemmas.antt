@@ -34,7 +34,7 @@ d_said (kinds.Fixed graphic) addresses most d more h = ap (λ (g : ℕ). (Some g
 d_said kinds.Optional addresses most d more h = absurd (false≢true h)
 d_said kinds.Required addresses most d more h = absurd (false≢true h)
 
--- one without an address stands first
+-- one without an address comes first
 pub d_first : (kind : DCharacter) (d : ℕ) (more : List ℕ)
     → says false 0 (Some d) kind ≡ true → d_by kind 0 (d ∷ 32 ∷ more) ≡ (Some d, true)
 d_first kinds.Never d more h = absurd (false≢true h)
@@ -42,7 +42,7 @@ d_first (kinds.Fixed graphic) d more h = absurd (false≢true h)
 d_first kinds.Optional d more h = absurd (false≢true h)
 d_first kinds.Required d more h = refl
 
--- one behind addresses stands behind a comma
+-- one after addresses follows a comma
 pub d_behind : (kind : DCharacter) (addresses most d : ℕ) (more : List ℕ) → (most == 0) ≡ false
     → says false addresses (Some d) kind ≡ true → d_by kind most (44 ∷ d ∷ 32 ∷ more) ≡ (Some d, true)
 d_behind kinds.Never addresses most d more some h = absurd (false≢true h)
@@ -97,7 +97,7 @@ first_address : (most : ℕ) (word rest : List ℕ) (address : Address) → IsAd
 first_address most word rest address this ends some =
     rw (some, this.begins rest) (address_is_read word rest address this ends)
 
--- an address, and nothing behind it that is a second one
+-- an address, and nothing after it that is a second one
 pub one_operand : (form : Form) (word rest : List ℕ) (address : Address) (d : Option ℕ) → IsAddress word address
     → operand_len false rest ≡ 0 → (form.most == 0) ≡ false → nat_le form.least 1 ≡ true
     → second_operand form.most rest ≡ (fields.Absent, rest)

@@ -1,4 +1,4 @@
--- Where the assembler has a word for an instruction, its text is assembled as its cells.
+-- If the assembler has a word for an instruction, its text is assembled as its cells.
 use Rattle.std.proofs.Common.{◌≡◌, ℕ, ◌-◌, ◌<◌, ◌≤◌, ◌==◌, ◌&&◌, Bool, true, false, not, if◌then◌else◌, List, [], ◌∷◌}
 use Rattle.std.proofs.Common.{◌++◌}
 use Rattle.std.proofs.Common.{length, take, replicate, Option, None, Some, refl, ap, ◌∙◌, sym, subst, arith}

@@ -201,7 +201,7 @@ fn put_start(text: &mut Vec<u8>, start: u16) -> Result<(), AllocError>
 ///
 /// # Errors
 ///
-/// Where the memory for the text is refused.
+/// If the memory for the text is refused.
 #[tactic(auto, unfolding(crate::specs::ImageListing::listing_text))]
 pub fn list_image(alloc: Global, image: &Image) -> Result<Vec<u8>, AllocError>
     ensures { IfOk result (λ text. text.items ≡ listing_text image.now) }

@@ -112,12 +112,12 @@ fn written(mnemonic: Mnemonic, behind: &[Cell]) -> &[Cell]
 ///
 /// # Errors
 ///
-/// Where the memory for the text is refused. Some of the text may have been added then.
+/// If the memory for the text is refused. Some of the text may have been added then.
 pub fn put_instruction(text: &mut Vec<u8>, cells: &[Cell]) -> Result<(), AllocError>
     requires { length cells.now ≤ 8 }
     ensures text { OnOk result (text.new.items ≡ text.old.items ++ instruction_text cells.now) }
 
-    // Where the assembler has a word for the instruction, it makes these cells of the text again.
+    // If the assembler has a word for the instruction, it makes these cells of the text again.
     ensures again { has_word cells.now ≡ true → IsTextOf (instruction_text cells.now) cells.now }
 {
     let [operation, behind @ ..] = cells else {

@@ -1,4 +1,4 @@
--- The contents of a text by its first line, behind segments that are read already.
+-- The contents of a text by its first line, after segments that are read already.
 use Rattle.std.proofs.Common.{◌≡◌, ℕ, if◌then◌else◌, Bool, true, false, List, [], ◌∷◌, ◌++◌, Some, None, Result, Ok}
 use Rattle.std.proofs.Common.{Err, refl, sym, ap, ◌∙◌}
 use Rattle.std.specs.Prelude.{IsOk}
@@ -22,7 +22,7 @@ contents_in-more : (version : Version) (size : ℕ) (line first : List ℕ) (mor
 unfolding contents_in
 contents_in-more version size line first more parts e = rw e refl
 
--- by the first line, where a line feed ends it
+-- by the first line, if a line feed ends it
 pub contents_in-line : (version : Version) (size : ℕ) (line behind : List ℕ)
     → contents_in version size (line ∷ parts_of behind)
     ≡ contents_by size (segment_in version line) (contents_in version size (parts_of behind))
@@ -136,7 +136,7 @@ pub outside_from : (inside : Bool) (segment : Segment) (fault : ImageFault)
 outside_from true segment fault e = absurd cc
 outside_from false segment fault e = (refl, cc)
 
--- a segment is kept where its memory wasn't refused
+-- a segment is kept if its memory wasn't refused
 pub kept_more : {E : Type 0} (pushed : Result (Unit {0}) E) (before after so_far : List Segment)
     (segment found : Segment) → before ≡ so_far → segment ≡ found → is_err pushed ≡ false
     → after ≡ (if is_ok pushed then before ++ segment ∷ [] else before) → after ≡ so_far ++ found ∷ []
@@ -150,7 +150,7 @@ image_in-more : (line first : List ℕ) (more parts : List (List ℕ)) → parts
 unfolding image_in
 image_in-more line first more parts e = rw e refl
 
--- by the header, where a line feed ends it
+-- by the header, if a line feed ends it
 pub image_in-line : (line behind : List ℕ) → image_in (line ∷ parts_of behind)
     ≡ image_by (header_in line) (parts_of behind)
 image_in-line line behind = let some = parts_of-some behind in image_in-more line some.0 some.1 (parts_of behind) some.2

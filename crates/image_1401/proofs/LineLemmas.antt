@@ -31,7 +31,7 @@ whole_from (x ∷ xs) long =
 pub parts_of-whole : (text : List ℕ) → position is_feed text ≡ None → parts_of text ≡ text ∷ []
 parts_of-whole text h = whole_from text (ltb-false _ _ (no_place _ (position_or_len is_feed text) h))
 
--- up to the first line feed, and behind it
+-- up to the first line feed, and after it
 pub parts_of-first : (text : List ℕ) (end : ℕ) → position is_feed text ≡ Some end → (end < length text)
     × (parts_of text ≡ take end text ∷ parts_of (drop (end + 1) text))
 parts_of-first text end h =

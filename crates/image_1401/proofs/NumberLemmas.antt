@@ -98,7 +98,7 @@ are_digits (suc digits) text len all =
     ∷ [])) split).0 in
     subst (AreDigits (suc digits)) (sym parts) (digits_push digits front last so_far bounds.0 bounds.1)
 
--- a number that is read stands at the front, in its digits
+-- a number that is read is at the front, in its digits
 pub record Takes (digits : ℕ) (text : List ℕ) (found : ℕ × List ℕ) : Type 0 where
   pub parts : text ≡ number_text digits found.0 ++ found.1
   pub small : found.0 < 10 ^ digits

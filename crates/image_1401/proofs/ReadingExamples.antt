@@ -170,7 +170,7 @@ unfolding read graphics number_in number_at spelled cells_of header_with header_
     image_in
 a_segment_past_a_larger_size_is_out_of_range = refl
 
--- an entry out of core comes before what stands behind it
+-- an entry out of core comes before what follows it
 an_entry_past_the_size_is_out_of_range : read (codes "IMAGE1 1400\nEND 1400\nX") ≡ Err Range
 unfolding read graphics number_in number_at spelled cells_of header_with header_in segment_in end_in contents_in
     image_in

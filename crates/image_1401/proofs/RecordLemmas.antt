@@ -168,7 +168,7 @@ made_segment true address cells segment h =
     (refl, ap (λ (each : Segment). each.address) one, ap (λ (each : Segment). each.cells) one)
 made_segment false address cells segment h = absurd cc
 
--- the parts of a segment's line, one behind the other
+-- the parts of a segment's line, one after the other
 regroup : (address count cells : List ℕ) → address ++ (32 ∷ (count ++ (32 ∷ cells))) ≡ address ++ codes " " ++ count
     ++ codes " " ++ cells
 regroup address count cells = simp append_assoc

@@ -40,7 +40,7 @@ is_no_record version line no_segment no_end = record {
       ∙ end_again version start small);
 }
 
--- by the bytes behind the last line
+-- by the bytes after the last line
 by_rest : (version : Version) (size : ℕ) (line next : List ℕ) (parts : List (List ℕ)) (start : ℕ) (done : Bool)
     (fault : ImageFault) → end_in version line ≡ Some start → start < size
     → is_done (next ∷ parts) ≡ done → cond {A = Result ℕ ImageFault} done (Ok start) (Err BadRecord) ≡ Err fault
@@ -147,7 +147,7 @@ text_fault text fault h =
     subst (λ (parts : List (List ℕ)). HasTextFault parts fault) (sym some.2)
     (parts_fault some.1 some.0 fault (ap image_in (sym some.2) ∙ h))
 
--- where an image is read, the text is an image's
+-- if an image is read, the text is an image's
 is_text : (text : List ℕ) (read : Result Image ImageFault) → image_in (parts_of text) ≡ read → IsOk read
     → IsRefused text Memory
 is_text text (Ok image) e h = (image, image_takes text image e)

@@ -155,7 +155,7 @@ all_there [] all = refl
 all_there (None ∷ found) all = absurd (false≢true all)
 all_there (Some cell ∷ found) all = ap (λ (more : List (Option Cell)). Some cell ∷ more) (all_there found all)
 
--- both tests are passed where cells are read
+-- both tests are passed if cells are read
 tests_passed : (all few : Bool) (found cells : List Cell)
     → (if all then (if few then Ok found else Err Length) else Err Graphic) ≡ Ok cells
     → ((all ≡ true) × (few ≡ true)) × (found ≡ cells)

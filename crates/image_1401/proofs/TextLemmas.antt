@@ -35,7 +35,7 @@ use Rattle.image_1401.proofs.RecordLemmas.{size_bound, header_takes, header_agai
 use Rattle.image_1401.proofs.RecordLemmas.{end_takes, end_again, end_is_no_segment}
 use Rattle.image_1401.proofs.SpellingLemmas.{no_character}
 
--- ---- no line feed stands in a line
+-- ---- no line feed is in a line
 
 -- whether a byte goes on a line
 abbrev goes_on : ℕ → Bool
@@ -162,7 +162,7 @@ pub record IsGood (version : Version) (size : ℕ) (contents : Contents) : Type 
   pub segments : list_all (is_inside size) contents.0 ≡ true
   pub start : nat_lt contents.1 size ≡ true
 
--- the text behind the header
+-- the text after the header
 abbrev contents_text : Version → Contents → List ℕ
 contents_text version contents = segments_text version contents.0 ++ line_of (end_text version contents.1)
 
@@ -253,7 +253,7 @@ entry_takes version size line next parts start h =
     let found = entry_found size (end_in version line) (next ∷ parts) start h in
     record { line_is = end_takes version line start found.0; inside = found.1; done = found.2 }
 
--- nothing behind a line
+-- nothing after a line
 join_done : (line next : List ℕ) (parts : List (List ℕ)) → is_done (next ∷ parts) ≡ true
     → join_with_byte 10 (line ∷ next ∷ parts) ≡ line_of line
 join_done line [] [] h = refl
@@ -267,7 +267,7 @@ alone (Ok start) contents h =
     (ap (λ (c : Contents). Ok c.1) same, sym (ap (λ (c : Contents). c.0) same))
 alone (Err fault) contents h = absurd cc
 
--- segments behind a first one
+-- segments after a first one
 behind_first : (segment : Segment) (more : Result Contents ImageFault) (contents : Contents)
     → with_segments (segment ∷ []) more ≡ Ok contents
     → (rest : Contents) × (more ≡ Ok rest) × (contents ≡ (segment ∷ rest.0, rest.1))

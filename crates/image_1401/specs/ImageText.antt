@@ -59,7 +59,7 @@ abbrev pub is_char : Option ℕ → ℕ → Bool
 is_char None char = false
 is_char (Some found) char = found == char
 
--- whether a cell's character is the one that its graphic stands for, as each of the 64 is
+-- whether a cell's character is the one of its graphic, as each of the 64 is
 abbrev pub is_character : Cell → Bool
 is_character cell = is_char (position (λ each. each == slice_index graphics cell.char) graphics) cell.char
 

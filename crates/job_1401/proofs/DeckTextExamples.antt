@@ -26,7 +26,7 @@ a_byte_that_no_card_has : card_of_line 7 (replicate 11 32 ++ codes "~~") ≡ Err
 unfolding card_of_line graphics
 a_byte_that_no_card_has = refl
 
--- the eightieth column is one, and what is behind it isn't looked at
+-- the eightieth column is one, and what is after it isn't looked at
 a_byte_in_the_last_column : card_of_line 1 (replicate 79 65 ++ codes "~A") ≡ Err (Graphic 1 80)
 unfolding card_of_line graphics
 a_byte_in_the_last_column = refl

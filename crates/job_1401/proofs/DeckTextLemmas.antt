@@ -42,7 +42,7 @@ some_char char code is = (rw is refl, rw is refl)
 pub no_char : (char : Option ℕ) → char ≡ None → is_some char ≡ false
 no_char char is = rw is refl
 
--- cards behind those so far
+-- cards after those so far
 abbrev pub behind : List Card → Result (List Card) DeckFault → Result (List Card) DeckFault
 behind so_far (Ok cards) = Ok (so_far ++ cards)
 behind so_far (Err fault) = Err fault

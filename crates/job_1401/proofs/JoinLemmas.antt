@@ -1,4 +1,4 @@
--- A job of more steps goes on where one met its limit, and is at its end where one has stopped.
+-- A job of more steps goes on from one that met its limit, and is at its end if one has stopped.
 use Rattle.std.proofs.Common.{◌≡◌, ◌≢◌, ℕ, ◌+◌, zero, suc, List, [], ◌++◌, Option, None, Some, refl, subst, sym, ◌∙◌, ap, arith, append_assoc}
 use Rattle.std.proofs.lemmas.List.{append-nil}
 use Rattle.devices_1401.specs.declared.card.Card.{Card}

@@ -84,7 +84,7 @@ unfolding seat_in
 seat_below text seat h =
     let p = passed (nat_le (length text) 3) (if_seat (number_in text)) seat h in seat_small (number_in text) seat p.1
 
--- A field was read, and stands at the front.
+-- A field was read, and is at the front.
 pub record Found {A : Type 0} (spell : A → List ℕ) (IsGood : A → Type 0) (text : List ℕ) (found : A × List ℕ)
     : Type 0 where
   pub text_is : text ≡ spell found.0 ++ found.1
@@ -151,7 +151,7 @@ command_takes text found h =
     found_by command_part CanSay text (if_command (said_by (field text))) wrong.Command found h
     (λ command is. command_can (said_by (field text)) command (line_can (field text)) is)
 
--- The journal has room, and the answer stands at the front.
+-- The journal has room, and the answer is at the front.
 pub record Answered (journal : List Entry) (answer : Answer) (text rest : List ℕ) : Type 0 where
   pub not_full : is_full journal ≡ false
   pub text_is : text ≡ with_feed (answer_text answer) ++ rest
@@ -168,7 +168,7 @@ regroup : (number seat command answer rest : List ℕ)
     → (((number ++ seat) ++ command) ++ answer) ++ rest ≡ number ++ (seat ++ (command ++ (answer ++ rest)))
 regroup number seat command answer rest = simp append_assoc
 
--- What is read as an entry is its line, and what stands behind it.
+-- What is read as an entry is its line, and what follows it.
 pub record IsEntryOf (size : ℕ) (journal : List Entry) (text : List ℕ) (found : Entry × List ℕ) : Type 0 where
   pub text_is : text ≡ entry_text (length journal + 1) found.0 ++ found.1
   pub kept : CanBeKept found.0
@@ -410,7 +410,7 @@ answer_again false due answer rest h same =
     ap (λ (each : Answer). ok_or (after_prefix front (with_feed (answer_text each) ++ rest)) wrong.Answer) same
     ∙ there_is_ok (after_prefix front (front ++ rest)) wrong.Answer rest (after_prefix_again front rest)
 
--- the line of an entry is read as the entry, where the machine answers as it says
+-- the line of an entry is read as the entry, if the machine answers as it says
 pub entry_again : (size : ℕ) (journal : List Entry) (e : Entry) (rest : List ℕ) → CanBeKept e
     → is_full journal ≡ false → e.answer ≡ answer_to size journal e.command
     → entry_at size journal (entry_text (length journal + 1) e ++ rest) ≡ Ok (e, rest)

@@ -32,7 +32,7 @@ use Rattle.journal_1401.specs.Reading.IsCut.{in_entry, in_header}
 use Rattle.journal_1401.proofs.EntryLemmas.{IsOfEntry, entry_again, entry_takes, of_entry}
 use Rattle.journal_1401.proofs.TextLemmas.{journal_text-push}
 
--- A journal's text goes on behind these entries: with more of its own, and what stands behind them.
+-- A journal's text goes on after these entries: with more of its own, and what follows them.
 pub record Continues (size : ℕ) (journal : List Entry) (rest : List ℕ) (size' : ℕ) (whole : List Entry)
     (last : List ℕ) : Type 0 where
   pub same : size ≡ size'
@@ -113,7 +113,7 @@ or_last : (test : Bool) → (test || true) ≡ true
 or_last true = refl
 or_last false = refl
 
--- a line feed among what stands behind, or in front
+-- a line feed among what follows, or in front
 has_behind : (front back : List ℕ) → has_line back ≡ true → has_line (front ++ back) ≡ true
 has_behind front back h =
     list_any-append (λ byte. byte == line_feed) front back
@@ -270,7 +270,7 @@ that_journal text size journal rest size' whole last reads none is =
     let on = reads.again size' whole last is in
     no_more size journal rest size' whole last on.more none on.same on.journal_is on.rest_is
 
--- where an entry is read, only memory can be refused
+-- if an entry is read, only memory can be refused
 only_memory : {A : Type 0} (read : Result A Wrong) (value : A) (why : Wrong) → read ≡ Ok value → IsWhy read why
     → why ≡ wrong.Memory
 only_memory read value wrong.Memory h is = refl

@@ -4,7 +4,7 @@ use Rattle.std.proofs.lemmas.List.{append_assoc, append-nil, length-take, take_m
 use Rattle.room_1401.specs.declared.entry.Entry.{Entry}
 use Rattle.journal_1401.specs.JournalText.{entries_text, entry_text, header_text, journal_text, lines_by}
 
--- entries, and more behind them
+-- entries, and more after them
 lines_by-append : (line : ℕ → Entry → List ℕ) (number : ℕ) (front back : List Entry)
     → lines_by line number (front ++ back) ≡ lines_by line number front ++ lines_by line (number + length front) back
 lines_by-append line number [] back = ap (λ n. lines_by line n back) (omega arith)

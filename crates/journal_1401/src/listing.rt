@@ -24,7 +24,7 @@ pub struct View {
 ///
 /// # Errors
 ///
-/// Where the memory for the text is refused.
+/// If the memory for the text is refused.
 pub fn list_journal(alloc: Global, journal: &[Entry], view: View) -> Result<Vec<u8>, AllocError>
     ensures { IfOk result (λ text. text.items ≡ listing_text view journal.now) }
 {

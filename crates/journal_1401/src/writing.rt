@@ -11,7 +11,7 @@ use text_1401::{put_command, reply_text};
 ///
 /// # Errors
 ///
-/// Where the memory for the text is refused.
+/// If the memory for the text is refused.
 pub fn write_journal(alloc: Global, size: u16, journal: &[Entry]) -> Result<Vec<u8>, AllocError>
     ensures { IfOk result (λ text. text.items ≡ journal_text size journal.now) }
 {
@@ -46,7 +46,7 @@ fn put_entries(alloc: Global, text: &mut Vec<u8>, journal: &[Entry]) -> Result<(
 ///
 /// # Errors
 ///
-/// Where the memory for the text is refused. A part of the line may have been added then.
+/// If the memory for the text is refused. A part of the line may have been added then.
 #[tactic(auto, unfolding(crate::specs::JournalText::entry_text))]
 pub fn put_entry(
     alloc: Global,

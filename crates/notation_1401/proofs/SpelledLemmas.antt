@@ -37,7 +37,7 @@ pub cells_of-missed : (cells : List Cell) (more : List (Option Cell)) → length
 unfolding cells_of
 cells_of-missed cells more few = rw (missed 40 cells more few)
 
--- there is something behind the fortieth cell
+-- there is something after the fortieth cell
 pub cells_of-long : (cells : List Cell) (cell : Option Cell) (more : List (Option Cell)) → length cells ≡ 40
     → cells_of (map Some cells ++ cell ∷ more) ≡ Err Length
 unfolding cells_of
@@ -54,7 +54,7 @@ no_tilde byte false e there = refl
 no_tilde byte true e there =
     absurd (false≢true (subst (λ n. is_some (cell_of false n) ≡ true) (eqb-true byte 126 e) there))
 
--- one cell in front, by whether a tilde stands before it
+-- one cell in front, by whether a tilde comes before it
 cell_in_front : (is_tilde : Bool) (cell marked : Option Cell) (more more' longer longer' back : List (Option Cell))
     → (list_all is_some more ≡ true → more' ≡ more ++ back)
     → (list_all is_some longer ≡ true → longer' ≡ longer ++ back)
@@ -66,7 +66,7 @@ cell_in_front true cell marked more more' longer longer' back short long all =
 cell_in_front false cell marked more more' longer longer' back short long all =
     ap (λ rest. cell ∷ rest) (long (and_parts _ _ all).1)
 
--- behind a text that spells cells alone another text spells its own
+-- after a text that spells cells alone another text spells its own
 pub spelled-append : (front back : List ℕ) → list_all is_some (spelled front) ≡ true
     → spelled (front ++ back) ≡ spelled front ++ spelled back
 unfolding spelled
@@ -98,7 +98,7 @@ pub cell_again : (cell : Cell) → position (λ each. each == slice_index graphi
     → spelled (cell_text cell) ≡ Some cell ∷ []
 cell_again cell own = own_again cell.mark cell.char own
 
--- cells, and one more behind them
+-- cells, and one more after them
 pub cells_again : (text added : List ℕ) (cells : List Cell) (cell : Cell) → spelled text ≡ map Some cells
     → spelled added ≡ Some cell ∷ []
     → spelled (text ++ added) ≡ map Some (cells ++ cell ∷ [])

@@ -176,7 +176,7 @@ sum_most : (n : ℕ) (pairs : List Pair) → sum_to (owns pairs) n ≤ length pa
 sum_most n [] = omega (arith, own_none n)
 sum_most n (pair ∷ pairs) = omega (arith, own_first pair pairs n, hit_most pair.seat n, sum_most n pairs)
 
--- where they have them all, each command is of a seat that is there
+-- if they have them all, each command is of a seat that is there
 all_seated : (n : ℕ) (seats : List Knows) (pairs : List Pair) → back_of n seats ≡ n
     → length pairs ≤ sum_to (owns pairs) n → AllSeated seats pairs
 all_seated n seats [] all full = tt
@@ -196,7 +196,7 @@ fit_most pairs (seat ∷ seats) fit =
     let here : seat.made ≤ own seat.number pairs = fit.0.1 in
     omega arith
 
--- and exactly this, where they have no more together
+-- and exactly this, if they have no more together
 all_exact : (pairs : List Pair) (seats : List Knows) → AllFit pairs seats → weigh (owns pairs) seats ≤ made_of seats
     → AllExact pairs seats
 all_exact pairs [] fit full = tt

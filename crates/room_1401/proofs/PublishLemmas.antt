@@ -32,7 +32,7 @@ pub record IsNext (book : Book) (size : ℕ) (change : Change) (pairs : List Pai
   pub of_book : change.front.book ≡ book
   pub storage : length (replay size (pairs ++ pair seat command ∷ [])).storage ≡ size
 
--- behind the pending changes it leads to the replay of one command more
+-- after the pending changes it leads to the replay of one command more
 next_publishes : (book : Book) (size : ℕ) (shown : Shown) (change : Change) (pending : List Change) (pairs : List Pair)
     (seat : ℕ) (command : Command)
     → Publishes book size shown pending pairs → IsNext book size change pairs seat command

@@ -21,7 +21,7 @@ nothing_seen : (shown : Shown) (view : List Pair) → [] ≡ view → IsPrefix v
 nothing_seen shown view is =
     subst (λ (list : List Pair). IsPrefix list shown.front.log) is (empty_prefix shown.front.log)
 
--- the rule holds where nothing was seen
+-- the rule holds if nothing was seen
 pub begins : (book : Book) (size : ℕ) (shown : Shown) → IsReplay book size shown → Keeps book size shown ([] ∷ [])
 begins book size shown ok = (
   ok,

@@ -46,7 +46,7 @@ either_is false seen front after less is le begins =
     let len : length after ≤ length front = omega (arith, ap length is) in
     sym (prefix_whole front after begins len)
 
--- the longer of two is the second, where the first is no longer
+-- the longer of two is the second, if the first is no longer
 pub caught_up : (seen front after : List Pair)
     → after ≡ (if ltb (length seen) (length front) then front else seen)
     → length seen ≤ length front → IsPrefix front after → after ≡ front

@@ -153,7 +153,7 @@ impl<J: Naming> Seat<J> {
         self.made
     }
 
-    /// How many commands it has seen, its own and those of other seats: the first so many of the journal.
+    /// How many commands it has seen, its own and those of other seats: the first of the journal, as many as this.
     pub fn len(&self) -> u64
         ensures { result ≡ length self.now.list }
     {

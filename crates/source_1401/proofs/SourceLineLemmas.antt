@@ -20,7 +20,7 @@ no_line_feed (byte ∷ more) h = by (byte == 10) refl (λ fewer. no_line_feed mo
         let one : position_or_len is_line_feed (byte ∷ more) ≡ 1 + position_or_len is_line_feed more = rw e refl in
         rw e (ap (onto_first byte) (rest (omega (arith, one, h))))
 
--- a line with a part behind it ended before a line feed
+-- a line that isn't the last part ended before a line feed
 ended_line : (line : List ℕ) (parts : List (List ℕ)) → 0 < length parts → lines_between (line ∷ parts)
     ≡ without_return line ∷ lines_between parts
 ended_line line [] h = absurd (omega (arith, h))

@@ -47,13 +47,13 @@ is_adjusted rest = ((slice_index rest 0 == plus_sign) || (slice_index rest 0 == 
 abbrev pub adjustment_of : ℕ → ℕ → ℤ
 adjustment_of sign number = if sign == minus_sign then neg_ℤ (pos number) else pos number
 
--- behind the sign stands the number, and behind that the index register
+-- the number follows the sign, and the index register the number
 abbrev pub adjusted_by : Base → ℕ → List ℕ → Option Address
 adjusted_by base sign text =
     let n = prefix_len is_digit text in
     option_and_then (λ number. indexed base (adjustment_of sign number) (drop n text)) (short_number (take n text))
 
--- what stands behind the base: an adjustment or none, and an index register or none
+-- what follows the base: an adjustment or none, and an index register or none
 abbrev pub adjusted : Base → List ℕ → Option Address
 adjusted base rest =
     if is_adjusted rest then adjusted_by base (slice_index rest 0) (drop 1 rest) else indexed base (pos 0) rest

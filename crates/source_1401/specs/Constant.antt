@@ -22,7 +22,7 @@ text_of text = record { bytes = padded 50 text; len = length text }
 abbrev pub bytes_of : Text → List ℕ
 bytes_of text = take text.len text.bytes
 
--- what stands behind an at sign, up to the one that ends the word: one to fifty graphics
+-- what follows an at sign, up to the one that ends the word: one to fifty graphics
 abbrev pub quoted : List ℕ → Option Text
 quoted text =
     let n = position_or_len is_at_sign text in

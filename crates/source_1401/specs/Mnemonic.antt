@@ -8,7 +8,7 @@ use Rattle.source_1401.specs.declared.mnemonic.Instruction.{Instruction}
 use Rattle.source_1401.specs.declared.mnemonic.Operation.{Operation}
 use Rattle.source_1401.specs.declared.mnemonic.Operation.TheVariants as operations
 
--- the columns 16 to 20, the operation character, how many addresses at the least and at the most, the d-character
+-- the columns 16 to 20, the operation character, how many addresses at least and at most, the d-character
 abbrev pub ARow : Type 0
 ARow = List ℕ × ℕ × ℕ × ℕ × DCharacter
 

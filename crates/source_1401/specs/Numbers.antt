@@ -4,7 +4,7 @@ use Rattle.std.specs.Prelude.{None, Some}
 use Rattle.std.specs.List.{list_all}
 use Rattle.source_1401.specs.Label.{is_digit}
 
--- a digit behind a number makes ten times the number and the digit
+-- a digit after a number makes ten times the number and the digit
 abbrev pub with_digit : ℕ → ℕ → ℕ
 with_digit number digit = 10 * number + (digit - 48)
 
@@ -16,7 +16,7 @@ value_of digits = fold with_digit 0 digits
 abbrev pub is_number : List ℕ → Bool
 is_number word = nat_lt 0 (length word) && list_all is_digit word
 
--- the number that a word of digits writes, where it is between two bounds
+-- the number that a word of digits writes, if it is between two bounds
 abbrev pub number_between : ℕ → ℕ → List ℕ → Option ℕ
 number_between least most word =
     if is_number word && nat_le (value_of word) most && nat_le least (value_of word) then Some (value_of word) else None

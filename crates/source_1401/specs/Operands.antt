@@ -39,7 +39,7 @@ behind_operand text = drop (operand_len false text) text
 abbrev pub lone_operand : List ℕ → List ℕ
 lone_operand text = if is_ended (behind_operand text) then operand_in text else []
 
--- the one operand behind a comma
+-- the only operand after a comma
 abbrev pub operand_behind_comma : List ℕ → List ℕ
 operand_behind_comma [] = []
 operand_behind_comma (byte ∷ more) = if byte == comma then lone_operand more else []
@@ -63,7 +63,7 @@ field_with (Some operand) = fields.Operand operand
 abbrev pub field_of : List ℕ → OperandField
 field_of word = field_with (operand_of word)
 
--- an operand, and what stands behind it
+-- an operand, and what follows it
 abbrev pub OperandAndRest : Type 0
 OperandAndRest = OperandField × List ℕ
 
@@ -74,13 +74,13 @@ read_operand text = (field_of (operand_in text), behind_operand text)
 abbrev pub first_operand : ℕ → List ℕ → OperandAndRest
 first_operand most text = if (most == 0) || is_ended text then (fields.Absent, text) else read_operand text
 
--- the second stands behind a comma
+-- the second follows a comma
 abbrev pub second_operand : ℕ → List ℕ → OperandAndRest
 second_operand most [] = (fields.Absent, [])
 second_operand most (byte ∷ more) =
     if (byte == comma) && nat_lt 1 most then read_operand more else (fields.Absent, byte ∷ more)
 
--- a d-character is any graphic in one column, and nothing stands behind it
+-- a d-character is any graphic in one column, and nothing follows it
 abbrev pub lone_d : List ℕ → Option ℕ
 lone_d [] = None
 lone_d (byte ∷ more) = if is_ended more then Some byte else None
@@ -89,7 +89,7 @@ abbrev pub d_behind_comma : List ℕ → Option ℕ
 d_behind_comma [] = None
 d_behind_comma (byte ∷ more) = if byte == comma then lone_d more else None
 
--- the d-character behind the addresses
+-- the d-character after the addresses
 abbrev pub d_at : ℕ → List ℕ → Option ℕ
 d_at most rest = if most == 0 then lone_d rest else d_behind_comma rest
 
@@ -120,7 +120,7 @@ is_malformed fields.Absent = false
 is_malformed fields.Malformed = true
 is_malformed (fields.Operand operand) = false
 
--- the operands of a form, by what was read one behind the other
+-- the operands of a form, by what was read one after the other
 abbrev pub operands_with : ℕ → OperandField → OperandField → Read → Operands
 operands_with least a b read =
     record { a = a; b = b; d = read.0; is_whole = read.1 && nat_le least (count_of a + count_of b) }

@@ -9,12 +9,12 @@ use Rattle.source_1401.specs.Punctuation.{blank, asterisk}
 abbrev pub is_line_feed : ℕ → Bool
 is_line_feed byte = byte == 10
 
--- what stands before a line feed, without a carriage return at its end
+-- a line without a carriage return at its end
 abbrev pub without_return : List ℕ → List ℕ
 without_return line =
     if slice_index line (length line - 1) == 13 then take (length line - 1) line else line
 
--- what stands behind the last line feed is a line where it has a byte
+-- bytes after the last line feed are a line too
 abbrev pub last_line_of : List ℕ → List (List ℕ)
 last_line_of [] = []
 last_line_of (byte ∷ more) = (byte ∷ more) ∷ []
@@ -29,7 +29,7 @@ lines_between (line ∷ next ∷ more) = without_return line ∷ lines_between (
 abbrev pub lines_of : List ℕ → List (List ℕ)
 lines_of source = lines_between (slice_split is_line_feed source)
 
--- a text with blanks behind it, n bytes in all
+-- a text, filled up with blanks to n bytes
 abbrev pub padded : ℕ → List ℕ → List ℕ
 padded n text = text ++ replicate (n - length text) blank
 

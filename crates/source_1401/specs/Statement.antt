@@ -52,7 +52,7 @@ span_of columns =
     (number_between first 999 (operand_behind_comma (behind_operand columns))))
     (number_between 1 999 (operand_in columns))
 
--- how many places DS keeps at the most
+-- the most places that DS keeps
 abbrev pub most_places : ℕ
 most_places = 15999
 
@@ -104,7 +104,7 @@ line_with len columns =
 abbrev pub line_of : List ℕ → Line
 line_of line = line_with (length line) (columns_of line)
 
--- operands that aren't as the operation asks, whatever stands around the line
+-- operands that aren't as the operation asks, whatever the other lines are
 abbrev pub has_bad_operands : Body → Bool
 has_bad_operands body = not (describe body).is_well_formed
 

@@ -84,8 +84,7 @@ fn base_of(word: &[u8]) -> Option<Base>
     Label::from_word(word).map(Base::Symbol)
 }
 
-/// The index register that stands behind the rest of an address: 0 where nothing stands there, none where something
-/// else does.
+/// The index register at the end of an address: 0 if nothing is there, none if it is something else.
 fn index_of(rest: &[u8]) -> Option<u8>
     ensures { result ≡ index_of rest.now }
 {
@@ -102,7 +101,7 @@ fn index_of(rest: &[u8]) -> Option<u8>
     }
 }
 
-/// An address, where an index register or nothing stands behind the rest of it.
+/// An address, if what follows its base and adjustment is an index register or nothing.
 fn indexed(base: Base, adjustment: i32, rest: &[u8]) -> Option<Address>
     ensures { result ≡ indexed base adjustment rest.now }
 {
@@ -138,7 +137,7 @@ fn adjustment_of(sign: u8, number: u32) -> i32
     }
 }
 
-/// An address with the adjustment that a sign and the digits behind it say.
+/// An address with the adjustment of a sign and the digits after it.
 fn adjusted_by(base: Base, sign: u8, text: &[u8]) -> Option<Address>
     ensures { result ≡ adjusted_by base sign text.now }
 {
@@ -147,7 +146,7 @@ fn adjusted_by(base: Base, sign: u8, text: &[u8]) -> Option<Address>
     indexed(base, adjustment_of(sign, number), rest)
 }
 
-/// An address by its base and what stands behind that.
+/// An address by its base and what follows that.
 fn adjusted(base: Base, rest: &[u8]) -> Option<Address>
     ensures { result ≡ adjusted base rest.now }
 {

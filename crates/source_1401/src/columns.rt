@@ -9,7 +9,7 @@ use bcd_1401::Char;
 /// How many columns a line has.
 pub const COLUMNS: usize = 80;
 
-/// A text with blanks behind it.
+/// A text, filled up with blanks.
 pub(crate) fn padded<const N: usize>(text: &[u8]) -> [u8; N]
     requires { length text.now ≤ N }
     ensures { result ≡ padded N text.now }

@@ -10,16 +10,16 @@ use crate::columns::padded;
 use crate::label::is_digit;
 use crate::numbers::number_between;
 
-/// How many graphics the text of a constant has at the most.
+/// The most graphics that the text of a constant may have.
 pub const TEXT_LENGTH: usize = 50;
 
-/// How many digits the number of a constant has at the most.
+/// The most digits that the number of a constant may have.
 const NUMBER_LENGTH: usize = 20;
 
 /// The text of a constant, of at most 50 graphics.
 #[derive(Clone, Copy, Debug, PartialEq, Eq, Hash)]
 pub struct Text {
-    /// The graphics, with blanks behind them.
+    /// The graphics, filled up with blanks.
     pub bytes: [u8; 50],
     /// How many there are.
     pub len: u8,
@@ -56,7 +56,7 @@ pub enum Constant {
     Plus(Text),
     /// These digits with a minus sign: zone B over the units.
     Minus(Text),
-    /// Blanks, one to fifty, as many as the number behind a number sign says.
+    /// Blanks, one to fifty, as many as the number after a number sign says.
     Blanks(u8),
 }
 
@@ -68,8 +68,8 @@ fn bytes_before_at_sign(text: &[u8]) -> usize
     text.iter().take_while(|byte| **byte != b'@').count()
 }
 
-/// What stands between two at signs, the first of which stands before the text: one to fifty graphics; none where
-/// something else stands there.
+/// The graphics between two at signs, the first of which comes before the text: one to fifty of them; none if it is
+/// anything else.
 fn quoted(text: &[u8]) -> Option<Text>
     ensures { result ≡ quoted text.now }
 {
@@ -87,7 +87,7 @@ fn are_digits(text: &[u8]) -> bool
     text.iter().all(|byte| is_digit(*byte))
 }
 
-/// A word of one to twenty digits; none where it is no such word.
+/// A word of one to twenty digits, if it is one.
 fn digits_in(word: &[u8]) -> Option<Text>
     ensures { result ≡ digits_in word.now }
 {

@@ -12,7 +12,7 @@ use crate::statement::{Areas, Body, Span};
 /// Whether a statement has a label.
 #[derive(Clone, Copy, Debug, PartialEq, Eq)]
 pub enum LabelRule {
-    /// It may have one. Whether a field of areas has one is asked where it is known to be one.
+    /// It may have one. Whether a field of areas has one is checked once it is known to be one.
     Optional,
     /// It must have one.
     Required,
@@ -23,7 +23,7 @@ pub enum LabelRule {
 /// A place or a value that a statement has.
 #[derive(Clone, Copy, Debug, PartialEq, Eq)]
 pub enum Point {
-    /// Its first place: the next one, where it takes none.
+    /// Its first place: the next one, if it takes none.
     First,
     /// Its last place.
     Last,
@@ -51,9 +51,9 @@ pub enum Addressing {
 /// What becomes of the next place.
 #[derive(Clone, Copy, Debug, PartialEq, Eq)]
 pub enum Next {
-    /// It is the one behind the statement's places.
+    /// It is the one after the statement's places.
     Behind,
-    /// The literals used so far are placed, and it is the one behind them.
+    /// The literals used so far are placed, and it is the one after them.
     Literals,
     /// It is the value of the operand.
     Value,
@@ -92,11 +92,11 @@ pub enum Contents {
 pub struct Description {
     /// Whether the operation is known.
     pub is_known: bool,
-    /// Whether the operands are as the operation asks, whatever stands around the line.
+    /// Whether the operands are as the operation asks, whatever the other lines are.
     pub is_well_formed: bool,
     /// Whether it has a label.
     pub label: LabelRule,
-    /// What its label stands for.
+    /// The place that its label names.
     pub names: Point,
     /// The address that the listing shows.
     pub shows: Point,
@@ -211,7 +211,7 @@ impl Body {
 }
 
 impl Addressing {
-    /// The operands; none of them where there are none.
+    /// The operands; none if the statement has none.
     pub fn operands(self) -> Operands
         ensures { result ≡ operands_in self }
     {

@@ -7,13 +7,13 @@ ghost use Rattle.source_1401.specs.SourceLine.{is_blank};
 
 use crate::columns::{are_blank, padded};
 
-/// How many letters and digits a label has at the most.
+/// The most letters and digits that a label may have.
 pub const LABEL_LENGTH: usize = 6;
 
 /// A label: a letter and up to five letters or digits, but not the name of an index register.
 #[derive(Clone, Copy, Debug, PartialEq, Eq, Hash)]
 pub struct Label {
-    /// The letters and digits, with blanks behind them.
+    /// The letters and digits, filled up with blanks.
     pub text: [u8; 6],
 }
 

@@ -21,9 +21,8 @@ fn without_return(line: &[u8]) -> &[u8]
     }
 }
 
-/// The first line of a source and what stands behind it; none where the source has no byte. A line ends before a line
-/// feed, and a carriage return there is none of its bytes. What stands behind the last line feed is a line where it has
-/// a byte.
+/// The first line of a source and what follows it; none if the source is empty. A line ends before a line feed, and a
+/// carriage return there isn't part of it. Bytes after the last line feed are a line too.
 pub fn split_line(source: &[u8]) -> Option<(&[u8], &[u8])>
     ensures { MatchOption result (source.now ≡ []) (λ first.
         (lines_of source.now ≡ first.0.now ∷ lines_of first.1.now) × (length first.1.now < length source.now)) }

@@ -11,7 +11,7 @@ pub enum DCharacter {
     Never,
     /// It has this graphic, which the source doesn't write.
     Fixed(u8),
-    /// It has one where the source writes one.
+    /// It has one if the source writes one.
     Optional,
     /// The source writes one.
     Required,
@@ -22,9 +22,9 @@ pub enum DCharacter {
 pub struct Form {
     /// How many addresses the source writes at the least.
     pub least: u8,
-    /// How many addresses the source writes at the most.
+    /// The most addresses that the source writes.
     pub most: u8,
-    /// The d-character behind them.
+    /// The d-character after them.
     pub d: DCharacter,
 }
 
@@ -69,7 +69,7 @@ type Row = ([u8; 5], u8, u8, u8, DCharacter);
 type OwnRow = ([u8; 5], Operation);
 
 /// The mnemonics of instructions in the manual's order: the columns 16 to 20, the graphic of the operation character,
-/// how many addresses the source writes at the least and at the most, and the d-character.
+/// how many addresses the source writes at least and at most, and the d-character.
 static INSTRUCTIONS: [Row; 42] = [
     (*b"A    ", b'A', 0, 2, DCharacter::Never),
     (*b"S    ", b'S', 0, 2, DCharacter::Never),

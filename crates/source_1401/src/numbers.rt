@@ -3,13 +3,13 @@ ghost use Rattle.std.specs.Prelude.{◌≡◌, ◌-◌, ◌<◌, ◌≤◌, IfSo
 ghost use Rattle.source_1401.specs.Label.{is_digit};
 ghost use Rattle.source_1401.specs.Numbers.{number_between, greatest_number, short_number};
 
-/// How many digits a number of an address has at the most.
+/// The most digits that a number of an address may have.
 const ADDRESS_DIGITS: usize = 5;
 
 /// The greatest number of five digits.
 const GREATEST_NUMBER: u32 = 99_999;
 
-/// What a digit stands for, if the byte is one.
+/// The value of a digit, if the byte is one.
 fn digit(byte: u8) -> Option<u8>
     ensures value { result ≡ (if is_digit byte then Some (byte - 48) else None) }
     ensures range { IfSome result (λ digit. digit < 10) }
@@ -20,8 +20,7 @@ fn digit(byte: u8) -> Option<u8>
     }
 }
 
-/// The number that a word is, of any number of digits, where it is no less than the one bound and no greater than the
-/// other.
+/// The number that a word of digits, as many as there are, writes, if it is between the two bounds.
 pub(crate) fn number_between(least: u32, most: u32, word: &[u8]) -> Option<u32>
     requires { most ≤ greatest_number }
     ensures value { result ≡ number_between least most word.now }

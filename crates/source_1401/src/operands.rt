@@ -9,7 +9,7 @@ use crate::address::{Address, Base};
 use crate::constant::Constant;
 use crate::mnemonic::{DCharacter, Form};
 
-/// What stands for an address.
+/// An operand that gives an address.
 #[derive(Clone, Copy, Debug, PartialEq, Eq)]
 pub enum Operand {
     /// An address.
@@ -18,7 +18,7 @@ pub enum Operand {
     Literal(Constant),
 }
 
-/// What stands where an instruction may have an address.
+/// The place of an operand in an instruction, and what is there.
 #[derive(Clone, Copy, Debug, PartialEq, Eq)]
 pub enum OperandField {
     /// Nothing.
@@ -38,11 +38,11 @@ pub struct Operands {
     pub b: OperandField,
     /// The graphic of the d-character.
     pub d: Option<u8>,
-    /// Whether these are as many as the instruction asks for, and nothing else stands there.
+    /// Whether these are as many as the instruction asks for, and there is nothing else.
     pub is_whole: bool,
 }
 
-/// Whether nothing stands here: a blank, or the end of the columns.
+/// Whether the operands end here: with a blank, or with the columns.
 fn is_ended(text: &[u8]) -> bool
     ensures { result ≡ is_ended text.now }
 {
@@ -67,7 +67,7 @@ fn operand_len(text: &[u8]) -> usize
     text.len()
 }
 
-/// An operand and what stands behind it.
+/// An operand and what follows it.
 fn split_operand(text: &[u8]) -> (&[u8], &[u8])
     ensures operand { result.0.now ≡ operand_in text.now }
     ensures behind { result.1.now ≡ behind_operand text.now }
@@ -75,7 +75,7 @@ fn split_operand(text: &[u8]) -> (&[u8], &[u8])
     text.split_at(operand_len(text))
 }
 
-/// The one operand that there is; without a byte where there is none, or another behind it.
+/// The only operand; empty if there is none, or a second one.
 pub(crate) fn lone_operand(text: &[u8]) -> &[u8]
     ensures { result.now ≡ lone_operand text.now }
 {
@@ -83,7 +83,7 @@ pub(crate) fn lone_operand(text: &[u8]) -> &[u8]
     if is_ended(behind) { operand } else { &[] }
 }
 
-/// Two operands with a comma between them; without a byte where there are no two, or there is another.
+/// Two operands with a comma between them; the second is empty if there is none, or a third one.
 pub(crate) fn two_operands(text: &[u8]) -> (&[u8], &[u8])
     ensures first { result.0.now ≡ operand_in text.now }
     ensures second { result.1.now ≡ operand_behind_comma (behind_operand text.now) }
@@ -107,7 +107,7 @@ impl Operand {
     }
 }
 
-/// An operand, and what stands behind it.
+/// An operand, and what follows it.
 fn read_operand(text: &[u8]) -> (OperandField, &[u8])
     ensures field { result.0 ≡ field_of (operand_in text.now) }
     ensures behind { result.1.now ≡ behind_operand text.now }
@@ -119,7 +119,7 @@ fn read_operand(text: &[u8]) -> (OperandField, &[u8])
     }
 }
 
-/// The first address, if the operation can have one, and what stands behind it.
+/// The first address, if the operation can have one, and what follows it.
 fn first_operand(most: u8, text: &[u8]) -> (OperandField, &[u8])
     ensures field { result.0 ≡ (first_operand most text.now).0 }
     ensures behind { result.1.now ≡ (first_operand most text.now).1 }
@@ -131,7 +131,7 @@ fn first_operand(most: u8, text: &[u8]) -> (OperandField, &[u8])
     }
 }
 
-/// The second address, behind a comma, if the operation can have two, and what stands behind it.
+/// The second address, after a comma, if the operation can have two, and what follows it.
 fn second_operand(most: u8, rest: &[u8]) -> (OperandField, &[u8])
     ensures field { result.0 ≡ (second_operand most rest.now).0 }
     ensures behind { result.1.now ≡ (second_operand most rest.now).1 }
@@ -142,7 +142,7 @@ fn second_operand(most: u8, rest: &[u8]) -> (OperandField, &[u8])
     }
 }
 
-/// A d-character, behind which nothing stands.
+/// A d-character that nothing follows.
 fn lone_d(text: &[u8]) -> Option<u8>
     ensures { result ≡ lone_d text.now }
 {
@@ -152,7 +152,7 @@ fn lone_d(text: &[u8]) -> Option<u8>
     }
 }
 
-/// The d-character: behind a comma, or in the first column where the operation has no address.
+/// The d-character: after a comma, or in the first column if the operation has no address.
 fn d_at(most: u8, rest: &[u8]) -> Option<u8>
     ensures { result ≡ d_at most rest.now }
 {
@@ -165,7 +165,7 @@ fn d_at(most: u8, rest: &[u8]) -> Option<u8>
     }
 }
 
-/// The d-character, and whether it is as the form asks and nothing stands behind it.
+/// The d-character, and whether it is as the form asks and nothing follows it.
 fn d_of(form: Form, rest: &[u8]) -> (Option<u8>, bool)
     ensures { result ≡ d_of form rest.now }
 {
@@ -192,7 +192,7 @@ impl OperandField {
         }
     }
 
-    /// Whether something stands here that is neither an address nor a literal.
+    /// Whether it is neither an address nor a literal, and yet not empty.
     fn is_malformed(self) -> bool
         ensures { result ≡ is_malformed self }
     {

@@ -33,7 +33,7 @@ pub struct Span {
     pub last: u16,
 }
 
-/// What a line asks for; without a value where its operands don't say one.
+/// What a line asks for; without a value if its operands don't say one.
 #[derive(Clone, Copy, Debug, PartialEq, Eq)]
 pub enum Body {
     /// An operation that isn't known.
@@ -85,7 +85,7 @@ pub enum Bytes {
 pub struct Line {
     /// Whether its bytes can be those of a line.
     pub bytes: Bytes,
-    /// What it says; nothing where it is a comment.
+    /// What it says; nothing if it is a comment.
     pub statement: Option<Statement>,
 }
 
@@ -190,7 +190,7 @@ impl Statement {
     }
 
     /// Whether the columns for a label hold something else, or EQU has no label, or ORG, EX or END has one. Whether a
-    /// field of areas has a label is looked at where it is known to be one.
+    /// field of areas has a label is checked once it is known to be one.
     pub fn has_bad_label(self) -> bool
         ensures { result ≡ has_bad_label self }
     {
@@ -203,8 +203,8 @@ impl Statement {
         }
     }
 
-    /// Whether the operands aren't as the operation asks. Whether a field lies in its area is looked at where that is
-    /// known.
+    /// Whether the operands aren't as the operation asks. Whether a field lies in its area is checked once the area
+    /// is known.
     pub fn has_bad_operands(self) -> bool
         ensures { result ≡ has_bad_operands self.body }
     {

@@ -34,7 +34,7 @@ has_branched s = (s.a == s.i) && is_halt_to s.storage (below_by s.b halt_and_bra
 abbrev pub halted_at : State → ℕ
 halted_at s = if has_branched s then below_by s.b halt_and_branch_length else below_by s.i 1
 
--- how many characters of what is at a place are looked at: 8 where it is no operation
+-- how many characters of what is at a place are looked at: 8 if it is no operation
 abbrev pub looked_at : Option ℕ → ℕ
 looked_at None = 8
 looked_at (Some longest) = longest

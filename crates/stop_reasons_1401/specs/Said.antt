@@ -34,11 +34,11 @@ abbrev pub is_length_of : Option Operation → ℕ → Bool
 is_length_of None len = false
 is_length_of (Some operation) len = has_length operation len
 
--- its A address, or the A register as it stands
+-- its A address, or the A register as it is
 abbrev pub a_of : ℕ → State → ℕ
 a_of len s = if nat_le 4 len then effective_at s.storage (s.i + 1) else s.a
 
--- its B address, or its only address where that goes into both registers, or the B register as it stands
+-- its B address, or its only address if that goes into both registers, or the B register as it is
 abbrev pub b_of : Bool → ℕ → State → ℕ
 b_of loads_both len s =
     if nat_le 7 len then effective_at s.storage (s.i + 4)

@@ -32,7 +32,7 @@ pub enum FieldReason {
     NoFieldMark { which: Operand, at: u16 },
     /// Of two fields with their units at these places, one comes to place 0 before either has a word mark.
     NoPairMark { a: u16, b: u16 },
-    /// The B field goes down from this place, where core has fewer places than the A field.
+    /// The B field goes down from this place, and core has fewer places below it than the A field.
     TooFewPlaces { at: u16, needed: u16 },
     /// The place is too low for the three characters of an address that end there.
     NoAddressPlaces { at: u16 },

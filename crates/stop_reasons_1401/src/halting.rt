@@ -49,7 +49,7 @@ fn is_halt_to(core: &Core, at: u16, to: u16) -> bool
 }
 
 /// How many cells the instruction at a place has: up to the next word mark, and no more than its operation looks at;
-/// 8 at most where it is no operation.
+/// 8 at most if it is no operation.
 pub fn instruction_len(core: &Core, at: u16) -> u16
     requires { at < length core.now }
     ensures value { result ≡ cells_of core.now at }

@@ -6,7 +6,7 @@ ghost use Rattle.stop_reasons_1401.specs.Said.{is_length_of, is_unfitted_at, lon
 
 use bcd_1401::Char;
 
-/// How many characters of its instructions are looked at, by the fifth of them; none where the character is no
+/// How many characters of its instructions are looked at, by the fifth of them; none if the character is no
 /// operation of this machine.
 pub(crate) fn longest(char: Char, fifth: Char) -> Option<u16>
     ensures value { result ≡ longest_of (operation_of char) fifth }

@@ -29,7 +29,7 @@ pub enum Reason {
     NotFitted { char: Char },
     /// The operation at this length, in characters, belongs to a feature that this machine hasn't got.
     NotFittedAt { char: Char, len: u16 },
-    /// The operation has no instruction of this length, in characters; 8 is told where there are more.
+    /// The operation has no instruction of this length, in characters; 8 is told if there are more.
     NoSuchLength { char: Char, len: u16 },
     /// The operands can't be used.
     Fields(FieldReason),

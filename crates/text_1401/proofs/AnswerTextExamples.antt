@@ -20,7 +20,7 @@ unfolding answer_text cells_text switches_text regs_text ran_text line_text card
     graphics
 text given = answer_text given
 
--- each of these answers has the text that stands beside it
+-- each of these answers has the text beside it
 abbrev AllRead : List (Answer × List ℕ) → Type 0
 AllRead answers = map (λ given. answer_text given.0) answers ≡ map (λ given. given.1) answers
 

@@ -22,7 +22,7 @@ use Rattle.notation_1401.proofs.MissingLemmas.{all_there, missed, taken_all, tak
 use Rattle.text_1401.specs.CardText.{char_of, chars_of, card_of, card_with, graphics_of, trimmed}
 use Rattle.text_1401.specs.ConsoleLine.{feed_of}
 
--- characters that are there, 80 at the most
+-- characters that are there, 80 at most
 pub card_of-all : (chars : List ℕ) → length chars ≤ 80 → card_of (map Some chars) ≡ Ok (card_with chars)
 unfolding card_of
 card_of-all chars few =
@@ -145,7 +145,7 @@ trimmed_whole chars =
       count = omega (arith, ap length kept, long, few);
     }
 
--- the blanks at the end of a card are those behind its text
+-- the blanks at the end of a card are those after its text
 pub card_with-trimmed : (card : Card) → length card.0 ≡ 80 → card_with (trimmed card.0) ≡ card
 card_with-trimmed card eighty =
     let t = trimmed_whole card.0 in

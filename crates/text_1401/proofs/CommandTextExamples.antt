@@ -17,7 +17,7 @@ text : Command → List ℕ
 unfolding command_text cells_text graphics_of trimmed digits graphics
 text given = command_text given
 
--- each of these commands has the text that stands beside it
+-- each of these commands has the text beside it
 abbrev AllRead : List (Command × List ℕ) → Type 0
 AllRead commands = map (λ given. command_text given.0) commands ≡ map (λ given. given.1) commands
 

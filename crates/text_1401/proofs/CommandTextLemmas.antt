@@ -61,14 +61,14 @@ number_typed : (number : ℕ) → number < 10 ^ most_digits → IsTypedAs (Numer
 number_typed number below =
     numeral 7 1 number (omega arith) (omega arith) (omega arith) below (omega arith)
 
--- a number behind one blank, with nothing behind it
+-- a number after one blank, with nothing after it
 last_number : (number width : ℕ) → IsTypedAs (Numeral number) (digits_in width number)
     → IsTyped (Numeral number ∷ []) Blanks (blank ∷ digits_in width number)
 last_number number width typed =
     let whole = ap (λ text. blank ∷ text) (sym (append-nil (digits_in width number))) in
     (1, digits_in width number, [], whole, typed, tt, (0, refl))
 
--- a cell takes two bytes at the most
+-- a cell takes two bytes at most
 cell_few : (cell : Cell) → length (cell_text cell) ≤ 2
 cell_few cell = elim (cell.mark) as (λ mark. length (cell_text (record cell { mark = mark })) ≤ 2) [
   | true ↦ omega arith

@@ -22,7 +22,7 @@ unfolding said_by said_in_words said_with ended spelled cells_of chars_of card_o
     graphics
 says line = said_by line
 
--- each of these lines says what stands beside it
+-- each of these lines says what is beside it
 abbrev AllSay : List (List ℕ × Said) → Type 0
 AllSay lines = map (λ line. said_by line.0) lines ≡ map (λ line. line.1) lines
 

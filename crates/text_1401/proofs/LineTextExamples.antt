@@ -13,7 +13,7 @@ use Rattle.text_1401.specs.LineText.{IsLineOf, IsExamineOf, IsTypedBehind}
 use Rattle.text_1401.specs.LineText.Text.{Columns}
 use Rattle.notation_1401.specs.Cells.{cells_text}
 
--- blanks in front, between and behind, and zeros in front of numbers
+-- blanks in front, between and after, and zeros in front of numbers
 examine_with_blanks_and_zeros : IsLineOf (Command (Examine 500 2)) (codes " EXAMINE   0500 02  ")
 unfolding digits
 examine_with_blanks_and_zeros = record {
@@ -62,7 +62,7 @@ marked_zero = record { char = 10; mark = true }
 abbrev IsCharacter : Cell → Type 0
 IsCharacter cell = cell.char < 64
 
--- behind the address and one blank all is text: a blank, and 0 with a word mark
+-- after the address and one blank all is text: a blank, and 0 with a word mark
 a_text_begins_behind_one_blank :
     IsLineOf (Command (Deposit 7 (blank_cell ∷ marked_zero ∷ []))) (codes "DEPOSIT 7  ~0")
 unfolding digits cells_text graphics
@@ -89,7 +89,7 @@ a_text_begins_behind_one_blank = record {
 abbrev a_and_b : List ℕ
 a_and_b = 0 ∷ 49 ∷ 0 ∷ 50 ∷ []
 
--- behind FEED and one blank all is the card, and blanks behind it may be typed or not
+-- after FEED and one blank all is the card, and blanks after it may be typed or not
 a_card_is_typed_as_it_is :
     (line : List ℕ) → (drop 1 line ≡ codes " A B" → IsTypedBehind (Columns (card_with a_and_b)) line)
 unfolding graphics_of graphics

@@ -99,7 +99,7 @@ unfolding setting_of
 setting_is_known true = refl
 setting_is_known false = refl
 
--- One word of a line, and what stands behind it.
+-- One word of a line, and what follows it.
 pub record Split (word rest line : List ℕ) : Type 0 where
   pub word_is : word_in line ≡ word
   pub rest_is : behind_word line ≡ rest
@@ -114,7 +114,7 @@ split_by blanks word rest line is w parted =
       rest_is = behind_word-typed blanks word rest line stands;
     }
 
--- a name that stands first
+-- a name that comes first
 split_name : (name : List ℕ) (blanks : ℕ) (word rest line : List ℕ) → IsWord name
     → line ≡ replicate blanks blank ++ (word ++ rest) → word ≡ name → IsParted rest → Split name rest line
 split_name name blanks word rest line w is same parted =
@@ -131,7 +131,7 @@ unfolding said_in_words
 said_by_keyword k rest line s =
     rw (s.word_is, s.rest_is, some_bytes (name_of k) (keyword_is_word k).some, keyword_is_known k) refl
 
--- behind blanks alone a line is ended
+-- after blanks alone a line is ended
 ended_by_blanks : (said : Line) (blanks : ℕ) (rest : List ℕ) → rest ≡ replicate blanks blank
     → ended rest said ≡ Ok said
 unfolding ended
@@ -146,7 +146,7 @@ count_is : (count : ℕ) (word : List ℕ) → IsNumeral count word → count_of
 unfolding count_of
 count_is count word n = rw (some_bytes word n.some) n.says
 
--- a number that stands first, and what stands behind it
+-- a number that comes first, and what follows it
 split_number : (number blanks : ℕ) (word rest line : List ℕ) → IsNumeral number word
     → line ≡ replicate blanks blank ++ (word ++ rest) → IsParted rest → Split word rest line
 split_number number blanks word rest line n is parted =

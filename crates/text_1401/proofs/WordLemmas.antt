@@ -62,7 +62,7 @@ in_front_of n word rest some all =
     passing is_blank (replicate n blank) (word ++ rest) (all_blank n) (word_first word rest some all) in
     rw (so_many, drop-append_seam)
 
--- A word stands behind blanks, and is parted from the rest.
+-- A word follows blanks, and is parted from the rest.
 pub record Stands (blanks : ℕ) (word rest line : List ℕ) : Type 0 where
   pub some : 0 < length word
   pub whole : list_all in_word word ≡ true
@@ -87,7 +87,7 @@ none_left : (blanks : ℕ) → drop blanks (replicate {A = ℕ} blanks blank) �
 none_left blanks =
     drop_of_length-le (replicate {A = ℕ} blanks blank) (omega (arith, length-replicate {A = ℕ} blanks blank))
 
--- among blanks alone there is no word, and nothing behind it
+-- among blanks alone there is no word, and nothing after it
 pub word_in-blanks : (blanks : ℕ) (line : List ℕ) → line ≡ replicate blanks blank → word_in line ≡ []
 unfolding word_in
 word_in-blanks blanks line is =

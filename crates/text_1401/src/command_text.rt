@@ -19,7 +19,7 @@ use std::alloc::AllocError;
 ///
 /// # Errors
 ///
-/// Where the memory for the text is refused. A part of it may have been added then.
+/// If the memory for the text is refused. A part of it may have been added then.
 #[tactic(auto, unfolding(crate::specs::CommandText::command_text))]
 pub fn put_command(text: &mut Vec<u8>, command: &Command) -> Result<(), AllocError>
     ensures { OnOk result (text.new.items ≡ text.old.items ++ command_text command.now) }

@@ -102,7 +102,7 @@ pub nothing_on : (before after : Storage) (at : ℕ) → length before ≤ at �
 nothing_on before after at past =
     ap (λ (xs : List Cell). changes_from at xs (drop at after)) (drop_all at before past) ∙ none_left at (drop at after)
 
--- the place behind a change begins none
+-- the place after a change begins none
 ends : (before after : Storage) (at : ℕ) → length before ≡ length after → at ≤ length after
     → (at < length after → is_changed (cell_at before at) (cell_at after at) ≡ false)
     → IsFrom (at + 1) (changes_on at before after)

@@ -98,7 +98,7 @@ eight_more s t from at codes marks codes' marks' a b same before i least most =
           ∙ ap (cell_at t) (sym j))
     ]
 
--- a cell more behind a text
+-- a cell more after a text
 pub cell_more : (text : List ℕ) (xs : List Cell) (at end : ℕ) → at < end → end ≤ length xs
     → (text ++ cell_text (cell_at xs at)) ++ cells_text (take (end - (at + 1)) (drop (at + 1) xs))
     ≡ text ++ cells_text (take (end - at) (drop at xs))
@@ -111,7 +111,7 @@ cell_more text xs at end lt within =
     (sym (ap (λ (n : ℕ). take n (drop at xs)) count
     ∙ ap (λ (ys : List Cell). take (suc (end - (at + 1))) ys) (drop_more xs at blank (omega (arith, lt, within)))))
 
--- a blank more behind a text
+-- a blank more after a text
 pub blank_more : (text : List ℕ) (column width : ℕ) → column < width
     → (text ++ 32 ∷ []) ++ replicate (width - (column + 1)) 32 ≡ text ++ replicate (width - column) 32
 blank_more text column width lt =
@@ -143,7 +143,7 @@ same_rest xs ys at size same =
     same_storage (drop at xs) (drop at ys) (omega (arith, length-drop at xs, length-drop at ys, size))
     (λ i lt. get_or-drop at xs i blank ∙ same (at + i) (omega arith) ∙ sym (get_or-drop at ys i blank))
 
--- blanks behind what was added, up to a width
+-- blanks after what was added, up to a width
 pub pad_added : (old text new added : List ℕ) (width : ℕ) → text ≡ old ++ added
     → new ≡ text ++ replicate (width - (length text - length old)) 32 → new ≡ old ++ padded width added
 pad_added old text new added width e f =

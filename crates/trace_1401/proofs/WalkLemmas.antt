@@ -55,7 +55,7 @@ takes_one old before after at end walked lt ended = elim (cases_lt at end) [
       ∙ ap (λ (k : ℕ). is_changed (cell_at before k) (cell_at after k)) e ∙ walked.other lt))
 ]
 
--- the change, and the changes behind it
+-- the change, and the changes after it
 one_change : (old before after : Storage) (at end : ℕ) → Walked old before after at → at < length after
     → IsEndOfChange before after at end
     → changes_on at before after ≡ change_at at (end - at) before after ∷ changes_on end before after

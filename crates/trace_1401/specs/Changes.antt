@@ -46,7 +46,7 @@ unfoldable pub change_text : Change → List ℕ
 change_text each =
     codes "\t" ++ digits_in 5 each.address ++ codes "|" ++ cells_text each.before ++ codes "|" ++ cells_text each.after
 
--- changes, each behind a tab
+-- changes, each after a tab
 abbrev pub changes_text : List Change → List ℕ
 changes_text changes = flat_map change_text changes
 

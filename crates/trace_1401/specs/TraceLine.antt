@@ -47,7 +47,7 @@ cells_at storage at =
 unfoldable pub instruction_at : Storage → ℕ → List Cell
 instruction_at storage at = if is_in_core storage at then take (cells_at storage at) (drop at storage) else []
 
--- a text with blanks behind it, up to a width
+-- a text with blanks after it, up to a width
 abbrev pub padded : ℕ → List ℕ → List ℕ
 padded width text = text ++ replicate (width - length text) 32
 

@@ -141,7 +141,7 @@ pub(crate) fn put_changes(
 ///
 /// # Errors
 ///
-/// Where there is no room for it.
+/// If there is no room for it.
 pub(crate) fn copy_of(alloc: Global, core: &Core) -> Result<Core, CoreFault>
     ensures { IfOk result (λ copy. copy ≡ core.now) }
 {

@@ -126,7 +126,7 @@ fn put_blanks(text: &mut Vec<u8>, from: usize, width: usize) -> Result<(), Alloc
     Ok(())
 }
 
-/// Adds the cells of an instruction, with blanks behind them.
+/// Adds the cells of an instruction, with blanks after them.
 fn put_cell_columns(text: &mut Vec<u8>, cells: &[Cell]) -> Result<(), AllocError>
     ensures { OnOk result (text.new.items ≡ text.old.items ++ padded 9 (cells_text cells.now)) }
 {
@@ -135,7 +135,7 @@ fn put_cell_columns(text: &mut Vec<u8>, cells: &[Cell]) -> Result<(), AllocError
     Ok(put_blanks(text, from, CELL_COLUMNS)?)
 }
 
-/// Adds an instruction as Autocoder writes it, with blanks behind it.
+/// Adds an instruction as Autocoder writes it, with blanks after it.
 fn put_text_columns(text: &mut Vec<u8>, cells: &[Cell]) -> Result<(), AllocError>
     requires { length cells.now ≤ 8 }
     ensures { OnOk result (text.new.items ≡ text.old.items ++ padded 20 (instruction_text cells.now)) }

@@ -35,7 +35,7 @@ impl Snapshot {
     ///
     /// # Errors
     ///
-    /// `Memory` where there is no room for core storage.
+    /// `Memory` if there is no room for core storage.
     pub fn of(alloc: Global, machine: &Machine) -> Result<Snapshot, CoreFault>
         ensures { IfOk result (λ snapshot. snapshot ≡ seen_of machine.now) }
     {
@@ -53,7 +53,7 @@ impl Snapshot {
     ///
     /// # Errors
     ///
-    /// Where there is no room for the text. Some of the line may have been added then.
+    /// If there is no room for the text. Some of the line may have been added then.
     #[tactic(auto, unfolding(crate::specs::TraceLine::line_of))]
     pub fn put_line(
         &mut self,

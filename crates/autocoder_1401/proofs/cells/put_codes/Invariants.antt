@@ -1,4 +1,4 @@
--- What is put, with what is left put behind it, is all of it.
+-- What is put, with what is left put after it, is all of it.
 use Rattle.std.proofs.Common.{◌≡◌, ◌++◌, map, drop}
 use Rattle.autocoder_1401.specs.Characters.{char_with}
 use Rattle.autocoder_1401.specs.Cells.{plain}

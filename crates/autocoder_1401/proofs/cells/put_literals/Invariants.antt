@@ -1,4 +1,4 @@
--- What is put, with what is left put behind it, is all of it.
+-- What is put, with what is left put after it, is all of it.
 use Rattle.std.proofs.Common.{◌≡◌, ◌++◌, drop}
 use Rattle.std.specs.List.{flat_map}
 use Rattle.autocoder_1401.specs.Cells.{literal_cells}

@@ -1,4 +1,4 @@
--- The place so far, with what is left behind it, is the place behind all.
+-- The place so far, with what is left after it, is the place after all.
 use Rattle.std.proofs.Common.{◌≡◌, drop}
 use Rattle.autocoder_1401.specs.Placement.{behind_literals}
 use Rattle.autocoder_1401.proofs.placing.behind_literals.Given as goal

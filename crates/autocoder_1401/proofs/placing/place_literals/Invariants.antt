@@ -1,4 +1,4 @@
--- What is placed, with what is left placed behind it, is all of it.
+-- What is placed, with what is left placed after it, is all of it.
 use Rattle.std.proofs.Common.{◌≡◌, ◌++◌, drop}
 use Rattle.autocoder_1401.specs.Placement.{behind_literals, units_from}
 use Rattle.autocoder_1401.proofs.placing.place_literals.Given as goal

@@ -1,4 +1,4 @@
--- The line is on this form where it is greater than the present one, else on the next.
+-- The line is on this form if it is greater than the present one, else on the next.
 use Rattle.std.proofs.Common.{sym, arith}
 use Rattle.devices_1401.proofs.CarriageLemmas.{lines_to-below, lines_to-next_form}
 use Rattle.devices_1401.proofs.carriage.lines_to.Goals as goal

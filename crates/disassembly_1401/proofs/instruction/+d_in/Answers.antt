@@ -1,4 +1,4 @@
--- A d-character that stands alone is the first cell.
+-- A d-character alone is the first cell.
 use Rattle.std.proofs.Common.{◌≡◌, ◌<◌, ◌≤◌, List, [], ◌∷◌, length, get_or, subst, arith}
 use Rattle.bcd_1401.specs.declared.cell.Cell.{Cell}
 use Rattle.disassembly_1401.specs.Assembled.{IsOwn, IsOwnD}

@@ -1,4 +1,4 @@
--- The first cell is the operation, and the others stand behind it.
+-- The first cell is the operation, and the others follow it.
 use Rattle.std.proofs.Common.{◌≡◌, ◌≤◌, ◌-◌, true, List, [], ◌∷◌, length, get_or, drop, take, subst, arith}
 use Rattle.std.proofs.lemmas.List.{take_all}
 use Rattle.bcd_1401.specs.declared.cell.Cell.{Cell}

@@ -1,4 +1,4 @@
--- What is read is the segments so far, kept where no memory was refused, and behind them what is read from the rest.
+-- What is read is the segments so far, kept if no memory was refused, and after them what is read from the rest.
 use Rattle.std.proofs.Common.{◌≡◌, false, List, length}
 use Rattle.image_1401.specs.declared.image.Segment.{Segment}
 use Rattle.image_1401.specs.Reading.{parts_of, with_segments, contents_in}

@@ -1,4 +1,4 @@
--- The header, and what stands behind it.
+-- The header, and what follows it.
 use Rattle.image_1401.proofs.ContentsLemmas.{image_in-line}
 use Rattle.image_1401.proofs.reading.image.Goals as goal
 

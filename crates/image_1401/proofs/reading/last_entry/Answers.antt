@@ -1,4 +1,4 @@
--- A byte stands behind the line.
+-- A byte follows the line.
 use Rattle.std.proofs.Common.{◌<◌, length, arith}
 use Rattle.std.proofs.lemmas.Bool.Decides.{nat_tests}
 use Rattle.image_1401.proofs.LineLemmas.{is_done-some}

@@ -1,4 +1,4 @@
--- What is added, with the cards that are left added behind it, is all of it.
+-- What is added, with the cards that are left added after it, is all of it.
 use Rattle.std.proofs.Common.{◌≡◌, ◌++◌, drop}
 use Rattle.std.specs.List.{flat_map}
 use Rattle.job_1401.specs.DeckText.{card_text}

@@ -1,4 +1,4 @@
--- The cards so far, and those of the lines that are left behind them, are the deck.
+-- The cards so far, and those of the lines that are left after them, are the deck.
 use Rattle.std.proofs.Common.{◌≡◌, ◌+◌, length}
 use Rattle.source_1401.specs.SourceLine.{lines_of}
 use Rattle.job_1401.specs.DeckText.{deck_from, deck_of}

@@ -1,4 +1,4 @@
--- What is added, with the lines that are left added behind it, is all of it.
+-- What is added, with the lines that are left added after it, is all of it.
 use Rattle.std.proofs.Common.{◌≡◌, ◌++◌, drop}
 use Rattle.job_1401.specs.Paper.{paper_text, place_behind}
 use Rattle.job_1401.proofs.paper.put_paper.Given as goal

@@ -1,4 +1,4 @@
--- The first 80 bytes, or all of them where there are fewer.
+-- The first 80 bytes, or all of them if there are fewer.
 use Rattle.std.proofs.Common.{◌≡◌, ◌∙◌, refl, length, take, min, arith}
 use Rattle.std.proofs.lemmas.List.{take_min}
 use Rattle.source_1401.specs.SourceLine.{columns_of}

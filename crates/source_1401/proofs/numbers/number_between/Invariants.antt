@@ -1,4 +1,4 @@
--- The number so far, with the digits that are left behind it, is that of all digits.
+-- The number so far, followed by the digits that are left, is the number of all digits.
 use Rattle.std.proofs.Common.{◌≡◌, ◌≤◌, drop}
 use Rattle.std.specs.Prelude.{fold}
 use Rattle.std.specs.List.{list_all}

@@ -1,4 +1,4 @@
--- What is added, with the blanks that are left added behind it, is all of it.
+-- What is added, with the blanks that are left added after it, is all of it.
 use Rattle.std.proofs.Common.{◌≡◌, ◌-◌, ◌++◌, replicate}
 use Rattle.trace_1401.proofs.fetched.put_blanks.Given as goal
 

@@ -1,4 +1,4 @@
--- Blanks stand behind the cells.
+-- Blanks follow the cells.
 use Rattle.std.proofs.Common.{◌≡◌, ℕ, ◌-◌, ◌++◌, ap, ◌∙◌, length, replicate, rules}
 use Rattle.notation_1401.specs.Cells.{cells_text}
 use Rattle.trace_1401.proofs.PlaceLemmas.{pad_added}

@@ -1,4 +1,4 @@
--- What is added, with the cells that are left added behind it, is all of it.
+-- What is added, with the cells that are left added after it, is all of it.
 use Rattle.std.proofs.Common.{◌≡◌, ◌++◌, drop}
 use Rattle.notation_1401.specs.Cells.{cells_text}
 use Rattle.trace_1401.proofs.fetched.put_cells.Given as goal

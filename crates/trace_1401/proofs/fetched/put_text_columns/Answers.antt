@@ -1,4 +1,4 @@
--- Blanks stand behind the text.
+-- Blanks follow the text.
 use Rattle.std.proofs.Common.{◌≡◌, ℕ, ◌-◌, ◌++◌, ap, ◌∙◌, length, replicate, rules}
 use Rattle.disassembly_1401.specs.InstructionText.{instruction_text}
 use Rattle.trace_1401.proofs.PlaceLemmas.{pad_added}

@@ -1,4 +1,4 @@
--- Where no line is left, all is listed.
+-- If no line is left, all is listed.
 use Rattle.std.proofs.Common.{arith}
 use Rattle.autocoder_1401.specs.View.{places_of}
 use Rattle.autocoder_1401.proofs.ListingLemmas.{all_listed}

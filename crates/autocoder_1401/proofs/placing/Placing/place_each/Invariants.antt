@@ -1,4 +1,4 @@
--- What is placed, with the lines that are left placed behind it, is what all lines place.
+-- What is placed, with the lines that are left placed after it, is what all lines place.
 use Rattle.std.proofs.Common.{◌≡◌, drop}
 use Rattle.std.specs.Prelude.{fold}
 use Rattle.autocoder_1401.specs.Placement.{after_line}

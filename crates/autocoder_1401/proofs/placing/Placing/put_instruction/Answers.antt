@@ -1,4 +1,4 @@
--- The operation, the addresses and the d-character are put one behind the other.
+-- The operation, the addresses and the d-character are put one after the other.
 use Rattle.std.proofs.Common.{w64}
 use Rattle.std.proofs.lemmas.Int.{to_z-of_z}
 use Rattle.autocoder_1401.specs.View.{places_of}

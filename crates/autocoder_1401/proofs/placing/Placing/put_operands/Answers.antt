@@ -1,4 +1,4 @@
--- The one operand is put behind the other.
+-- The one operand is put after the other.
 use Rattle.std.proofs.Common.{w64}
 use Rattle.std.proofs.lemmas.Int.{to_z-of_z}
 use Rattle.autocoder_1401.specs.View.{places_of}

@@ -1,4 +1,4 @@
--- The cells that are left, put behind what is built, give what all cells give.
+-- The cells that are left, put after what is built, give what all cells give.
 use Rattle.std.proofs.Common.{◌≡◌, ◌+◌, ◌++◌, ℕ, List, drop}
 use Rattle.bcd_1401.specs.declared.cell.Cell.{Cell}
 use Rattle.autocoder_1401.specs.Cells.{numbered}

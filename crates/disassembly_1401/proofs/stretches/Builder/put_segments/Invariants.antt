@@ -1,4 +1,4 @@
--- The segments that are left, put behind what is built, give what all segments give.
+-- The segments that are left, put after what is built, give what all segments give.
 use Rattle.std.proofs.Common.{◌≡◌, drop}
 use Rattle.disassembly_1401.specs.Stretches.{built, placed_cells}
 use Rattle.disassembly_1401.proofs.stretches.Builder.put_segments.Given as goal
