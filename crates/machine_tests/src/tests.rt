@@ -1,4 +1,4 @@
-//! The layers of the machine, lowest first.
+//! The layers of the machine.
 
 mod characters;
 mod commands;
