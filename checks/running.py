@@ -74,6 +74,7 @@ def running():
         folder = Path(name)
         long_deck(folder)
         faults(folder)
+        denied()
         stops(folder)
         decks(folder)
         places(folder)
@@ -234,6 +235,34 @@ def faults(folder):
         ran = run([PROGRAM, "run", source, "--cards", deck, "--punch", none])
         expect(f"a deck refused: {fault}", ran, 1, "", f"ibm1401: {deck}: {fault}\n")
     tell("nothing is made where a deck is refused", "there is a file" if none.exists() else "")
+
+
+def denied():
+    """Files that may not be read, and places that may not be written. Root may do both, so there a run is nobody's."""
+    how = {"user": "nobody", "extra_groups": []} if os.geteuid() == 0 else {}
+    with tempfile.TemporaryDirectory() as name:
+        folder = Path(name)
+        secret, source, locked = folder / "secret", folder / "source", folder / "locked"
+        secret.write_text(HALT)
+        source.write_text(HALT)
+        locked.mkdir()
+        for path, mode in (folder, 0o755), (source, 0o644), (secret, 0o000), (locked, 0o555):
+            path.chmod(mode)
+        out = locked / "out"
+        for words, fault in [
+            ([secret], f"{secret}: permission denied"),
+            ([secret, "--load"], f"{secret}: permission denied"),
+            ([source, "--cards", secret], f"{secret}: permission denied"),
+            ([source, "--paper", secret], f"cannot write {secret}"),
+            ([source, "--paper", out], f"cannot write {out}"),
+            ([source, "--punch", out], f"cannot write {out}"),
+            ([source, "--trace", out], f"cannot write {out}"),
+        ]:
+            ran = run([PROGRAM, "run", *words], **how)
+            shown = " ".join(str(word).removeprefix(f"{folder}/") for word in words)
+            expect(f"run {shown}, which is denied", ran, 1, "", f"ibm1401: {fault}\n")
+        ran = run([PROGRAM, "disassemble", secret], **how)
+        expect("disassemble of a file that is denied", ran, 1, "", f"ibm1401: {secret}: permission denied\n")
 
 
 def stops(folder):

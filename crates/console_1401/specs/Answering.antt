@@ -8,7 +8,7 @@ use Rattle.console_1401.specs.declared.session_end.SessionEnd.TheVariants as end
 use Rattle.text_1401.specs.ConsoleLine.{Said, said_by}
 use Rattle.console_1401.specs.ReplyText.{bytes_of}
 use Rattle.console_1401.specs.Session.{Exchange}
-use Rattle.console_1401.specs.Sink.{AppendsPart}
+use Rattle.streams_1401.specs.Sink.{AppendsPart}
 use Rattle.console_1401.specs.Text.{said_finished}
 use Rattle.console_1401.specs.Limits.{kept_bytes}
 

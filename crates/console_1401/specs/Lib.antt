@@ -7,6 +7,5 @@ pub mod ReplyText
 pub mod SeatTurns
 pub mod Served
 pub mod Session
-pub mod Sink
 pub mod Text
 pub mod Turns

@@ -5,7 +5,7 @@ use Rattle.text_1401.specs.declared.line.Line.TheVariants.{Quit}
 use Rattle.console_1401.specs.declared.session_end.SessionEnd.{SessionEnd}
 use Rattle.console_1401.specs.declared.session_end.SessionEnd.TheVariants as end
 use Rattle.text_1401.specs.ConsoleLine.{Said}
-use Rattle.console_1401.specs.Sink.{BeginsWith}
+use Rattle.streams_1401.specs.Sink.{BeginsWith}
 use Rattle.console_1401.specs.Text.{cut_of, lines_of}
 use Rattle.console_1401.specs.Limits.{most_bytes}
 

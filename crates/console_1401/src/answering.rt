@@ -9,9 +9,8 @@ use crate::line_buffer::LineBuffer;
 use crate::reply::reply_bytes;
 use crate::responder::Responder;
 use crate::session_end::SessionEnd;
-use crate::sink::{Sink, put_all};
-use crate::source::Source;
 use std::alloc::Global;
+use streams_1401::{Sink, Source, put_all};
 use text_1401::{Line, LineFault, parse_line};
 
 /// The most bytes that a session reads.

@@ -10,12 +10,11 @@ use crate::door::Door;
 use crate::reply::Reply;
 use crate::responder::Responder;
 use crate::session_end::SessionEnd;
-use crate::sink::Sink;
-use crate::source::Source;
 use room_1401::{Naming, Seat, SharedRoom};
 use std::alloc::Global;
 use std::marker::Model;
 use std::sync::Wait;
+use streams_1401::{Sink, Source};
 use text_1401::{Line, LineFault};
 
 /// What answers at a console of a shared room: the seat, its room, and the door. Contracts see what the seat knows.

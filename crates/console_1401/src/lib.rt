@@ -8,13 +8,6 @@
 //! ```
 #![tactic(auto)]
 
-// sources and sinks of bytes, and how a read or a write fails
-pub mod failure;
-pub mod from_reader;
-pub mod sink;
-pub mod source;
-pub mod to_writer;
-
 // a line's bytes, what carries it out, and the reply
 mod line_buffer;
 mod reply;
@@ -35,13 +28,9 @@ pub mod serving;
 
 pub use attending::attend;
 pub use door::{Door, OpenDoor};
-pub use failure::Failed;
-pub use from_reader::FromReader;
 pub use image_loading::put_image;
 pub use serving::{ServeFault, Served, serve};
 pub use session_end::SessionEnd;
 pub use sessions::session;
-pub use sink::{Sink, put_all};
-pub use source::Source;
+pub use streams_1401::{Failed, FromReader, Sink, Source, ToWriter, put_all};
 pub use text_1401::{LINE_LIMIT, Line, LineFault, parse_line, reply_text};
-pub use to_writer::ToWriter;

@@ -5,14 +5,13 @@ ghost use Rattle.console_1401.specs.Served.{AreAllSeats, CountsConsoles};
 
 use crate::attending::attend;
 use crate::door::Door;
-use crate::from_reader::FromReader;
-use crate::to_writer::ToWriter;
 use room_1401::{Naming, Room, Seat, SharedRoom};
 use std::alloc::Global;
 use std::net::{TcpListener, TcpStream};
 use std::sync::Wait;
 use std::thread;
 use std::thread::{JoinHandle, Scope, Threads};
+use streams_1401::{FromReader, ToWriter};
 use thiserror::Error;
 
 /// Why a room stopped listening before each of its seats had a console.

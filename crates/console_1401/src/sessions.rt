@@ -7,10 +7,9 @@ use crate::answering::answer_lines;
 use crate::reply::Reply;
 use crate::responder::Responder;
 use crate::session_end::SessionEnd;
-use crate::sink::Sink;
-use crate::source::Source;
 use room_1401::{Glance, GlanceFault, Room};
 use std::alloc::Global;
+use streams_1401::{Sink, Source};
 use text_1401::{Line, LineFault};
 
 /// The seat of a console that shares its room with nobody.

@@ -1,3 +1,0 @@
-pub mod StretchLemmas
-pub mod WrittenLemmas
-pub mod TraceLemmas

@@ -5,7 +5,7 @@ use Rattle.std.specs.List.{flat_map}
 use Rattle.autocoder_1401.specs.Assembly.{assembly_in}
 use Rattle.autocoder_1401.specs.Fault.{IsMemory}
 use Rattle.autocoder_1401.specs.declared.assembly.Assembly.{Assembly}
-use Rattle.console_1401.specs.Sink.{AppendsPart}
+use Rattle.streams_1401.specs.Sink.{AppendsPart}
 use Rattle.image_1401.specs.ImageText.{IsTextOf, written_text}
 use Rattle.arguments_1401.specs.declared.call.Product.{Product}
 use Rattle.arguments_1401.specs.declared.call.Product.TheVariants as product
@@ -37,8 +37,7 @@ IsWhyNotAssembled size source (fault.Image why) = ⊥
 IsWhyNotAssembled size source (fault.Faulty told) = ⊥
 IsWhyNotAssembled size source (fault.Source why) = IsMemory why ⊎ (assembly_in size source ≡ Err why)
 IsWhyNotAssembled size source (fault.Unwritten name) = ⊥
-IsWhyNotAssembled size source (fault.Deck name why) = ⊥
-IsWhyNotAssembled size source (fault.Stopped report) = ⊥
+IsWhyNotAssembled size source (fault.Run why) = ⊥
 IsWhyNotAssembled size source fault.JournalFull = ⊥
 IsWhyNotAssembled size source fault.Memory = IsOk (assembly_in size source)
 IsWhyNotAssembled size source fault.Read = ⊥

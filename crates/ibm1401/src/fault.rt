@@ -2,12 +2,12 @@
 ghost use Rattle.std.specs.Prelude.{◌≡◌};
 ghost use Rattle.ibm1401.specs.Status.{outcome_of, run_status, status_of};
 
-use crate::ending::Ending;
 use autocoder_1401::AsmFault;
 use clap::Error as Refusal;
 use console_1401::SessionEnd;
+use files_1401::FileFault;
 use image_1401::ImageFault;
-use job_1401::DeckFault;
+use running_1401::RunFault;
 use thiserror::Error;
 
 /// The status of a command line that can't be read.
@@ -15,26 +15,6 @@ const MISUSED: u8 = 2;
 
 /// The status of a run that failed.
 const FAILED: u8 = 1;
-
-/// Why a file can't be read.
-#[derive(Clone, Copy, Debug, PartialEq, Eq, Error)]
-pub enum FileFault {
-    /// There is no file of this name.
-    #[error("no such file")]
-    NotThere,
-    /// The name is that of a folder.
-    #[error("is a folder")]
-    Folder,
-    /// The file may not be read.
-    #[error("permission denied")]
-    Denied,
-    /// The file is larger than any program or deck may be.
-    #[error("is larger than 16777216 bytes")]
-    TooLong,
-    /// The system can't read the file.
-    #[error("cannot be read")]
-    Unreadable,
-}
 
 /// What a run of the program may fail by. Each but `Usage` and `Faulty`, which have texts of their own, is one line on
 /// standard error.
@@ -55,18 +35,15 @@ pub enum Fault {
     /// The image or the source of this name can't be read, or is longer than any image.
     #[error("cannot read {0}")]
     Unread(String),
-    /// The program or the deck of a run, or the image to be listed, can't be read from the file of this name.
+    /// The image to be listed can't be read from the file of this name.
     #[error("{0}: {1}")]
     File(String, FileFault),
     /// The file of this name can't be made or written.
     #[error("cannot write {0}")]
     Unwritten(String),
-    /// The file of this name is no deck.
-    #[error("{0}: {1}")]
-    Deck(String, DeckFault),
-    /// The machine stopped otherwise than by a halt.
+    /// A run of a program with its deck was refused, broke off, or ended otherwise than by a halt.
     #[error("{0}")]
-    Stopped(Ending),
+    Run(RunFault),
     /// The file has no source that can be assembled.
     #[error("{0}")]
     Source(AsmFault),
@@ -118,7 +95,7 @@ impl Fault {
             Fault::Output | Fault::Size | Fault::Memory => FAILED,
             Fault::Unread(_) | Fault::File(..) | Fault::Image(_) | Fault::JournalFull => FAILED,
             Fault::Source(_) | Fault::Faulty(_) => FAILED,
-            Fault::Unwritten(_) | Fault::Deck(..) | Fault::Stopped(_) => FAILED,
+            Fault::Unwritten(_) | Fault::Run(_) => FAILED,
             Fault::Read | Fault::Write | Fault::Bound | Fault::Reply => FAILED,
             Fault::NoReader | Fault::Port | Fault::Accept | Fault::Thread => FAILED,
         }

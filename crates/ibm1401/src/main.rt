@@ -2,35 +2,24 @@
 #![tactic(auto)]
 
 mod assembling;
-mod deck_running;
 mod disassembling;
-mod ending;
 mod fault;
-mod instruction_text;
-mod job_report;
 mod loading;
-mod programs;
-mod punch_file;
-mod running;
 mod serving;
 mod source_faults;
 mod source_file;
 mod subcommands;
 #[cfg(test)]
 mod tests;
-mod tracing;
-mod watching;
-mod whole_file;
 
 use crate::disassembling::write_disassembly;
 use crate::fault::{Fault, report};
 use crate::loading::{load, read_file, read_named_file};
-use crate::running::{ErrorOutput, run_file};
 use crate::serving::open_room;
 use crate::source_file::assemble_file;
 use crate::subcommands::{console, tell};
 use arguments_1401::{Call, read_call};
-use console_1401::{FromReader, ToWriter};
+use running_1401::{ErrorOutput, run_file};
 use std::io::IsTerminal;
 use std::net::{Net, TcpListener, TcpStream};
 use std::process::ExitCode;
@@ -38,6 +27,7 @@ use std::rt::{Clock, Env, Files};
 use std::sync::Wait;
 use std::thread::Threads;
 use std::{env, io};
+use streams_1401::{FromReader, ToWriter};
 
 fn main(rt: HostRuntime) -> ExitCode {
     let error_output = if rt.stderr().is_terminal() {
@@ -86,7 +76,7 @@ fn run<
             let mut writer = ToWriter::new(io::writer(rt));
             write_disassembly(rt.alloc(), text.as_slice(), &mut writer)
         }
-        Ok(Call::Run(job)) => run_file(rt, error_output, job),
+        Ok(Call::Run(job)) => run_file(rt, error_output, job).map_err(Fault::Run),
         Ok(Call::Serve(service)) => open_room(rt, service),
         Err(error) => tell(rt, error),
     }

@@ -4,13 +4,13 @@ use crate::assembling::{assembly_text, check_size, write_assembly};
 use crate::fault::Fault;
 use crate::loading::read_file;
 use crate::source_faults::fault_lines;
-use crate::whole_file::write_whole;
 use arguments_1401::{Assembling, Product, Told};
 use autocoder_1401::{AsmKind, faults};
-use console_1401::ToWriter;
+use files_1401::{WriteFault, hold_closed_streams, write_whole};
 use std::alloc::Global;
+use std::io;
 use std::rt::Files;
-use std::{fs, io};
+use streams_1401::ToWriter;
 
 /// Writes what a source stands for to standard output, or to the file of this name.
 fn write_product<R: Files + Print + AllocGlobal>(
@@ -24,7 +24,11 @@ fn write_product<R: Files + Print + AllocGlobal>(
     match out {
         Some(name) => {
             let text = assembly_text(rt.alloc(), source, size, product)?;
-            write_whole(rt, name, text.as_slice())
+            match write_whole(rt, name.as_str(), text.as_slice()) {
+                Ok(()) => Ok(()),
+                Err(WriteFault::Memory) => Err(Fault::Memory),
+                Err(WriteFault::Unwritten) => Err(Fault::Unwritten(name)),
+            }
         }
         None => {
             let mut writer = ToWriter::new(io::writer(rt));
@@ -65,9 +69,7 @@ pub fn assemble_file<R: Files + Print + AllocGlobal>(
     } = asked;
     check_size(size)?;
     // Standard streams that are closed stay so: no file that is made takes the place of one.
-    let _input = fs::open(rt, "/").ok();
-    let _output = fs::open(rt, "/").ok();
-    let _errors = fs::open(rt, "/").ok();
+    let _held = hold_closed_streams(rt);
     let Ok(name) = file.clone() else {
         return Err(Fault::Memory);
     };

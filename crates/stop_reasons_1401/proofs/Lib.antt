@@ -1,2 +1,3 @@
 mod AcrossLemmas
 mod StopLemmas
+pub mod ToldLemmas

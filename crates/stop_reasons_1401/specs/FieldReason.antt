@@ -1,5 +1,5 @@
 -- Why an operation on fields can't be carried out, with the places (own).
-use Rattle.std.specs.Prelude.{ℕ, ◌≡◌, ◌+◌, ◌-◌, ◌<◌, ◌≤◌, true, false, Option, Some, None}
+use Rattle.std.specs.Prelude.{ℕ, ◌≡◌, ◌+◌, ◌-◌, ◌<◌, ◌≤◌, true, false, Some, None}
 use Rattle.core_1401.specs.Field.{field_at, field_len_of, pair_len_of}
 use Rattle.core_1401.specs.Storage.{Storage, is_in_core}
 use Rattle.fields_1401.specs.declared.done.FieldStop.{FieldStop}

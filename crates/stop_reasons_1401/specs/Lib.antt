@@ -2,3 +2,4 @@ pub mod FieldReason
 pub mod Halting
 pub mod Reason
 pub mod Said
+pub mod Told

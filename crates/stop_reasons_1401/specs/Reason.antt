@@ -1,5 +1,5 @@
 -- Why the next step stops the machine, with the places (own).
-use Rattle.std.specs.Prelude.{ℕ, ◌≡◌, ◌==◌, true, false, length, Option, Some, None, if◌then◌else◌}
+use Rattle.std.specs.Prelude.{◌≡◌, ◌==◌, true, false, length, Option, Some, None, if◌then◌else◌}
 use Rattle.core_1401.specs.Storage.{cell_at, is_in_core}
 use Rattle.devices_1401.specs.Control.{line_of_channel, low_of}
 use Rattle.devices_1401.specs.Devices.{is_full}

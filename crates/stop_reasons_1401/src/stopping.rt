@@ -1,5 +1,5 @@
 //! Why the next step stops the machine.
-ghost use Rattle.std.specs.Prelude.{◌≡◌, ◌+◌, ◌-◌, ◌<◌, ◌≤◌, true, false, length, Some, IfOk, IfErr, IfSome};
+ghost use Rattle.std.specs.Prelude.{◌≡◌, ◌≢◌, ◌⊎◌, ◌+◌, ◌-◌, ◌<◌, ◌≤◌, true, false, length, None, Some, IfOk, IfErr, IfSome};
 ghost use Rattle.std.specs.Option.{option_map};
 ghost use Rattle.core_1401.specs.Address.{addresses};
 ghost use Rattle.core_1401.specs.Storage.{cell_at};
@@ -10,6 +10,7 @@ ghost use Rattle.cpu_1401.specs.Operation.{operation_of};
 ghost use Rattle.cpu_1401.specs.Step.{check_operation, step};
 ghost use Rattle.stop_reasons_1401.specs.declared.reason.Reason.TheVariants as AReason;
 ghost use Rattle.stop_reasons_1401.specs.Reason.{IsSo, IsSoOf, stop_named};
+ghost use Rattle.stop_reasons_1401.specs.Told.{IsReasonFor, IsTold};
 ghost use Rattle.stop_reasons_1401.specs.Said.{a_of, b_of, char_of, is_length_of, is_unfitted_at, len_of};
 ghost use Rattle.stop_reasons_1401.specs.Said.{performed_stop, said_with};
 
@@ -55,7 +56,10 @@ pub fn stop_reason(machine: &Machine) -> Option<Reason>
 /// has another stop. The stops of reader, printer and punch aren't looked for in the step: a load key that finds no card
 /// is one of the reader too.
 pub fn reason_told(machine: &Machine, stop: Stop) -> Option<Reason>
-    ensures { IfSome result (λ why. stop_named why ≡ stop) }
+    ensures stop { IfSome result (λ why. stop_named why ≡ stop) }
+
+    // For a stop of the instruction there is a reason exactly if the next step has this stop, and then it is so.
+    ensures told { IsTold machine.now stop result }
 {
     match stop {
         Stop::Halt | Stop::Limit => None,
@@ -70,7 +74,8 @@ pub fn reason_told(machine: &Machine, stop: Stop) -> Option<Reason>
 
 /// Whether there is a reason that is told as this stop.
 fn is_told_as(found: &Option<Reason>, stop: Stop) -> bool
-    ensures { result ≡ true → IfSome found.now (λ why. stop_named why ≡ stop) }
+    ensures yes { result ≡ true → option_map stop_named found.now ≡ Some stop }
+    ensures no { result ≡ false → option_map stop_named found.now ≢ Some stop }
 {
     match found {
         Some(why) => why.stop() == stop,
@@ -80,7 +85,8 @@ fn is_told_as(found: &Option<Reason>, stop: Stop) -> bool
 
 /// A reason, if it is told as this stop.
 fn if_told_as(found: &Option<Reason>, stop: Stop) -> Option<Reason>
-    ensures { IfSome result (λ why. stop_named why ≡ stop) }
+    ensures { ((option_map stop_named found.now ≡ Some stop) × (result ≡ found.now))
+        ⊎ ((option_map stop_named found.now ≢ Some stop) × (result ≡ None)) }
 {
     if is_told_as(found, stop) {
         *found
@@ -91,7 +97,8 @@ fn if_told_as(found: &Option<Reason>, stop: Stop) -> Option<Reason>
 
 /// Why the next step of a machine has this stop; `None` if it hasn't.
 fn reason_of_step(machine: &Machine, stop: Stop) -> Option<Reason>
-    ensures { IfSome result (λ why. stop_named why ≡ stop) }
+    ensures stop { IfSome result (λ why. stop_named why ≡ stop) }
+    ensures told { IsReasonFor machine.now stop result }
 {
     let found = stop_reason(machine);
     if_told_as(&found, stop)

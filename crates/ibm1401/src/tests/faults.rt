@@ -1,11 +1,13 @@
 //! What a run may fail by, its one line, and the status that it ends with.
 
-use crate::fault::{Fault, FileFault, ended, report};
+use crate::fault::{Fault, ended, report};
 use crate::subcommands::tell;
 use crate::tests::recorder::{Full, Recorder};
 use arguments_1401::read_call;
 use clap::Error;
 use console_1401::SessionEnd;
+use files_1401::FileFault;
+use running_1401::RunFault;
 use std::alloc::Global;
 use std::test::Fail;
 
@@ -56,6 +58,12 @@ fn why_a_file_cannot_be_read_is_told(rt: HostRuntime) -> Result<(), Fail> {
         let told = Recorder::new(rt.alloc());
         let name = String::from_str(rt.alloc(), "a deck")?;
         assert_eq!(rt; report(&told, Err(Fault::File(name, fault))), 1);
+        let found = told.text(rt.alloc())?;
+        assert_eq!(rt; found.as_str(), text);
+        let told = Recorder::new(rt.alloc());
+        let name = String::from_str(rt.alloc(), "a deck")?;
+        let outcome = Err(Fault::Run(RunFault::File(name, fault)));
+        assert_eq!(rt; report(&told, outcome), 1);
         let found = told.text(rt.alloc())?;
         assert_eq!(rt; found.as_str(), text);
     }

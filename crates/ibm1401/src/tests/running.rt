@@ -1,13 +1,11 @@
 //! Programs that are run with a deck, and what is told of them.
 
-use crate::ending::Ending;
 use crate::fault::{Fault, report};
-use crate::job_report::JobReport;
-use crate::running::{job_outcome, tell_ending, tell_small_letters};
 use crate::tests::recorder::Recorder;
 use arguments_1401::{Call, Job, Start, read_call};
 use cpu_1401::Stop;
 use job_1401::DeckFault;
+use running_1401::{Ending, JobReport, RunFault, job_outcome, tell_ending, tell_small_letters};
 use std::test::Fail;
 use stop_reasons_1401::Reason;
 
@@ -49,7 +47,7 @@ fn each_end_of_a_job_is_one_line(rt: HostRuntime) -> Result<(), Fail> {
         ),
     ] {
         let told = Recorder::new(rt.alloc());
-        let outcome = tell_ending(&told, ending_of(stop, at, reason));
+        let outcome = tell_ending(&told, ending_of(stop, at, reason)).map_err(Fault::Run);
         assert_eq!(rt; report(&told, outcome), status, "{line}");
         let counts = "2 cards read, 3 lines printed, 4 cards punched";
         let wanted = format!(in rt.alloc(); "ibm1401: {line} after 1 step; {counts}\n")?;
@@ -85,13 +83,15 @@ fn the_faults_of_files_name_them(rt: HostRuntime) -> Result<(), Fail> {
     ] {
         let told = Recorder::new(rt.alloc());
         let name = String::from_str(rt.alloc(), "a deck")?;
-        assert_eq!(rt; report(&told, Err(Fault::Deck(name, fault))), 1);
+        let outcome = Err(Fault::Run(RunFault::Deck(name, fault)));
+        assert_eq!(rt; report(&told, outcome), 1);
         let found = told.text(rt.alloc())?;
         assert_eq!(rt; found.as_str(), text);
     }
     let told = Recorder::new(rt.alloc());
     let name = String::from_str(rt.alloc(), "out")?;
-    assert_eq!(rt; report(&told, Err(Fault::Unwritten(name))), 1);
+    let outcome = Err(Fault::Run(RunFault::Unwritten(name)));
+    assert_eq!(rt; report(&told, outcome), 1);
     let found = told.text(rt.alloc())?;
     assert_eq!(rt; found.as_str(), "ibm1401: cannot write out\n");
     Ok(())

@@ -1,12 +1,9 @@
 //! Programs that are run with a trace.
 
-use crate::deck_running::run_started;
-use crate::programs::{loaded_machine, program_of};
-use crate::tracing::Trace;
-use crate::watching::Unwatched;
 use arguments_1401::Start;
-use console_1401::ToWriter;
+use running_1401::{Trace, Unwatched, loaded_machine, program_of, run_started};
 use std::test::Fail;
+use streams_1401::ToWriter;
 
 /// Prints a line, and halts.
 const SOURCE: &[u8] = b"               ORG  400\n\

@@ -1,0 +1,6 @@
+-- How large a file may be that is read (own).
+use Rattle.std.specs.Prelude.{ℕ, ◌^◌}
+
+-- no program, deck or image is larger
+abbrev pub most_bytes : ℕ
+most_bytes = 2 ^ 24

@@ -1,0 +1,37 @@
+//! Why a file can't be read or written.
+
+use thiserror::Error;
+
+/// Why a file can't be read.
+#[derive(Clone, Copy, Debug, PartialEq, Eq, Error)]
+pub enum FileFault {
+    /// There is no file of this name.
+    #[error("no such file")]
+    NotThere,
+    /// The name is that of a folder.
+    #[error("is a folder")]
+    Folder,
+    /// The file may not be read.
+    #[error("permission denied")]
+    Denied,
+    /// The file is larger than any program or deck may be.
+    #[error("is larger than 16777216 bytes")]
+    TooLong,
+    /// The system can't read the file.
+    #[error("cannot be read")]
+    Unreadable,
+    /// The memory for the bytes of the file was refused.
+    #[error("memory refused")]
+    Memory,
+}
+
+/// Why a file isn't written.
+#[derive(Clone, Copy, Debug, PartialEq, Eq, Error)]
+pub enum WriteFault {
+    /// The file can't be made or written.
+    #[error("cannot be written")]
+    Unwritten,
+    /// The memory for a file's name was refused.
+    #[error("memory refused")]
+    Memory,
+}

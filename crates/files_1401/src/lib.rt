@@ -1,0 +1,17 @@
+//! Files that are read whole, and written whole or not at all.
+//!
+//! ```text
+//! let source = read_whole(rt, "sales.source")?;       // its bytes, or why not
+//! write_whole(rt, "sales.image", text.as_slice())?    // the old file, or the new one
+//! ```
+#![tactic(auto)]
+
+pub mod closed_streams;
+pub mod fault;
+pub mod reading;
+pub mod writing;
+
+pub use closed_streams::{HeldStreams, hold_closed_streams};
+pub use fault::{FileFault, WriteFault};
+pub use reading::read_whole;
+pub use writing::{create, write_whole};

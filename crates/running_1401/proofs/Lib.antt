@@ -1,0 +1,3 @@
+pub mod StretchLemmas
+pub mod TraceLemmas
+pub mod WrittenLemmas

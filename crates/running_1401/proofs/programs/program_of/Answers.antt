@@ -1,0 +1,15 @@
+-- An image as it was read, and what a source stands for.
+use Rattle.std.proofs.Common.{refl}
+use Rattle.running_1401.proofs.programs.program_of.Goals as goal
+
+pub returns-in-Ok-clause-image : goal.returns-in-Ok-clause-image
+returns-in-Ok-clause-image c = λ _. (c.in-Ok.ensures.found, refl)
+
+pub returns-in-Err-clause-image : goal.returns-in-Err-clause-image
+returns-in-Err-clause-image c = λ _. (c.in-Err.fault, refl, c.in-Err.ensures.fault)
+
+pub returns-in-Ok-assemble-clause-source : goal.returns-in-Ok-assemble-clause-source
+returns-in-Ok-assemble-clause-source c = λ _. (c.in-Ok-assemble.assembly, c.in-Ok-assemble.ensures.exact, refl, refl)
+
+pub returns-in-Err-assemble-clause-source : goal.returns-in-Err-assemble-clause-source
+returns-in-Err-assemble-clause-source c = λ _. (c.in-Err-assemble.fault, refl, c.in-Err-assemble.ensures.exact)

@@ -1,0 +1,4 @@
+pub mod Program
+pub mod Run
+pub mod RunDeck
+pub mod RunTrace

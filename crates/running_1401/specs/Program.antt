@@ -1,0 +1,48 @@
+-- The program that a run begins with, and the machine that has it (own).
+use Rattle.std.specs.Prelude.{◌≡◌, ◌⊎◌, ℕ, ◌||◌, ◌==◌, Bool, List, [], ◌∷◌, None, Some, Result, Ok, Err, codes}
+use Rattle.std.specs.List.{starts_with}
+use Rattle.autocoder_1401.specs.Assembly.{assembly_in}
+use Rattle.autocoder_1401.specs.Fault.{IsMemory}
+use Rattle.autocoder_1401.specs.declared.assembly.Assembly.{Assembly}
+use Rattle.command_1401.specs.CarryOut.{deposited}
+use Rattle.cpu_1401.specs.State.{State, power_on}
+use Rattle.image_1401.specs.declared.fault.ImageFault.{ImageFault}
+use Rattle.image_1401.specs.declared.image.Image.{Image}
+use Rattle.image_1401.specs.declared.image.Segment.{Segment}
+use Rattle.image_1401.specs.ImageText.{IsTextOf}
+use Rattle.image_1401.specs.Refusal.{IsRefused}
+use Rattle.autocoder_1401.specs.declared.fault.AsmFault.{AsmFault}
+use Rattle.running_1401.specs.declared.programs.Program.{Program}
+use Rattle.running_1401.specs.declared.fault.RunFault.{RunFault}
+use Rattle.running_1401.specs.declared.fault.RunFault.TheVariants as fault
+
+-- whether a text is meant as that of an image: it begins as one
+unfoldable pub is_meant_as_image : List ℕ → Bool
+is_meant_as_image text =
+    starts_with (λ a b. a == b) text (codes "IMAGE1 ") || starts_with (λ a b. a == b) text (codes "IMAGE2 ")
+
+-- what an image's text is read as: the image, without a listing, or its fault
+abbrev pub IsImageOf : List ℕ → Result Program RunFault → Type 0
+IsImageOf text (Ok program) = IsTextOf text program.image × (program.listing ≡ None)
+IsImageOf text (Err told) = (why : ImageFault) × (told ≡ fault.Image why) × IsRefused text why
+
+-- what a source stands for in core storage of this size: the image and the listing, or its fault or want of memory
+abbrev pub IsAssembled : ℕ → List ℕ → Result Program RunFault → Type 0
+IsAssembled size source (Ok program) =
+    (assembly : Assembly) × (assembly_in size source ≡ Ok assembly) × (program.image ≡ assembly.image)
+    × (program.listing ≡ Some assembly.listing)
+IsAssembled size source (Err told) =
+    (why : AsmFault) × (told ≡ fault.Source why) × (IsMemory why ⊎ (assembly_in size source ≡ Err why))
+
+-- the cells of a segment put where they go
+abbrev pub with_segment : State → Segment → State
+with_segment s segment = record s { storage = deposited s.storage segment.address segment.cells }
+
+-- the cells of segments, a later one over an earlier one
+abbrev pub with_segments : State → List Segment → State
+with_segments s [] = s
+with_segments s (segment ∷ segments) = with_segments (with_segment s segment) segments
+
+-- a machine of an image's size at power-on that has the image's cells, and begins at its entry
+abbrev pub with_image : Image → State
+with_image image = record (with_segments (power_on image.size) image.segments) { i = image.start }

@@ -1,0 +1,36 @@
+//! A program run with its deck, from files to files: source or image in, paper, punched cards and trace out.
+//!
+//! ```text
+//! run_file(rt, ErrorOutput::Other, job)?  // the paper on standard output, how it ended on standard error
+//! ```
+//!
+//! `run_started` is the part that knows no file: a machine, cards, and sinks for what goes out.
+#![tactic(auto)]
+
+// what a run begins with
+mod inputs;
+pub mod programs;
+
+// a machine run with a deck; where what comes goes, and who is told
+pub mod deck_running;
+pub mod punch_file;
+pub mod tracing;
+pub mod watching;
+
+// how a run ended, in words
+pub mod ending;
+pub mod fault;
+mod instruction_text;
+pub mod job_report;
+pub mod running;
+
+pub use deck_running::{Broken, run_started};
+pub use ending::Ending;
+pub use fault::{RunFault, job_outcome};
+pub use inputs::tell_small_letters;
+pub use job_report::JobReport;
+pub use programs::{Program, loaded_machine, program_of};
+pub use punch_file::PunchFile;
+pub use running::{ErrorOutput, run_file, tell_ending};
+pub use tracing::Trace;
+pub use watching::{HowFar, Shown, Unwatched, Watch};
