@@ -1,27 +1,28 @@
 -- Pairs of characters that differ.
-use Rattle.std.proofs.Common.{◌≡◌, ℕ, ◌+◌, ◌-◌, ◌<◌, ◌||◌, Bool, List, [], ◌∷◌, length, ◌∙◌, ap, arith, take}
-use Rattle.std.proofs.Common.{refl}
+use Rattle.std.proofs.Common.{◌≡◌, ℕ, ◌+◌, ◌-◌, ◌<◌, ◌≤◌, ◌==◌, ◌||◌, Bool, List, [], ◌∷◌, length, ◌∙◌, ap, arith, not}
+use Rattle.std.proofs.Common.{refl, add-one, slice_index_or}
+use Rattle.std.proofs.Math.Bool.{or_comm}
 use Rattle.std.specs.List.{list_any, range_with_len}
-use Rattle.std.proofs.lemmas.List.{take_all}
-use Rattle.std.proofs.lemmas.List.Folds.{list_any_more}
-use Rattle.std.proofs.lemmas.List.FromFn.{length-range_with_len, get_or-range_with_len}
 use Rattle.core_1401.specs.MarkWords.{held, held_cell}
 use Rattle.core_1401.specs.Places.{are_unequal, is_unequal_pair}
 use Rattle.core_1401.specs.Storage.{cell_at}
 use Rattle.core_1401.proofs.HeldLemmas.{cell_at-held}
 
--- one number more is tested
-pub any_more : (test : ℕ → Bool) (n i : ℕ) → i < n
-    → list_any test (take (i + 1) (range_with_len 0 n)) ≡ (list_any test (take i (range_with_len 0 n)) || test i)
-any_more test n i within =
-    let numbers : List ℕ = range_with_len 0 n in
-    list_any_more test numbers i 0 (omega (arith, length-range_with_len 0 n))
-    ∙ ap (λ (k : ℕ). list_any test (take i numbers) || test k) (get_or-range_with_len 0 n i 0 within ∙ omega arith)
-
--- all are tested
-pub any_of_all : (test : ℕ → Bool) (n : ℕ)
-    → list_any test (take n (range_with_len 0 n)) ≡ list_any test (range_with_len 0 n)
-any_of_all test n = ap (list_any test) (take_all n (range_with_len 0 n) (omega (arith, length-range_with_len 0 n)))
+-- one pair more is looked at, the one below those so far
+pub any_below : (chars : List ℕ) (a b n i x y : ℕ) → i < n → n ≤ a + 1 → n ≤ b + 1 → x ≡ a + 1 - n + i
+    → y ≡ b + 1 - n + i
+    → list_any (are_unequal chars a b) (range_with_len (n - (i + 1)) (i + 1))
+    ≡ (list_any (are_unequal chars a b) (range_with_len (n - i) i) || not (slice_index_or chars x 0 == slice_index_or chars y 0))
+any_below chars a b n i x y within a_above b_above e f =
+    let test : ℕ → Bool = are_unequal chars a b in
+    let k : ℕ = n - (i + 1) in
+    ap (λ (m : ℕ). list_any test (range_with_len k m)) (add-one i)
+    ∙ or_comm (test k) (list_any test (range_with_len (k + 1) i))
+    ∙ ap (λ (m : ℕ). list_any test (range_with_len m i) || test k) (omega (arith, within))
+    ∙ ap (λ (p : ℕ). list_any test (range_with_len (n - i) i) || not (slice_index_or chars p 0 == slice_index_or chars (b - k) 0))
+    (omega (arith, within, a_above, e))
+    ∙ ap (λ (q : ℕ). list_any test (range_with_len (n - i) i) || not (slice_index_or chars x 0 == slice_index_or chars q 0))
+    (omega (arith, within, b_above, f))
 
 -- two tests with the same answers
 same_any : (p q : ℕ → Bool) (numbers : List ℕ) → ((k : ℕ) → p k ≡ q k) → list_any p numbers ≡ list_any q numbers

@@ -9,7 +9,7 @@ use Rattle.std.proofs.lemmas.Nat.Bits.{bit_at_ones_above, bit_at_mask_below, bit
 use Rattle.std.proofs.lemmas.Nat.Bits.{bit_at_set_same, bit_at_set_other, bit_at-trailing_zeros, bit_at-zero, ones_shl}
 use Rattle.std.proofs.lemmas.Nat.Bits.{ones_shr}
 use Rattle.core_1401.specs.MarkWords.{mark_bit, IsWindowDown, IsWindowUp, IsFirstMark, IsFirstPair, IsNextMark}
-use Rattle.core_1401.specs.MarkWords.{IsCleared}
+use Rattle.core_1401.specs.MarkWords.{IsCleared, NoneBelow}
 use Rattle.core_1401.proofs.BitLemmas.{bit_mod, bit_shr, window_bit, IsTop, top_bit}
 
 -- the same mark under another name of its word and its bit
@@ -41,9 +41,11 @@ pub window_here : (words : List ℕ) (at w : ℕ) → IsWindowDown words at w �
 window_here words at w window j within le =
     window j within (omega (arith, le)) ∙ ap (λ (n : ℕ). mark_bit words (n - j)) (omega arith)
 
--- none of the marks below a place, down to this far
-abbrev pub NoneBelow : List ℕ → ℕ → ℕ → Type 0
-NoneBelow words at n = (j : ℕ) → j < n → j ≤ at → mark_bit words (at - j) ≡ 0
+-- a whole word is the window of its highest place
+pub whole_word : (words : List ℕ) (at k : ℕ) → at % 64 ≡ 63 → k ≡ at / 64 + 1
+    → IsWindowDown words at (slice_index_or words k 0)
+whole_word words at k high e j within le =
+    same_bit words k (63 - j) (at - j) (omega (arith, high, e, within, le)) (omega (arith, high, within, le))
 
 -- the mark of a place in a window further down
 lower_mark : (words : List ℕ) (at base w j : ℕ) → IsWindowDown words (at - base) w → base ≤ j → j < base + 64 → j ≤ at
@@ -93,16 +95,6 @@ lower_pair words a b base v w j at_a at_b from below le_a le_b =
     ∙ ap (λ (n : ℕ). max n (bit_at w i)) (lower_mark words a base v j at_a from below le_a)
     ∙ ap (λ (n : ℕ). max (mark_bit words (a - j)) n) (lower_mark words b base w j at_b from below le_b)
 
-pub no_more_pairs : (words : List ℕ) (a b base v w next : ℕ) → NoPairBelow words a b base
-    → IsWindowDown words (a - base) v → IsWindowDown words (b - base) w → bit_or v w ≡ 0
-    → next ≡ base + 64 → NoPairBelow words a b next
-no_more_pairs words a b base v w next none at_a at_b empty e j h le_a le_b =
-    elim (cases_lt j base) [
-      | inl before ↦ none j before le_a le_b
-      | inr from ↦ sym (lower_pair words a b base v w j at_a at_b from (omega (arith, e, h)) le_a le_b)
-          ∙ ap (λ (n : ℕ). bit_at n (63 - (j - base))) empty ∙ bit_at-zero (63 - (j - base))
-    ]
-
 pub first_pair_found : (words : List ℕ) (a b base v w : ℕ) → NoPairBelow words a b base
     → IsWindowDown words (a - base) v → IsWindowDown words (b - base) w → 0 < bit_or v w
     → bit_or v w < 2 ^ 64 → IsFirstPair words a b (base + leading_zeros w64 (bit_or v w))
@@ -119,6 +111,34 @@ first_pair_found words a b base v w none at_a at_b some fits =
       ];
       mark_there = λ le_a le_b. sym (lower_pair words a b base v w n at_a at_b (omega arith)
           (omega (arith, top.within)) le_a le_b) ∙ ap (λ (k : ℕ). bit_at both (63 - k)) there ∙ top.is_set;
+    }
+
+-- the nearer of the first marks of two places is the first of both
+pub nearer_mark : (words : List ℕ) (a b m n : ℕ) → IsFirstMark words a m → IsFirstMark words b n
+    → IsFirstPair words a b (min m n)
+nearer_mark words a b m n at_a at_b =
+    record {
+      none_before = λ j h le_a le_b. omega (
+        arith,
+        at_a.none_before j (omega (arith, h)) le_a,
+        at_b.none_before j (omega (arith, h)) le_b,
+      );
+      mark_there = λ le_a le_b. elim (cases_lt n m) [
+        | inl less ↦
+            let here : min m n ≡ n = omega (arith, less) in
+            rw here (omega (
+              arith,
+              at_b.mark_there (omega (arith, le_b, here)),
+              bit_at-lt (slice_index_or words ((a - n) / 64 + 1) 0) ((a - n) % 64),
+            ))
+        | inr more ↦
+            let here : min m n ≡ m = omega (arith, more) in
+            rw here (omega (
+              arith,
+              at_a.mark_there (omega (arith, le_a, here)),
+              bit_at-lt (slice_index_or words ((b - m) / 64 + 1) 0) ((b - m) % 64),
+            ))
+      ];
     }
 
 -- what a shift of two words down leaves is a window up

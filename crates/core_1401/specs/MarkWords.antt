@@ -41,6 +41,10 @@ IsWindowDown words at window = (j : ℕ) → j < 64 → j ≤ at → bit_at wind
 abbrev pub IsWindowUp : List ℕ → ℕ → ℕ → Type 0
 IsWindowUp words at window = (j : ℕ) → j < 64 → bit_at window j ≡ mark_bit words (at + j)
 
+-- none of the marks of the n addresses from one down is set
+abbrev pub NoneBelow : List ℕ → ℕ → ℕ → Type 0
+NoneBelow words at n = (j : ℕ) → j < n → j ≤ at → mark_bit words (at - j) ≡ 0
+
 -- the first mark from an address down stands n below it, or there is none down to address 0 and n is beyond that
 pub record IsFirstMark (words : List ℕ) (at n : ℕ) : Type 0 where
   pub none_before : (j : ℕ) → j < n → j ≤ at → mark_bit words (at - j) ≡ 0

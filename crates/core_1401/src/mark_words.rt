@@ -3,7 +3,7 @@ ghost use Rattle.std.specs.Prelude.{◌≡◌, ◌==◌, ℕ, ◌+◌, ◌-◌, 
 ghost use Rattle.std.specs.Prelude.{slice_index_or, take};
 ghost use Rattle.std.specs.Int.{bit_at};
 ghost use Rattle.core_1401.specs.MarkWords.{IsWindowDown, IsWindowUp, IsFirstMark, IsFirstPair, IsNextMark, IsWithBit};
-ghost use Rattle.core_1401.specs.MarkWords.{IsCleared, AreCleared, AreMarkWords, mark_bit};
+ghost use Rattle.core_1401.specs.MarkWords.{IsCleared, AreCleared, AreMarkWords, mark_bit, NoneBelow};
 
 use crate::storage::Core;
 
@@ -92,18 +92,19 @@ pub(crate) fn first_mark(words: &[u64], at: usize) -> usize
     first_mark_by_words(words, at)
 }
 
-/// The same by all words below the place.
+/// The same where none of the marks of the 64 places next to it is set: by the whole words below.
 #[inline(never)]
 fn first_mark_by_words(words: &[u64], at: usize) -> usize
     requires within { at / 64 + 1 < length words.now }
     requires fits { at < 65536 }
+    requires near { NoneBelow words.now at 64 }
     ensures first { IsFirstMark words.now at result }
     ensures range { result ≤ at + 64 }
 {
-    for turn in 0..at / 64 + 1 {
-        let word = window_down(words, at - 64 * turn);
+    for turn in 0..at / 64 {
+        let word = words[at / 64 - turn];
         if word != 0 {
-            return 64 * turn + word.leading_zeros() as usize;
+            return at % 64 + 1 + 64 * turn + word.leading_zeros() as usize;
         }
     }
     at + 1
@@ -128,23 +129,19 @@ pub(crate) fn first_pair(words: &[u64], a: usize, b: usize) -> usize
     first_pair_by_words(words, a, b)
 }
 
-/// The same by all words below the places.
+/// The same where none of the marks of the 64 places next to either is set.
 #[inline(never)]
+#[tactic(auto, using(crate::proofs::MarkWordLemmas::nearer_mark))]
 fn first_pair_by_words(words: &[u64], a: usize, b: usize) -> usize
     requires a_in { a / 64 + 1 < length words.now }
     requires b_in { b / 64 + 1 < length words.now }
     requires a_fits { a < 65536 }
     requires b_fits { b < 65536 }
+    requires near_a { NoneBelow words.now a 64 }
+    requires near_b { NoneBelow words.now b 64 }
     ensures first { IsFirstPair words.now a b result }
 {
-    let least = if a < b { a } else { b };
-    for turn in 0..least / 64 + 1 {
-        let word = window_down(words, a - 64 * turn) | window_down(words, b - 64 * turn);
-        if word != 0 {
-            return 64 * turn + word.leading_zeros() as usize;
-        }
-    }
-    least + 1
+    first_mark_by_words(words, a).min(first_mark_by_words(words, b))
 }
 
 /// How far above a place the next mark stands; this most where there is none so near.

@@ -93,9 +93,9 @@ impl Core {
 }
 
 /// Whether two characters of the n from a down and of those from b down differ, pair by pair. Each pair is looked at,
-/// also behind one that differs, so that a processor can look at many of them at once.
+/// even after one that differs, and by ascending address, so that a processor can look at many of them at once.
 #[inline(always)]
-#[tactic(auto, using(crate::proofs::CompareLemmas::any_more, crate::proofs::CompareLemmas::any_of_all))]
+#[tactic(auto, using(crate::proofs::CompareLemmas::any_below))]
 fn any_differ(chars: &[Char], a: usize, b: usize, n: usize) -> bool
     requires a_in { a < length chars.now }
     requires b_in { b < length chars.now }
@@ -103,9 +103,10 @@ fn any_differ(chars: &[Char], a: usize, b: usize, n: usize) -> bool
     requires b_places { n ≤ b + 1 }
     ensures { result ≡ list_any (are_unequal chars.now a b) (range_with_len 0 n) }
 {
+    let (from_a, from_b) = (a + 1 - n, b + 1 - n);
     let mut differ = false;
     for i in 0..n {
-        differ |= chars[a - i] != chars[b - i];
+        differ |= chars[from_a + i] != chars[from_b + i];
     }
     differ
 }

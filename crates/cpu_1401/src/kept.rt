@@ -6,7 +6,7 @@ ghost use Rattle.cpu_1401.specs.Decoded.{AlwaysSay, Says};
 use crate::decoded::{Address, Decoded, Spelled};
 use crate::operation::Operation;
 use bcd_1401::Char;
-use core_1401::{Core, EightCells};
+use core_1401::{ADDRESSES, Core, EightCells};
 use std::alloc::{AllocError, Global};
 use std::marker::Model;
 
@@ -18,8 +18,8 @@ struct Kept {
     ghost says: { AlwaysSay cells.codes cells.marks decoded },
 }
 
-/// For each place that begins eight the instruction that was decoded there last, with the cells that it was decoded
-/// from. Contracts see how many places that are.
+/// For each place but the last eight the instruction that was decoded there last, with the eight cells that it was
+/// decoded from. So the next instruction begins at a place too. Contracts see how many places that are.
 #[derive(Drop)]
 pub(crate) struct Instructions {
     kept: Vec<Kept>,
@@ -34,29 +34,31 @@ impl Model for Instructions {
 }
 
 impl Instructions {
-    /// No instruction, with room for one at each place of a core of this size but for the last seven.
+    /// No instruction, with room for one at each place of a core of this size but for the last eight.
     ///
     /// # Errors
     ///
     /// Where there is no memory for it.
     pub(crate) fn none(alloc: Global, size: u16) -> Result<Instructions, AllocError>
-        requires { 7 ≤ size }
-        ensures { IfOk result (λ instructions. instructions + 7 ≡ size) }
+        requires { 8 ≤ size }
+        ensures { IfOk result (λ instructions. instructions + 8 ≡ size) }
     {
-        let kept = vec![in alloc; nothing_kept(); usize::from(size - 7)]?;
+        let kept = vec![in alloc; nothing_kept(); usize::from(size - 8)]?;
         Ok(Instructions { kept })
     }
 
     /// The instruction at a place, if it was decoded there from cells like those that stand there now.
     #[inline(always)]
     pub(crate) fn find(&self, core: &Core, at: u16) -> Option<&Decoded>
-        requires { self.now + 7 ≤ length core.now }
-        ensures { IfSome result (λ decoded. Says core.now at decoded.now) }
+        requires { self.now + 8 ≤ length core.now }
+        ensures says { IfSome result (λ decoded. Says core.now at decoded.now) }
+        ensures inside { IfSome result (λ decoded. at + decoded.now.len < addresses) }
     {
         let place = usize::from(at);
         if place >= self.kept.len() {
             return None;
         }
+        prove!(core.size() <= ADDRESSES);
         let kept = &self.kept[place];
         if core.eight_cells(at) != kept.cells {
             return None;
@@ -64,10 +66,10 @@ impl Instructions {
         Some(&kept.decoded)
     }
 
-    /// Keeps the instruction at a place, but not where fewer than eight places are left up to the end of core.
+    /// Keeps the instruction at a place, but not at the last eight places.
     #[tactic(auto, using(crate::proofs::DecodedLemmas::always_say))]
     pub(crate) fn keep(&mut self, core: &Core, at: u16, decoded: &Decoded)
-        requires size { self.old + 7 ≤ length core.now }
+        requires size { self.old + 8 ≤ length core.now }
         requires says { Says core.now at decoded.now }
         ensures { self.new ≡ self.old }
     {

@@ -50,7 +50,7 @@ impl Model for Machine {
     } };
 
     ghost invariant = { λ m.
-        (m.i < addresses) × (m.a < addresses) × (m.b < addresses) × (m.kept + 7 ≤ length m.core) };
+        (m.i < addresses) × (m.a < addresses) × (m.b < addresses) × (m.kept + 8 ≤ length m.core) };
 }
 
 impl Machine {

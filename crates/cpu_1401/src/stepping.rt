@@ -1,5 +1,5 @@
 //! One step of the machine: the instruction, kept or decoded, then what the operation does.
-ghost use Rattle.std.specs.Prelude.{◌≡◌, ◌≢◌, ◌<◌, length, Some, IfSome, IfOk, IfErr};
+ghost use Rattle.std.specs.Prelude.{◌≡◌, ◌≢◌, ◌+◌, ◌%◌, ◌<◌, length, Some, IfSome, IfOk, IfErr};
 ghost use Rattle.core_1401.specs.Address.{addresses};
 ghost use Rattle.cpu_1401.specs.Instruction.{instruction_of};
 ghost use Rattle.cpu_1401.specs.Step.{perform, step};
@@ -36,13 +36,39 @@ impl Machine {
     {
         let machine = &*self;
         let fetched = match machine.kept.find(&machine.core, machine.i) {
-            Some(said) => (said.operation, machine.instruction(said)),
-            None => match self.decode_anew() {
-                Ok(said) => (said.operation, self.instruction(&said)),
+            Some(said) => {
+                let next = machine.i + said.len;
+                (said.operation, machine.instruction(said, next))
+            }
+            None => match self.fetch_anew() {
+                Ok(fetched) => fetched,
                 Err(stop) => return Some(stop),
             },
         };
         self.perform(fetched.0, fetched.1)
+    }
+
+    /// The operation and the instruction at the I register, decoded anew, or why it can't be carried out.
+    #[inline(always)]
+    #[tactic(auto, using(crate::proofs::DecodedLemmas::says_step))]
+    fn fetch_anew(&mut self) -> Result<(Operation, Instruction), Stop>
+        ensures ok { IfOk result (λ fetched. step self.old ≡ perform fetched.0 fetched.1 self.old) }
+        ensures a { IfOk result (λ fetched. fetched.1.a < addresses) }
+        ensures b { IfOk result (λ fetched. fetched.1.b < addresses) }
+        ensures next { IfOk result (λ fetched. fetched.1.next < addresses) }
+        ensures err { IfErr result (λ stop. step self.old ≡ stopped stop self.old) }
+        ensures no_halt { IfErr result (λ stop. stop ≢ Stop.Halt) }
+        ensures no_limit { IfErr result (λ stop. stop ≢ Stop.Limit) }
+        ensures same { self.new ≡ self.old }
+    {
+        let said = self.decode_anew()?;
+        let behind = self.i + said.len;
+        let next = if behind < ADDRESSES {
+            behind
+        } else {
+            behind - ADDRESSES
+        };
+        Ok((said.operation, self.instruction(&said, next)))
     }
 
     /// Decodes the instruction at the I register and keeps it, or says why it can't be carried out.
@@ -61,26 +87,21 @@ impl Machine {
 
     /// The instruction at the I register, by what it says itself, by the registers and by index registers.
     #[inline(always)]
-    fn instruction(&self, said: &Decoded) -> Instruction
-        requires { Says self.now.storage self.now.i said.now }
+    fn instruction(&self, said: &Decoded, next: u16) -> Instruction
+        requires says { Says self.now.storage self.now.i said.now }
+        requires next { next ≡ (self.now.i + said.now.len) % addresses }
         ensures value { result ≡ instruction_of said.now.operation said.now.len self.now }
         ensures a { result.a < addresses }
         ensures b { result.b < addresses }
         ensures next { result.next < addresses }
     {
-        let len = said.len;
-        let next = if self.i + len < ADDRESSES {
-            self.i + len
-        } else {
-            self.i + len - ADDRESSES
-        };
         let (a, b) = match said.spelled {
             Spelled::Both => (self.spelled_a(said), self.spelled_b(said)),
             Spelled::Only => (self.spelled_a(said), self.only_b(said)),
             Spelled::NotAll => (self.a_address(said), self.b_address(said)),
         };
         Instruction {
-            len,
+            len: said.len,
             a,
             b,
             next,

@@ -1,7 +1,0 @@
-use Rattle.std.proofs.Common.{◌≡◌, ℕ, ◌-◌, ◌*◌, ◌<◌, ◌≤◌, max}
-use Rattle.core_1401.specs.MarkWords.{mark_bit}
-use Rattle.core_1401.proofs.mark_words.first_pair_by_words.Given as goal
-
-abbrev pub invariant-loop-turn : goal.invariant-loop-turn
-invariant-loop-turn l = (j : ℕ) → j < 64 * l.turn → j ≤ l.a → j ≤ l.b
-    → max (mark_bit l.words (l.a - j)) (mark_bit l.words (l.b - j)) ≡ 0
