@@ -4,6 +4,8 @@ mod AssemblyExamples
 pub mod CellsLemmas
 pub mod CharactersLemmas
 pub mod CoreLemmas
+mod ExplanationExamples
+pub mod ExplanationLemmas
 pub mod FirstFaultLemmas
 pub mod LawLemmas
 pub mod ListingLemmas

@@ -3,6 +3,7 @@ pub mod Assembly
 pub mod Built
 pub mod Cells
 pub mod Characters
+pub mod Explanation
 pub mod Fault
 pub mod FirstFault
 pub mod KeptLine

@@ -93,7 +93,11 @@ fn source_faults(alloc: Global, source: &[u8]) -> Result<Vec<AsmFault>, AsmFault
 }
 
 /// The fault that the assembler tells.
-fn fault_of(alloc: Global, source: &[u8], size: u16) -> Result<Option<AsmFault>, AsmFault>
+pub(crate) fn fault_of(
+    alloc: Global,
+    source: &[u8],
+    size: u16,
+) -> Result<Option<AsmFault>, AsmFault>
     ensures ok { IfOk result (λ fault. fault ≡ fault_in (assembly_in size source.now)) }
     ensures err { IfErr result IsMemory }
 {

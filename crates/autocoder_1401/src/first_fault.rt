@@ -123,7 +123,7 @@ pub(crate) fn has_double_label(labels: &Labels, number: u64, field: LabelField) 
 }
 
 /// The symbol that an operand names.
-fn symbol_in(field: OperandField) -> Option<Label>
+pub(crate) fn symbol_in(field: OperandField) -> Option<Label>
     ensures { result ≡ symbol_in field }
 {
     match field {

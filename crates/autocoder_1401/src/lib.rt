@@ -25,10 +25,14 @@ mod printing; // the parts of a line of the listing
 pub mod listing; // the source with its addresses and cells
 mod outputs; // segments and listing, line by line
 mod own_fault; // faults that don't only follow from one told before
+pub mod explanation; // what is wrong at a fault, and in which columns
 pub mod all_faults; // all faults of a source
+pub mod explaining; // all faults of a source, each with what is wrong
 pub mod fault; // the kinds of fault
 
 pub use all_faults::faults;
 pub use assembly::{Assembly, assemble};
+pub use explaining::explained_faults;
+pub use explanation::{Cause, Explanation};
 pub use fault::{AsmFault, AsmKind};
 pub use listing::{Listing, ListingLine};

@@ -1,3 +1,5 @@
+mod FlawExamples
+pub mod FlawLemmas
 pub mod NumbersLemmas
 mod OperandExamples
 mod SourceLineExamples

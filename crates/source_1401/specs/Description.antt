@@ -1,6 +1,6 @@
 -- The table of the kinds of statement: a row for each kind, a column for each thing that the assembler asks of one
 -- (Autocoder, "Declarative Operations", "Assembler Control").
-use Rattle.std.specs.Prelude.{Bool, true, false, not, Option, None, Some, is_some}
+use Rattle.std.specs.Prelude.{Bool, true, false, not, None, Some, is_some}
 use Rattle.source_1401.specs.Operands.{has_malformed, is_value}
 use Rattle.source_1401.specs.declared.description.Addressing.{Addressing}
 use Rattle.source_1401.specs.declared.description.Addressing.TheVariants as addressing

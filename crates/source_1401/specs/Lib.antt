@@ -1,8 +1,10 @@
 pub mod Address
 pub mod Constant
 pub mod Description
+pub mod Flaw
 pub mod Label
 pub mod Mnemonic
+pub mod Nearness
 pub mod Numbers
 pub mod Operands
 pub mod Punctuation

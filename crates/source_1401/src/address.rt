@@ -60,7 +60,7 @@ fn begins_with_asterisk(text: &[u8]) -> bool
 }
 
 /// How many bytes the base of an address has: an asterisk, or the letters and digits in front.
-fn base_len(text: &[u8]) -> usize
+pub(crate) fn base_len(text: &[u8]) -> usize
     ensures value { result ≡ base_len text.now }
     ensures bound { result ≤ length text.now }
 {

@@ -32,7 +32,8 @@ pub(crate) fn columns_in(columns: &[u8; COLUMNS], first: usize, last: usize) -> 
     requires first { 1 ≤ first }
     requires order { first ≤ last }
     requires last { last ≤ 80 }
-    ensures { result.now ≡ columns_in first last columns.now }
+    ensures value { result.now ≡ columns_in first last columns.now }
+    ensures count { length result.now ≡ last + 1 - first }
 {
     &columns[first - 1..last]
 }

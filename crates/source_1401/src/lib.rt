@@ -16,18 +16,25 @@ pub mod columns; // a line as its 80 columns
 pub mod numbers; // numbers within bounds
 pub mod label; // columns 6 to 15
 pub mod mnemonic; // columns 16 to 20
+pub mod nearness; // words that are nearly alike
 pub mod address; // addresses, as they are written
 pub mod constant; // constants and literals
 pub mod operands; // columns 21 to 72
 pub mod statement; // what a line says
 pub mod description; // what each kind of statement asks of the assembler
+pub mod flaw; // which columns of a line are at fault
 
 pub use address::{Address, Base};
 pub use columns::COLUMNS;
 pub use constant::{Constant, TEXT_LENGTH, Text};
 pub use description::{Addressing, AreaRole, Contents, Description, LabelRule, Next, Point};
+pub use flaw::{
+    Flaw, OperandFlaw, OperationFlaw, Stretch, first_base, foreign_column, label_stretch,
+    operand_flaw, operation_flaw, operation_stretch, second_base, statement_stretch,
+};
 pub use label::{LABEL_LENGTH, Label, LabelField};
 pub use lines::split_line;
 pub use mnemonic::{DCharacter, Form, Instruction, Operation};
+pub use nearness::{is_near, nearest_mnemonic, word_in};
 pub use operands::{Operand, OperandField, Operands};
 pub use statement::{Areas, Body, Bytes, Line, Span, Statement};

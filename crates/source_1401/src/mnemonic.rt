@@ -63,10 +63,10 @@ pub enum Operation {
 }
 
 /// A row of the table of instructions.
-type Row = ([u8; 5], u8, u8, u8, DCharacter);
+pub(crate) type Row = ([u8; 5], u8, u8, u8, DCharacter);
 
 /// A row of the table of the assembler's own operations.
-type OwnRow = ([u8; 5], Operation);
+pub(crate) type OwnRow = ([u8; 5], Operation);
 
 /// The mnemonics of instructions in the manual's order: the columns 16 to 20, the graphic of the operation character,
 /// how many addresses the source writes at least and at most, and the d-character.
@@ -130,7 +130,7 @@ static ASSEMBLER_OPERATIONS: [OwnRow; 9] = [
 
 /// The table of instructions.
 #[tactic(auto, unfolding(crate::specs::Mnemonic::instructions))]
-fn instructions() -> &'static [Row]
+pub(crate) fn instructions() -> &'static [Row]
     ensures { result.now ≡ instructions }
 {
     &INSTRUCTIONS
@@ -138,7 +138,7 @@ fn instructions() -> &'static [Row]
 
 /// The table of the assembler's own operations.
 #[tactic(auto, unfolding(crate::specs::Mnemonic::assembler_operations))]
-fn assembler_operations() -> &'static [OwnRow]
+pub(crate) fn assembler_operations() -> &'static [OwnRow]
     ensures { result.now ≡ assembler_operations }
 {
     &ASSEMBLER_OPERATIONS

@@ -43,7 +43,7 @@ pub struct Operands {
 }
 
 /// Whether the operands end here: with a blank, or with the columns.
-fn is_ended(text: &[u8]) -> bool
+pub(crate) fn is_ended(text: &[u8]) -> bool
     ensures { result ≡ is_ended text.now }
 {
     match text {
@@ -53,7 +53,7 @@ fn is_ended(text: &[u8]) -> bool
 }
 
 /// How many bytes an operand has: up to the first comma or blank that no two at signs enclose.
-fn operand_len(text: &[u8]) -> usize
+pub(crate) fn operand_len(text: &[u8]) -> usize
     ensures value { result ≡ operand_len false text.now }
     ensures bound { result ≤ length text.now }
 {
@@ -120,7 +120,7 @@ fn read_operand(text: &[u8]) -> (OperandField, &[u8])
 }
 
 /// The first address, if the operation can have one, and what follows it.
-fn first_operand(most: u8, text: &[u8]) -> (OperandField, &[u8])
+pub(crate) fn first_operand(most: u8, text: &[u8]) -> (OperandField, &[u8])
     ensures field { result.0 ≡ (first_operand most text.now).0 }
     ensures behind { result.1.now ≡ (first_operand most text.now).1 }
 {
@@ -132,7 +132,7 @@ fn first_operand(most: u8, text: &[u8]) -> (OperandField, &[u8])
 }
 
 /// The second address, after a comma, if the operation can have two, and what follows it.
-fn second_operand(most: u8, rest: &[u8]) -> (OperandField, &[u8])
+pub(crate) fn second_operand(most: u8, rest: &[u8]) -> (OperandField, &[u8])
     ensures field { result.0 ≡ (second_operand most rest.now).0 }
     ensures behind { result.1.now ≡ (second_operand most rest.now).1 }
 {
@@ -182,7 +182,7 @@ fn d_of(form: Form, rest: &[u8]) -> (Option<u8>, bool)
 
 impl OperandField {
     /// How many addresses stand here.
-    fn count(self) -> u8
+    pub(crate) fn count(self) -> u8
         ensures value { result ≡ count_of self }
         ensures bound { result ≤ 1 }
     {
@@ -193,7 +193,7 @@ impl OperandField {
     }
 
     /// Whether it is neither an address nor a literal, and yet not empty.
-    fn is_malformed(self) -> bool
+    pub(crate) fn is_malformed(self) -> bool
         ensures { result ≡ is_malformed self }
     {
         matches!(self, OperandField::Malformed)

@@ -90,7 +90,7 @@ pub struct Line {
 }
 
 /// One address, without a d-character.
-const ONE_ADDRESS: Form = Form {
+pub(crate) const ONE_ADDRESS: Form = Form {
     least: 1,
     most: 1,
     d: DCharacter::Never,

@@ -1,0 +1,51 @@
+-- What is wrong with a source, and in which columns, worked out by hand.
+use Rattle.std.proofs.Common.{◌≡◌, ℕ, List, [], ◌∷◌, Some, refl}
+use Rattle.std.specs.Prelude.{codes}
+use Rattle.bcd_1401.specs.Graphic.{graphics}
+use Rattle.source_1401.specs.Flaw.{stretch}
+use Rattle.source_1401.specs.Mnemonic.{instructions, assembler_operations}
+use Rattle.source_1401.specs.SourceLine.{columns_of, lines_of}
+use Rattle.autocoder_1401.specs.Explanation.{all_explained}
+use Rattle.autocoder_1401.specs.declared.explanation.Cause.{Cause}
+use Rattle.autocoder_1401.specs.declared.explanation.Cause.TheVariants as causes
+use Rattle.autocoder_1401.specs.declared.explanation.Explanation.{Explanation}
+use Rattle.autocoder_1401.specs.declared.fault.AsmKind.{AsmKind}
+use Rattle.autocoder_1401.specs.declared.fault.AsmKind.TheVariants as kinds
+
+-- the faults of a source in 4,000 places, each with what is wrong, with all tables open
+wrong_in : List ℕ → List Explanation
+unfolding columns_of instructions assembler_operations graphics
+wrong_in source = all_explained 4000 (lines_of source)
+
+wrong : ℕ → AsmKind → ℕ → ℕ → Cause → Explanation
+wrong line kind column length cause =
+    record { fault = record { line = line; kind = kind }; columns = stretch column length; cause = cause }
+
+a_good_source : wrong_in (codes "     A         H    A\n               END  A\n") ≡ []
+unfolding wrong_in
+a_good_source = refl
+
+a_mnemonic_may_be_meant : wrong_in (codes "               ZAP  5\n               END  0\n")
+    ≡ wrong 1 kinds.Operation 16 3 (causes.OperationUnknown (Some (codes "ZA   "))) ∷ []
+unfolding wrong_in wrong
+a_mnemonic_may_be_meant = refl
+
+-- the second operand names no label, and nearly the one of its line
+a_label_may_be_meant : wrong_in (codes "     BEGIN     MLC  BEGIN,BEGIM\n               END  0\n")
+    ≡ wrong 1 kinds.Undefined 27 5 (causes.Undeclared (Some (record { text = codes "BEGIN " }))) ∷ []
+unfolding wrong_in wrong
+a_label_may_be_meant = refl
+
+a_label_twice : wrong_in (codes "     A         H\n     A         H\n               END  0\n")
+    ≡ wrong 2 kinds.DoubleLabel 6 1 (causes.DeclaredBefore 1) ∷ []
+unfolding wrong_in wrong
+a_label_twice = refl
+
+a_field_past_its_area : wrong_in (codes "     REC       DA   2X4\n     KEY            3,5\n               END  0\n")
+    ≡ wrong 2 kinds.Operand 23 1 causes.PastArea ∷ []
+unfolding wrong_in wrong
+a_field_past_its_area = refl
+
+no_end : wrong_in (codes "               H\n") ≡ wrong 2 kinds.NoEnd 1 0 causes.NoEnd ∷ []
+unfolding wrong_in wrong
+no_end = refl

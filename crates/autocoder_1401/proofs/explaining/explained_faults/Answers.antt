@@ -1,0 +1,26 @@
+-- What is explained is what is told: the first is the assembler's, and each is there.
+use Rattle.std.proofs.Common.{ap, sym, subst, ◌∙◌, List, All}
+use Rattle.source_1401.specs.SourceLine.{lines_of}
+use Rattle.autocoder_1401.specs.AllFaults.{first_in, IsTold}
+use Rattle.autocoder_1401.specs.Assembly.{lines_in, assembly_of}
+use Rattle.autocoder_1401.specs.Explanation.{faults_of}
+use Rattle.autocoder_1401.specs.declared.fault.AsmFault.{AsmFault}
+use Rattle.autocoder_1401.proofs.AllFaultsLemmas.{first_of_all, each_of_all}
+use Rattle.autocoder_1401.proofs.ExplanationLemmas.{told_all}
+use Rattle.autocoder_1401.proofs.explaining.explained_faults.Goals as goal
+
+pub returns-clause-faults : goal.returns-clause-faults
+returns-clause-faults c =
+    ap faults_of c.in_ok-add_outside_explained.ensures.ok ∙ told_all c.args.size (lines_of c.args.source.now)
+
+pub returns-clause-first : goal.returns-clause-first
+returns-clause-first c =
+    ap (λ explanations. first_in (faults_of explanations)) c.in_ok-add_outside_explained.ensures.ok
+    ∙ ap first_in (told_all c.args.size (lines_of c.args.source.now))
+    ∙ first_of_all c.args.size (lines_in c.args.source.now) (assembly_of c.args.size c.args.source.now)
+
+pub returns-clause-each : goal.returns-clause-each
+returns-clause-each c =
+    subst (λ (told : List AsmFault). All (IsTold c.args.size (lines_in c.args.source.now)) told)
+    (sym (ap faults_of c.in_ok-add_outside_explained.ensures.ok ∙ told_all c.args.size (lines_of c.args.source.now)))
+    (each_of_all c.args.size (lines_in c.args.source.now))

@@ -1,0 +1,196 @@
+//! All faults of a source, each with what is wrong and the columns in which it is.
+ghost use Rattle.std.specs.Prelude.{◌≡◌, ◌++◌, ◌<◌, ◌^◌, All, length, map, IfOk, IfErr, OnOk};
+ghost use Rattle.indexmap.specs.IndexMap.{get};
+ghost use Rattle.source_1401.specs.SourceLine.{lines_of};
+ghost use Rattle.source_1401.specs.Statement.{line_of};
+ghost use Rattle.autocoder_1401.specs.AllFaults.{told_end, all_faults, first_in, fault_in, IsTold};
+ghost use Rattle.autocoder_1401.specs.Assembly.{lines_in, assembly_in};
+ghost use Rattle.autocoder_1401.specs.Explanation.{explained, explained_from, explained_lines, all_explained};
+ghost use Rattle.autocoder_1401.specs.Explanation.{whole_line, faults_of};
+ghost use Rattle.autocoder_1401.specs.Fault.{IsMemory};
+ghost use Rattle.autocoder_1401.specs.OwnFault.{nothing_before, told};
+ghost use Rattle.autocoder_1401.specs.Symbols.{same_label};
+ghost use Rattle.autocoder_1401.specs.declared.explanation.Cause.TheVariants.{NoEnd, OutOfCore};
+
+use crate::all_faults::fault_of;
+use crate::explanation::{Cause, Explanation, WHOLE_LINE, explain};
+use crate::fault::{AsmFault, AsmKind};
+use crate::hashing::SourceHashing;
+use crate::kept_line::KeptLine;
+use crate::own_fault::{Before, told_of};
+use crate::reading::read_lines;
+use crate::symbols::{Labels, declared, declared_anywhere};
+use source_1401::split_line;
+use std::alloc::Global;
+
+/// What declares labels: the lines, up to END or all of them.
+#[derive(Drop)]
+struct Declarations {
+    /// For each label the line up to END that declares it.
+    labels: Labels,
+    /// For each label the first line that has it.
+    anywhere: Labels,
+}
+
+/// Adds the fault of a line with what is wrong, if one is told of it.
+fn put_explained(
+    this: &Declarations,
+    lines: &[KeptLine],
+    before: Before,
+    source: &[u8],
+    line: &KeptLine,
+    explanations: &mut Vec<Explanation>,
+) -> Result<(), AsmFault>
+    requires { line.now ≡ line_of source.now }
+    ensures ok { OnOk result (explanations.new.items ≡ explanations.old.items
+        ++ explained (get same_label this.now.labels) (get same_label this.now.anywhere) lines.now before.at.number
+        source.now (told (get same_label this.now.labels) (get same_label this.now.anywhere) before line.now)) }
+    ensures err { IfErr result IsMemory }
+{
+    if let Some(kind) = told_of(&this.labels, &this.anywhere, before, line) {
+        let fault = AsmFault {
+            line: before.at.number,
+            kind,
+        };
+        let explanation = explain(&this.labels, &this.anywhere, lines, fault, source, line);
+        explanations.push(explanation)?;
+    }
+    Ok(())
+}
+
+/// Adds that there is no END, if that is told.
+fn put_explained_end(before: Before, explanations: &mut Vec<Explanation>) -> Result<(), AsmFault>
+    ensures ok { OnOk result (explanations.new.items ≡ explanations.old.items
+        ++ map (whole_line NoEnd) (told_end before)) }
+    ensures err { IfErr result IsMemory }
+{
+    let is_told = !before.at.is_ended && (before.is_clean || !before.lost_end);
+    if is_told {
+        explanations.push(Explanation {
+            fault: AsmFault {
+                line: before.at.number,
+                kind: AsmKind::NoEnd,
+            },
+            columns: WHOLE_LINE,
+            cause: Cause::NoEnd,
+        })?;
+    }
+    Ok(())
+}
+
+/// Adds the faults of a source's lines, each with what is wrong.
+fn put_all_explained(
+    this: &Declarations,
+    source: &[u8],
+    lines: &[KeptLine],
+    explanations: &mut Vec<Explanation>,
+) -> Result<(), AsmFault>
+    requires lines { lines.now ≡ map line_of (lines_of source.now) }
+    requires few { length lines.now < 2 ^ 32 }
+    ensures ok { OnOk result (explanations.new.items ≡ explanations.old.items
+        ++ explained_from (get same_label this.now.labels) (get same_label this.now.anywhere) lines.now nothing_before
+        (lines_of source.now)) }
+    ensures err { IfErr result IsMemory }
+{
+    let mut before = Before::NOTHING;
+    let mut sources = source;
+    for line in lines {
+        let Some((text, behind)) = split_line(sources) else {
+            unreachable!()
+        };
+        put_explained(this, lines, before, text, line, explanations)?;
+        before = before.next(&this.labels, line);
+        sources = behind;
+    }
+    put_explained_end(before, explanations)?;
+    Ok(())
+}
+
+/// The faults of a source's lines, each with what is wrong.
+fn line_explanations(
+    alloc: Global,
+    hashing: SourceHashing,
+    source: &[u8],
+    lines: &[KeptLine],
+) -> Result<Vec<Explanation>, AsmFault>
+    requires lines { lines.now ≡ map line_of (lines_of source.now) }
+    requires few { length lines.now < 2 ^ 32 }
+    ensures ok { IfOk result (λ v. v.items ≡ explained_lines (lines_of source.now)) }
+    ensures err { IfErr result IsMemory }
+{
+    let labels = declared(alloc, hashing, lines)?;
+    let anywhere = declared_anywhere(alloc, hashing, lines)?;
+    let this = Declarations { labels, anywhere };
+    let mut explanations = Vec::new(alloc);
+    put_all_explained(&this, source, lines, &mut explanations)?;
+    Ok(explanations)
+}
+
+/// The faults of a source, each with what is wrong, but for what isn't in core.
+fn source_explanations(alloc: Global, source: &[u8]) -> Result<Vec<Explanation>, AsmFault>
+    ensures ok { IfOk result (λ v. v.items ≡ explained_lines (lines_of source.now)) }
+    ensures err { IfErr result IsMemory }
+{
+    let lines = read_lines(alloc, source)?;
+    let explanations = line_explanations(
+        alloc,
+        SourceHashing::from_source(source),
+        source,
+        &lines,
+    )?;
+    Ok(explanations)
+}
+
+/// Adds what isn't in core, where there is no other fault.
+fn add_outside_explained(
+    alloc: Global,
+    source: &[u8],
+    size: u16,
+    explanations: &mut Vec<Explanation>,
+) -> Result<(), AsmFault>
+    requires { explanations.old.items ≡ explained_lines (lines_of source.now) }
+    ensures ok { OnOk result (explanations.new.items ≡ all_explained size (lines_of source.now)) }
+    ensures err { IfErr result IsMemory }
+{
+    if explanations.is_empty() {
+        let outside = fault_of(alloc, source, size)?;
+        if let Some(fault) = outside {
+            explanations.push(Explanation {
+                fault,
+                columns: WHOLE_LINE,
+                cause: Cause::OutOfCore,
+            })?;
+        }
+    }
+    Ok(())
+}
+
+/// All faults of a source for core storage of this size, as `faults` tells them, each with what is wrong and the
+/// columns of its line in which it is. For an unknown operation and for a symbol that no line declares there is the
+/// mnemonic or the label that may be meant: the first that differs by one letter, or else by two. A word may differ by a
+/// letter for each two that it has. Labels are looked for in a source of at most 4,000 lines.
+///
+/// # Errors
+///
+/// `Memory` if memory is refused or the source has too many lines.
+pub fn explained_faults(
+    alloc: Global,
+    source: &[u8],
+    size: u16,
+) -> Result<Vec<Explanation>, AsmFault>
+    ensures ok { IfOk result (λ v. v.items ≡ all_explained size (lines_of source.now)) }
+
+    // They are all faults of the source.
+    ensures faults { IfOk result (λ v. faults_of v.items ≡ all_faults size (lines_in source.now)) }
+
+    // The first of them is the fault that the assembler tells; there is none exactly where it assembles.
+    ensures first { IfOk result (λ v. first_in (faults_of v.items) ≡ fault_in (assembly_in size source.now)) }
+
+    // Each is a fault of the line that it names.
+    ensures each { IfOk result (λ v. All (IsTold size (lines_in source.now)) (faults_of v.items)) }
+    ensures err { IfErr result IsMemory }
+{
+    let mut explanations = source_explanations(alloc, source)?;
+    add_outside_explained(alloc, source, size, &mut explanations)?;
+    Ok(explanations)
+}

@@ -1,0 +1,374 @@
+//! Which columns of a line are at fault.
+ghost use Rattle.std.specs.Prelude.{◌≡◌, ◌+◌, ◌-◌, ◌≤◌, length, drop, is_some};
+ghost use Rattle.std.specs.List.{suffix_len, prefix_len, position_or_len};
+ghost use Rattle.source_1401.specs.Flaw.{filled, first_without, foreign_column, flaw_after};
+ghost use Rattle.source_1401.specs.Flaw.{flaw_behind, operands_flaw, lone_flaw, span_flaw, value_flaw, flaw_with};
+ghost use Rattle.source_1401.specs.Flaw.{operand_flaw, first_base, second_base, operation_flaw};
+ghost use Rattle.source_1401.specs.SourceLine.{is_blank, is_graphic, is_printable, columns_of, columns_in, has_foreign_bytes};
+
+use crate::address::base_len;
+use crate::columns::{COLUMNS, are_blank, columns_in, columns_of, is_comment, padded};
+use crate::label::bytes_before_blank;
+use crate::mnemonic::{Form, Operation};
+use crate::nearness::{nearest_mnemonic, word_in};
+use crate::numbers::number_between;
+use crate::operands::{Operands, first_operand, is_ended, operand_len, second_operand};
+use crate::statement::ONE_ADDRESS;
+use bcd_1401::Char;
+
+/// Columns of a line next to each other.
+#[derive(Clone, Copy, Debug, PartialEq, Eq)]
+pub struct Stretch {
+    /// The first, counted from 1.
+    pub column: u8,
+    /// How many there are; none where something is missing there.
+    pub length: u8,
+}
+
+/// What is wrong with operands.
+#[derive(Clone, Copy, Debug, PartialEq, Eq)]
+pub enum OperandFlaw {
+    /// Neither an address nor a literal.
+    NoAddress,
+    /// No constant.
+    NoConstant,
+    /// No number of places.
+    NoCount,
+    /// No areas: their number, an X, and their length.
+    NoAreas,
+    /// No places of a field.
+    NoSpan,
+    /// An address that says no value: with an asterisk or an index register, or a literal.
+    NoValue,
+    /// An address is missing.
+    AddressMissing,
+    /// The d-character is missing.
+    CharacterMissing,
+    /// Something that the operation doesn't take.
+    TooMuch,
+}
+
+/// What is wrong with columns for an operation that hold none.
+#[derive(Clone, Copy, Debug, PartialEq, Eq)]
+pub enum OperationFlaw {
+    /// They hold one that begins too far right.
+    Displaced,
+    /// They hold a word that is none, and may nearly be this one.
+    Unknown(Option<[u8; 5]>),
+}
+
+/// What is wrong with operands, and in which columns.
+#[derive(Clone, Copy, Debug, PartialEq, Eq)]
+pub struct Flaw {
+    /// The columns.
+    pub columns: Stretch,
+    /// What is wrong there.
+    pub kind: OperandFlaw,
+}
+
+/// How many blanks columns begin with.
+fn blanks_in_front(columns: &[u8]) -> usize
+    ensures value { result ≡ prefix_len is_blank columns.now }
+    ensures bound { result ≤ length columns.now }
+{
+    columns.iter().take_while(|byte| **byte == b' ').count()
+}
+
+/// How many columns there are without the blanks at the end.
+fn len_without_last_blanks(columns: &[u8]) -> usize
+    ensures { result ≡ length columns.now - suffix_len is_blank columns.now }
+{
+    let mut count = columns.len();
+    while count > 0 && columns[count - 1] == b' ' {
+        count -= 1;
+    }
+    count
+}
+
+/// What columns hold that begin with this one, without the blanks around it.
+fn filled(column: u8, columns: &[u8]) -> Stretch
+    requires first { column ≤ 80 }
+    requires few { length columns.now ≤ 80 }
+    ensures { result ≡ filled column columns.now }
+{
+    if are_blank(columns) {
+        return Stretch { column, length: 0 };
+    }
+    let skipped = blanks_in_front(columns);
+    Stretch {
+        column: column + skipped as u8,
+        length: len_without_last_blanks(columns).saturating_sub(skipped) as u8,
+    }
+}
+
+/// What the columns for a label hold.
+pub fn label_stretch(line: &[u8]) -> Stretch
+    ensures { result ≡ filled 6 (columns_in 6 15 (columns_of line.now)) }
+{
+    filled(6, columns_in(&columns_of(line), 6, 15))
+}
+
+/// What the columns for an operation hold.
+pub fn operation_stretch(line: &[u8]) -> Stretch
+    ensures { result ≡ filled 16 (columns_in 16 20 (columns_of line.now)) }
+{
+    filled(16, columns_in(&columns_of(line), 16, 20))
+}
+
+/// What the columns from that for a label to the last for operands hold.
+pub fn statement_stretch(line: &[u8]) -> Stretch
+    ensures { result ≡ filled 6 (columns_in 6 72 (columns_of line.now)) }
+{
+    filled(6, columns_in(&columns_of(line), 6, 72))
+}
+
+/// What is wrong with the columns of a line for an operation, where they hold none.
+pub fn operation_flaw(line: &[u8]) -> OperationFlaw
+    ensures { result ≡ operation_flaw (columns_in 16 20 (columns_of line.now)) }
+{
+    let columns = columns_of(line);
+    let operation = columns_in(&columns, 16, 20);
+    let word = &operation[blanks_in_front(operation)..];
+    if Operation::from_columns(padded::<5>(word).as_slice()).is_some() {
+        OperationFlaw::Displaced
+    } else {
+        OperationFlaw::Unknown(nearest_mnemonic(word_in(word)))
+    }
+}
+
+/// How many bytes that can be printed columns begin with.
+fn printable_in_front(columns: &[u8]) -> usize
+    ensures value { result ≡ prefix_len is_printable columns.now }
+    ensures bound { result ≤ length columns.now }
+{
+    columns
+        .iter()
+        .take_while(|byte| **byte >= b' ' && **byte <= b'~')
+        .count()
+}
+
+/// How many graphics columns begin with.
+fn graphics_in_front(columns: &[u8]) -> usize
+    ensures value { result ≡ prefix_len is_graphic columns.now }
+    ensures bound { result ≤ length columns.now }
+{
+    columns
+        .iter()
+        .take_while(|byte| Char::from_graphic(**byte).is_some())
+        .count()
+}
+
+/// The first of these columns, of which the first has this number, that holds a byte that can't be printed.
+fn first_unprintable(column: u8, columns: &[u8]) -> Option<u8>
+    requires { column + length columns.now ≤ 81 }
+    ensures { result ≡ first_without is_printable column columns.now }
+{
+    let skipped = printable_in_front(columns);
+    if skipped < columns.len() {
+        Some(column + skipped as u8)
+    } else {
+        None
+    }
+}
+
+/// The first of these columns, of which the first has this number, that holds no graphic of a character.
+fn first_no_graphic(column: u8, columns: &[u8]) -> Option<u8>
+    requires { column + length columns.now ≤ 81 }
+    ensures { result ≡ first_without is_graphic column columns.now }
+{
+    let skipped = graphics_in_front(columns);
+    if skipped < columns.len() {
+        Some(column + skipped as u8)
+    } else {
+        None
+    }
+}
+
+/// The first of a line's columns that holds a byte that can't be there.
+fn foreign_column_in(columns: &[u8; COLUMNS]) -> Option<u8>
+    ensures { result ≡ foreign_column columns.now }
+{
+    if is_comment(columns) {
+        return first_unprintable(1, columns.as_slice());
+    }
+    if let Some(column) = first_unprintable(1, columns_in(columns, 1, 5)) {
+        return Some(column);
+    }
+    if let Some(column) = first_no_graphic(6, columns_in(columns, 6, 72)) {
+        return Some(column);
+    }
+    first_unprintable(73, columns_in(columns, 73, 80))
+}
+
+/// The first column of a line that holds a byte that can't be there.
+#[tactic(auto, using(crate::proofs::FlawLemmas::foreign_is))]
+pub fn foreign_column(line: &[u8]) -> Option<u8>
+    ensures value { result ≡ foreign_column (columns_of line.now) }
+
+    // There is one exactly where the line has such a byte.
+    ensures foreign { is_some result ≡ has_foreign_bytes (columns_of line.now) }
+{
+    let column = foreign_column_in(&columns_of(line));
+    column
+}
+
+/// A flaw of the columns for operands, this many columns after the first of them.
+fn flaw_after(skipped: usize, length: usize, kind: OperandFlaw) -> Flaw
+    requires start { skipped ≤ 54 }
+    requires few { length ≤ 54 }
+    ensures { result ≡ flaw_after skipped length kind }
+{
+    Flaw {
+        columns: Stretch {
+            column: 21 + skipped as u8,
+            length: length as u8,
+        },
+        kind,
+    }
+}
+
+/// What is wrong behind the operands that an operation has.
+fn flaw_behind(skipped: usize, rest: &[u8]) -> Flaw
+    requires start { skipped ≤ 54 }
+    requires few { length rest.now ≤ 54 }
+    ensures { result ≡ flaw_behind skipped rest.now }
+{
+    if is_ended(rest) {
+        flaw_after(skipped, 0, OperandFlaw::CharacterMissing)
+    } else {
+        flaw_after(skipped, bytes_before_blank(rest), OperandFlaw::TooMuch)
+    }
+}
+
+/// A text without its first byte.
+fn without_first(text: &[u8]) -> &[u8]
+    ensures value { result.now ≡ drop 1 text.now }
+    ensures bound { length result.now ≤ length text.now }
+{
+    match text {
+        [_, more @ ..] => more,
+        [] => &[],
+    }
+}
+
+/// What is wrong with the operands of this form.
+fn operands_flaw(form: Form, columns: &[u8]) -> Flaw
+    requires { length columns.now ≤ 52 }
+    ensures { result ≡ operands_flaw form columns.now }
+{
+    let (a, behind_a) = first_operand(form.most, columns);
+    let (b, rest) = second_operand(form.most, behind_a);
+    let words = without_first(behind_a);
+    if a.is_malformed() {
+        return flaw_after(0, operand_len(columns), OperandFlaw::NoAddress);
+    }
+    if b.is_malformed() {
+        let skipped = columns.len().saturating_sub(words.len());
+        return flaw_after(skipped, operand_len(words), OperandFlaw::NoAddress);
+    }
+    let skipped = columns.len().saturating_sub(rest.len());
+    if a.count() + b.count() < form.least {
+        return flaw_after(skipped, 0, OperandFlaw::AddressMissing);
+    }
+    flaw_behind(skipped, rest)
+}
+
+/// What is wrong with one operand, this many columns after the first of them, or with what is behind it.
+fn lone_flaw(kind: OperandFlaw, skipped: usize, columns: &[u8]) -> Flaw
+    requires { skipped + length columns.now ≤ 54 }
+    ensures { result ≡ lone_flaw kind skipped columns.now }
+{
+    let count = operand_len(columns);
+    let behind = &columns[count..];
+    if is_ended(behind) {
+        flaw_after(skipped, count, kind)
+    } else {
+        flaw_after(
+            skipped + count,
+            bytes_before_blank(behind),
+            OperandFlaw::TooMuch,
+        )
+    }
+}
+
+/// What is wrong with the first place of a field, or with its last.
+fn span_flaw(columns: &[u8]) -> Flaw
+    requires { length columns.now ≤ 52 }
+    ensures { result ≡ span_flaw columns.now }
+{
+    let count = operand_len(columns);
+    if number_between(1, 999, &columns[..count]).is_none() {
+        return flaw_after(0, count, OperandFlaw::NoSpan);
+    }
+    lone_flaw(
+        OperandFlaw::NoSpan,
+        count + 1,
+        without_first(&columns[count..]),
+    )
+}
+
+/// What is wrong with an address that is to say a value.
+fn value_flaw(columns: &[u8]) -> Flaw
+    requires { length columns.now ≤ 52 }
+    ensures { result ≡ value_flaw columns.now }
+{
+    if Operands::from_columns(ONE_ADDRESS, columns).are_malformed() {
+        operands_flaw(ONE_ADDRESS, columns)
+    } else {
+        flaw_after(0, operand_len(columns), OperandFlaw::NoValue)
+    }
+}
+
+/// What is wrong with the operands of an operation, if something is.
+fn flaw_with(operation: Operation, columns: &[u8]) -> Flaw
+    requires { length columns.now ≤ 52 }
+    ensures { result ≡ flaw_with operation columns.now }
+{
+    match operation {
+        Operation::Instruction(instruction) => operands_flaw(instruction.form, columns),
+        Operation::MarkedConstant | Operation::Constant => {
+            lone_flaw(OperandFlaw::NoConstant, 0, columns)
+        },
+        Operation::Space => lone_flaw(OperandFlaw::NoCount, 0, columns),
+        Operation::Areas => lone_flaw(OperandFlaw::NoAreas, 0, columns),
+        Operation::Field => span_flaw(columns),
+        Operation::Equate | Operation::Origin | Operation::Execute | Operation::End => {
+            value_flaw(columns)
+        },
+    }
+}
+
+/// What is wrong with the operands of a line, if something is; none where its operation isn't known.
+pub fn operand_flaw(line: &[u8]) -> Option<Flaw>
+    ensures { result ≡ operand_flaw (columns_of line.now) }
+{
+    let columns = columns_of(line);
+    match Operation::from_columns(columns_in(&columns, 16, 20)) {
+        Some(operation) => Some(flaw_with(operation, columns_in(&columns, 21, 72))),
+        None => None,
+    }
+}
+
+/// The symbol or the number that the first operand of a line begins with.
+pub fn first_base(line: &[u8]) -> Stretch
+    ensures { result ≡ first_base (columns_in 21 72 (columns_of line.now)) }
+{
+    let columns = columns_of(line);
+    Stretch {
+        column: 21,
+        length: base_len(columns_in(&columns, 21, 72)) as u8,
+    }
+}
+
+/// The symbol or the number that the second operand of a line begins with.
+pub fn second_base(line: &[u8]) -> Stretch
+    ensures { result ≡ second_base (columns_in 21 72 (columns_of line.now)) }
+{
+    let columns = columns_of(line);
+    let operands = columns_in(&columns, 21, 72);
+    let count = operand_len(operands);
+    Stretch {
+        column: 21 + (count as u8 + 1),
+        length: base_len(without_first(&operands[count..])) as u8,
+    }
+}
