@@ -9,7 +9,7 @@ use mathlib.Core.List.{IsPrefix}
 use Rattle.command_1401.specs.declared.answer.Answer.{Answer}
 use Rattle.command_1401.specs.declared.command.Command.{Command}
 use Rattle.room_1401.specs.declared.entry.Pair.{Pair}
-use Rattle.room_1401.specs.declared.fault.RoomFault.TheVariants.{Memory, JournalFull, NoReading}
+use Rattle.room_1401.specs.declared.fault.RoomFault.TheVariants.{Memory, JournalFull, NoReading, Unkept}
 use Rattle.room_1401.specs.Journal.{most_entries}
 use Rattle.room_1401.specs.Replay.{pair}
 use Rattle.room_1401.specs.Seen.{Knows}
@@ -70,6 +70,7 @@ reply_from size first before after (Ok (line.Command command)) (Some (reply.Room
     between_from first before after _ p r
 reply_from size first before after (Ok (line.Command command)) (Some (reply.RoomFault JournalFull)) p r = r
 reply_from size first before after (Ok (line.Command command)) (Some (reply.RoomFault NoReading)) p r = r
+reply_from size first before after (Ok (line.Command command)) (Some (reply.RoomFault Unkept)) p r = r
 reply_from size first before after (Ok (line.Command command)) (Some (reply.Glance glance)) p r = r
 reply_from size first before after (Ok (line.Command command)) (Some (reply.GlanceFault fault)) p r = r
 reply_from size first before after (Ok (line.Command command)) (Some (reply.LineFault fault)) p r = r
@@ -172,6 +173,9 @@ in_front size before (Ok (line.Command command)) (Some (reply.RoomFault JournalF
 in_front size before (Ok (line.Command command)) (Some (reply.RoomFault NoReading)) middle after r =
     still size before (Ok (line.Command command)) (Some (reply.RoomFault NoReading)) middle after
     (record { grows = r.0; made_is = r.1; none = refl; reply = λ grows few. tt })
+in_front size before (Ok (line.Command command)) (Some (reply.RoomFault Unkept)) middle after r =
+    still size before (Ok (line.Command command)) (Some (reply.RoomFault Unkept)) middle after
+    (record { grows = r.0; made_is = r.1; none = refl; reply = λ grows few. tt })
 in_front size before (Ok (line.Command command)) (Some (reply.Glance glance)) middle after r = absurd r
 in_front size before (Ok (line.Command command)) (Some (reply.GlanceFault fault)) middle after r = absurd r
 in_front size before (Ok (line.Command command)) (Some (reply.LineFault fault)) middle after r = absurd r
@@ -268,6 +272,8 @@ number_by_end size end.Bound left before read written after s = s.2.number_is
 number_by_end size end.Write left before read written after s =
     s.4.last_answered.number_is ∙ s.4.front_answered.number_is
 number_by_end size end.Memory left before read written after s =
+    s.4.last_answered.number_is ∙ s.4.front_answered.number_is
+number_by_end size end.Unkept left before read written after s =
     s.4.last_answered.number_is ∙ s.4.front_answered.number_is
 
 -- a seat keeps its number

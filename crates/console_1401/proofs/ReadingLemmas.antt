@@ -231,6 +231,31 @@ ended_line responds end.Memory ended before now after read written front said c 
     refl,
   );
 }
+ended_line responds end.Unkept ended before now after read written front said c p n last d a = record {
+  read = read;
+  written = written;
+  consumed = c;
+  appended = Appends-kept before.received now.received after.received written p a.wrote.1;
+  bound = n;
+  session = (
+    ended,
+    front,
+    said,
+    last,
+    record {
+      replies = written;
+      middle = now.state;
+      front_answered = d;
+      reply = bytes_of a.reply;
+      last_answered = answered_one responds now.state after.state said a.reply a.responded;
+      some = some_bytes a.reply a.wrote.0;
+      part = [];
+      begins = (bytes_of a.reply, refl);
+      written_is = sym (append-nil written);
+    },
+    refl,
+  );
+}
 ended_line responds end.EndOfInput ended before now after read written front said c p n last d a = absurd a.wrote
 ended_line responds end.Read ended before now after read written front said c p n last d a = absurd a.wrote
 ended_line responds end.Bound ended before now after read written front said c p n last d a = absurd a.wrote

@@ -6,6 +6,7 @@ use Rattle.std.proofs.lemmas.List.Elements.{All-nil, All-cons, All-take}
 use Rattle.std.specs.Prelude.{All, Ok, Err}
 use Rattle.room_1401.specs.declared.entry.Entry.{Entry}
 use Rattle.room_1401.specs.Account.{Account}
+use Rattle.room_1401.specs.Kept.{KeptAccount}
 use Rattle.console_1401.specs.declared.reply.Reply.{Reply}
 use Rattle.console_1401.specs.declared.session_end.SessionEnd.{SessionEnd}
 use Rattle.console_1401.specs.declared.session_end.SessionEnd.TheVariants as end
@@ -13,7 +14,7 @@ use Rattle.text_1401.specs.ConsoleLine.{Said}
 use Rattle.console_1401.specs.ReplyText.{bytes_of}
 use Rattle.text_1401.specs.declared.line.Line.TheVariants as line
 use Rattle.console_1401.specs.Turns.{Turn, RoomResponds, Answered, NoneRefused, entries_of, commands_in, reply_of}
-use Rattle.console_1401.specs.Turns.{journal_after, replies_to}
+use Rattle.console_1401.specs.Turns.{AnsweredKept, KeptResponds, journal_after, replies_to}
 use Rattle.console_1401.specs.Session.{Exchange, BrokenOff, HasEnded, SessionDid}
 use Rattle.console_1401.specs.Answering.{AnsweredAll}
 
@@ -49,6 +50,8 @@ ended_as one other gives end.Bound left before read written after s = (s.0, s.1,
 ended_as one other gives end.Write left before read written after s =
     (s.0, s.1, s.2, s.3, broken_off_as one other gives before s.1 s.2 written after s.4)
 ended_as one other gives end.Memory left before read written after s =
+    (s.0, s.1, s.2, s.3, broken_off_as one other gives before s.1 s.2 written after s.4, s.5)
+ended_as one other gives end.Unkept left before read written after s =
     (s.0, s.1, s.2, s.3, broken_off_as one other gives before s.1 s.2 written after s.4, s.5)
 
 -- a session whose lines were answered in the one way, said in the other
@@ -151,8 +154,39 @@ size_by_end end.Read left before read written after s = s.2.size_is
 size_by_end end.Bound left before read written after s = s.2.size_is
 size_by_end end.Write left before read written after s = s.4.last_answered.size_is ∙ s.4.front_answered.size_is
 size_by_end end.Memory left before read written after s = s.4.last_answered.size_is ∙ s.4.front_answered.size_is
+size_by_end end.Unkept left before read written after s = s.4.last_answered.size_is ∙ s.4.front_answered.size_is
 
 -- a session leaves the room's size
 pub size_stays : (last : SessionEnd) (l0 l1 t0 t1 : Option (List ℕ)) (before after : Account)
     → SessionDid Answered last l0 l1 t0 t1 before after → after.size ≡ before.size
 size_stays last l0 l1 t0 t1 before after did = size_by_end last l1 before did.read did.written after did.session
+
+-- lines answered at a room that is kept are answered at the room
+at_its_room : (before : KeptAccount) (lines : List Said) (written : List ℕ) (after : KeptAccount)
+    → AnsweredAll KeptResponds before lines written after
+    → AnsweredAll RoomResponds before.room lines written after.room
+at_its_room before [] written after a = (a.0, ap (λ (kept : KeptAccount). kept.room) a.1)
+at_its_room before (said ∷ lines) written after a =
+    (a.0.room, a.1, a.2, a.3, a.4, at_its_room a.0 lines a.2 after a.5)
+
+pub answered_at_kept : (before : KeptAccount) (lines : List Said) (written : List ℕ) (after : KeptAccount)
+    → AnsweredAll KeptResponds before lines written after → AnsweredKept before lines written after
+answered_at_kept before lines written after a =
+    answered_at_room before.room lines written after.room (at_its_room before lines written after a)
+
+kept_size_by_end : (last : SessionEnd) (left : Option (List ℕ)) (before : KeptAccount) (read written : List ℕ)
+    (after : KeptAccount)
+    → HasEnded AnsweredKept last left before read written after → after.room.size ≡ before.room.size
+kept_size_by_end end.Quit left before read written after s = s.3.size_is
+kept_size_by_end end.EndOfInput left before read written after s = s.2.size_is
+kept_size_by_end end.Read left before read written after s = s.2.size_is
+kept_size_by_end end.Bound left before read written after s = s.2.size_is
+kept_size_by_end end.Write left before read written after s = s.4.last_answered.size_is ∙ s.4.front_answered.size_is
+kept_size_by_end end.Memory left before read written after s = s.4.last_answered.size_is ∙ s.4.front_answered.size_is
+kept_size_by_end end.Unkept left before read written after s = s.4.last_answered.size_is ∙ s.4.front_answered.size_is
+
+-- a session leaves the size of a room that is kept
+pub kept_size_stays : (last : SessionEnd) (l0 l1 t0 t1 : Option (List ℕ)) (before after : KeptAccount)
+    → SessionDid AnsweredKept last l0 l1 t0 t1 before after → after.room.size ≡ before.room.size
+kept_size_stays last l0 l1 t0 t1 before after did =
+    kept_size_by_end last l1 before did.read did.written after did.session

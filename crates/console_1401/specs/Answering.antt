@@ -25,12 +25,13 @@ AnsweredAll {S} responds before (said ∷ lines) written after =
     × (written ≡ bytes_of reply ++ rest) × AnsweredAll responds middle lines rest after
 
 -- what was written of a reply: all of it if the session goes on or ended with QUIT, a part if a write failed,
--- nothing if its memory was refused
+-- nothing if its memory was refused, or if what it tells wasn't kept
 abbrev pub Wrote : Option SessionEnd → Said → Option (List ℕ) → Option (List ℕ) → Option Reply → Type 0
 Wrote None said old new reply = (said ≢ Ok Quit) × Appends old new (bytes_of reply)
 Wrote (Some end.Quit) said old new reply = (said ≡ Ok Quit) × Appends old new (bytes_of reply)
 Wrote (Some end.Write) said old new reply = IsSome reply × AppendsPart old new (bytes_of reply)
 Wrote (Some end.Memory) said old new reply = IsSome reply × Keeps old new
+Wrote (Some end.Unkept) said old new reply = IsSome reply × Keeps old new
 Wrote (Some end.EndOfInput) said old new reply = ⊥
 Wrote (Some end.Read) said old new reply = ⊥
 Wrote (Some end.Bound) said old new reply = ⊥

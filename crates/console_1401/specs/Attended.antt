@@ -6,7 +6,7 @@ use Rattle.command_1401.specs.declared.answer.Answer.{Answer}
 use Rattle.command_1401.specs.declared.command.Command.{Command}
 use Rattle.room_1401.specs.declared.entry.Pair.{Pair}
 use Rattle.room_1401.specs.declared.fault.RoomFault.{RoomFault}
-use Rattle.room_1401.specs.declared.fault.RoomFault.TheVariants.{Memory, JournalFull, NoReading}
+use Rattle.room_1401.specs.declared.fault.RoomFault.TheVariants.{Memory, JournalFull, NoReading, Unkept}
 use Rattle.room_1401.specs.Journal.{most_entries}
 use Rattle.room_1401.specs.Replay.{pair, reply_to, cell_after}
 use Rattle.room_1401.specs.Seen.{Knows}
@@ -62,6 +62,7 @@ abbrev pub RoomRefused : List Pair → List Pair → RoomFault → Type 0
 RoomRefused before after Memory = Between before after (λ list. length list < most_entries)
 RoomRefused before after JournalFull = length after ≡ most_entries
 RoomRefused before after NoReading = Unit {0}
+RoomRefused before after Unkept = Unit {0}
 
 -- a command has an answer, which `Stand` speaks of, or a fault of the room
 abbrev pub CommandReplied : List Pair → List Pair → Reply → Type 0

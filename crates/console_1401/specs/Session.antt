@@ -68,6 +68,9 @@ HasEnded answered end.Write left before read written after =
 HasEnded answered end.Memory left before read written after =
     (ended : Bool) × (front : List Said) × (last : Said) × LastLine ended left read front last
     × (broken : BrokenOff answered before front last written after) × (broken.part ≡ [])
+HasEnded answered end.Unkept left before read written after =
+    (ended : Bool) × (front : List Said) × (last : Said) × LastLine ended left read front last
+    × (broken : BrokenOff answered before front last written after) × (broken.part ≡ [])
 
 -- What a session did: the bytes that it read, those that it wrote, and how these go together.
 pub record SessionDid {S : Type 0} (answered : Exchange S) (last : SessionEnd)

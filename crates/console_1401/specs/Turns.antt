@@ -6,6 +6,7 @@ use Rattle.room_1401.specs.declared.entry.Entry.{Entry}
 use Rattle.room_1401.specs.declared.fault.GlanceFault.TheVariants.{Range}
 use Rattle.room_1401.specs.declared.fault.RoomFault.TheVariants.{Memory, JournalFull}
 use Rattle.room_1401.specs.Account.{Account}
+use Rattle.room_1401.specs.Kept.{KeptAccount}
 use Rattle.room_1401.specs.Journal.{entry, answer_to, is_full, pairs_of}
 use Rattle.room_1401.specs.Replay.{cell_after}
 use Rattle.text_1401.specs.declared.line.Line.TheVariants as line
@@ -70,6 +71,10 @@ pub record RoomResponds (before : Account) (said : Said) (reply : Option Reply) 
   pub journal_is : after.journal ≡ journal_with before.size before.journal said memory_refused
   pub size_is : after.size ≡ before.size
 
+-- one line was answered at a room that is kept: as at the room alone
+abbrev pub KeptResponds : KeptAccount → Said → Option Reply → KeptAccount → Type 0
+KeptResponds before said reply after = RoomResponds before.room said reply after.room
+
 -- the commands among these lines
 abbrev pub commands_in : List Turn → List Turn
 commands_in [] = []
@@ -102,3 +107,7 @@ pub record Answered (before : Account) (lines : List Said) (written : List ℕ) 
   pub written_is : written ≡ replies_to before.size before.journal turns
   pub journal_is : after.journal ≡ journal_after before.size before.journal turns
   pub size_is : after.size ≡ before.size
+
+-- these lines were answered at a room that is kept: as at the room alone
+abbrev pub AnsweredKept : KeptAccount → List Said → List ℕ → KeptAccount → Type 0
+AnsweredKept before lines written after = Answered before.room lines written after.room

@@ -29,8 +29,8 @@ fn without_carriage_return(line: &[u8]) -> &[u8]
     }
 }
 
-/// Answers one line, of this number: it is carried out, and then its reply is written. Gives the session's end, if that
-/// was it.
+/// Answers one line, of this number: it is carried out, and then its reply is written, if what it did is kept. Gives the
+/// session's end, if that was it.
 fn answer_line<T: Responder, W: Sink>(
     alloc: Global,
     responder: &mut T,
@@ -38,14 +38,20 @@ fn answer_line<T: Responder, W: Sink>(
     number: u64,
     said: Result<Line, LineFault>,
 ) -> Option<SessionEnd>
+    requires { T.is_good responder.old }
     ensures line { AnswersLine T.responds result said responder.old responder.new
         (W.received writer.old) (W.received writer.new) }
     ensures write { result ≡ Some SessionEnd.Write → IsTrue (W.has_failed writer.new) }
     ensures good { result ≢ Some SessionEnd.Write → W.has_failed writer.new ≡ W.has_failed writer.old }
+    ensures kept { result ≢ Some SessionEnd.Unkept → T.is_good responder.new }
+    ensures unkept { result ≡ Some SessionEnd.Unkept → T.is_unkept responder.new }
 {
     let quits = matches!(said, Ok(Line::Quit));
     responder.before(number);
     if let Some(reply) = responder.respond(said) {
+        if !responder.is_kept() {
+            return Some(SessionEnd::Unkept);
+        }
         let Ok(bytes) = reply_bytes(alloc, reply) else {
             return Some(SessionEnd::Memory);
         };
@@ -64,10 +70,13 @@ fn answer_last<T: Responder, W: Sink>(
     writer: &mut W,
     line: &LineBuffer,
 ) -> SessionEnd
+    requires { T.is_good responder.old }
     ensures line { AnswersLast T.responds result line.now responder.old responder.new
         (W.received writer.old) (W.received writer.new) }
     ensures write { result ≡ SessionEnd.Write → IsTrue (W.has_failed writer.new) }
     ensures good { result ≢ SessionEnd.Write → W.has_failed writer.new ≡ W.has_failed writer.old }
+    ensures kept { result ≢ SessionEnd.Unkept → T.is_good responder.new }
+    ensures unkept { result ≡ SessionEnd.Unkept → T.is_unkept responder.new }
 {
     let bytes = line.as_slice();
     if bytes.is_empty() {
@@ -88,10 +97,13 @@ fn enter_byte<T: Responder, W: Sink>(
     line: &mut LineBuffer,
     byte: u8,
 ) -> Option<SessionEnd>
+    requires { T.is_good responder.old }
     ensures byte { EntersByte T.responds (byte == line_feed) byte result line.old line.new responder.old responder.new
         (W.received writer.old) (W.received writer.new) }
     ensures write { result ≡ Some SessionEnd.Write → IsTrue (W.has_failed writer.new) }
     ensures good { result ≢ Some SessionEnd.Write → W.has_failed writer.new ≡ W.has_failed writer.old }
+    ensures kept { result ≢ Some SessionEnd.Unkept → T.is_good responder.new }
+    ensures unkept { result ≡ Some SessionEnd.Unkept → T.is_unkept responder.new }
 {
     if byte != b'\n' {
         line.push(byte);
@@ -111,6 +123,7 @@ pub(crate) fn answer_lines<R: Source, T: Responder, W: Sink>(
     reader: &mut R,
     writer: &mut W,
 ) -> SessionEnd
+    requires { T.is_good responder.old }
     ensures session { SessionDid (AnsweredAll T.responds) result (R.left reader.old) (R.left reader.new)
         (W.received writer.old) (W.received writer.new) responder.old responder.new }
     ensures read { result ≡ SessionEnd.Read → IsTrue (R.has_failed reader.new) }
@@ -119,6 +132,10 @@ pub(crate) fn answer_lines<R: Source, T: Responder, W: Sink>(
     // One that ends otherwise has met no failure, and its source had met none before.
     ensures good_read { result ≢ SessionEnd.Read → R.has_failed reader.new ≡ false }
     ensures good_write { result ≢ SessionEnd.Write → W.has_failed writer.new ≡ W.has_failed writer.old }
+
+    // A console ends as unkept exactly after a line that wasn't kept.
+    ensures kept { result ≢ SessionEnd.Unkept → T.is_good responder.new }
+    ensures unkept { result ≡ SessionEnd.Unkept → T.is_unkept responder.new }
 {
     if reader.has_failed() {
         return SessionEnd::Read;

@@ -10,7 +10,7 @@ use crate::door::Door;
 use crate::reply::Reply;
 use crate::responder::Responder;
 use crate::session_end::SessionEnd;
-use room_1401::{Naming, Seat, SharedRoom};
+use room_1401::{Keeper, Naming, Seat, SharedRoom};
 use std::alloc::Global;
 use std::marker::Model;
 use std::sync::Wait;
@@ -18,14 +18,17 @@ use streams_1401::{Sink, Source};
 use text_1401::{Line, LineFault};
 
 /// What answers at a console of a shared room: the seat, its room, and the door. Contracts see what the seat knows.
-struct Attendant<'a, J: Naming, R: Wait + Drop, W: Wait, D: Door> {
+struct Attendant<'a, J: Naming, R: Wait + Drop, P: Keeper + Drop, W: Wait, D: Door> {
     wait: &'a W,
-    room: &'a SharedRoom<J, R>,
+    room: &'a SharedRoom<J, R, P>,
     seat: Seat<J>,
     door: &'a D,
+    // The last command that the room didn't refuse is kept.
+    kept: bool,
 }
 
-impl<'a, J: Naming, R: Wait + Drop, W: Wait, D: Door> Model for Attendant<'a, J, R, W, D> {
+impl<'a, J: Naming, R: Wait + Drop, P: Keeper + Drop, W: Wait, D: Door> Model
+    for Attendant<'a, J, R, P, W, D> {
     ghost use Rattle.room_1401.specs.Seen.{Knows};
 
     ghost Value = { Knows };
@@ -33,7 +36,7 @@ impl<'a, J: Naming, R: Wait + Drop, W: Wait, D: Door> Model for Attendant<'a, J,
     ghost view = { λ attendant. attendant.seat };
 }
 
-impl<J: Naming, R: Wait + Drop, W: Wait, D: Door> Attendant<'_, J, R, W, D> {
+impl<J: Naming, R: Wait + Drop, P: Keeper + Drop, W: Wait, D: Door> Attendant<'_, J, R, P, W, D> {
     /// The seat.
     fn into_seat(self) -> Seat<J>
         ensures { result ≡ self.entry }
@@ -43,13 +46,19 @@ impl<J: Naming, R: Wait + Drop, W: Wait, D: Door> Attendant<'_, J, R, W, D> {
             room: _,
             seat,
             door: _,
+            kept: _,
         } = self;
         seat
     }
 }
 
-impl<J: Naming, R: Wait + Drop, W: Wait, D: Door> Responder for Attendant<'_, J, R, W, D> {
+impl<J: Naming, R: Wait + Drop, P: Keeper + Drop, W: Wait, D: Door> Responder
+    for Attendant<'_, J, R, P, W, D> {
     ghost responds = { SeatResponds J.size };
+
+    ghost is_good = { λ _. Unit {0} };
+
+    ghost is_unkept = { λ _. Unit {0} };
 
     fn before(&mut self, line: u64) {
         self.door.before(self.seat.number(), line);
@@ -59,8 +68,11 @@ impl<J: Naming, R: Wait + Drop, W: Wait, D: Door> Responder for Attendant<'_, J,
         let reply = match said {
             Ok(Line::Empty) => None,
             Ok(Line::Command(command)) => {
-                match self.room.command(self.wait, &mut self.seat, command) {
-                    Ok(answer) => Some(Reply::Answer(answer)),
+                match self.room.command_kept(self.wait, &mut self.seat, command) {
+                    Ok(carried) => {
+                        self.kept = carried.kept;
+                        Some(Reply::Answer(carried.answer))
+                    }
                     Err(fault) => Some(Reply::RoomFault(fault)),
                 }
             }
@@ -75,6 +87,10 @@ impl<J: Naming, R: Wait + Drop, W: Wait, D: Door> Responder for Attendant<'_, J,
         reply
     }
 
+    fn is_kept(&self) -> bool {
+        self.kept
+    }
+
     fn after(&mut self, line: u64) {
         self.door.after(self.seat.number(), line);
     }
@@ -82,11 +98,12 @@ impl<J: Naming, R: Wait + Drop, W: Wait, D: Door> Responder for Attendant<'_, J,
 
 /// Answers lines at the console of a seat, until QUIT, the end of input, a failure or the bound, and gives the seat
 /// back. A byte is read only when the reply to the line before it is written. The door is told of each line, before it
-/// is carried out and after its reply is written. A glance is the seat's own, and waits for no other seat's command.
-pub fn attend<J: Naming, R: Wait + Drop, W: Wait, S: Source, K: Sink, D: Door>(
+/// is carried out and after its reply is written. A glance is the seat's own, and waits for no other seat's command. A
+/// command whose entry wasn't kept has no reply, and ends the console.
+pub fn attend<J: Naming, R: Wait + Drop, P: Keeper + Drop, W: Wait, S: Source, K: Sink, D: Door>(
     alloc: Global,
     wait: &W,
-    room: &SharedRoom<J, R>,
+    room: &SharedRoom<J, R, P>,
     seat: Seat<J>,
     reader: &mut S,
     writer: &mut K,
@@ -113,6 +130,7 @@ pub fn attend<J: Naming, R: Wait + Drop, W: Wait, S: Source, K: Sink, D: Door>(
         room,
         seat,
         door,
+        kept: true,
     };
     let end = answer_lines(alloc, &mut attendant, reader, writer);
     (attendant.into_seat(), end)

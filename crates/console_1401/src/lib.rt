@@ -17,8 +17,9 @@ mod responder;
 mod answering;
 pub mod session_end;
 
-// the console of a room, and an image put into it
+// the console of a room, kept or not, and an image put into it
 pub mod image_loading;
+pub mod kept_sessions;
 pub mod sessions;
 
 // consoles at the seats of a shared room
@@ -29,6 +30,7 @@ pub mod serving;
 pub use attending::attend;
 pub use door::{Door, OpenDoor};
 pub use image_loading::put_image;
+pub use kept_sessions::session_kept;
 pub use serving::{ServeFault, Served, serve};
 pub use session_end::SessionEnd;
 pub use sessions::session;

@@ -15,4 +15,6 @@ pub enum SessionEnd {
     Bound,
     /// 6: the memory for a reply was refused; the command is in the journal.
     Memory,
+    /// 7: the last command's entry wasn't kept outside of the room; the command is in the room's journal.
+    Unkept,
 }

@@ -18,6 +18,10 @@ pub(crate) const OWN_SEAT: u8 = 0;
 impl Responder for Room {
     ghost responds = { RoomResponds };
 
+    ghost is_good = { λ _. Unit {0} };
+
+    ghost is_unkept = { λ _. ⊥ };
+
     fn before(&mut self, _line: u64) {}
 
     fn respond(&mut self, said: Result<Line, LineFault>) -> Option<Reply> {
@@ -33,11 +37,15 @@ impl Responder for Room {
         }
     }
 
+    fn is_kept(&self) -> bool {
+        true
+    }
+
     fn after(&mut self, _line: u64) {}
 }
 
 /// What a glance at the room itself is answered: all its commands count.
-fn glance_at(room: &Room, address: u16) -> Reply
+pub(crate) fn glance_at(room: &Room, address: u16) -> Reply
     ensures { result ≡ glance_reply room.now.size room.now.journal address }
 {
     let core = room.machine().core();
@@ -70,6 +78,9 @@ pub fn session<R: Source, W: Sink>(
     ensures good_write { result ≢ SessionEnd.Write → W.has_failed writer.new ≡ W.has_failed writer.old }
 
     ensures size { room.new.size ≡ room.old.size }
+
+    // Nothing is kept outside of the room, so that nothing is unkept.
+    ensures kept { result ≢ SessionEnd.Unkept }
 {
     answer_lines(alloc, room, reader, writer)
 }

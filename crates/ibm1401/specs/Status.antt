@@ -28,6 +28,8 @@ status_of fault.Read = 1
 status_of fault.Write = 1
 status_of fault.Bound = 1
 status_of fault.Reply = 1
+status_of fault.Unkept = 1
+status_of (fault.Kept why) = 1
 status_of fault.NoReader = 1
 status_of fault.Port = 1
 status_of fault.Accept = 1
@@ -46,6 +48,7 @@ outcome_of end.Read = Err fault.Read
 outcome_of end.Write = Err fault.Write
 outcome_of end.Bound = Err fault.Bound
 outcome_of end.Memory = Err fault.Reply
+outcome_of end.Unkept = Err fault.Unkept
 
 -- what a room that couldn't be opened is for the program: of seats that it can't have no reader has a place
 abbrev pub start_fault : StartFault → Fault

@@ -7,6 +7,7 @@ use clap::Error as Refusal;
 use console_1401::SessionEnd;
 use files_1401::FileFault;
 use image_1401::ImageFault;
+use keeping_1401::KeepFault;
 use running_1401::RunFault;
 use thiserror::Error;
 
@@ -74,6 +75,12 @@ pub enum Fault {
     /// The memory for a reply was refused.
     #[error("session ended: MEMORY")]
     Reply,
+    /// An entry of the journal wasn't kept.
+    #[error("session ended: UNKEPT")]
+    Unkept,
+    /// A journal isn't kept, or isn't taken up.
+    #[error("{0}")]
+    Kept(KeepFault),
     /// The port can't be had.
     #[error("port refused")]
     Port,
@@ -97,6 +104,7 @@ impl Fault {
             Fault::Source(_) | Fault::Faulty(_) => FAILED,
             Fault::Unwritten(_) | Fault::Run(_) => FAILED,
             Fault::Read | Fault::Write | Fault::Bound | Fault::Reply => FAILED,
+            Fault::Unkept | Fault::Kept(_) => FAILED,
             Fault::NoReader | Fault::Port | Fault::Accept | Fault::Thread => FAILED,
         }
     }
@@ -116,6 +124,7 @@ pub fn ended(end: SessionEnd) -> Result<(), Fault>
         SessionEnd::Write => Err(Fault::Write),
         SessionEnd::Bound => Err(Fault::Bound),
         SessionEnd::Memory => Err(Fault::Reply),
+        SessionEnd::Unkept => Err(Fault::Unkept),
     }
 }
 

@@ -60,7 +60,7 @@ pub fn load<R: Source, W: Sink>(
 }
 
 /// A new room of an image's size that has the image loaded.
-fn loaded_room(alloc: Global, text: &[u8]) -> Result<Room, Fault>
+pub(crate) fn loaded_room(alloc: Global, text: &[u8]) -> Result<Room, Fault>
     ensures ok { IfOk result (IsLoadedRoom text.now) }
     ensures err { IfErr result (IsWhyNotLoaded text.now) }
 {
@@ -77,6 +77,6 @@ fn loaded_room(alloc: Global, text: &[u8]) -> Result<Room, Fault>
         Ok(()) => Ok(room),
         Err(RoomFault::Memory) => Err(Fault::Memory),
         Err(RoomFault::JournalFull) => Err(Fault::JournalFull),
-        Err(RoomFault::NoReading) => unreachable!(),
+        Err(RoomFault::NoReading | RoomFault::Unkept) => unreachable!(),
     }
 }

@@ -2,28 +2,29 @@
 use Rattle.std.proofs.Common.{◌≡◌, ℕ, ◌+◌, ◌<◌, List, [], ◌∷◌, ◌++◌, length, get_or, take, ap, sym, ◌∙◌, arith}
 use Rattle.std.proofs.lemmas.List.{append_assoc, append-nil, length-take, take_more}
 use Rattle.room_1401.specs.declared.entry.Entry.{Entry}
-use Rattle.journal_1401.specs.JournalText.{entries_text, entry_text, header_text, journal_text, lines_by}
+use Rattle.journal_1401.specs.JournalText.{entries_text, entry_text, header_text, journal_text}
+use Rattle.room_1401.specs.Kept.{lines_by}
 
 -- entries, and more after them
-lines_by-append : (line : ℕ → Entry → List ℕ) (number : ℕ) (front back : List Entry)
+lines_by-append : {A : Type 0} (line : ℕ → Entry → List A) (number : ℕ) (front back : List Entry)
     → lines_by line number (front ++ back) ≡ lines_by line number front ++ lines_by line (number + length front) back
 lines_by-append line number [] back = ap (λ n. lines_by line n back) (omega arith)
-lines_by-append line number (entry ∷ front) back =
+lines_by-append {A} line number (entry ∷ front) back =
     let count : number + 1 + length front ≡ number + length (entry ∷ front) = omega arith in
-    ap (λ (text : List ℕ). line number entry ++ text) (lines_by-append line (number + 1) front back)
+    ap (λ (text : List A). line number entry ++ text) (lines_by-append line (number + 1) front back)
     ∙ ap (λ n. line number entry ++ (lines_by line (number + 1) front ++ lines_by line n back)) count
     ∙ sym (append_assoc (line number entry) (lines_by line (number + 1) front)
     (lines_by line (number + length (entry ∷ front)) back))
 
 -- one entry more
-lines_by-push : (line : ℕ → Entry → List ℕ) (number : ℕ) (front : List Entry) (entry : Entry)
+lines_by-push : {A : Type 0} (line : ℕ → Entry → List A) (number : ℕ) (front : List Entry) (entry : Entry)
     → lines_by line number (front ++ entry ∷ []) ≡ lines_by line number front ++ line (number + length front) entry
-lines_by-push line number front entry =
+lines_by-push {A} line number front entry =
     lines_by-append line number front (entry ∷ [])
-    ∙ ap (λ (text : List ℕ). lines_by line number front ++ text) (append-nil (line (number + length front) entry))
+    ∙ ap (λ (text : List A). lines_by line number front ++ text) (append-nil (line (number + length front) entry))
 
 -- the entries up to one of them
-pub lines_by-take : (line : ℕ → Entry → List ℕ) (journal : List Entry) (i : ℕ) (entry : Entry) → i < length journal
+pub lines_by-take : {A : Type 0} (line : ℕ → Entry → List A) (journal : List Entry) (i : ℕ) (entry : Entry) → i < length journal
     → entry ≡ get_or journal i entry
     → lines_by line 1 (take (i + 1) journal) ≡ lines_by line 1 (take i journal) ++ line (i + 1) entry
 lines_by-take line journal i entry within is =

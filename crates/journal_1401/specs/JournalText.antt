@@ -8,6 +8,7 @@ use Rattle.text_1401.specs.CommandText.{command_text}
 use Rattle.text_1401.specs.LineText.{CanBeSaid}
 use Rattle.room_1401.specs.declared.entry.Entry.{Entry}
 use Rattle.room_1401.specs.Journal.{IsLegal, most_entries}
+use Rattle.room_1401.specs.Kept.{Form, kept_text, lines_by}
 
 -- it parts the fields of a line
 abbrev pub tab : ℕ
@@ -35,18 +36,17 @@ entry_text number entry =
     with_tab (digits_in 1 number) ++ with_tab (digits_in 1 entry.seat) ++ with_tab (command_text entry.command)
     ++ with_feed (answer_text entry.answer)
 
--- what is written of each of these entries, the first of which has this number
-abbrev pub lines_by : (ℕ → Entry → List ℕ) → ℕ → List Entry → List ℕ
-lines_by line number [] = []
-lines_by line number (entry ∷ entries) = line number entry ++ lines_by line (number + 1) entries
-
 -- the lines of entries, the first of which has this number
 abbrev pub entries_text : ℕ → List Entry → List ℕ
 entries_text number entries = lines_by entry_text number entries
 
--- the header, and the lines of the entries, numbered from 1
+-- how a journal is kept: the header, and the lines of the entries, numbered from 1
+abbrev pub journal_form : Form
+journal_form = record { head = header_text; line = entry_text }
+
+-- the text of a journal
 abbrev pub journal_text : ℕ → List Entry → List ℕ
-journal_text size journal = header_text size ++ entries_text 1 journal
+journal_text size journal = kept_text journal_form size journal
 
 -- a line can say the entry's command, and its seat is a seat's number
 abbrev pub CanBeKept : Entry → Type 0

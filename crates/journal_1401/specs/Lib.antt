@@ -1,3 +1,4 @@
+pub mod Choice
 pub mod JournalText
 pub mod Listing
 pub mod Reading

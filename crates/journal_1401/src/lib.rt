@@ -14,9 +14,13 @@ pub mod fault;
 pub mod reading;
 pub mod writing;
 
+// a room that has some of a journal's commands
+pub mod choosing;
+
 // a journal in columns
 pub mod listing;
 
+pub use choosing::carry_chosen;
 pub use fault::{JournalFault, Wrong};
 pub use listing::{View, list_journal};
 pub use reading::{read_journal, recover_journal};

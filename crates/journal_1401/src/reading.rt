@@ -175,7 +175,7 @@ fn read_entry<'a>(alloc: Global, room: &mut Room, text: &'a [u8]) -> Result<&'a 
             Err(why) => Err(why),
         },
         Err(RoomFault::JournalFull) => Err(Wrong::Full),
-        Err(RoomFault::Memory | RoomFault::NoReading) => Err(Wrong::Memory),
+        Err(RoomFault::Memory | RoomFault::NoReading | RoomFault::Unkept) => Err(Wrong::Memory),
     }
 }
 

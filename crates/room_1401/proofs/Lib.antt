@@ -1,6 +1,7 @@
 pub mod ClosingLemmas
 pub mod HistoryLemmas
 mod JournalExamples
+pub mod KeptLemmas
 pub mod PrefixLemmas
 pub mod PublishLemmas
 mod ReplayExamples

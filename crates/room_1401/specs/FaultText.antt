@@ -10,6 +10,7 @@ abbrev pub room_fault_text : RoomFault → List ℕ
 room_fault_text room_fault.Memory = codes "FAULT 1 MEMORY"
 room_fault_text room_fault.JournalFull = codes "FAULT 2 JOURNAL FULL"
 room_fault_text room_fault.NoReading = codes "FAULT 3 NO READING"
+room_fault_text room_fault.Unkept = codes "FAULT 4 UNKEPT"
 
 -- a glance that shows nothing
 abbrev pub glance_fault_text : GlanceFault → List ℕ

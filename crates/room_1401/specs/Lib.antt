@@ -3,6 +3,7 @@ pub mod Closing
 pub mod FaultText
 pub mod History
 pub mod Journal
+pub mod Kept
 pub mod Opening
 pub mod Replay
 pub mod Rule

@@ -14,6 +14,8 @@ pub enum RoomFault {
     JournalFull,
     /// 3: what the seat has seen couldn't be compared with the journal of its shared room.
     NoReading,
+    /// 4: an earlier entry wasn't kept outside of the room.
+    Unkept,
 }
 
 impl RoomFault {
@@ -25,6 +27,7 @@ impl RoomFault {
             RoomFault::Memory => "FAULT 1 MEMORY",
             RoomFault::JournalFull => "FAULT 2 JOURNAL FULL",
             RoomFault::NoReading => "FAULT 3 NO READING",
+            RoomFault::Unkept => "FAULT 4 UNKEPT",
         }
     }
 }

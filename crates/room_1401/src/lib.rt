@@ -21,6 +21,10 @@ pub mod entry;
 pub mod fault;
 pub mod room;
 
+// what keeps a journal outside of its room, and a room that is kept
+pub mod keeper;
+pub mod kept_room;
+
 // a shared room's history of commands, as far as somebody has reached it, and what names the room
 pub mod history;
 pub mod naming;
@@ -40,6 +44,8 @@ pub use command_1401::{Answer, Command, Refusal, carry_out};
 pub use entry::{Entry, Pair};
 pub use fault::{CloseFault, GlanceFault, RoomFault, StartFault};
 pub use history::Opened;
+pub use keeper::{Carried, Keeper, NoKeeper, Unkept};
+pub use kept_room::KeptRoom;
 pub use naming::Naming;
 pub use room::Room;
 pub use seat::{Glance, Seat, Told};

@@ -1,45 +1,50 @@
 //! What the lock of a shared room keeps.
-ghost use Rattle.std.specs.Prelude.{◌≡◌, ◌+◌, ◌<◌, ◌≤◌, [], ◌∷◌, ◌++◌, true, length, drop, Some};
+ghost use Rattle.std.specs.Prelude.{◌≡◌, ◌+◌, ◌<◌, ◌≤◌, [], ◌∷◌, ◌++◌, true, false, length, drop, Some};
 ghost use Rattle.std.specs.Prelude.{IfOk, OnOk, OnErr, MatchBool};
 ghost use mathlib.Core.List.{IsPrefix};
 ghost use Rattle.room_1401.specs.Closing.{AllFit, IsSettled, back_of};
 ghost use Rattle.room_1401.specs.Journal.{IsLegal, entry, most_entries, pairs_of};
+ghost use Rattle.std.specs.Io.KnownBytes.{Appends};
+ghost use Rattle.room_1401.specs.Kept.{IsKeptAs, kept_text};
 ghost use Rattle.room_1401.specs.Rule.{Publishes};
 ghost use Rattle.room_1401.specs.Seen.{Carries, own};
 
 use crate::closing::{all_fit, merge_all};
-use crate::entry::Pair;
+use crate::entry::{Entry, Pair};
 use crate::fault::RoomFault;
 use crate::history::{Front, Head};
+use crate::keeper::{Carried, Keeper};
 use crate::naming::Naming;
 use crate::published::Change;
 use crate::publisher::Publisher;
 use crate::room::Room;
 use crate::seat::{Seat, Told};
-use command_1401::{Answer, Command};
+use command_1401::Command;
 use std::marker::Model;
 use std::sync::Wait;
 use std::sync::ledger::{Book, Share};
 
 /// The room, with the ledger's total, the history and the writer. Whenever the lock is free, the room's machine and
 /// each recorded answer are those of the replay of its journal; the history and what is published are the journal's,
-/// and the total is its length.
+/// the total is its length, and what is kept is its text, or breaks off in the last line after a failed write.
 #[derive(Drop)]
-pub struct LockedRoom<J: Naming, R: Wait + Drop> {
+pub struct LockedRoom<J: Naming, R: Wait + Drop, K: Keeper + Drop> {
     room: Room,
     total: Book<J>,
     head: Head<J>,
     front: Front<J>,
     publisher: Publisher<J, R>,
+    keeper: K,
     // No part of the ledger: the seats have them all.
     rest: Share<J>,
     seats: u8,
 }
 
-impl<J: Naming, R: Wait + Drop> Model for LockedRoom<J, R> {
+impl<J: Naming, R: Wait + Drop, K: Keeper + Drop> Model for LockedRoom<J, R, K> {
     ghost use Rattle.std.specs.Prelude.{◌≡◌, length, drop};
     ghost use Rattle.room_1401.specs.Account.{Account};
     ghost use Rattle.room_1401.specs.Journal.{pairs_of};
+    ghost use Rattle.room_1401.specs.Kept.{IsKeptAs};
     ghost use Rattle.room_1401.specs.Rule.{Publishes};
 
     ghost Value = { Account };
@@ -54,10 +59,12 @@ impl<J: Naming, R: Wait + Drop> Model for LockedRoom<J, R> {
         (drop locked.publisher.writer.behind locked.publisher.writer.log.items) (pairs_of locked.room.journal)
         × (locked.rest.parts ≡ 0)
         × (locked.rest.amount ≡ 0)
-        × (locked.seats ≡ J.seats) };
+        × (locked.seats ≡ J.seats)
+        × IsKeptAs K.form locked.room.size locked.room.journal (K.has_failed locked.keeper) K.first
+        (K.kept locked.keeper) };
 }
 
-impl<J: Naming, R: Wait + Drop> LockedRoom<J, R> {
+impl<J: Naming, R: Wait + Drop, K: Keeper + Drop> LockedRoom<J, R, K> {
     /// What the lock of a new room keeps.
     pub(crate) fn new(
         room: Room,
@@ -65,9 +72,10 @@ impl<J: Naming, R: Wait + Drop> LockedRoom<J, R> {
         head: Head<J>,
         front: Front<J>,
         publisher: Publisher<J, R>,
+        keeper: K,
         rest: Share<J>,
         seats: u8,
-    ) -> LockedRoom<J, R>
+    ) -> LockedRoom<J, R, K>
         requires room { (room.size ≡ J.size) × (room.journal ≡ []) }
         requires total { total.total ≡ 0 }
         requires front { front ≡ [] }
@@ -75,6 +83,8 @@ impl<J: Naming, R: Wait + Drop> LockedRoom<J, R> {
             (drop publisher.writer.behind publisher.writer.log.items) [] }
         requires rest { (rest.parts ≡ 0) × (rest.amount ≡ 0) }
         requires seats { seats ≡ J.seats }
+        requires good { K.has_failed keeper ≡ false }
+        requires kept { Appends K.first (K.kept keeper) (kept_text K.form room.size []) }
     {
         LockedRoom {
             room,
@@ -82,6 +92,7 @@ impl<J: Naming, R: Wait + Drop> LockedRoom<J, R> {
             head,
             front,
             publisher,
+            keeper,
             rest,
             seats,
         }
@@ -99,18 +110,18 @@ impl<J: Naming, R: Wait + Drop> LockedRoom<J, R> {
         seat.len() == self.front.len()
     }
 
-    /// Carries a command out for a seat, shows what it did, and records it with its answer. All that can be refused is
-    /// asked for before the machine moves.
+    /// Carries a command out for a seat, records it with its answer, keeps the entry, and shows what the command did if
+    /// the entry is kept. All that can be refused is asked for before the machine moves.
     pub(crate) fn carry(
         &mut self,
         seat: &mut Seat<J>,
         command: Command,
-    ) -> Result<Answer, RoomFault>
-        ensures carried { IfOk result (λ answer.
-            Carries J.size seat.old.list seat.new.list seat.old.number command answer) }
+    ) -> Result<Carried, RoomFault>
+        ensures carried { IfOk result (λ carried.
+            Carries J.size seat.old.list seat.new.list seat.old.number command carried.answer) }
         ensures made { OnOk result (seat.new.made ≡ seat.old.made + 1) }
-        ensures recorded { IfOk result (λ answer.
-            self.new.journal ≡ self.old.journal ++ entry seat.old.number command answer ∷ []) }
+        ensures recorded { IfOk result (λ carried.
+            self.new.journal ≡ self.old.journal ++ entry seat.old.number command carried.answer ∷ []) }
         ensures err { OnErr result ((seat.new.made ≡ seat.old.made) × (self.new.journal ≡ self.old.journal)) }
         ensures grows { OnErr result (IsPrefix seat.old.list seat.new.list) }
         ensures number { seat.new.number ≡ seat.old.number }
@@ -119,6 +130,9 @@ impl<J: Naming, R: Wait + Drop> LockedRoom<J, R> {
     {
         if !self.brief(seat) {
             return Err(RoomFault::NoReading);
+        }
+        if self.keeper.has_failed() {
+            return Err(RoomFault::Unkept);
         }
         self.room.reserve()?;
         let number = seat.number();
@@ -133,12 +147,14 @@ impl<J: Naming, R: Wait + Drop> LockedRoom<J, R> {
         let Ok(answer) = self.room.carry(number, command) else {
             unreachable!();
         };
+        let entry = Entry::new(number, &command, &answer);
+        let kept = self.keeper.keep(front.len(), &entry).is_ok();
         let _replayed = self.room.machine();
-        self.publisher.show();
+        self.publisher.show_kept(kept);
         self.front = front;
         seat.see(&self.front);
         seat.credit(&mut self.total);
-        Ok(answer)
+        Ok(Carried { answer, kept })
     }
 
     /// A note of what the seat has then seen: all that the journal has.
@@ -170,10 +186,11 @@ impl<J: Naming, R: Wait + Drop> LockedRoom<J, R> {
         all_fit(seats, &self.front)
     }
 
-    /// Ends the writer, and gives the room.
-    pub(crate) fn into_room(self) -> Room
-        ensures room { (result.journal ≡ self.journal) × (result.size ≡ J.size) }
-        ensures legal { IsLegal J.size result.journal }
+    /// Ends the writer, and gives the room and its keeper.
+    pub(crate) fn into_room(self) -> (Room, K)
+        ensures room { (result.0.journal ≡ self.journal) × (result.0.size ≡ J.size) }
+        ensures legal { IsLegal J.size result.0.journal }
+        ensures kept { IsKeptAs K.form J.size result.0.journal (K.has_failed result.1) K.first (K.kept result.1) }
     {
         let LockedRoom {
             room,
@@ -181,21 +198,23 @@ impl<J: Naming, R: Wait + Drop> LockedRoom<J, R> {
             head: _head,
             front: _front,
             publisher: _publisher,
+            keeper,
             rest: _rest,
             seats: _,
         } = self;
         let _journal = room.journal();
-        room
+        (room, keeper)
     }
 
-    /// Ends the writer, and gives the room, once all seats are back.
-    pub(crate) fn settle(self, seats: Vec<Seat<J>>) -> Room
+    /// Ends the writer, and gives the room and its keeper, once all seats are back.
+    pub(crate) fn settle(self, seats: Vec<Seat<J>>) -> (Room, K)
         requires parts { J.parts ≡ J.seats }
         requires back { back_of J.seats seats.items ≡ J.seats }
         requires fit { AllFit (pairs_of self.journal) seats.items }
-        ensures room { (result.journal ≡ self.journal) × (result.size ≡ J.size) }
-        ensures legal { IsLegal J.size result.journal }
+        ensures room { (result.0.journal ≡ self.journal) × (result.0.size ≡ J.size) }
+        ensures legal { IsLegal J.size result.0.journal }
         ensures settled { IsSettled self.journal seats.items }
+        ensures kept { IsKeptAs K.form J.size result.0.journal (K.has_failed result.1) K.first (K.kept result.1) }
     {
         let LockedRoom {
             room,
@@ -203,13 +222,14 @@ impl<J: Naming, R: Wait + Drop> LockedRoom<J, R> {
             head: _head,
             front: _front,
             publisher: _publisher,
+            keeper,
             rest,
             seats: _,
         } = self;
         let mut all = merge_all(seats, rest);
         total.audit(&mut all);
         let _journal = room.journal();
-        room
+        (room, keeper)
     }
 }
 

@@ -1,17 +1,20 @@
 //! A room that operators share.
 ghost use Rattle.std.specs.Prelude.{◌≡◌, ◌+◌, ◌<◌, ◌≤◌, ◌↔◌, ◌⊎◌, [], ◌∷◌, ◌++◌, true, false};
 ghost use Rattle.std.specs.Prelude.{length, drop, vec_capacity, IfOk, IfErr, OnOk, OnErr};
+ghost use Rattle.std.specs.Io.KnownBytes.{Appends};
 ghost use mathlib.Core.List.{IsPrefix};
 ghost use Rattle.core_1401.specs.Storage.{is_core_size};
 ghost use Rattle.cpu_1401.specs.State.{power_on};
 ghost use Rattle.room_1401.specs.Closing.{ClosesBy, IsSettled, back_of};
 ghost use Rattle.room_1401.specs.Journal.{IsLegal, most_entries};
+ghost use Rattle.room_1401.specs.Kept.{IsKeptAs, kept_text};
 ghost use Rattle.room_1401.specs.Rule.{Publishes};
 ghost use Rattle.room_1401.specs.Seen.{Carries, most_seats, newcomers, own};
 
 use crate::closing::count_back;
 use crate::fault::{CloseFault, RoomFault, StartFault};
 use crate::history::{Front, Opened, Reached};
+use crate::keeper::{Carried, Keeper, NoKeeper};
 use crate::locked::LockedRoom;
 use crate::naming::Naming;
 use crate::published::{Change, Shown};
@@ -29,10 +32,10 @@ use std::sync::{Mutex, Wait};
 const MOST_SEATS: u8 = 8;
 
 /// A room that operators share by its seats, under a lock. `J` names it, and `R` is the handle by which its end waits
-/// for those that still read what it shows.
+/// for those that still read what it shows. `K` keeps its journal outside of it.
 #[derive(Drop)]
-pub struct SharedRoom<J: Naming, R: Wait + Drop> {
-    locked: Mutex<LockedRoom<J, R>>,
+pub struct SharedRoom<J: Naming, R: Wait + Drop, K: Keeper + Drop = NoKeeper> {
+    locked: Mutex<LockedRoom<J, R, K>>,
 }
 
 impl<J: Naming, R: Wait + Drop> SharedRoom<J, R> {
@@ -59,27 +62,7 @@ impl<J: Naming, R: Wait + Drop> SharedRoom<J, R> {
         ensures count { (result ≡ Err StartFault.Seats)
             ↔ ((is_core_size size ≡ true) × ((seats ≡ 0) ⊎ (most_seats < seats))) }
     {
-        let room = match Room::power_on(alloc, size) {
-            Ok(room) => Some(room),
-            Err(CoreFault::Size) => return Err(StartFault::Size),
-            Err(CoreFault::Memory) => None,
-        };
-        if seats < 1 || MOST_SEATS < seats {
-            return Err(StartFault::Seats);
-        }
-        let Some(room) = room else {
-            return Err(StartFault::Memory);
-        };
-        let (head, front, total, mut whole) = opened.named::<J>();
-        let publisher = open_publisher::<J, R>(rt, alloc, size, front.token(), seats)?;
-        let Ok(mut made) = Vec::with_capacity(alloc, usize::from(seats)) else {
-            return Err(StartFault::Memory);
-        };
-        if !fill_seats(&mut made, &publisher, &front, &mut whole, size, seats) {
-            return Err(StartFault::NoReader);
-        }
-        let locked = Mutex::new(LockedRoom::new(room, total, head, front, publisher, whole, seats));
-        Ok((SharedRoom { locked }, made))
+        SharedRoom::<J, R>::power_on_kept(rt, alloc, size, seats, opened, NoKeeper)
     }
 
     /// Carries a command out for a seat, and records it with its answer. The seat has then seen the journal up to it.
@@ -109,9 +92,91 @@ impl<J: Naming, R: Wait + Drop> SharedRoom<J, R> {
         // A journal that is full is told as nothing else.
         ensures memory { result ≡ Err RoomFault.Memory → length seat.new.list < most_entries }
     {
-        let answer = self.locked.lock(wait).carry(seat, command);
+        match self.command_kept(wait, seat, command) {
+            Ok(carried) => Ok(carried.answer),
+            Err(fault) => Err(fault),
+        }
+    }
+}
+
+impl<J: Naming, R: Wait + Drop, K: Keeper + Drop> SharedRoom<J, R, K> {
+    /// As `power_on`, of a room whose journal is kept outside of it. The keeper has the head of its text.
+    ///
+    /// # Errors
+    ///
+    /// As those of `power_on`. The keeper is dropped.
+    pub fn power_on_kept(
+        rt: R,
+        alloc: Global,
+        size: u16,
+        seats: u8,
+        opened: Opened,
+        keeper: K,
+    ) -> Result<(SharedRoom<J, R, K>, Vec<Seat<J>>), StartFault>
+        requires history { opened.book ≡ J.book }
+        requires ledger { (opened.ledger ≡ J.name) × (opened.parts ≡ J.parts) × (J.parts ≡ J.seats) }
+        requires named { (size ≡ J.size) × (seats ≡ J.seats) }
+        requires good { K.has_failed keeper ≡ false }
+        requires kept { Appends K.first (K.kept keeper) (kept_text K.form size []) }
+        ensures seats { IfOk result (λ made. made.1.items ≡ newcomers seats) }
+        ensures size { (result ≡ Err StartFault.Size) ↔ (is_core_size size ≡ false) }
+        ensures count { (result ≡ Err StartFault.Seats)
+            ↔ ((is_core_size size ≡ true) × ((seats ≡ 0) ⊎ (most_seats < seats))) }
+    {
+        let room = match Room::power_on(alloc, size) {
+            Ok(room) => Some(room),
+            Err(CoreFault::Size) => return Err(StartFault::Size),
+            Err(CoreFault::Memory) => None,
+        };
+        if seats < 1 || MOST_SEATS < seats {
+            return Err(StartFault::Seats);
+        }
+        let Some(room) = room else {
+            return Err(StartFault::Memory);
+        };
+        let (head, front, total, mut whole) = opened.named::<J>();
+        let publisher = open_publisher::<J, R>(rt, alloc, size, front.token(), seats)?;
+        let Ok(mut made) = Vec::with_capacity(alloc, usize::from(seats)) else {
+            return Err(StartFault::Memory);
+        };
+        if !fill_seats(&mut made, &publisher, &front, &mut whole, size, seats) {
+            return Err(StartFault::NoReader);
+        }
+        let locked = LockedRoom::new(room, total, head, front, publisher, keeper, whole, seats);
+        let locked = Mutex::new(locked);
+        Ok((SharedRoom { locked }, made))
+    }
+
+    /// As `command`, and keeps the entry before the answer may go out. If it couldn't be kept, no other seat's glance
+    /// shows what the command did, and no later command is taken.
+    ///
+    /// # Errors
+    ///
+    /// `NoReading` as those of `command`; else `Unkept` if an earlier entry wasn't kept; else as those of `command`. The
+    /// room's journal and machine are as they were, and so is what is kept.
+    pub fn command_kept<W: Wait>(
+        &self,
+        wait: &W,
+        seat: &mut Seat<J>,
+        command: Command,
+    ) -> Result<Carried, RoomFault>
+        ensures carried { IfOk result (λ carried.
+            Carries J.size seat.old.list seat.new.list seat.old.number command carried.answer) }
+        ensures made { OnOk result (seat.new.made ≡ seat.old.made + 1) }
+        ensures own { OnOk result (seat.new.made ≤ own seat.new.number seat.new.list) }
+        ensures number { seat.new.number ≡ seat.old.number }
+
+        // After a refusal the seat made no more, and it has seen no less.
+        ensures err { OnErr result (seat.new.made ≡ seat.old.made) }
+        ensures grows { OnErr result (IsPrefix seat.old.list seat.new.list) }
+        ensures full { result ≡ Err RoomFault.JournalFull → length seat.new.list ≡ most_entries }
+
+        // A journal that is full is told as nothing else.
+        ensures memory { result ≡ Err RoomFault.Memory → length seat.new.list < most_entries }
+    {
+        let carried = self.locked.lock(wait).carry(seat, command);
         let _made = seat.made();
-        answer
+        carried
     }
 
     /// A note of what the seat has then seen: all that the journal has.
@@ -134,6 +199,17 @@ impl<J: Naming, R: Wait + Drop> SharedRoom<J, R> {
         ensures size { result.size ≡ J.size }
         ensures legal { IsLegal J.size result.journal }
     {
+        let (room, _keeper) = self.abandon_kept();
+        room
+    }
+
+    /// As `abandon`, and gives the keeper: what is kept is the text of the journal, or breaks off in the last line
+    /// after a failed write.
+    pub fn abandon_kept(self) -> (Room, K)
+        ensures size { result.0.size ≡ J.size }
+        ensures legal { IsLegal J.size result.0.journal }
+        ensures kept { IsKeptAs K.form J.size result.0.journal (K.has_failed result.1) K.first (K.kept result.1) }
+    {
         let SharedRoom { locked } = self;
         locked.into_inner().into_room()
     }
@@ -147,11 +223,37 @@ impl<J: Naming, R: Wait + Drop> SharedRoom<J, R> {
     pub fn close(
         self,
         seats: Vec<Seat<J>>,
-    ) -> Result<Room, (SharedRoom<J, R>, Vec<Seat<J>>, CloseFault)>
+    ) -> Result<Room, (SharedRoom<J, R, K>, Vec<Seat<J>>, CloseFault)>
         requires { J.parts ≡ J.seats }
         ensures size { IfOk result (λ room. room.size ≡ J.size) }
         ensures legal { IfOk result (λ room. IsLegal J.size room.journal) }
         ensures settled { IfOk result (λ room. IsSettled room.journal seats.items) }
+        ensures back { OnOk result (back_of J.seats seats.items ≡ J.seats) }
+        ensures seats { IfErr result (λ back. back.1.items ≡ seats.items) }
+        ensures fault { IfErr result (λ back. ClosesBy J.seats seats.items back.2) }
+    {
+        match self.close_kept(seats) {
+            Ok((room, _keeper)) => Ok(room),
+            Err(back) => Err(back),
+        }
+    }
+
+    /// As `close`, and gives the keeper: what is kept is the text of the journal, or breaks off in the last line after
+    /// a failed write.
+    ///
+    /// # Errors
+    ///
+    /// As those of `close`.
+    pub fn close_kept(
+        self,
+        seats: Vec<Seat<J>>,
+    ) -> Result<(Room, K), (SharedRoom<J, R, K>, Vec<Seat<J>>, CloseFault)>
+        requires { J.parts ≡ J.seats }
+        ensures size { IfOk result (λ closed. closed.0.size ≡ J.size) }
+        ensures legal { IfOk result (λ closed. IsLegal J.size closed.0.journal) }
+        ensures settled { IfOk result (λ closed. IsSettled closed.0.journal seats.items) }
+        ensures kept { IfOk result (λ closed.
+            IsKeptAs K.form J.size closed.0.journal (K.has_failed closed.1) K.first (K.kept closed.1)) }
         ensures back { OnOk result (back_of J.seats seats.items ≡ J.seats) }
         ensures seats { IfErr result (λ back. back.1.items ≡ seats.items) }
         ensures fault { IfErr result (λ back. ClosesBy J.seats seats.items back.2) }

@@ -15,6 +15,7 @@ loop-read-init g c = record {
   answered =
       rw c.new-line.ensures (nothing_yet g.T.Responder.responds
       (moment (g.R.Source.left c.args.reader.now) (g.W.Sink.received c.args.writer.now) c.args.responder.now));
+  kept = c.requires;
   good_read = sym c.has_failed.ensures ∙ c.if-has_failed.false;
   good_write = refl;
 }
@@ -39,6 +40,7 @@ loop-read-preserved g c =
           c.loop-read.invariant.answered
           given
           c.in_default.ensures.byte;
+      kept = c.in_default.ensures.kept (λ (is : None ≡ Some end.Unkept). search (is, rules));
       good_read = c.in-Ok-Some.ensures.good;
       good_write =
           c.in_default.ensures.good (λ (is : None ≡ Some end.Write). search (is, rules))

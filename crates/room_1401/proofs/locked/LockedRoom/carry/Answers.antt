@@ -3,19 +3,21 @@ use Rattle.std.proofs.Common.{◌≡◌, ◌+◌, ◌≤◌, ap, sym, ◌∙◌,
 use Rattle.std.proofs.Common.{length, drop, length-append}
 use Rattle.room_1401.specs.Account.{Account}
 use Rattle.room_1401.specs.Journal.{entry, pairs_of}
+use Rattle.room_1401.specs.Kept.{IsKeptAs}
 use Rattle.room_1401.specs.Replay.{pair}
 use Rattle.room_1401.specs.Rule.{Publishes}
 use Rattle.room_1401.specs.Seen.{own}
 use Rattle.room_1401.specs.declared.entry.Entry.{Entry}
 use Rattle.room_1401.specs.declared.entry.Pair.{Pair}
 use Rattle.room_1401.specs.declared.published.Change.{Change}
-use Rattle.room_1401.proofs.PublishLemmas.{IsNext, follows, published, seat_follows, storage_of}
-use Rattle.room_1401.proofs.ReplayLemmas.{pairs_of-append}
+use Rattle.room_1401.proofs.KeptLemmas.{OneMore, kept_before, kept_or_broken}
+use Rattle.room_1401.proofs.PublishLemmas.{IsNext, follows, seat_follows, storage_of}
+use Rattle.room_1401.proofs.ReplayLemmas.{length-pairs_of, pairs_of-append}
 use Rattle.room_1401.proofs.SeenLemmas.{own_pushed}
 use Rattle.room_1401.proofs.locked.LockedRoom.carry.Goals as goal
 
-pub show-requires : goal.show-requires
-show-requires g c =
+pub show_kept-requires : goal.show_kept-requires
+show_kept-requires g c =
     let pairs : List Pair = pairs_of c.self.inside.room.journal in
     let k = c.number-number.result in
     let more : List Pair = pairs ++ pair k c.args.command ∷ [] in
@@ -110,11 +112,29 @@ invariant_of-self-2 g c =
     let shows : Publishes g.J.Naming.book g.J.Naming.size new.desk.shown.value then more =
     follows g.J.Naming.book g.J.Naming.size old.desk.shown.value new.desk.shown.value change pending then pairs k
     c.args.command c.self.invariant.3 next c.append.ensures.shown c.in-Ok.ensures.ok in
-    let shown = c.show.new.self.writer in
+    let form = g.K.Keeper.form in
+    let first = g.K.Keeper.first in
+    let room = c.self.inside.room in
+    let kept = g.K.Keeper.kept c.self.inside.keeper in
+    let keeps = g.K.Keeper.kept c.keep.new.self in
+    let failed = g.K.Keeper.has_failed c.keep.new.self in
+    let now : List Entry = c.carry.new.self.journal in
+    let last : Entry = c.new-entry.result in
+    let more_kept : OneMore form room.size c.len.result room.journal now last first kept = record {
+      before = kept_before form room.size room.journal (g.K.Keeper.has_failed c.self.inside.keeper) first kept
+          c.self.invariant.7 (sym c.has_failed.ensures ∙ c.if-has_failed.false);
+      journal_is = journal ∙ ap (λ (e : Entry). room.journal ++ e ∷ []) (sym c.new-entry.ensures);
+      number_is = c.len.ensures.value ∙ ap length grown ∙ ap length (sym recorded) ∙ length-pairs_of now;
+    } in
+    let held : IsKeptAs form c.carry.new.self.size now failed first keeps =
+    subst (λ n. IsKeptAs form n now failed first keeps)
+    (sym (c.in-Ok-carry.ensures.size ∙ c.reserve.ensures.size))
+    (kept_or_broken form room.size c.len.result room.journal now last first kept keeps failed c.keep.result more_kept
+    c.keep.ensures.line c.keep.ensures.part c.keep.ensures.good c.keep.ensures.failed) in
+    let shown = c.show_kept.new.self.writer in
     let left : List Change = drop shown.behind shown.log.items in
     let now : Publishes g.J.Naming.book g.J.Naming.size shown.desk.shown.value left more =
-    published g.J.Naming.book g.J.Naming.size new.desk.shown.value shown.desk.shown.value then left more shows
-    c.show.ensures.shown c.show.ensures.pending in (
+    c.show_kept.ensures more shows in (
       size,
       grown ∙ sym recorded,
       c.credit.ensures.total
@@ -124,4 +144,5 @@ invariant_of-self-2 g c =
       c.self.invariant.4,
       c.self.invariant.5,
       c.self.invariant.6,
+      held,
     )

@@ -1,0 +1,172 @@
+//! The files of journals.
+
+use crate::fault::{FileFault, KeepFault};
+use journal_1401::{JournalFault, Wrong, recover_journal};
+use room_1401::Room;
+use std::alloc::Global;
+use std::fs::{File, OpenFile, OpenOptions};
+use std::io;
+use std::io::{ErrorKind, Read};
+use std::rt::Files;
+
+/// How many bytes of a file are read at most, which is more than the text of a full journal has.
+const MOST_BYTES: u64 = 67_108_864;
+
+/// Why a file can't be had, by what the system says; the last is for what it doesn't say.
+fn file_fault(kind: ErrorKind, otherwise: FileFault) -> FileFault {
+    match kind {
+        ErrorKind::AlreadyExists => FileFault::Exists,
+        ErrorKind::NotFound | ErrorKind::NotADirectory => FileFault::NotThere,
+        ErrorKind::IsADirectory => FileFault::Folder,
+        ErrorKind::PermissionDenied | ErrorKind::ReadOnlyFilesystem => FileFault::Denied,
+        _ => otherwise,
+    }
+}
+
+/// Keeps other processes from keeping a journal in this file, as long as it is open.
+fn lock(file: &File) -> Result<(), FileFault> {
+    match file.try_lock() {
+        Ok(()) => Ok(()),
+        Err(_) => Err(FileFault::InUse),
+    }
+}
+
+/// A new file of this name, locked, to which lines are added.
+fn create(rt: &impl Files<File = File>, name: &str) -> Result<File, FileFault> {
+    let file = match OpenOptions::new()
+        .append(true)
+        .create_new(true)
+        .open(rt, name)
+    {
+        Ok(file) => file,
+        Err(error) => return Err(file_fault(error.kind(), FileFault::Unwritten)),
+    };
+    lock(&file)?;
+    Ok(file)
+}
+
+/// A new file of this name for a journal, locked. A file that is there stays as it is.
+///
+/// # Errors
+///
+/// `File`, with the name as it was given.
+pub fn create_journal(rt: &impl Files<File = File>, name: String) -> Result<File, KeepFault> {
+    match create(rt, name.as_str()) {
+        Ok(file) => Ok(file),
+        Err(fault) => Err(KeepFault::File(name, fault)),
+    }
+}
+
+/// All bytes of a file, if there are no more than a journal may have.
+fn bytes_of(alloc: Global, file: &File) -> Result<Vec<u8>, FileFault> {
+    let mut bytes = Vec::new(alloc);
+    match file.take(MOST_BYTES + 1).read_to_end(&mut bytes) {
+        Ok(_) if bytes.len() as u64 > MOST_BYTES => Err(FileFault::TooLong),
+        Ok(_) => Ok(bytes),
+        Err(error) => Err(file_fault(error.kind(), FileFault::Unreadable)),
+    }
+}
+
+/// The bytes of a journal's file, as they are now.
+///
+/// # Errors
+///
+/// `File`, with the name as it was given.
+pub fn read_journal_file(
+    rt: &(impl Files<File = File> + AllocGlobal),
+    name: &str,
+) -> Result<Vec<u8>, FileFault> {
+    match OpenOptions::new().read(true).open(rt, name) {
+        Ok(file) => bytes_of(rt.alloc(), &file),
+        Err(error) => Err(file_fault(error.kind(), FileFault::Unreadable)),
+    }
+}
+
+/// Why the file of this name has no journal.
+fn no_journal(name: String, fault: JournalFault) -> KeepFault {
+    match fault.why {
+        Wrong::Memory => KeepFault::Memory,
+        Wrong::Header | Wrong::Number | Wrong::Seat | Wrong::Command => {
+            KeepFault::Journal(name, fault)
+        }
+        Wrong::Answer | Wrong::Full | Wrong::Unfinished => KeepFault::Journal(name, fault),
+    }
+}
+
+/// The room that the journal of a file explains, as it is now. An unfinished last line is left out.
+///
+/// # Errors
+///
+/// `File` if the file can't be read; `Journal` if it has no journal; or `Memory`.
+pub fn read_room(
+    rt: &(impl Files<File = File> + AllocGlobal),
+    name: String,
+) -> Result<Room, KeepFault> {
+    let text = match read_journal_file(rt, name.as_str()) {
+        Ok(text) => text,
+        Err(fault) => return Err(KeepFault::File(name, fault)),
+    };
+    match recover_journal(rt.alloc(), text.as_slice()) {
+        Ok((room, _)) => Ok(room),
+        Err(fault) => Err(no_journal(name, fault)),
+    }
+}
+
+/// A journal that is taken up.
+#[derive(Drop)]
+pub struct TakenUp {
+    /// The room that the journal explains.
+    pub room: Room,
+    /// Its file, locked, to which lines are added.
+    pub file: File,
+    /// The line that was unfinished, if one was: it is cut off.
+    pub cut: Option<u32>,
+}
+
+/// Opens a file, locked, and reads it.
+fn open(
+    rt: &(impl Files<File = File> + AllocGlobal),
+    name: &str,
+) -> Result<(File, Vec<u8>), FileFault> {
+    let file = match OpenOptions::new().read(true).append(true).open(rt, name) {
+        Ok(file) => file,
+        Err(error) => return Err(file_fault(error.kind(), FileFault::Unreadable)),
+    };
+    lock(&file)?;
+    let text = bytes_of(rt.alloc(), &file)?;
+    Ok((file, text))
+}
+
+/// Takes up the journal of a file: its commands are carried out again, and their answers compared. An unfinished last
+/// line is cut off.
+///
+/// # Errors
+///
+/// `File` if the file can't be read or written, or is in use; `Journal` if it has no journal. The file is as it was.
+pub fn take_up_journal(
+    rt: &(impl Files<File = File> + AllocGlobal),
+    name: String,
+) -> Result<TakenUp, KeepFault> {
+    let (file, text) = match open(rt, name.as_str()) {
+        Ok(opened) => opened,
+        Err(fault) => return Err(KeepFault::File(name, fault)),
+    };
+    let (room, rest) = match recover_journal(rt.alloc(), text.as_slice()) {
+        Ok((room, rest)) => (room, rest.len()),
+        Err(fault) => return Err(no_journal(name, fault)),
+    };
+    let cut = if rest == 0 {
+        None
+    } else {
+        if cut_off(&file, text.len(), rest).is_err() {
+            return Err(KeepFault::File(name, FileFault::Unwritten));
+        }
+        Some(room.journal().len() as u32 + 2)
+    };
+    Ok(TakenUp { room, file, cut })
+}
+
+/// Cuts the last bytes off a file of this length.
+fn cut_off(file: &File, len: usize, rest: usize) -> io::Result<()> {
+    file.set_len((len.saturating_sub(rest)) as u64)
+}

@@ -1,0 +1,29 @@
+//! Journals of the IBM 1401 that are kept in files: each entry is a line, written before its command's reply.
+//!
+//! ```text
+//! let file = create_journal(rt, alloc, "friday.journal")?;            // new, and locked
+//! let sink = ToWriter::new(file);
+//! keep_session::<J, _, _, _>(alloc, room, sink, &mut reader, &mut writer) // each command is kept, then answered
+//! ```
+#![tactic(auto)]
+
+// why a journal isn't kept, or isn't taken up
+pub mod fault;
+
+// a keeper that writes the text of a journal, a room with it, and sessions there
+pub mod keeping;
+pub mod sessions;
+pub mod text_keeper;
+
+// the files of journals
+pub mod files;
+
+// a journal shown or checked
+pub mod showing;
+
+pub use fault::{FileFault, KeepFault};
+pub use files::{TakenUp, create_journal, read_journal_file, read_room, take_up_journal};
+pub use keeping::{keep_room, take_up_room};
+pub use sessions::{keep_session, resume_session};
+pub use showing::{ShowFault, check_journal, show_journal};
+pub use text_keeper::{Beginning, TextKeeper};

@@ -1,0 +1,67 @@
+//! A journal's text, shown or checked.
+ghost use Rattle.std.specs.Prelude.{◌≡◌, IfOk, IfErr, OnOk};
+ghost use Rattle.journal_1401.specs.Reading.{IsRefused};
+ghost use Rattle.keeping_1401.specs.Showing.{IsOfEntries, IsShown, IsWhyNotShown};
+
+use console_1401::{Sink, put_all};
+use journal_1401::{JournalFault, View, Wrong, list_journal, read_journal, recover_journal};
+use std::alloc::Global;
+
+/// Why a journal isn't shown.
+#[derive(Clone, Copy, Debug, PartialEq, Eq)]
+pub enum ShowFault {
+    /// Memory was refused for the listing.
+    Memory,
+    /// The text isn't a journal's. If its last line is unfinished, the entries before it are written.
+    Journal(JournalFault),
+    /// The listing wasn't written, or only a part of it.
+    Output,
+}
+
+/// Writes the entries of a journal's text that are asked for, in columns.
+///
+/// # Errors
+///
+/// `Journal` if the text isn't a journal's, `Memory`, or `Output` if the listing isn't written.
+pub fn show_journal<W: Sink>(
+    alloc: Global,
+    text: &[u8],
+    view: View,
+    writer: &mut W,
+) -> Result<(), ShowFault>
+    ensures shown { OnOk result (IsShown text.now view (W.received writer.old) (W.received writer.new)) }
+    ensures fault { IfErr result (IsWhyNotShown text.now) }
+{
+    let (room, rest) = match recover_journal(alloc, text) {
+        Ok(found) => found,
+        Err(fault) => return Err(ShowFault::Journal(fault)),
+    };
+    let Ok(listing) = list_journal(alloc, room.journal(), view) else {
+        return Err(ShowFault::Memory);
+    };
+    if put_all(writer, listing.as_slice()).is_err() {
+        return Err(ShowFault::Output);
+    }
+    if rest.is_empty() {
+        return Ok(());
+    }
+    Err(ShowFault::Journal(JournalFault {
+        line: room.journal().len() as u32 + 2,
+        why: Wrong::Unfinished,
+    }))
+}
+
+/// How many entries the journal of a text has, each of which is answered as the machine answers it.
+///
+/// # Errors
+///
+/// What is wrong with a text that isn't a journal's, or `Memory`.
+pub fn check_journal(alloc: Global, text: &[u8]) -> Result<usize, JournalFault>
+    ensures ok { IfOk result (IsOfEntries text.now) }
+    ensures fault { IfErr result (IsRefused text.now) }
+{
+    match read_journal(alloc, text) {
+        Ok(room) => Ok(room.journal().len()),
+        Err(fault) => Err(fault),
+    }
+}
