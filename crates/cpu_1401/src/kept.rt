@@ -1,4 +1,4 @@
-//! Instructions kept as they were decoded: one that is carried out again isn't decoded again.
+//! A cache of decoded instructions: one that is carried out again isn't decoded again.
 ghost use Rattle.std.specs.Prelude.{◌≡◌, ◌+◌, ◌<◌, ◌≤◌, IfOk, IfSome, length};
 ghost use Rattle.core_1401.specs.Address.{addresses};
 ghost use Rattle.cpu_1401.specs.Decoded.{AlwaysSay, Says};
@@ -10,41 +10,41 @@ use core_1401::{ADDRESSES, Core, EightCells};
 use std::alloc::{AllocError, Global};
 use std::marker::Model;
 
-/// Eight cells, and the instruction that they are.
+/// An entry: eight cells, and the instruction that they are.
 #[derive(Clone, Copy)]
-struct Kept {
+struct CacheEntry {
     cells: EightCells,
     decoded: Decoded,
     ghost says: { AlwaysSay cells.codes cells.marks decoded },
 }
 
-/// For each place but the last eight the instruction that was decoded there last, with the eight cells that it was
-/// decoded from. So the next instruction begins at a place too. Contracts see how many places that are.
+/// A decode cache: for each place but the last eight, the instruction that was decoded there last, with its eight cells.
+/// So the next instruction begins at a place too. Contracts see how many places that are.
 #[derive(Drop)]
-pub(crate) struct Instructions {
-    kept: Vec<Kept>,
+pub(crate) struct DecodeCache {
+    kept: Vec<CacheEntry>,
 }
 
-impl Model for Instructions {
+impl Model for DecodeCache {
     ghost use Rattle.std.specs.Prelude.{ℕ, length};
 
     ghost Value = { ℕ };
 
-    ghost view = { λ instructions. length instructions.kept.items };
+    ghost view = { λ cache. length cache.kept.items };
 }
 
-impl Instructions {
-    /// No instruction, with room for one at each place of a core of this size but for the last eight.
+impl DecodeCache {
+    /// A cache with an empty entry for each place of a core of this size but the last eight.
     ///
     /// # Errors
     ///
-    /// Where there is no memory for it.
-    pub(crate) fn none(alloc: Global, size: u16) -> Result<Instructions, AllocError>
+    /// An allocation that was refused.
+    pub(crate) fn none(alloc: Global, size: u16) -> Result<DecodeCache, AllocError>
         requires { 8 ≤ size }
-        ensures { IfOk result (λ instructions. instructions + 8 ≡ size) }
+        ensures { IfOk result (λ cache. cache + 8 ≡ size) }
     {
-        let kept = vec![in alloc; nothing_kept(); usize::from(size - 8)]?;
-        Ok(Instructions { kept })
+        let kept = vec![in alloc; no_entry(); usize::from(size - 8)]?;
+        Ok(DecodeCache { kept })
     }
 
     /// The instruction at a place, if it was decoded there from cells like those that stand there now.
@@ -78,20 +78,20 @@ impl Instructions {
             return;
         }
         let cells = core.eight_cells(at);
-        self.kept[place] = Kept {
+        self.kept[place] = CacheEntry {
             cells,
             decoded: *decoded,
         };
     }
 }
 
-/// What is kept before anything is decoded: no eight characters have these codes.
-fn nothing_kept() -> Kept {
+/// The entry before anything is decoded: no eight characters have these codes.
+fn no_entry() -> CacheEntry {
     let none = Address {
         value: 0,
         register: 0,
     };
-    Kept {
+    CacheEntry {
         cells: EightCells {
             codes: u64::MAX,
             marks: 0,

@@ -3,7 +3,7 @@ ghost use Rattle.std.specs.Prelude.{◌≡◌, ◌<◌, ◌↔◌, false, length
 ghost use Rattle.core_1401.specs.Storage.{is_core_size};
 ghost use Rattle.cpu_1401.specs.State.{IsInRange, power_on, regs_of, with_cell, with_switch};
 
-use crate::kept::Instructions;
+use crate::kept::DecodeCache;
 use crate::regs::Regs;
 use bcd_1401::Cell;
 use core_1401::{Core, CoreFault};
@@ -15,7 +15,7 @@ use std::marker::Model;
 #[derive(Drop)]
 pub struct Machine {
     pub(crate) core: Core,
-    pub(crate) kept: Instructions,
+    pub(crate) kept: DecodeCache,
     // The I register stands between the others: beside each other they would be computed as one pair, in more
     // instructions.
     pub(crate) a: u16,
@@ -67,7 +67,7 @@ impl Machine {
         let Ok(devices) = Devices::power_on(alloc) else {
             return Err(CoreFault::Memory);
         };
-        let Ok(kept) = Instructions::none(alloc, size) else {
+        let Ok(kept) = DecodeCache::none(alloc, size) else {
             return Err(CoreFault::Memory);
         };
         Ok(Machine {

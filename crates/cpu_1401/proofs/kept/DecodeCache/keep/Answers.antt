@@ -1,7 +1,7 @@
 -- What these cells say they always say.
 use Rattle.std.proofs.Common.{arith}
 use Rattle.cpu_1401.proofs.DecodedLemmas.{always_say}
-use Rattle.cpu_1401.proofs.kept.Instructions.keep.Goals as goal
+use Rattle.cpu_1401.proofs.kept.DecodeCache.keep.Goals as goal
 
 pub invariant_of-t-11 : goal.invariant_of-t-11
 invariant_of-t-11 c = record {
