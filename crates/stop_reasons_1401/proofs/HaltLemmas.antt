@@ -1,10 +1,10 @@
 -- The machine that a halt leaves, and the address that is told of it.
-use Rattle.std.proofs.Common.{◌≡◌, ◌≤◌, ◌<◌, ◌⊎◌, inl, inr, ℕ, ◌+◌, ◌-◌, ◌%◌, ◌==◌, ◌&&◌, ◌||◌, not, Bool, true, false}
+use Rattle.std.proofs.Common.{◌≡◌, ◌≤◌, ◌<◌, ◌⊎◌, inl, inr, ℕ, ◌+◌, ◌%◌, ◌==◌, ◌&&◌, not, Bool, true, false}
 use Rattle.std.proofs.Common.{List, [], ◌∷◌, length, refl, sym, ◌∙◌, ap, subst, arith}
 use Rattle.std.proofs.lemmas.Bool.{and_from, and_parts, eq-eqb, eqb-true, ltb-true}
 use Rattle.std.proofs.lemmas.Option.{none-some}
-use Rattle.std.specs.Prelude.{cond, find, is_some, option_map, Option, None, Some, Result, Ok, Err, if◌then◌else◌, nat_le, nat_lt, slice_index}
-use Rattle.std.specs.List.{list_all, list_any}
+use Rattle.std.specs.Prelude.{cond, find, is_some, option_map, Option, None, Some, Result, Ok, Err, if◌then◌else◌, nat_le, slice_index}
+use Rattle.std.specs.List.{list_all}
 use Rattle.bcd_1401.specs.declared.cell.Cell.{Cell}
 use Rattle.bcd_1401.specs.Graphic.{graphics}
 use Rattle.core_1401.specs.Address.{addresses, effective_at}
@@ -36,7 +36,7 @@ use Rattle.cpu_1401.specs.declared.stop.Stop.TheVariants as stop
 use Rattle.cpu_1401.specs.Branch.{after_branch, branch_on_cell, go_on, has_char, passes}
 use Rattle.cpu_1401.specs.CardsAndPrinter.{after_cards, after_control, after_line, all_three, asks, behind_last, behind_print_area, has_d, line_alone}
 use Rattle.cpu_1401.specs.CardsAndPrinter.{lozenge}
-use Rattle.cpu_1401.specs.CardsAndPrinter.{hindrance, move_on, punching, reading, reading_and_punching, unless_hindered, with_all}
+use Rattle.cpu_1401.specs.CardsAndPrinter.{hindrance, move_on, punching, reading, reading_and_punching, with_all}
 use Rattle.cpu_1401.specs.CardsAndPrinter.{writing_and_punching, writing_and_reading}
 use Rattle.cpu_1401.specs.FieldStep.{after_clear, after_comparison, after_field}
 use Rattle.cpu_1401.specs.Instruction.{begins_at, instruction_of, length_at}
@@ -45,7 +45,7 @@ use Rattle.cpu_1401.specs.RegisterStep.{after_store}
 use Rattle.cpu_1401.specs.Rows.{meaning_in}
 use Rattle.cpu_1401.specs.State.{State}
 use Rattle.cpu_1401.specs.Step.{check_length, check_operation, perform, step}
-use Rattle.cpu_1401.specs.Stepped.{Stepped, step_to, stopped}
+use Rattle.cpu_1401.specs.Stepped.{Stepped, stopped}
 use Rattle.cpu_1401.specs.Stop.{stop_of}
 use Rattle.stop_reasons_1401.proofs.StopLemmas.{card_stops}
 use Rattle.stop_reasons_1401.specs.Halting.{halted_at, has_branched, is_halt_to, is_taken_for_another, told_of_halt}

@@ -1,5 +1,5 @@
 -- What is told of the halt that was carried out last.
-use Rattle.std.proofs.Common.{◌≡◌, ◌≤◌, length, sym, ◌∙◌, ap, subst}
+use Rattle.std.proofs.Common.{◌≤◌, length, sym, ◌∙◌, ap, subst}
 use Rattle.core_1401.specs.Address.{addresses}
 use Rattle.cpu_1401.specs.State.{State}
 use Rattle.stop_reasons_1401.specs.Halting.{halted_at}
