@@ -1,3 +1,4 @@
 mod AcrossLemmas
 mod StopLemmas
 pub mod ToldLemmas
+pub mod HaltLemmas

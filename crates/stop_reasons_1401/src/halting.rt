@@ -1,12 +1,14 @@
 //! The instruction that has halted, and the cells of an instruction.
-ghost use Rattle.std.specs.Prelude.{◌≡◌, ◌+◌, ◌<◌, ◌≤◌, length};
+ghost use Rattle.std.specs.Prelude.{◌≡◌, ◌+◌, ◌<◌, ◌≤◌, length, Some};
 ghost use Rattle.core_1401.specs.Address.{addresses};
-ghost use Rattle.stop_reasons_1401.specs.Halting.{cells_of, halted_at, is_halt_to};
+ghost use Rattle.cpu_1401.specs.State.{State};
+ghost use Rattle.cpu_1401.specs.Step.{step};
+ghost use Rattle.stop_reasons_1401.specs.Halting.{cells_of, halted_at, is_halt_to, told_of_halt};
 
 use crate::operations::longest;
 use bcd_1401::Char;
 use core_1401::Core;
-use cpu_1401::Machine;
+use cpu_1401::{Machine, Stop};
 use fields_1401::below;
 
 /// How many characters a halt with an address has.
@@ -22,6 +24,19 @@ const MOST_CHARACTERS: u16 = 8;
 /// before the place in B, it is taken to be the last one, though a halt without an address right before the place in I
 /// leaves the same if B and A held these addresses before.
 pub fn halt_address(machine: &Machine) -> u16
+    ensures value { result ≡ halted_at machine.now }
+
+    // Of a machine that a step has just halted it is the place of that halt, but for the one case above.
+    ensures last { (before : State) → (step before).stop ≡ Some Stop.Halt → (step before).state ≡ machine.now
+        → result ≡ told_of_halt before }
+{
+    // No core storage has more places than there are addresses.
+    let _ = machine.core().size();
+    address_by_registers(machine)
+}
+
+/// The address that I, or A and B, tell of the last halt.
+fn address_by_registers(machine: &Machine) -> u16
     ensures { result ≡ halted_at machine.now }
 {
     let regs = machine.regs();
