@@ -76,6 +76,32 @@ pub struct Job {
     pub switches: [bool; 7],
 }
 
+/// A journal that is shown, or looked over.
+#[derive(Debug, Drop, PartialEq, Eq)]
+pub struct Showing {
+    /// The name of the journal's file.
+    pub file: String,
+    /// The seat whose entries are shown; without one those of each seat.
+    pub seat: Option<u8>,
+    /// The number of the first entry that may be shown.
+    pub from: u64,
+    /// Whether the journal is only checked.
+    pub check: bool,
+}
+
+/// A journal that is taken up.
+#[derive(Debug, Drop, PartialEq, Eq)]
+pub struct Resuming {
+    /// The name of the journal's file.
+    pub file: String,
+    /// The name of the file of the journal that is kept from there on; without one it is the same.
+    pub journal: Option<String>,
+    /// The number of the last command that is carried out again; without one it is the journal's last.
+    pub until: Option<u64>,
+    /// The numbers of commands that aren't carried out again.
+    pub without: Vec<u64>,
+}
+
 /// What the command line asks for.
 #[derive(Debug, Drop, PartialEq, Eq)]
 pub enum Call {
@@ -100,4 +126,22 @@ pub enum Call {
     Run(Job),
     /// A room that operators share.
     Serve(Service),
+    /// A session of standard input and output whose journal is kept.
+    KeptConsole {
+        /// How many places core storage has.
+        size: u16,
+        /// The name of the journal's file.
+        journal: String,
+    },
+    /// A session on a room that has an image loaded, and whose journal is kept.
+    KeptLoad {
+        /// The name of the image's file.
+        file: String,
+        /// The name of the journal's file.
+        journal: String,
+    },
+    /// A journal, shown or checked.
+    Journal(Showing),
+    /// A session that goes on where a journal ends.
+    Resume(Resuming),
 }

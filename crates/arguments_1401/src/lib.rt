@@ -6,8 +6,9 @@
 #![tactic(auto)]
 
 pub mod call;
+mod journals;
 pub mod reading;
 mod sizes;
 
-pub use call::{Assembling, Call, Job, Product, Service, Start, Told};
+pub use call::{Assembling, Call, Job, Product, Resuming, Service, Showing, Start, Told};
 pub use reading::read_call;

@@ -1,6 +1,7 @@
 //! The words of the command line, read by `clap`.
 
 use crate::call::{Assembling, Call, Job, Product, Service, Start, Told};
+use crate::journals::{journal_arg, journal_call, journal_command, resume_call, resume_command};
 use crate::sizes::{DEFAULT_SIZE, SizeTexts};
 use clap::error::ErrorKind;
 use clap::{Arg, ArgAction, ArgMatches, Command, Error, value_parser};
@@ -11,7 +12,7 @@ use std::convert::AsStr;
 const DEFAULT_LIMIT: u32 = 1_000_000_000;
 
 /// The lines of a session, for the help.
-const LINES: &str = "\
+pub(crate) const LINES: &str = "\
 Lines, each with one reply:
   DEPOSIT A TEXT  puts the cells of TEXT at address A and above; ~ before one gives it a word mark
   EXAMINE A [N]   shows the cell at address A, or N cells from there on, 1 to 40
@@ -75,6 +76,7 @@ fn load_command<'a>(alloc: Global) -> Result<Command<'a>, AllocError> {
     Command::new(alloc, "load")
         .about("Loads a core image, and then does as console does")
         .after_help(LINES)
+        .arg(journal_arg(alloc))?
         .arg(file)
 }
 
@@ -94,6 +96,7 @@ fn console_command<'a>(alloc: Global, sizes: &'a SizeTexts) -> Result<Command<'a
     Command::new(alloc, "console")
         .about("Carries out the lines of standard input, and writes their replies")
         .after_help(LINES)
+        .arg(journal_arg(alloc))?
         .arg(size_arg(alloc, sizes))
 }
 
@@ -196,7 +199,7 @@ fn assemble_call(alloc: Global, matches: &ArgMatches<'_>, file: &str) -> Result<
 }
 
 /// The value of an option, if it is there.
-fn name_in(
+pub(crate) fn name_in(
     alloc: Global,
     matches: &ArgMatches<'_>,
     option: &str,
@@ -269,19 +272,19 @@ fn call_with<'a, S: AsStr>(
         .subcommand(load_command(alloc)?)?
         .subcommand(disassemble_command(alloc)?)?
         .subcommand(run_command(alloc, sizes)?)?
-        .subcommand(serve_command(alloc, sizes)?)?;
+        .subcommand(serve_command(alloc, sizes)?)?
+        .subcommand(journal_command(alloc)?)?
+        .subcommand(resume_command(alloc)?)?;
     let matches = program.try_get_matches_from(words)?;
     if let Some(assemble) = matches.subcommand_matches("assemble") {
         if let Some(file) = assemble.get_str("file") {
             return assemble_call(alloc, assemble, file);
         }
     }
-    if let Some(file) = matches
-        .subcommand_matches("load")
-        .and_then(|load| load.get_str("file"))
-    {
-        let file = String::from_str(alloc, file)?;
-        return Ok(Call::Load { file });
+    if let Some(load) = matches.subcommand_matches("load") {
+        if let Some(file) = load.get_str("file") {
+            return load_call(alloc, load, file);
+        }
     }
     if let Some(file) = matches
         .subcommand_matches("disassemble")
@@ -301,8 +304,36 @@ fn call_with<'a, S: AsStr>(
             return Ok(Call::Serve(Service { size, seats, port }));
         }
     }
-    let size = matches
-        .subcommand_matches("console")
-        .map_or(DEFAULT_SIZE, size_in);
-    Ok(Call::Console { size })
+    if let Some(journal) = matches.subcommand_matches("journal") {
+        if let Some(file) = journal.get_str("file") {
+            return journal_call(alloc, journal, file);
+        }
+    }
+    if let Some(resume) = matches.subcommand_matches("resume") {
+        if let Some(file) = resume.get_str("file") {
+            return resume_call(alloc, resume, file);
+        }
+    }
+    match matches.subcommand_matches("console") {
+        Some(console) => console_call(alloc, console),
+        None => Ok(Call::Console { size: DEFAULT_SIZE }),
+    }
+}
+
+/// What the options of `console` ask for.
+fn console_call(alloc: Global, matches: &ArgMatches<'_>) -> Result<Call, Error> {
+    let size = size_in(matches);
+    Ok(match name_in(alloc, matches, "journal")? {
+        Some(journal) => Call::KeptConsole { size, journal },
+        None => Call::Console { size },
+    })
+}
+
+/// What the options of `load` ask for.
+fn load_call(alloc: Global, matches: &ArgMatches<'_>, file: &str) -> Result<Call, Error> {
+    let file = String::from_str(alloc, file)?;
+    Ok(match name_in(alloc, matches, "journal")? {
+        Some(journal) => Call::KeptLoad { file, journal },
+        None => Call::Load { file },
+    })
 }

@@ -4,6 +4,7 @@
 mod assembling;
 mod disassembling;
 mod fault;
+mod journals;
 mod loading;
 mod serving;
 mod source_faults;
@@ -14,12 +15,14 @@ mod tests;
 
 use crate::disassembling::write_disassembly;
 use crate::fault::{Fault, report};
+use crate::journals::{journal_file, keep_console, keep_loaded, resume_file};
 use crate::loading::{load, read_file, read_named_file};
 use crate::serving::open_room;
 use crate::source_file::assemble_file;
 use crate::subcommands::{console, tell};
 use arguments_1401::{Call, read_call};
 use running_1401::{ErrorOutput, run_file};
+use std::fs::File;
 use std::io::IsTerminal;
 use std::net::{Net, TcpListener, TcpStream};
 use std::process::ExitCode;
@@ -46,7 +49,7 @@ fn main(rt: HostRuntime) -> ExitCode {
 /// what the subcommand fails by.
 fn run<
     R: Env
-        + Files
+        + Files<File = File>
         + Clock
         + Input
         + Print
@@ -78,6 +81,10 @@ fn run<
         }
         Ok(Call::Run(job)) => run_file(rt, error_output, job).map_err(Fault::Run),
         Ok(Call::Serve(service)) => open_room(rt, service),
+        Ok(Call::KeptConsole { size, journal }) => keep_console(rt, size, journal),
+        Ok(Call::KeptLoad { file, journal }) => keep_loaded(rt, file, journal),
+        Ok(Call::Journal(asked)) => journal_file(rt, asked),
+        Ok(Call::Resume(asked)) => resume_file(rt, asked),
         Err(error) => tell(rt, error),
     }
 }

@@ -34,6 +34,7 @@ fn each_fault_is_one_line(rt: HostRuntime) -> Result<(), Fail> {
         (Fault::Write, 1, "ibm1401: session ended: WRITE\n"),
         (Fault::Bound, 1, "ibm1401: session ended: BOUND\n"),
         (Fault::Reply, 1, "ibm1401: session ended: MEMORY\n"),
+        (Fault::Unkept, 1, "ibm1401: session ended: UNKEPT\n"),
     ] {
         let told = Recorder::new(rt.alloc());
         assert_eq!(rt; report(&told, Err(fault)), status, "{line}");
@@ -87,6 +88,7 @@ fn each_end_has_its_fault(rt: HostRuntime) {
     assert!(rt; matches!(ended(SessionEnd::Write), Err(Fault::Write)));
     assert!(rt; matches!(ended(SessionEnd::Bound), Err(Fault::Bound)));
     assert!(rt; matches!(ended(SessionEnd::Memory), Err(Fault::Reply)));
+    assert!(rt; matches!(ended(SessionEnd::Unkept), Err(Fault::Unkept)));
 }
 
 #[test]

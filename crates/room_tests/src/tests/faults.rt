@@ -21,6 +21,10 @@ fn each_fault_has_its_text(rt: HostRuntime) -> Result<(), Fail> {
             "FAULT 3 NO READING",
         ),
         (
+            format!(in rt.alloc(); "{}", RoomFault::Unkept)?,
+            "FAULT 4 UNKEPT",
+        ),
+        (
             format!(in rt.alloc(); "{}", GlanceFault::Range)?,
             "GLANCE FAULT 1 RANGE",
         ),

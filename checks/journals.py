@@ -1,0 +1,143 @@
+"""Journals that are kept: written before each reply, shown, checked, taken up again, and taken up after a kill."""
+import os
+import random
+import signal
+import subprocess
+import tempfile
+import time
+from pathlib import Path
+
+from checks.report import PROGRAM, REPLY_SECONDS, difference, expect, run, tell
+
+LINES = b"DEPOSIT 0700 ~999\nEXAMINE 0700 3\nSTART 4000\nQUIT\n"
+REPLIES = b"OK\n~999\nREFUSED 1 ADDRESS\nBYE\n"
+TEXT = (b"JOURNAL1 4000\n1\t0\tDEPOSIT 0700 ~999\tOK\n2\t0\tEXAMINE 0700 3\t~999\n"
+        b"3\t0\tSTART 4000\tREFUSED 1 ADDRESS\n")
+LISTING = (b"1 seat 0  DEPOSIT 0700 ~999            OK\n2 seat 0  EXAMINE 0700 3               ~999\n"
+           b"3 seat 0  START 4000                   REFUSED 1 ADDRESS\n")
+
+
+# How many sessions are killed.
+KILLS = 40
+
+
+def holds(name, path, text):
+    """Tells whether a file has this text."""
+    tell(name, "; ".join(difference("the file", path.read_bytes(), text)))
+
+
+def kept(room):
+    """A journal is written, shown, checked, and gone on with."""
+    path = room / "a.journal"
+    expect("a console is kept", run([PROGRAM, "console", "--journal", path], LINES), 0, REPLIES)
+    holds("each command is a line of the journal", path, TEXT)
+    again = run([PROGRAM, "console", "--journal", path], LINES)
+    expect("a journal isn't overwritten", again, 1, b"", f"ibm1401: {path}: is there already\n")
+    expect("a journal is shown", run([PROGRAM, "journal", path]), 0, LISTING)
+    expect("a journal is shown from an entry on", run([PROGRAM, "journal", "--from", "3", path]), 0,
+           LISTING.splitlines(keepends=True)[2])
+    expect("another seat has no entry", run([PROGRAM, "journal", "--seat", "1", path]), 0, b"")
+    expect("a journal is checked", run([PROGRAM, "journal", "--check", path]), 0, b"3 entries\n")
+    expect("a session goes on", run([PROGRAM, "resume", path], b"EXAMINE 0700 3\n"), 0, b"~999\n")
+    holds("it goes on in the same file", path, TEXT + b"4\t0\tEXAMINE 0700 3\t~999\n")
+    full = room / "no folder" / "a.journal"
+    expect("no journal without its folder", run([PROGRAM, "console", "--journal", full]), 1, b"",
+           f"ibm1401: {full}: no such file\n")
+
+
+def chosen(room):
+    """Commands are left out, or only the first are given again."""
+    path, new = room / "b.journal", room / "c.journal"
+    run([PROGRAM, "console", "--journal", path], b"DEPOSIT 0700 A\nDEPOSIT 0700 B\nEXAMINE 0700\n")
+    before = path.read_bytes()
+    expect("a command is taken back", run([PROGRAM, "resume", "--without", "2", "--journal", new, path], b""), 0, b"")
+    holds("the others are given again", new,
+          b"JOURNAL1 4000\n1\t0\tDEPOSIT 0700 A\tOK\n2\t0\tEXAMINE 0700 1\tA\n")
+    expect("the machine as it was", run([PROGRAM, "resume", "--until", "1", path], b"EXAMINE 0700\n"), 0, b"A\n")
+    expect("the machine at power-on", run([PROGRAM, "resume", "--until", "0", path], b"EXAMINE 0700\n"), 0, b" \n")
+    expect("no entry 4", run([PROGRAM, "resume", "--until", "4", path]), 1, b"", "ibm1401: there is no entry 4\n")
+    expect("no entry 0", run([PROGRAM, "resume", "--without", "0", "--journal", room / "d", path]), 1, b"",
+           "ibm1401: there is no entry 0\n")
+    tell("no file is made then", "it is there" if (room / "d").exists() else "")
+    holds("the journal stays as it is", path, before)
+
+
+def refused(room):
+    """What is no journal's text is told, and left as it is."""
+    path = room / "e.journal"
+    for name, text, fault in [
+        ("another version", TEXT.replace(b"JOURNAL1", b"JOURNAL2"), "line 1: 2 HEADER"),
+        ("a changed answer", TEXT.replace(b"\t~999\n", b"\t~998\n"), "line 3: 6 ANSWER"),
+        ("a changed command", TEXT.replace(b"0700 3", b"0700 2"), "line 3: 6 ANSWER"),
+        ("an entry that is gone", TEXT.replace(b"1\t0\tDEPOSIT 0700 ~999\tOK\n", b""), "line 2: 3 NUMBER"),
+        ("no text", b"", "line 1: 8 UNFINISHED"),
+    ]:
+        path.write_bytes(text)
+        told = f"ibm1401: {path}: {fault}\n"
+        expect(f"{name}: checked", run([PROGRAM, "journal", "--check", path]), 1, b"", told)
+        expect(f"{name}: taken up", run([PROGRAM, "resume", path]), 1, b"", told)
+        holds(f"{name}: left as it is", path, text)
+    path.write_bytes(TEXT[:-1])
+    expect("a cut journal is shown", run([PROGRAM, "journal", path]), 1, b"".join(LISTING.splitlines(True)[:2]),
+           f"ibm1401: {path}: line 4: 8 UNFINISHED\n")
+    ran = run([PROGRAM, "resume", path], b"START 1\n")
+    expect("a cut journal is taken up", ran, 0, b"OK\n", "ibm1401: line 4 was unfinished and is cut off\n")
+    holds("its last line is cut off", path, b"".join(TEXT.splitlines(True)[:3]) + b"3\t0\tSTART 0001\tOK\n")
+
+
+def unkept(room):
+    """A journal that can't be written, or is in use."""
+    expect("a full disk", run([PROGRAM, "console", "--journal", "/dev/full"]), 1, b"",
+           "ibm1401: /dev/full: is there already\n")
+    path = room / "f.journal"
+    path.write_bytes(TEXT)
+    with subprocess.Popen([PROGRAM, "resume", path], stdin=subprocess.PIPE, stdout=subprocess.PIPE) as first:
+        first.stdin.write(b"START 1\n")
+        first.stdin.flush()
+        first.stdout.readline()
+        expect("a journal in use", run([PROGRAM, "resume", path]), 1, b"", f"ibm1401: {path}: is in use\n")
+        first.stdin.close()
+        first.wait(REPLY_SECONDS)
+    # A file may grow by no byte more: the next line can't be written.
+    def limited():
+        import resource
+        signal.signal(signal.SIGXFSZ, signal.SIG_IGN)
+        resource.setrlimit(resource.RLIMIT_FSIZE, (path.stat().st_size + 10,) * 2)
+    before = path.read_bytes()
+    ran = run([PROGRAM, "resume", path], b"START 2\nSTART 3\n", preexec_fn=limited)
+    expect("a command that isn't kept has no reply", ran, 1, b"", "ibm1401: session ended: UNKEPT\n")
+    holds("its line breaks off", path, before + b"5\t0\tSTART 0002\tOK\n"[:10])
+
+
+def killed(room):
+    """Sessions killed at moments of chance under load: each command that was answered is there, in order."""
+    chance = random.Random(1401)
+    for turn in range(KILLS):
+        path, given, replies = room / f"{turn}.journal", room / "lines", room / "replies"
+        lines = [b"START %d\n" % chance.randrange(1, 1000) for _ in range(50_000)]
+        given.write_bytes(b"".join(lines))
+        with given.open("rb") as typed, replies.open("wb") as paper:
+            with subprocess.Popen([PROGRAM, "console", "--journal", path], stdin=typed, stdout=paper) as session:
+                time.sleep(0.01 + chance.random() * 0.2)
+                session.send_signal(signal.SIGKILL)
+        answered = replies.read_bytes().count(b"\n")
+        if not path.exists():
+            tell(f"a session killed before it began, turn {turn}", "replies without a journal" if answered else "")
+            continue
+        ran = run([PROGRAM, "resume", path], b"QUIT\n")
+        found = [line.split(b"\t")[2] for line in path.read_bytes().splitlines()[1:]]
+        wrong = ""
+        if ran.returncode != 0 and (answered or b"line 1: 8 UNFINISHED" not in ran.stderr):
+            wrong = f"it isn't taken up: {ran.stderr}"
+        elif not answered <= len(found) <= answered + 1:
+            wrong = f"{answered} answered, {len(found)} kept"
+        elif [b"START %d" % int(command.split()[1]) for command in found] != [line[:-1] for line in lines[:len(found)]]:
+            wrong = "other commands"
+        tell(f"a session killed after {answered} replies, turn {turn}", wrong)
+
+
+def journals():
+    """All of these."""
+    with tempfile.TemporaryDirectory() as room:
+        for part in kept, chosen, refused, unkept, killed:
+            part(Path(room))

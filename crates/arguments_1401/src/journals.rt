@@ -1,0 +1,134 @@
+//! The options of journals, read by `clap`.
+
+use crate::call::{Call, Resuming, Showing};
+use crate::reading::{LINES, name_in};
+use clap::error::ErrorKind;
+use clap::{Arg, ArgAction, ArgMatches, Command, Error, value_parser};
+use std::alloc::{AllocError, Global};
+
+/// The file in which a session's journal is kept, as an option.
+pub(crate) fn journal_arg<'a>(alloc: Global) -> Arg<'a> {
+    Arg::new(alloc, "journal")
+        .long("journal")
+        .value_name("NEW")
+        .help("A new file for the journal: each command is in it before its reply is written")
+}
+
+/// The file of a journal, as an argument.
+fn file_arg<'a>(alloc: Global) -> Arg<'a> {
+    Arg::new(alloc, "file")
+        .value_name("FILE")
+        .help("The file of the journal; - is a name like any other")
+        .required(true)
+}
+
+/// The subcommand `journal`.
+pub(crate) fn journal_command<'a>(alloc: Global) -> Result<Command<'a>, AllocError> {
+    let seat = Arg::new(alloc, "seat")
+        .long("seat")
+        .value_name("K")
+        .help("Shows the entries of this seat alone; 0 is a console with a machine of its own")
+        .value_parser(value_parser!(u8));
+    let from = Arg::new(alloc, "from")
+        .long("from")
+        .value_name("N")
+        .help("Shows entry N and those after it")
+        .default_value("1")
+        .value_parser(value_parser!(u32));
+    let check = Arg::new(alloc, "check")
+        .long("check")
+        .help("Shows only how many entries there are, each answered as the machine answers it")
+        .action(ArgAction::SetTrue);
+    Command::new(alloc, "journal")
+        .about("Shows a journal: who gave which command, and what it was answered")
+        .arg(seat)?
+        .arg(from)?
+        .arg(check)?
+        .arg(file_arg(alloc))
+}
+
+/// The subcommand `resume`.
+pub(crate) fn resume_command<'a>(alloc: Global) -> Result<Command<'a>, AllocError> {
+    let journal = Arg::new(alloc, "journal")
+        .long("journal")
+        .value_name("NEW")
+        .help("A new file to go on in; FILE stays as it is");
+    let until = Arg::new(alloc, "until")
+        .long("until")
+        .value_name("N")
+        .help("Goes on after command N; without --journal nothing more is kept")
+        .value_parser(value_parser!(u32));
+    let without = Arg::new(alloc, "without")
+        .long("without")
+        .value_name("N,..")
+        .help("Leaves these commands out; --journal names the file of what is left");
+    Command::new(alloc, "resume")
+        .about("Carries out the commands of a journal again, and goes on as console does")
+        .after_help(LINES)
+        .arg(journal)?
+        .arg(until)?
+        .arg(without)?
+        .arg(file_arg(alloc))
+}
+
+/// What the options of `journal` ask for.
+pub(crate) fn journal_call(
+    alloc: Global,
+    matches: &ArgMatches<'_>,
+    file: &str,
+) -> Result<Call, Error> {
+    Ok(Call::Journal(Showing {
+        file: String::from_str(alloc, file)?,
+        seat: matches.get_one::<u8>("seat"),
+        from: u64::from(matches.get_one::<u32>("from").unwrap_or(1)),
+        check: matches.get_flag("check"),
+    }))
+}
+
+/// What the options of `resume` ask for.
+pub(crate) fn resume_call(
+    alloc: Global,
+    matches: &ArgMatches<'_>,
+    file: &str,
+) -> Result<Call, Error> {
+    let journal = name_in(alloc, matches, "journal")?;
+    let Some(without) = numbers_of(alloc, matches.get_str("without").unwrap_or(""))? else {
+        return Err(refusal(alloc, "--without takes numbers parted by commas")?);
+    };
+    if !without.is_empty() && journal.is_none() {
+        return Err(refusal(
+            alloc,
+            "--without makes another journal: --journal names its file",
+        )?);
+    }
+    let until = match matches.get_one::<u32>("until") {
+        Some(until) => Some(u64::from(until)),
+        None => None,
+    };
+    Ok(Call::Resume(Resuming {
+        file: String::from_str(alloc, file)?,
+        journal,
+        until,
+        without,
+    }))
+}
+
+/// A refusal of what `resume` is asked for.
+fn refusal(alloc: Global, text: &str) -> Result<Error, AllocError> {
+    resume_command(alloc)?.error(ErrorKind::ValueValidation, text)
+}
+
+/// The numbers of a list that is parted by commas, none of an empty text; nothing if one isn't a number.
+fn numbers_of(alloc: Global, text: &str) -> Result<Option<Vec<u64>>, AllocError> {
+    let mut numbers = Vec::new(alloc);
+    if text.is_empty() {
+        return Ok(Some(numbers));
+    }
+    for word in text.split(',') {
+        match word.parse::<u32>() {
+            Ok(number) => numbers.push(u64::from(number))?,
+            Err(_) => return Ok(None),
+        }
+    }
+    Ok(Some(numbers))
+}

@@ -1,0 +1,233 @@
+//! What the subcommands `journal` and `resume` do, and sessions whose journal is kept.
+
+use crate::fault::{Fault, ended};
+use crate::loading::{loaded_room, read_file};
+use arguments_1401::{Resuming, Showing};
+use console_1401::{FromReader, SessionEnd, Sink, Source, ToWriter, session};
+use core_1401::CoreFault;
+use journal_1401::{JournalFault, View, carry_chosen};
+use keeping_1401::{
+    FileFault, KeepFault, ShowFault, TakenUp, check_journal, create_journal, keep_session,
+    read_journal_file, read_room, resume_session, show_journal, take_up_journal,
+};
+use room_1401::{Room, Unkept};
+use std::alloc::Global;
+use std::fs::File;
+use std::marker::Brand;
+use std::rt::Files;
+use std::{fs, io};
+
+/// Shows the journal of a file, or checks it and tells how many entries it has.
+///
+/// # Errors
+///
+/// `Kept` where the file can't be read or has no journal, `Output` where standard output doesn't take the text, or
+/// `Memory`.
+pub fn journal_file<R: Files<File = File> + Print + AllocGlobal>(
+    rt: &R,
+    asked: Showing,
+) -> Result<(), Fault> {
+    let Showing {
+        file,
+        seat,
+        from,
+        check,
+    } = asked;
+    let text = match read_journal_file(rt, file.as_str()) {
+        Ok(text) => text,
+        Err(fault) => return Err(Fault::Kept(KeepFault::File(file, fault))),
+    };
+    if check {
+        return tell_entries(rt, file, check_journal(rt.alloc(), text.as_slice()));
+    }
+    let mut writer = ToWriter::new(io::writer(rt));
+    match show_journal(
+        rt.alloc(),
+        text.as_slice(),
+        View { seat, from },
+        &mut writer,
+    ) {
+        Ok(()) => Ok(()),
+        Err(ShowFault::Memory) => Err(Fault::Memory),
+        Err(ShowFault::Output) => Err(Fault::Output),
+        Err(ShowFault::Journal(fault)) => Err(no_journal(file, fault)),
+    }
+}
+
+/// Why the file of this name has no journal.
+fn no_journal(file: String, fault: JournalFault) -> Fault {
+    Fault::Kept(KeepFault::Journal(file, fault))
+}
+
+/// Tells how many entries a journal has.
+fn tell_entries(
+    rt: &impl Print,
+    file: String,
+    entries: Result<usize, JournalFault>,
+) -> Result<(), Fault> {
+    match entries {
+        Ok(entries) => println!(rt; "{entries} entries").map_err(|_| Fault::Output),
+        Err(fault) => Err(no_journal(file, fault)),
+    }
+}
+
+/// A room of this size at power-on.
+fn new_room(alloc: Global, size: u16) -> Result<Room, Fault> {
+    match Room::power_on(alloc, size) {
+        Ok(room) => Ok(room),
+        Err(CoreFault::Size) => Err(Fault::Size),
+        Err(CoreFault::Memory) => Err(Fault::Memory),
+    }
+}
+
+/// One session of standard input and output at the console of a new room, whose journal is kept in a new file.
+///
+/// # Errors
+///
+/// `Size` or `Memory` where there is no such room, `Kept` where the file can't be made, or what ended the session but
+/// QUIT and the end of the input.
+pub fn keep_console<R: Files<File = File> + Input + Print + AllocGlobal>(
+    rt: &R,
+    size: u16,
+    journal: String,
+) -> Result<(), Fault> {
+    let room = new_room(rt.alloc(), size)?;
+    keep_in_new(rt, room, journal)
+}
+
+/// The same for a new room that has an image loaded.
+///
+/// # Errors
+///
+/// `Unread` where the image's file can't be read, what `load` fails by, and as those of `keep_console`.
+pub fn keep_loaded<R: Files<File = File> + Input + Print + AllocGlobal>(
+    rt: &R,
+    file: String,
+    journal: String,
+) -> Result<(), Fault> {
+    let text = read_file(rt, file)?;
+    let room = loaded_room(rt.alloc(), text.as_slice())?;
+    keep_in_new(rt, room, journal)
+}
+
+/// Keeps a room in a new file, and holds a session of standard input and output at its console.
+fn keep_in_new<R: Files<File = File> + Input + Print + AllocGlobal>(
+    rt: &R,
+    room: Room,
+    journal: String,
+) -> Result<(), Fault> {
+    let name = String::from_str(rt.alloc(), journal.as_str()).map_err(|_| Fault::Memory)?;
+    let file = match create_journal(rt, journal) {
+        Ok(file) => file,
+        Err(fault) => return Err(Fault::Kept(fault)),
+    };
+    let mut reader = FromReader::new(rt.reader());
+    let mut writer = ToWriter::new(io::writer(rt));
+    let sink = ToWriter::new(file);
+    match keep_by(rt.alloc(), room, sink, &mut reader, &mut writer) {
+        Ok(end) => ended(end),
+        Err(_) => {
+            // The file has no journal, and it is this call's own.
+            let _ = fs::remove_file(rt, name.as_str());
+            Err(Fault::Kept(KeepFault::File(name, FileFault::Unwritten)))
+        }
+    }
+}
+
+/// Keeps a room by a sink, and holds a session at its console.
+fn keep_by<S: Sink + Drop, R: Source, W: Sink>(
+    alloc: Global,
+    room: Room,
+    sink: S,
+    reader: &mut R,
+    writer: &mut W,
+) -> Result<SessionEnd, Unkept> {
+    keep_session::<Brand, S, R, W>(alloc, room, sink, reader, writer)
+}
+
+/// Carries out the commands of a journal again, and holds a session of standard input and output that goes on there. It
+/// is kept in the same file, or in a new one; or, where only the first of the commands are asked for, it isn't kept.
+///
+/// # Errors
+///
+/// `Kept` where a file can't be had or has no journal, `Memory`, or what ended the session but QUIT and the end of the
+/// input.
+pub fn resume_file<R: Files<File = File> + Input + Print + Eprint + AllocGlobal>(
+    rt: &R,
+    asked: Resuming,
+) -> Result<(), Fault> {
+    let Resuming {
+        file,
+        journal,
+        until,
+        without,
+    } = asked;
+    if journal.is_none() && until.is_none() {
+        return go_on(rt, file);
+    }
+    let room = read_room(rt, file).map_err(Fault::Kept)?;
+    let room = chosen_room(rt.alloc(), &room, until, without.as_slice())?;
+    match journal {
+        Some(journal) => keep_in_new(rt, room, journal),
+        None => look_at(rt, room),
+    }
+}
+
+/// A room that has carried out some of a room's commands again.
+fn chosen_room(
+    alloc: Global,
+    room: &Room,
+    until: Option<u64>,
+    without: &[u64],
+) -> Result<Room, Fault> {
+    let entries = room.journal().len() as u64;
+    let until = until.unwrap_or(entries);
+    if until > entries {
+        return Err(Fault::Kept(KeepFault::NoEntry(until)));
+    }
+    for number in without {
+        if *number == 0 || *number > entries {
+            return Err(Fault::Kept(KeepFault::NoEntry(*number)));
+        }
+    }
+    let size = room.machine().core().size();
+    carry_chosen(alloc, size, room.journal(), until, without).map_err(|_| Fault::Memory)
+}
+
+/// Holds a session of standard input and output at the console of a room, of which nothing is kept.
+fn look_at<R: Input + Print + AllocGlobal>(rt: &R, room: Room) -> Result<(), Fault> {
+    let mut room = room;
+    let mut reader = FromReader::new(rt.reader());
+    let mut writer = ToWriter::new(io::writer(rt));
+    ended(session(rt.alloc(), &mut room, &mut reader, &mut writer))
+}
+
+/// Goes on in the file of a journal.
+fn go_on<R: Files<File = File> + Input + Print + Eprint + AllocGlobal>(
+    rt: &R,
+    file: String,
+) -> Result<(), Fault> {
+    let TakenUp { room, file, cut } = take_up_journal(rt, file).map_err(Fault::Kept)?;
+    if let Some(line) = cut {
+        let _ = eprintln!(rt; "ibm1401: line {line} was unfinished and is cut off");
+    }
+    let sink = ToWriter::new(file);
+    let mut reader = FromReader::new(rt.reader());
+    let mut writer = ToWriter::new(io::writer(rt));
+    ended(resume_by(rt.alloc(), room, sink, &mut reader, &mut writer))
+}
+
+/// Holds a session at the console of a room by the file that has its journal.
+fn resume_by<R: Source, W: Sink>(
+    alloc: Global,
+    room: Room,
+    sink: ToWriter<File>,
+    reader: &mut R,
+    writer: &mut W,
+) -> SessionEnd {
+    // What the file had before is unknown, and so is what it has.
+    if sink.has_failed() {
+        return SessionEnd::Unkept;
+    }
+    resume_session::<Brand, ToWriter<File>, R, W>(alloc, room, sink, reader, writer)
+}
