@@ -2,3 +2,4 @@ pub mod Program
 pub mod Run
 pub mod RunDeck
 pub mod RunTrace
+pub mod RunFile

@@ -1,7 +1,10 @@
 //! The files that a run reads: its program, and its deck.
+ghost use Rattle.std.specs.Prelude.{◌≡◌, true, false, Err, IfErr};
+ghost use Rattle.core_1401.specs.Storage.{is_core_size};
+ghost use Rattle.running_1401.specs.RunFile.{IsOfFile, IsUnread};
 
 use crate::fault::RunFault;
-use crate::programs::{loaded_machine, program_of};
+use crate::programs::{Program, loaded_machine, program_of};
 use arguments_1401::Start;
 use autocoder_1401::Listing;
 use core_1401::{Core, CoreFault};
@@ -16,7 +19,9 @@ use std::rt::Files;
 /// # Errors
 ///
 /// `File`, with the name as it was given; else `Memory`.
-fn read_file(rt: &(impl Files + AllocGlobal), name: String) -> Result<Vec<u8>, RunFault> {
+fn read_file(rt: &(impl Files + AllocGlobal), name: String) -> Result<Vec<u8>, RunFault>
+    ensures { IfErr result IsOfFile }
+{
     match read_whole(rt, name.as_str()) {
         Ok(bytes) => Ok(bytes),
         Err(FileFault::Memory) => Err(RunFault::Memory),
@@ -34,10 +39,9 @@ pub fn tell_small_letters(rt: &impl Eprint, name: &str) {
 /// # Errors
 ///
 /// `File` if the file can't be read, `Deck` if a line is no card, or `Memory`.
-pub(crate) fn read_cards(
-    rt: &(impl Files + Eprint + AllocGlobal),
-    name: String,
-) -> Result<Vec<Card>, RunFault> {
+fn read_cards(rt: &(impl Files + Eprint + AllocGlobal), name: String) -> Result<Vec<Card>, RunFault>
+    ensures { IfErr result IsOfFile }
+{
     let Ok(label) = name.clone() else {
         return Err(RunFault::Memory);
     };
@@ -54,34 +58,86 @@ pub(crate) fn read_cards(
     }
 }
 
-/// A machine with the program of a file, the cards that come before those of the deck, and the listing of a source.
+/// What a run begins with.
+#[derive(Drop)]
+pub(crate) struct Inputs {
+    /// A machine with the program.
+    pub machine: Machine,
+    /// The cards that are behind those in its hopper.
+    pub cards: Vec<Card>,
+    /// The listing of the program's source, if it has one.
+    pub listing: Option<Listing>,
+}
+
+/// A machine with the program of a source or an image, and no cards.
+fn read_program(
+    rt: &(impl Files + AllocGlobal),
+    file: String,
+    size: u16,
+) -> Result<Inputs, RunFault>
+    requires { is_core_size size ≡ true }
+    ensures { IfErr result (IsUnread Start.Entry size) }
+{
+    let text = read_file(rt, file)?;
+    let program = program_of(rt.alloc(), text.as_slice(), size)?;
+    let Program { image, listing } = program;
+    let machine = loaded_machine(rt.alloc(), &image)?;
+    Ok(Inputs {
+        machine,
+        cards: Vec::new(rt.alloc()),
+        listing,
+    })
+}
+
+/// A machine at power-on, and the cards of a deck that loads itself.
+fn read_loader(
+    rt: &(impl Files + Eprint + AllocGlobal),
+    file: String,
+    size: u16,
+) -> Result<Inputs, RunFault>
+    requires { is_core_size size ≡ true }
+    ensures { IfErr result (IsUnread Start.LoadKey size) }
+{
+    let cards = read_cards(rt, file)?;
+    match Machine::power_on(rt.alloc(), size) {
+        Ok(machine) => Ok(Inputs {
+            machine,
+            cards,
+            listing: None,
+        }),
+        Err(CoreFault::Size) => unreachable!(),
+        Err(CoreFault::Memory) => Err(RunFault::Memory),
+    }
+}
+
+/// What a run begins with: the program of a file, and its deck.
 ///
 /// # Errors
 ///
-/// `File` where the file can't be read; `Source`, `Image` or `Deck` where it has no program; or `Memory`.
-pub(crate) fn read_program(
+/// `Size` if there is no core storage of this size; `File` where a file can't be read; `Source`, `Image` or `Deck` where
+/// it has no program or is no deck; or `Memory`.
+pub(crate) fn read_inputs(
     rt: &(impl Files + Eprint + AllocGlobal),
     file: String,
     start: Start,
     size: u16,
-) -> Result<(Machine, Vec<Card>, Option<Listing>), RunFault> {
+    cards: Option<String>,
+) -> Result<Inputs, RunFault>
+    ensures size { is_core_size size ≡ false → result ≡ Err RunFault.Size }
+    ensures fault { IfErr result (IsUnread start size) }
+{
     if !Core::is_size(size) {
         return Err(RunFault::Size);
     }
-    match start {
-        Start::Entry => {
-            let text = read_file(rt, file)?;
-            let program = program_of(rt.alloc(), text.as_slice(), size)?;
-            let machine = loaded_machine(rt.alloc(), &program.image)?;
-            Ok((machine, Vec::new(rt.alloc()), program.listing))
-        }
-        Start::LoadKey => {
-            let cards = read_cards(rt, file)?;
-            match Machine::power_on(rt.alloc(), size) {
-                Ok(machine) => Ok((machine, cards, None)),
-                Err(CoreFault::Size) => Err(RunFault::Size),
-                Err(CoreFault::Memory) => Err(RunFault::Memory),
-            }
+    let mut inputs = match start {
+        Start::Entry => read_program(rt, file, size)?,
+        Start::LoadKey => read_loader(rt, file, size)?,
+    };
+    if let Some(name) = cards {
+        let behind = read_cards(rt, name)?;
+        if inputs.cards.extend_from_slice(behind.as_slice()).is_err() {
+            return Err(RunFault::Memory);
         }
     }
+    Ok(inputs)
 }

@@ -13,6 +13,7 @@ pub mod programs;
 
 // a machine run with a deck; where what comes goes, and who is told
 pub mod deck_running;
+mod outputs;
 pub mod punch_file;
 pub mod tracing;
 pub mod watching;

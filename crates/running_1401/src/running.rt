@@ -1,19 +1,21 @@
 //! What the subcommand `run` does.
-ghost use Rattle.std.specs.Prelude.{◌≡◌};
+ghost use Rattle.std.specs.Prelude.{◌≡◌, false, Err, IfErr};
+ghost use Rattle.core_1401.specs.Storage.{is_core_size};
 ghost use Rattle.running_1401.specs.Run.{job_outcome};
+ghost use Rattle.running_1401.specs.RunFile.{IsFaultOf, IsOfRun, IsUnwritten};
 
 use crate::deck_running::{Broken, run_started};
 use crate::ending::Ending;
 use crate::fault::{RunFault, job_outcome};
-use crate::inputs::{read_cards, read_program};
+use crate::inputs::{Inputs, read_inputs};
 use crate::job_report::JobReport;
-use crate::punch_file::PunchFile;
+use crate::outputs::{OutputNames, Outputs, create_outputs};
 use crate::tracing::Trace;
 use crate::watching::{Shown, Unwatched, Watch};
 use arguments_1401::{Job, Start};
 use cpu_1401::{Machine, Stop};
 use devices_1401::Card;
-use files_1401::{WriteFault, create, hold_closed_streams};
+use files_1401::hold_closed_streams;
 use std::io;
 use std::rt::{Clock, Files};
 use streams_1401::{Sink, ToWriter};
@@ -31,30 +33,6 @@ pub enum ErrorOutput {
 fn set_switches(machine: &mut Machine, switches: &[bool; 7]) {
     for n in 0..7 {
         machine.switch(n, switches[usize::from(n)]);
-    }
-}
-
-/// A new file, in place of one of the name.
-///
-/// # Errors
-///
-/// `Unwritten` where it can't be made.
-fn create_named<R: Files + AllocGlobal>(rt: &R, name: &str) -> Result<ToWriter<R::File>, RunFault> {
-    match create(rt, name) {
-        Ok(file) => Ok(file),
-        Err(WriteFault::Memory) => Err(RunFault::Memory),
-        Err(WriteFault::Unwritten) => match String::from_str(rt.alloc(), name) {
-            Ok(name) => Err(RunFault::Unwritten(name)),
-            Err(_) => Err(RunFault::Memory),
-        },
-    }
-}
-
-/// The fault of a file of this name that isn't written, or of standard output where there is no name.
-fn unwritten(name: Option<String>) -> RunFault {
-    match name {
-        Some(name) => RunFault::Unwritten(name),
-        None => RunFault::Output,
     }
 }
 
@@ -89,6 +67,76 @@ fn run_shown<R: Eprint + Clock + AllocGlobal, W: Sink, P: Sink, F: Sink>(
     }
 }
 
+/// Runs a machine with its cards, and writes where it is to.
+fn run_into<R: Files + Print + Eprint + Clock + AllocGlobal>(
+    rt: &R,
+    error_output: ErrorOutput,
+    machine: &mut Machine,
+    cards: &[Card],
+    start: Start,
+    limit: u32,
+    outputs: Outputs<ToWriter<R::File>>,
+) -> Result<JobReport, Broken> {
+    let Outputs {
+        paper,
+        mut punch,
+        mut trace,
+    } = outputs;
+    match paper {
+        Some(mut file) => run_shown(
+            rt,
+            error_output,
+            machine,
+            cards,
+            start,
+            limit,
+            &mut file,
+            &mut punch,
+            &mut trace,
+        ),
+        None => {
+            let mut output = ToWriter::new(io::writer(rt));
+            run_shown(
+                rt,
+                error_output,
+                machine,
+                cards,
+                start,
+                limit,
+                &mut output,
+                &mut punch,
+                &mut trace,
+            )
+        }
+    }
+}
+
+/// Runs what was read, and writes to the files of these names.
+///
+/// # Errors
+///
+/// `Unwritten` or `Output` if a file can't be made, or paper, cards or trace aren't written; or `Memory`.
+fn run_inputs<R: Files + Print + Eprint + Clock + AllocGlobal>(
+    rt: &R,
+    error_output: ErrorOutput,
+    machine: &mut Machine,
+    cards: &[Card],
+    start: Start,
+    limit: u32,
+    names: OutputNames,
+) -> Result<JobReport, RunFault>
+    ensures { IfErr result IsUnwritten }
+{
+    let outputs = match create_outputs(rt, &names) {
+        Ok(outputs) => outputs,
+        Err(fault) => return Err(fault),
+    };
+    match run_into(rt, error_output, machine, cards, start, limit, outputs) {
+        Ok(report) => Ok(report),
+        Err(broken) => Err(names.fault_of(broken)),
+    }
+}
+
 /// Runs a program with its deck, and tells on standard error how it ended where it halted.
 ///
 /// # Errors
@@ -100,7 +148,12 @@ pub fn run_file<R: Files + Print + Eprint + Clock + AllocGlobal>(
     rt: &R,
     error_output: ErrorOutput,
     job: Job,
-) -> Result<(), RunFault> {
+) -> Result<(), RunFault>
+    ensures size { is_core_size job.size ≡ false → result ≡ Err RunFault.Size }
+
+    // No halt is told as a fault, and no size that there is; a deck that loads itself is neither source nor image.
+    ensures fault { IfErr result (IsFaultOf job.start job.size) }
+{
     let Job {
         file,
         start,
@@ -112,67 +165,53 @@ pub fn run_file<R: Files + Print + Eprint + Clock + AllocGlobal>(
         limit,
         switches,
     } = job;
-    // Standard streams that are closed stay so: no file that is made takes the place of one.
     let _held = hold_closed_streams(rt);
-    let (mut machine, mut deck, listing) = read_program(rt, file, start, size)?;
-    if let Some(name) = cards {
-        let behind = read_cards(rt, name)?;
-        if deck.extend_from_slice(behind.as_slice()).is_err() {
-            return Err(RunFault::Memory);
-        }
-    }
-    let paper_file = match &paper {
-        Some(name) => Some(create_named(rt, name.as_str())?),
-        None => None,
+    let inputs = match read_inputs(rt, file, start, size, cards) {
+        Ok(inputs) => inputs,
+        Err(fault) => return Err(fault),
     };
-    let mut punch_file = PunchFile {
-        file: match &punch {
-            Some(name) => Some(create_named(rt, name.as_str())?),
-            None => None,
-        },
+    let names = OutputNames {
+        paper,
+        punch,
+        trace,
     };
-    let mut tracer = Trace::new(match &trace {
-        Some(name) => Some(create_named(rt, name.as_str())?),
-        None => None,
-    });
-    set_switches(&mut machine, &switches);
-    let deck = deck.as_slice();
-    let ended = match paper_file {
-        Some(mut file) => run_shown(
-            rt,
-            error_output,
-            &mut machine,
-            deck,
-            start,
-            limit,
-            &mut file,
-            &mut punch_file,
-            &mut tracer,
-        ),
-        None => {
-            let mut output = ToWriter::new(io::writer(rt));
-            run_shown(
+    run_and_tell(rt, error_output, inputs, start, limit, &switches, names)
+}
+
+/// Runs what was read, writes to the files of these names, and tells how it ended.
+fn run_and_tell<R: Files + Print + Eprint + Clock + AllocGlobal>(
+    rt: &R,
+    error_output: ErrorOutput,
+    inputs: Inputs,
+    start: Start,
+    limit: u32,
+    switches: &[bool; 7],
+    names: OutputNames,
+) -> Result<(), RunFault>
+    ensures { IfErr result IsOfRun }
+{
+    let Inputs {
+        mut machine,
+        cards,
+        listing,
+    } = inputs;
+    set_switches(&mut machine, switches);
+    match run_inputs(
+        rt,
+        error_output,
+        &mut machine,
+        cards.as_slice(),
+        start,
+        limit,
+        names,
+    ) {
+        Ok(report) => {
+            tell_ending(
                 rt,
-                error_output,
-                &mut machine,
-                deck,
-                start,
-                limit,
-                &mut output,
-                &mut punch_file,
-                &mut tracer,
+                Ending::of(rt.alloc(), report, &machine, listing.as_ref()),
             )
         }
-    };
-    match ended {
-        Ok(report) => {
-            let listing = listing.as_ref();
-            tell_ending(rt, Ending::of(rt.alloc(), report, &machine, listing))
-        }
-        Err(Broken::Memory) => Err(RunFault::Memory),
-        Err(Broken::Paper) => Err(unwritten(paper)),
-        Err(Broken::Punch) => Err(unwritten(punch)),
-        Err(Broken::Trace) => Err(unwritten(trace)),
+        Err(fault) => Err(fault),
     }
 }
 

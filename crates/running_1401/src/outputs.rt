@@ -1,0 +1,122 @@
+//! The files that a run writes: its paper, its punched cards, and its trace.
+ghost use Rattle.std.specs.Prelude.{IfErr};
+ghost use Rattle.running_1401.specs.RunFile.{IsUnwritten};
+
+use crate::deck_running::Broken;
+use crate::fault::RunFault;
+use crate::punch_file::PunchFile;
+use crate::tracing::Trace;
+use files_1401::{WriteFault, create};
+use std::rt::Files;
+use streams_1401::ToWriter;
+
+/// The names of the files that a run writes.
+#[derive(Drop)]
+pub(crate) struct OutputNames {
+    /// The file of the paper; without one it is standard output.
+    pub paper: Option<String>,
+    /// The file of the punched cards; without one they are only counted.
+    pub punch: Option<String>,
+    /// The file of the trace; without one there is none.
+    pub trace: Option<String>,
+}
+
+impl OutputNames {
+    /// The fault of a run that broke off.
+    pub fn fault_of(self, broken: Broken) -> RunFault
+        ensures { IsUnwritten result }
+    {
+        let Self {
+            paper,
+            punch,
+            trace,
+        } = self;
+        match broken {
+            Broken::Memory => RunFault::Memory,
+            Broken::Paper => unwritten(paper),
+            Broken::Punch => unwritten(punch),
+            Broken::Trace => unwritten(trace),
+        }
+    }
+}
+
+/// The fault of a file of this name that isn't written, or of standard output where there is no name.
+fn unwritten(name: Option<String>) -> RunFault
+    ensures { IsUnwritten result }
+{
+    match name {
+        Some(name) => RunFault::Unwritten(name),
+        None => RunFault::Output,
+    }
+}
+
+/// Where a run writes.
+#[derive(Drop)]
+pub(crate) struct Outputs<F> {
+    /// The file of the paper; without one it is standard output.
+    pub paper: Option<F>,
+    /// The file of the punched cards, if there is one.
+    pub punch: PunchFile<F>,
+    /// The trace, if there is one.
+    pub trace: Trace<F>,
+}
+
+/// New files, in place of those of these names.
+///
+/// # Errors
+///
+/// `Unwritten` where one can't be made, or `Memory`.
+pub(crate) fn create_outputs<R: Files + AllocGlobal>(
+    rt: &R,
+    names: &OutputNames,
+) -> Result<Outputs<ToWriter<R::File>>, RunFault>
+    ensures { IfErr result IsUnwritten }
+{
+    let paper = match create_if_named(rt, &names.paper) {
+        Ok(paper) => paper,
+        Err(fault) => return Err(fault),
+    };
+    let punch = match create_if_named(rt, &names.punch) {
+        Ok(punch) => punch,
+        Err(fault) => return Err(fault),
+    };
+    let trace = match create_if_named(rt, &names.trace) {
+        Ok(trace) => trace,
+        Err(fault) => return Err(fault),
+    };
+    Ok(Outputs {
+        paper,
+        punch: PunchFile { file: punch },
+        trace: Trace::new(trace),
+    })
+}
+
+/// A new file, in place of one of the name, if there is a name.
+fn create_if_named<R: Files + AllocGlobal>(
+    rt: &R,
+    name: &Option<String>,
+) -> Result<Option<ToWriter<R::File>>, RunFault>
+    ensures { IfErr result IsUnwritten }
+{
+    match name {
+        Some(name) => match create_named(rt, name.as_str()) {
+            Ok(file) => Ok(Some(file)),
+            Err(fault) => Err(fault),
+        },
+        None => Ok(None),
+    }
+}
+
+/// A new file, in place of one of the name.
+fn create_named<R: Files + AllocGlobal>(rt: &R, name: &str) -> Result<ToWriter<R::File>, RunFault>
+    ensures { IfErr result IsUnwritten }
+{
+    match create(rt, name) {
+        Ok(file) => Ok(file),
+        Err(WriteFault::Memory) => Err(RunFault::Memory),
+        Err(WriteFault::Unwritten) => match String::from_str(rt.alloc(), name) {
+            Ok(name) => Err(RunFault::Unwritten(name)),
+            Err(_) => Err(RunFault::Memory),
+        },
+    }
+}
