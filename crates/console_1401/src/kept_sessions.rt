@@ -9,10 +9,9 @@ use crate::reply::Reply;
 use crate::responder::Responder;
 use crate::session_end::SessionEnd;
 use crate::sessions::{OWN_SEAT, glance_at};
-use crate::sink::Sink;
-use crate::source::Source;
 use room_1401::{Keeper, KeptRoom};
 use std::alloc::Global;
+use streams_1401::{Sink, Source};
 use text_1401::{Line, LineFault};
 
 impl<K: Keeper + Drop> Responder for KeptRoom<K> {
