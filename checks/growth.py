@@ -183,7 +183,7 @@ def served_end(how):
     service, told, consoles, gone = Service(2, **how), [], [], set()
     try:
         consoles += [service.console() for _ in range(2)] if service.first.startswith(b"READY\n") else []
-    except ConnectionRefusedError:
+    except (ConnectionRefusedError, ConnectionResetError):
         pass
     if len(consoles) == 2:
         for place, line in enumerate((*LINES, b"QUIT\n", b"QUIT\n")):
