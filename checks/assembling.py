@@ -1,5 +1,6 @@
 """Sources that are assembled into a file, and all faults of a source."""
 import os
+import re
 import tempfile
 from pathlib import Path
 
@@ -17,6 +18,13 @@ FAULTY = """\
      KEY            3,4
                END  A
 """
+
+# Sources with a fault, each with the text that tells it.
+FAULTY_SOURCES = [
+    (FAULTY, "line 1: 6 OPERATION"),
+    ("", "line 1: 10 NO END"),
+    ("               ORG  4000\n     A         H\n               END  0\n", "line 2: 9 OUT OF CORE"),
+]
 
 TOLD = [
     "1:16: OPERATION: columns 16 to 20 hold no operation, or a field has no areas above it",
@@ -71,6 +79,151 @@ def into_files():
         holds("assemble -o with closed streams: the image", out, IMAGE)
         for words in ["-o"], ["-o", out, "-o", out]:
             expect("assemble -o ends with 2", run([PROGRAM, "assemble", source, *words]), 2, "", "error: ...")
+
+
+# The deck of the good source, which has no cells: storage is cleared, and the program begun.
+DECK = """\
+,008015,022029,036040,044051,056060/I99H039C039062B036/1001099
+,047055,059063,067071,075079)044056,181L199099)060)081)181/039,0011040
+                                       /000080
+"""
+
+# A source that has something where the cards are read, and what that is told as.
+UNDER_THE_CARD = "               ORG  75\n               DCW  @      ABC@\n               END  0\n"
+TAKEN = "ibm1401: place 075 isn't blank: the deck's cards are read into 001 to 080\n"
+
+
+def own_decks():
+    """What `assemble --deck` writes, beside what else is asked for, and that it is written whole or not at all."""
+    with tempfile.TemporaryDirectory() as name:
+        folder = Path(name)
+        source, deck, out = folder / "source", folder / "deck", folder / "out"
+        source.write_text(GOOD)
+        listing = "0001 00000                         END  0\n"
+        for words, written in [
+            ([], ""),
+            (["--all"], ""),
+            (["--list"], listing),
+            (["--list", "--xref"], listing),
+            (["--size", "4000"], ""),
+        ]:
+            for call in ["--deck", deck], [f"--deck={deck}"]:
+                expect(f"assemble --deck {' '.join(words)}", run([PROGRAM, "assemble", *words, source, *call]), 0, written)
+                holds("assemble --deck: the deck", deck, DECK)
+                deck.unlink()
+        expect("assemble --deck -o", run([PROGRAM, "assemble", source, "-o", out, "--deck", deck]))
+        holds("assemble --deck -o: the image", out, IMAGE)
+        holds("assemble --deck -o: the deck", deck, DECK)
+        expect("assemble --deck -o --list", run([PROGRAM, "assemble", "--list", source, "-o", out, "--deck", deck]))
+        holds("assemble --deck -o --list: the listing", out, listing)
+        ran = run([PROGRAM, "assemble", source, "--deck", "/dev/stdout"])
+        expect("assemble --deck /dev/stdout", ran, 0, DECK)
+        source.write_text("               END  15999\n")
+        expect("assemble --deck --size", run([PROGRAM, "assemble", source, "--deck", out, "--size", "16000"]))
+        holds("assemble --deck --size: the deck", out, DECK.replace("I99", "I9I").replace("/000080", "/I9I080"))
+        for text, fault in [*((text, f"ibm1401: {fault}\n") for text, fault in FAULTY_SOURCES), (UNDER_THE_CARD, TAKEN)]:
+            source.write_text(text)
+            for words in [], ["--list"], ["-o", folder / "image"], ["--symbols"]:
+                ran = run([PROGRAM, "assemble", source, "--deck", deck, *words])
+                expect(f"assemble --deck {' '.join(map(str, words))}: a fault", ran, 1, "", fault)
+                holds("assemble --deck: a fault leaves the file as it was", deck, DECK)
+            ran = run([PROGRAM, "assemble", source, "--deck", folder / "new", "-o", folder / "image"])
+            expect("assemble --deck: a fault, without a file", ran, 1, "", fault)
+            made = [each for each in ("new", "image") if (folder / each).exists()]
+            tell("a fault makes no file", ", ".join(made))
+        source.write_text(FAULTY)
+        lines = "".join(f"{source}:{line}\n" for line in TOLD)
+        ran = run([PROGRAM, "assemble", "--all", source, "--deck", deck])
+        expect("assemble --deck --all", ran, 1, "", lines)
+        source.write_text(GOOD)
+        for bad in folder / "none" / "deck", folder, Path("/dev/full"):
+            for words in [], ["--list"], ["-o", folder / "image"]:
+                ran = run([PROGRAM, "assemble", source, "--deck", bad, *words])
+                expect(f"assemble --deck {bad.name}", ran, 1, "", f"ibm1401: cannot write {bad}\n")
+            tell("a deck that can't be written comes first", "there is an image" if (folder / "image").exists() else "")
+        ran = run([PROGRAM, "assemble", source, "--deck", deck, "-o", "/dev/full"])
+        expect("assemble --deck -o /dev/full", ran, 1, "", "ibm1401: cannot write /dev/full\n")
+        for words, output, status in ("", ">&-", 0), ("", ">/dev/full", 0), ("--list", ">&-", 1), ("--list", ">/dev/full", 1):
+            deck.unlink()
+            call = f'"$0" assemble {words} "$1" --deck "$2" {output}'
+            told = "ibm1401: cannot write\n" if status else ""
+            expect(f"assemble --deck {words} {output}", run(["bash", "-c", call, PROGRAM, source, deck]), status, "", told)
+            holds(f"assemble --deck {words} {output}: the deck", deck, DECK)
+        ran = run(["bash", "-c", '"$0" assemble "$1" --deck "$2" <&- >&- 2>&-', PROGRAM, source, deck])
+        expect("assemble --deck with closed streams", ran)
+        holds("assemble --deck with closed streams: the deck", deck, DECK)
+        for words in ["--deck"], ["--deck", deck, "--deck", deck]:
+            expect("assemble --deck ends with 2", run([PROGRAM, "assemble", source, *words]), 2, "", "error: ...")
+        for words, fault in [(["--size", "1401"], "size refused"), ([], f"cannot read {name}/none")]:
+            ran = run([PROGRAM, "assemble", "--deck", deck, *words, folder / "none"])
+            expect(f"assemble --deck: {fault}", ran, 1, "", f"ibm1401: {fault}\n")
+        holds("assemble --deck: no source leaves the file as it was", deck, DECK)
+    page = (TOP / "docs/FORMATS.md").read_text()
+    shown = re.search(r"## A deck that loads itself\n.*?```text\n(.*?)```", page, re.DOTALL)
+    ran = run([PROGRAM, "assemble", TOP / "examples/five_and_five.source", "--deck", "/dev/stdout"])
+    expect("the deck of FORMATS.md", ran, 0, shown[1])
+
+
+# A source whose areas have a field, and its parts: the listing, the symbol table, the lines that name each label.
+AREAS = """\
+     REC       DA   2X4
+     KEY            3,4
+     OFFSET    EQU  KEY-1
+               MLC  KEY,KEY
+               END  REC
+"""
+PARTS = {
+    "--list": """\
+0001 00333               REC       DA   2X4
+0002 00335               KEY            3,4
+0003 00335               OFFSET    EQU  KEY-1
+0004 00341 M336336                 MLC  KEY,KEY
+0005 00333                         END  REC
+""",
+    "--symbols": "REC    00333 00008 0001\nKEY    00336 00002 0002\nOFFSET 00335       0003\n",
+    "--xref": "REC    0001 0005\nKEY    0002 0003 0004\nOFFSET 0003\n",
+}
+CHOICES = [
+    ["--symbols"],
+    ["--xref"],
+    ["--symbols", "--xref"],
+    ["--list", "--symbols"],
+    ["--list", "--xref"],
+    ["--list", "--symbols", "--xref"],
+]
+
+
+def tables():
+    """The symbol table and the cross-reference, alone, together and after the listing; and each end of such a call."""
+    with tempfile.TemporaryDirectory() as name:
+        source, out = Path(name) / "source", Path(name) / "out"
+        for words in CHOICES:
+            source.write_text(AREAS)
+            call, whole = f"assemble {' '.join(words)}", "\n".join(PARTS[word] for word in words)
+            expect(call, run([PROGRAM, "assemble", *words, source]), 0, whole)
+            expect(f"{call}, in another order", run([PROGRAM, "assemble", source, *words[::-1]]), 0, whole)
+            expect(f"{call} --all", run([PROGRAM, "assemble", "--all", *words, source]), 0, whole)
+            expect(f"{call} -o", run([PROGRAM, "assemble", *words, source, "-o", out]))
+            holds(f"{call} -o: its text", out, whole)
+            for output in ">&-", ">/dev/full":
+                ran = run(["bash", "-c", f'"$0" assemble {" ".join(words)} "$1" {output}', PROGRAM, source])
+                expect(f"{call} {output}", ran, 1, "", "ibm1401: cannot write\n")
+            ran = run([PROGRAM, "assemble", *words, source, "-o", "/dev/full"])
+            expect(f"{call} -o /dev/full", ran, 1, "", "ibm1401: cannot write /dev/full\n")
+            source.write_text(GOOD)
+            listed = "0001 00000                         END  0\n" if "--list" in words else ""
+            expect(f"{call}: no labels", run([PROGRAM, "assemble", *words, source]), 0, listed)
+            for text, fault in FAULTY_SOURCES:
+                source.write_text(text)
+                ran = run([PROGRAM, "assemble", *words, source, "-o", out])
+                expect(f"{call}: {fault}", ran, 1, "", f"ibm1401: {fault}\n")
+            holds(f"{call}: a fault leaves the file as it was", out, whole)
+        for words in ["--symbols=1"], ["--xref", "1"], ["--symbol", "--xrefs"]:
+            ran = run([PROGRAM, "assemble", source, *words])
+            expect(f"assemble {' '.join(words)} ends with 2", ran, 2, "", "error: ...")
+    page = (TOP / "docs/FORMATS.md").read_text()
+    shown = re.search(r"`ibm1401 (assemble --symbols [^`]*)` writes\n\n```text\n(.*?)```", page, re.DOTALL)
+    expect("the tables of FORMATS.md", run([PROGRAM, *shown[1].split()], cwd=TOP), 0, shown[2])
 
 
 def all_faults():

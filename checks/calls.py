@@ -26,6 +26,7 @@ AGAIN = [
     ("shared", {"Memory"}, 215),
     ("command", {"Memory"}, 36),
     ("assemble", {"Memory"}, 92),
+    ("assemble_image", {"Memory"}, 53),
     ("write_image", {"Memory"}, 10),
     ("read_image", {"Memory"}, 7),
     ("reply_text", {"Memory"}, 28),

@@ -115,16 +115,25 @@ def sessions(refusing):
 
 
 def texts(refusing):
-    """The image and the listing of a source."""
+    """The image and the listing of a source, its tables, and its deck."""
     source, number = TOP / "examples/five_and_five.source", 0
     faults = [MEMORY, b"ibm1401: line 0: 1 MEMORY\n"]
-    for words, suffix in ([], ".image"), (["--list"], ".listing"):
-        whole = source.with_suffix(suffix).read_bytes()
+    tables = ["--list", "--symbols", "--xref"]
+    wholes = [source.with_suffix(suffix).read_bytes() for suffix in (".image", ".listing")]
+    wholes.append(run([PROGRAM, "assemble", *tables, source]).stdout)
+    for words, whole in zip(([], ["--list"], tables), wholes):
 
         def assemble(how, words=words, whole=whole):
             return written_end(run([PROGRAM, "assemble", *words, source], **how), whole, faults)
 
         number += refusing.each(f"assemble {' '.join(words)}", assemble, ["memory refused", "line 0: 1 MEMORY"])
+    words = [PROGRAM, "assemble", "--deck", "/dev/stdout", source]
+    whole = run(words).stdout
+
+    def assemble_deck(how):
+        return written_end(run(words, **how), whole, faults)
+
+    number += refusing.each("assemble --deck", assemble_deck, ["memory refused", "line 0: 1 MEMORY"])
     return number + all_faults(refusing)
 
 

@@ -80,6 +80,7 @@ def running():
         places(folder)
         outputs(folder)
         loaded_decks(folder)
+        own_decks(folder)
         closed_streams(folder)
     while_it_runs()
     how_far()
@@ -390,6 +391,44 @@ def loaded_decks(folder):
     expect("run --load: a fault of the deck", run([PROGRAM, "run", "--load", first]), 1, "", fault)
     fault = f"ibm1401: {folder / 'none'}: no such file\n"
     expect("run --load: no deck", run([PROGRAM, "run", "--load", folder / "none"]), 1, "", fault)
+
+
+def own_decks(folder):
+    """Each example's source as a deck that loads itself: it does what the source does, at the same places."""
+    deck, sources = folder / "deck", sorted((TOP / "examples").glob("*.source"))
+    count("examples run from their decks", len(sources), 10)
+    for source in sources:
+        expect(f"{source.name}: assemble --deck", run([PROGRAM, "assemble", source, "--deck", deck]))
+        cards = source.with_suffix(".cards")
+        behind = ["--cards", cards] if cards.exists() else []
+        ran, (paper, punched, trace) = ran_with(folder, [source, *behind])
+        loaded, (same_paper, same_punched, same_trace) = ran_with(folder, ["--load", deck, *behind])
+        wrong = difference("the paper", same_paper, paper) + difference("the cards", same_punched, punched)
+        # Only the registers, the fourth and the fifth field, may differ: the source begins with both 0.
+        steps = [[line.split(b"\t")[:3], line.split(b"\t")[5:]] for line in trace.splitlines()]
+        those = [[line.split(b"\t")[:3], line.split(b"\t")[5:]] for line in same_trace.splitlines()]
+        wrong += [] if those[-len(steps) :] == steps else ["the steps are others"]
+        ends = [re.match(rb"ibm1401: (\w+ at \d+) .*; (\d+) cards? read, (.*)", each.stderr) for each in (ran, loaded)]
+        if all(ends):
+            own = len(deck.read_text().splitlines())
+            wrong += [] if ends[0][1] == ends[1][1] and ends[0][3] == ends[1][3] else [f"it ends as {ends[1][0]}"]
+            wrong += [] if int(ends[0][2]) + own == int(ends[1][2]) else [f"{ends[1][2]} cards are read"]
+        else:
+            wrong += [f"{ran.stderr!r} {loaded.stderr!r}"]
+        wrong += [] if ran.returncode == loaded.returncode else [f"status {loaded.returncode}"]
+        tell(f"{source.name}: run from its deck", "; ".join(wrong))
+    page = re.search(r"### A deck of your own\n.*?```sh\n(.*?)```", (TOP / "docs/RUNNING.md").read_text(), re.DOTALL)
+    calls = page[1].replace("/tmp/sales.deck", str(deck)) if page else "exit 3"
+    paper = (TOP / "examples/sales.paper").read_bytes()
+    expect("the deck that RUNNING.md runs", run(["bash", "-ec", calls], cwd=TOP), 0, paper, "ibm1401: HALT at 0463 ...")
+
+
+def ran_with(folder, words):
+    """A run with switch A on, and its paper, its punched cards and its trace."""
+    files = [folder / each for each in ("paper", "punched", "trace")]
+    named = [word for each, file in zip(("--paper", "--punch", "--trace"), files) for word in (each, file)]
+    ran = run([PROGRAM, "run", *words, *named, "--switches", "A", "--limit", "1000000"])
+    return ran, [file.read_bytes() for file in files]
 
 
 def closed_streams(folder):

@@ -7,6 +7,19 @@ pub enum Product {
     Image,
     /// The listing.
     Listing,
+    /// The symbol table, the cross-reference or both, with or without the listing.
+    Tables(Tables),
+}
+
+/// Which tables of a source are written, in this order.
+#[derive(Clone, Copy, Debug, PartialEq, Eq)]
+pub struct Tables {
+    /// Whether the listing comes before them.
+    pub listing: bool,
+    /// Whether the symbol table is one of them.
+    pub symbols: bool,
+    /// Whether the cross-reference is one of them.
+    pub references: bool,
 }
 
 /// A source that is assembled, and where its image goes.
@@ -16,10 +29,12 @@ pub struct Assembling {
     pub file: String,
     /// How many places core storage has.
     pub size: u16,
-    /// Which of the two is written.
+    /// What is written.
     pub product: Product,
     /// The name of the file that it is written to; without one it is standard output.
     pub out: Option<String>,
+    /// The name of the file of the deck that loads itself; without one there is none.
+    pub deck: Option<String>,
     /// How many faults of the source are told.
     pub told: Told,
 }

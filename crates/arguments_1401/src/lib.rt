@@ -5,10 +5,11 @@
 //! ```
 #![tactic(auto)]
 
+mod assembling;
 pub mod call;
 mod journals;
 pub mod reading;
 mod sizes;
 
-pub use call::{Assembling, Call, Job, Product, Resuming, Service, Showing, Start, Told};
+pub use call::{Assembling, Call, Job, Product, Resuming, Service, Showing, Start, Tables, Told};
 pub use reading::read_call;

@@ -1,6 +1,7 @@
 //! The words of the command line, read by `clap`.
 
-use crate::call::{Assembling, Call, Job, Product, Service, Start, Told};
+use crate::assembling::{assemble_call, assemble_command};
+use crate::call::{Call, Job, Service, Start};
 use crate::journals::{journal_arg, journal_call, journal_command, resume_call, resume_command};
 use crate::sizes::{DEFAULT_SIZE, SizeTexts};
 use clap::error::ErrorKind;
@@ -28,43 +29,13 @@ Lines, each with one reply:
   QUIT            ends the session, of which nothing is kept";
 
 /// The size of core storage, as an option.
-fn size_arg<'a>(alloc: Global, sizes: &'a SizeTexts) -> Arg<'a> {
+pub(crate) fn size_arg<'a>(alloc: Global, sizes: &'a SizeTexts) -> Arg<'a> {
     Arg::new(alloc, "size")
         .long("size")
         .value_name("N")
         .help(sizes.help.as_str())
         .default_value(sizes.default.as_str())
         .value_parser(value_parser!(u16))
-}
-
-/// The subcommand `assemble`.
-fn assemble_command<'a>(alloc: Global, sizes: &'a SizeTexts) -> Result<Command<'a>, AllocError> {
-    let list = Arg::new(alloc, "list")
-        .long("list")
-        .help("Writes the listing in place of the image")
-        .action(ArgAction::SetTrue);
-    let all = Arg::new(alloc, "all")
-        .long("all")
-        .help("Tells every fault of the source, a line each, as FILE:LINE:COLUMN: FAULT")
-        .action(ArgAction::SetTrue);
-    let out = Arg::new(alloc, "output")
-        .short('o')
-        .long("output")
-        .value_name("OUT")
-        .help(
-            "The file to write to, in place of standard output; it is written whole or not at all",
-        );
-    let file = Arg::new(alloc, "file")
-        .value_name("FILE")
-        .help("The file of the source; - is a name like any other")
-        .required(true);
-    Command::new(alloc, "assemble")
-        .about("Assembles a source, and writes its core image")
-        .arg(out)?
-        .arg(list)?
-        .arg(all)?
-        .arg(size_arg(alloc, sizes))?
-        .arg(file)
 }
 
 /// The subcommand `load`.
@@ -172,30 +143,8 @@ fn run_command<'a>(alloc: Global, sizes: &'a SizeTexts) -> Result<Command<'a>, A
 }
 
 /// The size that the options of a subcommand name.
-fn size_in(matches: &ArgMatches<'_>) -> u16 {
+pub(crate) fn size_in(matches: &ArgMatches<'_>) -> u16 {
     matches.get_one::<u16>("size").unwrap_or(DEFAULT_SIZE)
-}
-
-/// What the options of `assemble` ask for.
-fn assemble_call(alloc: Global, matches: &ArgMatches<'_>, file: &str) -> Result<Call, Error> {
-    let file = String::from_str(alloc, file)?;
-    let product = if matches.get_flag("list") {
-        Product::Listing
-    } else {
-        Product::Image
-    };
-    let told = if matches.get_flag("all") {
-        Told::All
-    } else {
-        Told::First
-    };
-    Ok(Call::Assemble(Assembling {
-        file,
-        size: size_in(matches),
-        product,
-        out: name_in(alloc, matches, "output")?,
-        told,
-    }))
 }
 
 /// The value of an option, if it is there.

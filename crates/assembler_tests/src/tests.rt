@@ -4,3 +4,4 @@ mod assembly;
 mod faults;
 mod images;
 mod lines;
+mod tables;

@@ -27,7 +27,7 @@ use Rattle.autocoder_1401.specs.declared.own_fault.Before.{Before}
 use Rattle.autocoder_1401.specs.declared.fault.AsmFault.{AsmFault}
 use Rattle.autocoder_1401.specs.declared.fault.AsmKind.{AsmKind}
 use Rattle.autocoder_1401.specs.declared.fault.AsmKind.TheVariants as kinds
-use Rattle.autocoder_1401.specs.declared.first_fault.Place.{Place}
+use Rattle.autocoder_1401.specs.declared.first_fault.LineContext.{LineContext}
 use Rattle.autocoder_1401.proofs.FirstFaultLemmas.{next_place_is}
 use Rattle.autocoder_1401.proofs.LawLemmas.{found_outside}
 use Rattle.autocoder_1401.proofs.LowestLemmas.{found}
@@ -94,7 +94,7 @@ first_of_all {X} size lines answer = by (line_faults lines) refl
         sym (ap (λ found. fault_in (fault_or found (fault_or (first_outside size lines) (Ok answer)))) first)
 
 -- a test that holds of no more statements
-looser : (at : Place) (line : Line) (less more : Statement → Bool)
+looser : (at : LineContext) (line : Line) (less more : Statement → Bool)
     → ((of : Statement) → less of ≡ true → more of ≡ true) → up_to_end_has at line less ≡ true
     → up_to_end_has at line more ≡ true
 looser at line less more wider holds =
@@ -151,11 +151,11 @@ end_is_there declared lines i this whole here = by this.at.is_ended refl
         let past : slice_get lines i ≡ None = slice_get_past lines i (omega (arith, whole)) in
         let taken : take i lines ≡ lines = take_all i lines (omega (arith, whole)) in
         let none : list_any is_end lines ≡ false =
-        sym (ap (list_any is_end) taken) ∙ sym (ap (λ (at : Place). at.is_ended) here) ∙ is in
+        sym (ap (list_any is_end) taken) ∙ sym (ap (λ (at : LineContext). at.is_ended) here) ∙ is in
         All-cons (IsThere declared lines) (record { line = this.at.number; kind = kinds.NoEnd }) []
         (record {
           index = i;
-          numbered = ap (λ (at : Place). at.number) here;
+          numbered = ap (λ (at : LineContext). at.number) here;
           there = subst (λ said. IsFaultThere declared lines i said kinds.NoEnd) (sym past) (whole, refl, none);
         }) (All-nil (IsThere declared lines))
 
@@ -190,9 +190,9 @@ each_from declared anywhere lines (line ∷ rest) i this left inside here =
         All-cons (IsThere declared lines) (record { line = this.at.number; kind = kind }) []
         (record {
           index = i;
-          numbered = ap (λ (at : Place). at.number) here;
+          numbered = ap (λ (at : LineContext). at.number) here;
           there = subst (λ said. IsFaultThere declared lines i said kind) (sym said)
-              (subst (λ (at : Place). has_fault declared at line kind ≡ true) here
+              (subst (λ (at : LineContext). has_fault declared at line kind ≡ true) here
               (told_is_there declared anywhere this line kind e));
         }) (All-nil (IsThere declared lines))
 

@@ -5,7 +5,7 @@ use Rattle.bcd_1401.specs.declared.cell.Cell.{Cell}
 use Rattle.source_1401.specs.declared.mnemonic.Instruction.{Instruction}
 use Rattle.source_1401.specs.declared.operands.Operands.{Operands}
 use Rattle.autocoder_1401.specs.Characters.{char_of}
-use Rattle.autocoder_1401.specs.Placement.{Places}
+use Rattle.autocoder_1401.specs.Placement.{Placement}
 use Rattle.autocoder_1401.specs.Cells.{plain, marked, operand_codes, d_codes, operands_cells, instruction_cells}
 use Rattle.autocoder_1401.specs.Cells.{repeated}
 
@@ -20,7 +20,7 @@ in_turn before between after first second one two =
     two ∙ ap (λ (cells : List Cell). cells ++ second) one ∙ append_assoc before first second
 
 -- one operand after the other
-pub operands_in_turn : (all : Places) (here given : ℤ) (of : Operands) (before between after : List Cell) → given ≡ here
+pub operands_in_turn : (all : Placement) (here given : ℤ) (of : Operands) (before between after : List Cell) → given ≡ here
     → between ≡ before ++ map plain (operand_codes all given of.a)
     → after ≡ between ++ map plain (operand_codes all given of.b) → after ≡ before ++ operands_cells all here of
 operands_in_turn all here given of before between after same one two =
@@ -29,7 +29,7 @@ operands_in_turn all here given of before between after same one two =
     (map plain (operand_codes all given of.b)) one two)
 
 -- an operation, its addresses and its d-character, one after the other
-pub instruction_in_turn : (all : Places) (here given : ℤ) (instruction : Instruction) (of : Operands)
+pub instruction_in_turn : (all : Placement) (here given : ℤ) (instruction : Instruction) (of : Operands)
     (before first between after : List Cell) (operation : ℕ) → given ≡ here
     → operation ≡ char_of instruction.operation → first ≡ before ++ marked operation ∷ [] → between ≡ first
     ++ operands_cells all given of

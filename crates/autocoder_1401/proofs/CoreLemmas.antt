@@ -40,7 +40,7 @@ use Rattle.source_1401.specs.declared.statement.Statement.{Statement}
 use Rattle.source_1401.specs.declared.statement.Line.{Line}
 use Rattle.source_1401.specs.Operands.{count_of}
 use Rattle.autocoder_1401.specs.Assembly.{entry_in_row, entry_by, entry_with, entry_in, image_of}
-use Rattle.autocoder_1401.specs.Cells.{place_of, plain, with_word_mark, operand_codes, d_codes, instruction_cells}
+use Rattle.autocoder_1401.specs.Cells.{address_or_zero, plain, with_word_mark, operand_codes, d_codes, instruction_cells}
 use Rattle.autocoder_1401.specs.Cells.{constant_codes, constant_cells, literal_cells, with_mark_at, with_field}
 use Rattle.autocoder_1401.specs.Cells.{area_cells}
 use Rattle.autocoder_1401.specs.Cells.{repeated, areas_cells, contents_cells, row_cells, body_cells, statement_cells}
@@ -49,11 +49,11 @@ use Rattle.autocoder_1401.specs.Cells.{fields_behind}
 use Rattle.autocoder_1401.specs.Characters.{char_with, characters_of, codes_in}
 use Rattle.autocoder_1401.specs.declared.characters.Characters.{Characters}
 use Rattle.autocoder_1401.specs.declared.fault.AsmKind.TheVariants as kinds
-use Rattle.autocoder_1401.specs.Placement.{Places, nothing_placed, instruction_length, constant_length, areas_length}
+use Rattle.autocoder_1401.specs.Placement.{Placement, nothing_placed, instruction_length, constant_length, areas_length}
 use Rattle.autocoder_1401.specs.Placement.{contents_length, base_so_far, value_so_far, pending, behind_literals}
 use Rattle.autocoder_1401.specs.Placement.{after_line, placed}
 use Rattle.autocoder_1401.specs.PlacementLaws.{total}
-use Rattle.autocoder_1401.specs.Segments.{within, closed, goes_on, cut}
+use Rattle.autocoder_1401.specs.Segments.{start_or_zero, closed, goes_on, cut}
 use Rattle.autocoder_1401.specs.Values.{base_value, address_value, is_in_core, are_in_core, operand_outside}
 use Rattle.autocoder_1401.specs.Values.{places_outside, literals_outside, next_outside, addresses_outside}
 use Rattle.autocoder_1401.specs.Values.{body_outside, line_outside, first_outside_from, first_outside, last_place}
@@ -64,12 +64,12 @@ size_bound size h = (grind (arith, nat_tests), grind (arith, nat_tests))
 
 -- places that are in core begin at an address, and end in core
 place_inside : (size : ℕ) (next : ℤ) (n : ℕ) → size ≤ 16000 → 0 < n → are_in_core size next (next +ℤ pos n) ≡ true
-    → place_of next + n ≤ size
+    → address_or_zero next + n ≤ size
 place_inside size (pos k) n small some inside = grind (arith, nat_tests)
 place_inside size (negsuc k) n small some inside = absurd (true≢false (sym inside))
 
 -- a value in core is the address of a place in core
-value_inside : (size : ℕ) (value : ℤ) → size ≤ 16000 → is_in_core size value ≡ true → place_of value < size
+value_inside : (size : ℕ) (value : ℤ) → size ≤ 16000 → is_in_core size value ≡ true → address_or_zero value < size
 value_inside size (pos k) small inside = grind (arith, nat_tests)
 value_inside size (negsuc k) small inside = absurd (true≢false (sym inside))
 
@@ -87,13 +87,13 @@ numbered_below size at (cell ∷ cells) inside =
 
 -- as many cells as there are places, or fewer, from a place on
 placed_below : (size : ℕ) (next : ℤ) (n : ℕ) (cells : List Cell) → size ≤ 16000 → places_outside size next n ≡ false
-    → length cells ≤ n → are_below size (numbered (place_of next) cells) ≡ true
+    → length cells ≤ n → are_below size (numbered (address_or_zero next) cells) ≡ true
 placed_below size next n cells small inside few =
-    numbered_below size (place_of next) cells
+    numbered_below size (address_or_zero next) cells
     (λ some. by some (and_cases (nat_lt 0 n) (not (are_in_core size next (next +ℤ pos n))) inside))
   where
     by : 0 < length cells → (nat_lt 0 n ≡ false) ⊎ (not (are_in_core size next (next +ℤ pos n)) ≡ false)
-        → place_of next + length cells ≤ size
+        → address_or_zero next + length cells ≤ size
     by some (inl none) = absurd (both_ways (nat_lt 0 n) none (lt-ltb 0 n (omega (arith, some, few))))
     by some (inr core) =
         let whole = place_inside size next n small (omega (arith, some, few))
@@ -101,7 +101,7 @@ placed_below size next n cells small inside few =
         omega (arith, whole, few)
 
 -- how many cells an operand has
-operand_length : (all : Places) (here : ℤ) (field : OperandField)
+operand_length : (all : Placement) (here : ℤ) (field : OperandField)
     → length (operand_codes all here field) ≤ 3 * count_of field
 operand_length all here fields.Absent = omega arith
 operand_length all here fields.Malformed = omega arith
@@ -112,7 +112,7 @@ d_length : (d : Option ℕ) → length (d_codes d) ≡ option_map_or (λ (graphi
 d_length None = refl
 d_length (Some graphic) = refl
 
-instruction_few : (all : Places) (here : ℤ) (instruction : Instruction) (of : Operands)
+instruction_few : (all : Placement) (here : ℤ) (instruction : Instruction) (of : Operands)
     → length (instruction_cells all here instruction of) ≤ instruction_length of
 instruction_few all here instruction of =
     let a = map plain (operand_codes all here of.a) in
@@ -191,8 +191,8 @@ literals_few (literal ∷ literals) =
     )
 
 -- literals that are in core, one after the other
-literals_below : (size : ℕ) (this : Places) → size ≤ 16000 → literals_outside size this ≡ false
-    → are_below size (numbered (place_of this.next) (flat_map literal_cells (pending this))) ≡ true
+literals_below : (size : ℕ) (this : Placement) → size ≤ 16000 → literals_outside size this ≡ false
+    → are_below size (numbered (address_or_zero this.next) (flat_map literal_cells (pending this))) ≡ true
 literals_below size this small inside = by (pending this) refl
   where
     some_core : (used : List Characters) → 0 < length used
@@ -206,7 +206,7 @@ literals_below size this small inside = by (pending this) refl
         ]
 
     by : (literals : List Characters) → pending this ≡ literals
-        → are_below size (numbered (place_of this.next) (flat_map literal_cells literals)) ≡ true
+        → are_below size (numbered (address_or_zero this.next) (flat_map literal_cells literals)) ≡ true
     by [] is = refl
     by (literal ∷ literals) is =
         let core : are_in_core size this.next (behind_literals this.next (literal ∷ literals)) ≡ true =
@@ -218,7 +218,7 @@ literals_below size this small inside = by (pending this) refl
         let n = total (literal ∷ literals) in
         let fits : are_in_core size this.next (this.next +ℤ pos n) ≡ true =
         ap (are_in_core size this.next) (sym (behind_total this.next (literal ∷ literals))) ∙ core in
-        numbered_below size (place_of this.next) (flat_map literal_cells (literal ∷ literals))
+        numbered_below size (address_or_zero this.next) (flat_map literal_cells (literal ∷ literals))
         (λ some.
         let few = literals_few (literal ∷ literals) in
         let whole = place_inside size this.next n small (omega (arith, some, few)) fits in
@@ -229,9 +229,9 @@ pub neither : (x y : Bool) → (x || y) ≡ false → (x ≡ false) × (y ≡ fa
 neither true y h = absurd (true≢false h)
 neither false y h = (refl, h)
 
-contents_below : (size : ℕ) (all this : Places) (made : Contents) (lines : List Line) → size ≤ 16000
+contents_below : (size : ℕ) (all this : Placement) (made : Contents) (lines : List Line) → size ≤ 16000
     → places_outside size this.next (contents_length made) ≡ false
-    → are_below size (numbered (place_of this.next) (contents_cells all this made lines)) ≡ true
+    → are_below size (numbered (address_or_zero this.next) (contents_cells all this made lines)) ≡ true
 contents_below size all this contents.Nothing lines small inside = refl
 contents_below size all this (contents.Instruction instruction of) lines small inside =
     let last = last_place this.next (instruction_length of) in
@@ -247,17 +247,17 @@ contents_below size all this (contents.Space places) lines small inside = refl
 contents_below size all this (contents.Areas made) lines small inside =
     placed_below size this.next (areas_length made) (areas_cells made lines) small inside (areas_few made lines)
 
-row_below : (size : ℕ) (all this : Places) (row : Description) (step : Next) (lines : List Line) → size ≤ 16000
+row_below : (size : ℕ) (all this : Placement) (row : Description) (step : Next) (lines : List Line) → size ≤ 16000
     → places_outside size this.next (contents_length row.contents) ≡ false → next_outside size this step ≡ false
-    → are_below size (numbered (place_of this.next) (row_cells all this row step lines)) ≡ true
+    → are_below size (numbered (address_or_zero this.next) (row_cells all this row step lines)) ≡ true
 row_below size all this row next.Behind lines small places literals =
     contents_below size all this row.contents lines small places
 row_below size all this row next.Literals lines small places literals = literals_below size this small literals
 row_below size all this row next.Value lines small places literals = refl
 
-body_below : (size : ℕ) (all this : Places) (body : Body) (lines : List Line) → size ≤ 16000
+body_below : (size : ℕ) (all this : Placement) (body : Body) (lines : List Line) → size ≤ 16000
     → body_outside size all this body ≡ false
-    → are_below size (numbered (place_of this.next) (body_cells all this body lines)) ≡ true
+    → are_below size (numbered (address_or_zero this.next) (body_cells all this body lines)) ≡ true
 body_below size all this body lines small inside =
     let row = describe body in
     let places = places_outside size this.next (contents_length row.contents) in
@@ -266,19 +266,19 @@ body_below size all this body lines small inside =
     (neither (places || literals) (addresses_outside size all this row row.addressing) inside).0 in
     row_below size all this row row.next lines small parts.0 parts.1
 
-line_below : (size : ℕ) (all this : Places) (line : Line) (lines : List Line) → size ≤ 16000
+line_below : (size : ℕ) (all this : Placement) (line : Line) (lines : List Line) → size ≤ 16000
     → line_outside size all this line ≡ false
-    → are_below size (numbered (place_of this.next) (statement_cells all this line.statement lines)) ≡ true
+    → are_below size (numbered (address_or_zero this.next) (statement_cells all this line.statement lines)) ≡ true
 line_below size all this line lines small inside = by line.statement inside
   where
     by : (statement : Option Statement)
         → option_map_or (λ (found : Statement). body_outside size all this found.body) statement false ≡ false
-        → are_below size (numbered (place_of this.next) (statement_cells all this statement lines)) ≡ true
+        → are_below size (numbered (address_or_zero this.next) (statement_cells all this statement lines)) ≡ true
     by None h = refl
     by (Some statement) h = body_below size all this statement.body lines small h
 
 -- if nothing is outside, nothing of the first line is, and nothing of those after it
-pub one_line : (size : ℕ) (all : Places) (number : ℕ) (this : Places) (line : Line) (lines : List Line)
+pub one_line : (size : ℕ) (all : Placement) (number : ℕ) (this : Placement) (line : Line) (lines : List Line)
     → first_outside_from size all number this (line ∷ lines) ≡ None
     → (line_outside size all this line ≡ false)
     × (first_outside_from size all (number + 1) (after_line this line) lines ≡ None)
@@ -292,12 +292,12 @@ one_line size all number this line lines none = by (line_outside size all this l
     by true is h = cc
     by false is h = (is, h)
 
-pub cells_below : (size : ℕ) (all : Places) (number : ℕ) (this : Places) (lines : List Line) → size ≤ 16000
+pub cells_below : (size : ℕ) (all : Placement) (number : ℕ) (this : Placement) (lines : List Line) → size ≤ 16000
     → first_outside_from size all number this lines ≡ None → are_below size (cells_from all this lines) ≡ true
 cells_below size all number this [] small none = refl
 cells_below size all number this (line ∷ lines) small none =
     let parts = one_line size all number this line lines none in
-    let first = numbered (place_of this.next) (statement_cells all this line.statement lines) in
+    let first = numbered (address_or_zero this.next) (statement_cells all this line.statement lines) in
     let more = cells_from all (after_line this line) lines in
     list_all-append (λ (cell : ℕ × Cell). nat_lt cell.0 size) first more
     ∙ and_from (are_below size first) (are_below size more) (line_below size all this line lines small parts.0)
@@ -309,12 +309,12 @@ closed_inside : (size at : ℕ) (cells : List Cell) → size ≤ 16000 → (0 < 
 closed_inside size at cells small inside = by (nat_le 1 (length cells) && nat_le (length cells) 40) refl
   where
     by : (b : Bool) → (nat_le 1 (length cells) && nat_le (length cells) 40) ≡ b
-        → list_all (is_inside size) (if b then record { address = within at; cells = cells } ∷ [] else []) ≡ true
+        → list_all (is_inside size) (if b then record { address = start_or_zero at; cells = cells } ∷ [] else []) ≡ true
     by false is = refl
     by true is =
         let some = leb-true 1 (length cells) (and_parts (nat_le 1 (length cells)) (nat_le (length cells) 40) is).0 in
         let whole = inside (omega (arith, some)) in
-        let same : within at ≡ at = grind (arith, nat_tests) in
+        let same : start_or_zero at ≡ at = grind (arith, nat_tests) in
         rw same (rw (le-leb (at + length cells) size whole) refl)
 
 cut_inside : (size at : ℕ) (cells : List Cell) (rest : List (ℕ × Cell)) → size ≤ 16000
@@ -344,14 +344,14 @@ cut_inside size at cells (next ∷ more) small inside below =
         (closed_inside size at cells small inside) (anew (λ some. omega (arith, low)) rest)
 
 -- an asterisk has no value if it is no place
-base_same : (all : Places) (base : Base) → base_value all (pos 0) base ≡ base_so_far all.values base
+base_same : (all : Placement) (base : Base) → base_value all (pos 0) base ≡ base_so_far all.values base
 base_same all (bases.Number number) = refl
 base_same all (bases.Symbol label) = refl
 base_same all bases.Here = refl
 
 -- the operand of END is in core
-entry_inside : (size : ℕ) (all : Places) (field : OperandField) → (0 < size) × (size ≤ 16000)
-    → operand_outside size all (pos 0) field ≡ false → place_of (value_so_far all.values field) < size
+entry_inside : (size : ℕ) (all : Placement) (field : OperandField) → (0 < size) × (size ≤ 16000)
+    → operand_outside size all (pos 0) field ≡ false → address_or_zero (value_so_far all.values field) < size
 entry_inside size all fields.Absent bounds h = omega (arith, bounds.0)
 entry_inside size all fields.Malformed bounds h = omega (arith, bounds.0)
 entry_inside size all (fields.Operand (operands.Address address)) bounds h =
@@ -362,17 +362,17 @@ entry_inside size all (fields.Operand (operands.Address address)) bounds h =
     (ap (is_in_core size) (sym same) ∙ not-false (is_in_core size (address_value all (pos 0) address)) h)
 entry_inside size all (fields.Operand (operands.Literal constant)) bounds h = omega (arith, bounds.0)
 
-row_entry : (size : ℕ) (all this : Places) (row : Description) (asked : Addressing) (behind : ℤ)
-    → (0 < size) × (size ≤ 16000) → addresses_outside size all this row asked ≡ false → place_of behind < size
-    → place_of (entry_in_row all asked behind) < size
+row_entry : (size : ℕ) (all this : Placement) (row : Description) (asked : Addressing) (behind : ℤ)
+    → (0 < size) × (size ≤ 16000) → addresses_outside size all this row asked ≡ false → address_or_zero behind < size
+    → address_or_zero (entry_in_row all asked behind) < size
 row_entry size all this row addressing.Nothing behind bounds h low = low
 row_entry size all this row (addressing.Addresses of) behind bounds h low = low
 row_entry size all this row (addressing.EarlierValue of) behind bounds h low = low
 row_entry size all this row (addressing.Value of) behind bounds h low = low
 row_entry size all this row (addressing.Entry of) behind bounds h low = entry_inside size all of.a bounds h
 
-body_entry : (size : ℕ) (all this : Places) (body : Body) (behind : ℤ) → (0 < size) × (size ≤ 16000)
-    → body_outside size all this body ≡ false → place_of behind < size → place_of (entry_by all body behind) < size
+body_entry : (size : ℕ) (all this : Placement) (body : Body) (behind : ℤ) → (0 < size) × (size ≤ 16000)
+    → body_outside size all this body ≡ false → address_or_zero behind < size → address_or_zero (entry_by all body behind) < size
 body_entry size all this body behind bounds h low =
     let row = describe body in
     let places = places_outside size this.next (contents_length row.contents) in
@@ -380,19 +380,19 @@ body_entry size all this body behind bounds h low =
     row_entry size all this row row.addressing behind bounds
     (neither (places || next_outside size this row.next) addresses h).1 low
 
-line_entry : (size : ℕ) (all this : Places) (line : Line) (behind : ℤ) → (0 < size) × (size ≤ 16000)
-    → line_outside size all this line ≡ false → place_of behind < size
-    → place_of (entry_with all line.statement behind) < size
+line_entry : (size : ℕ) (all this : Placement) (line : Line) (behind : ℤ) → (0 < size) × (size ≤ 16000)
+    → line_outside size all this line ≡ false → address_or_zero behind < size
+    → address_or_zero (entry_with all line.statement behind) < size
 line_entry size all this line behind bounds inside low = by line.statement inside
   where
     by : (statement : Option Statement)
         → option_map_or (λ (found : Statement). body_outside size all this found.body) statement false ≡ false
-        → place_of (entry_with all statement behind) < size
+        → address_or_zero (entry_with all statement behind) < size
     by None h = low
     by (Some statement) h = body_entry size all this statement.body behind bounds h low
 
-entry_below : (size : ℕ) (all : Places) (number : ℕ) (this : Places) (lines : List Line) → (0 < size) × (size ≤ 16000)
-    → first_outside_from size all number this lines ≡ None → place_of (entry_in all lines) < size
+entry_below : (size : ℕ) (all : Placement) (number : ℕ) (this : Placement) (lines : List Line) → (0 < size) × (size ≤ 16000)
+    → first_outside_from size all number this lines ≡ None → address_or_zero (entry_in all lines) < size
 entry_below size all number this [] bounds none = omega (arith, bounds.0)
 entry_below size all number this (line ∷ lines) bounds none =
     let parts = one_line size all number this line lines none in
@@ -409,5 +409,5 @@ image_inside size lines size_is none =
       size = size_is;
       segments = cut_inside size 0 [] (cells_from all nothing_placed lines) bounds.1 (λ some. omega (arith, some))
           (cells_below size all 1 nothing_placed lines bounds.1 none);
-      start = lt-ltb (place_of (entry_in all lines)) size (entry_below size all 1 nothing_placed lines bounds none);
+      start = lt-ltb (address_or_zero (entry_in all lines)) size (entry_below size all 1 nothing_placed lines bounds none);
     }

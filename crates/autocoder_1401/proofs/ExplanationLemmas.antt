@@ -60,7 +60,7 @@ told_all size sources =
     with_outside (explained_lines sources) (first_outside size (map line_of sources))
     ∙ ap (λ faults. or_outside faults (first_outside size (map line_of sources))) (told_lines sources)
 
--- where no line has a fault, none is told
+-- if no line has a fault, none is told
 pub none_told : (sources : List (List ℕ)) → explained_lines sources ≡ [] → line_faults (map line_of sources) ≡ []
 none_told sources none = sym (told_lines sources) ∙ ap faults_of none
 
@@ -86,7 +86,7 @@ nothing_explained {X} size sources answer told same empty tells =
     sym (only_outside size (map line_of sources) answer (none_told sources none)) ∙ sym tells in
     rw (empty, none, inside) refl
 
--- where no line is left, no byte of the source is
+-- if no line is left, no byte of the source is
 pub nothing_left : (lines : List Line) (i : ℕ) (sources : List (List ℕ)) → length lines ≤ i
     → drop i lines ≡ map line_of sources → sources ≡ []
 nothing_left lines i [] past left = refl

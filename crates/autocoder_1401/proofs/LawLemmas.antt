@@ -15,15 +15,15 @@ use Rattle.autocoder_1401.specs.Assembly.{placed_cells, image_of}
 use Rattle.autocoder_1401.specs.Cells.{numbered}
 use Rattle.autocoder_1401.specs.Fault.{IsMemory}
 use Rattle.autocoder_1401.specs.Laws.{IsFirstOutside, cells_in, has_few, is_parted, are_parted, IsCutOf}
-use Rattle.autocoder_1401.specs.Placement.{Places, nothing_placed, after_line, placed}
-use Rattle.autocoder_1401.specs.Segments.{within, closed, goes_on, cut}
+use Rattle.autocoder_1401.specs.Placement.{Placement, nothing_placed, after_line, placed}
+use Rattle.autocoder_1401.specs.Segments.{start_or_zero, closed, goes_on, cut}
 use Rattle.autocoder_1401.specs.Values.{line_outside, first_outside_from, first_outside}
 use Rattle.autocoder_1401.specs.declared.fault.AsmFault.{AsmFault}
 use Rattle.autocoder_1401.specs.declared.fault.AsmKind.TheVariants as kinds
 use Rattle.autocoder_1401.proofs.CoreLemmas.{size_bound, are_below, cells_below}
 
 -- the first of lines with something outside, with these placed before them, and counted from a number
-record FoundFrom (size : ℕ) (all : Places) (number : ℕ) (this : Places) (lines : List Line)
+record FoundFrom (size : ℕ) (all : Placement) (number : ℕ) (this : Placement) (lines : List Line)
     (fault : AsmFault) : Type 0 where
   index : ℕ
   kind : fault.kind ≡ kinds.OutOfCore
@@ -33,7 +33,7 @@ record FoundFrom (size : ℕ) (all : Places) (number : ℕ) (this : Places) (lin
       → line_outside size all (fold after_line this (take k lines)) (get_or lines k d) ≡ false
   here : (d : Line) → line_outside size all (fold after_line this (take index lines)) (get_or lines index d) ≡ true
 
-found_from : (size : ℕ) (all : Places) (number : ℕ) (this : Places) (lines : List Line) (fault : AsmFault)
+found_from : (size : ℕ) (all : Placement) (number : ℕ) (this : Placement) (lines : List Line) (fault : AsmFault)
     → first_outside_from size all number this lines ≡ Some fault → FoundFrom size all number this lines fault
 found_from size all number this [] fault e = cc
 found_from size all number this (line ∷ lines) fault e =
@@ -88,14 +88,14 @@ found_outside size lines (Some fault) e =
     }
 
 -- what is found once all of these are placed is the first line with something outside
-pub refused_outside : (size : ℕ) (all : Places) (lines : List Line) (fault : AsmFault) → all ≡ placed lines
+pub refused_outside : (size : ℕ) (all : Placement) (lines : List Line) (fault : AsmFault) → all ≡ placed lines
     → IsMemory fault ⊎ (first_outside_from size all 1 nothing_placed lines ≡ Some fault)
     → IsMemory fault ⊎ ((first_outside size lines ≡ Some fault) × IsFirstOutside size lines fault)
 refused_outside size all lines fault same found =
     elim found [
       | inl memory ↦ inl memory
       | inr outside ↦ (let whole : first_outside size lines ≡ Some fault =
-          ap (λ (places : Places). first_outside_from size places 1 nothing_placed lines) (sym same) ∙ outside in
+          ap (λ (places : Placement). first_outside_from size places 1 nothing_placed lines) (sym same) ∙ outside in
           inr (whole, found_outside size lines (Some fault) (sym whole)))
     ]
 
@@ -112,7 +112,7 @@ numbered_push at (first ∷ cells) cell =
 closed_is : (at : ℕ) (cells : List Cell) → at < 16000 → 0 < length cells → length cells ≤ 40
     → closed at cells ≡ record { address = at; cells = cells } ∷ []
 closed_is at cells low some few =
-    let same : within at ≡ at = grind (arith, nat_tests) in
+    let same : start_or_zero at ≡ at = grind (arith, nat_tests) in
     rw (le-leb 1 (length cells) (omega (arith, some)), le-leb (length cells) 40 few) (rw same refl)
 
 -- the segments of cells at a place, with others after them

@@ -4,6 +4,7 @@ mod AssemblyExamples
 pub mod CellsLemmas
 pub mod CharactersLemmas
 pub mod CoreLemmas
+pub mod CrossReferenceLemmas
 mod ExplanationExamples
 pub mod ExplanationLemmas
 pub mod FirstFaultLemmas
@@ -13,3 +14,4 @@ pub mod LowestLemmas
 pub mod PlacementLawLemmas
 pub mod PlacingLemmas
 pub mod StandingLemmas
+mod TablesExamples

@@ -7,10 +7,10 @@ use Rattle.source_1401.specs.SourceLine.{lines_of}
 use Rattle.source_1401.specs.Statement.{line_of}
 use Rattle.source_1401.specs.declared.statement.Line.{Line}
 use Rattle.autocoder_1401.specs.Listing.{listing_from}
-use Rattle.autocoder_1401.specs.Placement.{Places}
+use Rattle.autocoder_1401.specs.Placement.{Placement}
 
 -- if no line is left, no byte of the source is
-pub all_listed : (all here : Places) (lines : List Line) (i : ℕ) (sources : List ℕ) (listing whole : List (List ℕ))
+pub all_listed : (all here : Placement) (lines : List Line) (i : ℕ) (sources : List ℕ) (listing whole : List (List ℕ))
     → length lines ≤ i → drop i lines ≡ map line_of (lines_of sources)
     → listing ++ listing_from all here (i + 1) (lines_of sources) ≡ whole → listing ≡ whole
 all_listed all here lines i sources listing whole past left so_far =

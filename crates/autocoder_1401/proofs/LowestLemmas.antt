@@ -4,7 +4,7 @@ use Rattle.std.proofs.Common.{IfSome, refl, sym, ap, ◌∙◌, inl, inr, arith}
 use Rattle.source_1401.specs.declared.statement.Line.{Line}
 use Rattle.autocoder_1401.specs.declared.fault.AsmKind.{AsmKind}
 use Rattle.autocoder_1401.specs.declared.fault.AsmKind.TheVariants as kinds
-use Rattle.autocoder_1401.specs.declared.first_fault.Place.{Place}
+use Rattle.autocoder_1401.specs.declared.first_fault.LineContext.{LineContext}
 use Rattle.autocoder_1401.specs.Fault.{rank}
 use Rattle.autocoder_1401.specs.Symbols.{Declared}
 use Rattle.autocoder_1401.specs.FirstFault.{has_fault, first_of, scanned, lowest, IsClean, IsLowest}
@@ -66,7 +66,7 @@ none_passes test (first ∷ kinds) kind e stands = by (test first) refl e (none_
     by false fails e rest = elim stands [ inl here ↦ ap test here ∙ fails | inr behind ↦ rest e behind ]
 
 -- a kind is one that lines are looked at for, or no line has it
-either : (declared : Declared) (at : Place) (line : Line) (kind : AsmKind) → (has_fault declared at line kind ≡ false)
+either : (declared : Declared) (at : LineContext) (line : Line) (kind : AsmKind) → (has_fault declared at line kind ≡ false)
     ⊎ Stands kind scanned
 either declared at line kinds.Memory = inl refl
 either declared at line kinds.OutOfCore = inl refl
@@ -87,7 +87,7 @@ ascend = (
 )
 
 -- a line without a kind that it is looked at for is clean
-pub clean_line : (declared : Declared) (at : Place) (line : Line) (kind : Option AsmKind) → kind
+pub clean_line : (declared : Declared) (at : LineContext) (line : Line) (kind : Option AsmKind) → kind
     ≡ lowest declared at line → IfNone kind (IsClean declared at line)
 clean_line declared at line None e =
     λ kind. elim (either declared at line kind) [
@@ -98,7 +98,7 @@ clean_line declared at line None e =
 clean_line declared at line (Some kind) e = tt
 
 -- the first kind that it has is its lowest
-pub lowest_line : (declared : Declared) (at : Place) (line : Line) (kind : Option AsmKind) → kind
+pub lowest_line : (declared : Declared) (at : LineContext) (line : Line) (kind : Option AsmKind) → kind
     ≡ lowest declared at line → IfSome kind (λ k. IsLowest declared at line k)
 lowest_line declared at line None e = tt
 lowest_line declared at line (Some kind) e = (

@@ -24,7 +24,7 @@ use Rattle.source_1401.specs.declared.statement.Body.{Body}
 use Rattle.source_1401.specs.declared.statement.Statement.{Statement}
 use Rattle.source_1401.specs.declared.statement.Line.{Line}
 use Rattle.autocoder_1401.specs.Characters.{characters_of, same_characters}
-use Rattle.autocoder_1401.specs.Placement.{Places, nothing_placed, pending, with_literal, with_operand, with_uses}
+use Rattle.autocoder_1401.specs.Placement.{Placement, nothing_placed, pending, with_literal, with_operand, with_uses}
 use Rattle.autocoder_1401.specs.Placement.{with_areas, moved, behind_row, behind_body, with_label, label_value}
 use Rattle.autocoder_1401.specs.Placement.{after_line, placed, value_so_far}
 use Rattle.autocoder_1401.specs.PlacementLaws.{row_length, body_length, length_with, lengths_from, origin_by, origin_in}
@@ -36,7 +36,7 @@ use Rattle.autocoder_1401.proofs.CoreLemmas.{behind_total}
 use Rattle.autocoder_1401.proofs.StandingLemmas.{stands_behind}
 
 -- a literal and an operand leave the next place
-literal_next : (this : Places) (constant : Constant) → (with_literal this constant).next ≡ this.next
+literal_next : (this : Placement) (constant : Constant) → (with_literal this constant).next ≡ this.next
 literal_next this constant = by (list_any (same_characters (characters_of constant)) this.literals)
   where
     by : (b : Bool)
@@ -48,56 +48,56 @@ literal_next this constant = by (list_any (same_characters (characters_of consta
     by true = refl
     by false = refl
 
-operand_next : (this : Places) (field : OperandField) → (with_operand this field).next ≡ this.next
+operand_next : (this : Placement) (field : OperandField) → (with_operand this field).next ≡ this.next
 operand_next this fields.Absent = refl
 operand_next this fields.Malformed = refl
 operand_next this (fields.Operand (operands.Address address)) = refl
 operand_next this (fields.Operand (operands.Literal constant)) = literal_next this constant
 
 -- a body moves the next place by its length, but for an origin
-areas_next : (this : Places) (first : ℤ) (role : AreaRole) → (with_areas this first role).next ≡ this.next
+areas_next : (this : Placement) (first : ℤ) (role : AreaRole) → (with_areas this first role).next ≡ this.next
 areas_next this first areas.Ends = refl
 areas_next this first (areas.Makes made) = refl
 areas_next this first (areas.Divides span) = refl
 
-uses_next : (this : Places) (asked : Addressing) → (with_uses this asked).next ≡ this.next
+uses_next : (this : Placement) (asked : Addressing) → (with_uses this asked).next ≡ this.next
 uses_next this addressing.Nothing = refl
 uses_next this (addressing.Addresses of) = operand_next (with_operand this of.a) of.b ∙ operand_next this of.a
 uses_next this (addressing.EarlierValue of) = refl
 uses_next this (addressing.Value of) = refl
 uses_next this (addressing.Entry of) = refl
 
-row_next : (this : Places) (row : Description) → (behind_row this row).next ≡ (moved this row row.next).next
+row_next : (this : Placement) (row : Description) → (behind_row this row).next ≡ (moved this row row.next).next
 row_next this row =
     let on = moved this row row.next in
     uses_next (with_areas on this.next row.areas) row.addressing ∙ areas_next on this.next row.areas
 
-moved_next : (this : Places) (row : Description) (step : Next) → origin_by step row.addressing ≡ None
+moved_next : (this : Placement) (row : Description) (step : Next) → origin_by step row.addressing ≡ None
     → (moved this row step).next ≡ this.next +ℤ pos (row_length this row step)
 moved_next this row next.Behind none = refl
 moved_next this row next.Literals none = behind_total this.next (pending this)
 moved_next this row next.Value none = cc
 
-body_next : (this : Places) (body : Body) → origin_in body ≡ None
+body_next : (this : Placement) (body : Body) → origin_in body ≡ None
     → (behind_body this body).next ≡ this.next +ℤ pos (body_length this body)
 body_next this body none = row_next this (describe body) ∙ moved_next this (describe body) (describe body).next none
 
 -- a label leaves the next place and the literals
-label_next : (this : Places) (label : Option Label) (value : ℤ) → (with_label this label value).next ≡ this.next
+label_next : (this : Placement) (label : Option Label) (value : ℤ) → (with_label this label value).next ≡ this.next
 label_next this None value = refl
 label_next this (Some label) value = refl
 
-label_literals : (this : Places) (label : Option Label) (value : ℤ)
+label_literals : (this : Placement) (label : Option Label) (value : ℤ)
     → (with_label this label value).literals ≡ this.literals
 label_literals this None value = refl
 label_literals this (Some label) value = refl
 
-label_spellings : (this : Places) (label : Option Label) (value : ℤ)
+label_spellings : (this : Placement) (label : Option Label) (value : ℤ)
     → (with_label this label value).spellings ≡ this.spellings
 label_spellings this None value = refl
 label_spellings this (Some label) value = refl
 
-line_next : (this : Places) (line : Line) → origin_with line.statement ≡ None
+line_next : (this : Placement) (line : Line) → origin_with line.statement ≡ None
     → (after_line this line).next ≡ this.next +ℤ pos (length_with this line.statement)
 line_next this line none = by line.statement none
   where
@@ -109,7 +109,7 @@ line_next this line none = by line.statement none
         label_next (behind_body this statement.body) (well_formed statement.label) (label_value this statement.body)
         ∙ body_next this statement.body h
 
-lines_next : (this : Places) (lines : List Line) → AreNoOrigins lines
+lines_next : (this : Placement) (lines : List Line) → AreNoOrigins lines
     → (fold after_line this lines).next ≡ this.next +ℤ pos (lengths_from this lines)
 lines_next this [] none = sym (+ℤ_idr this.next)
 lines_next this (line ∷ lines) none =
@@ -117,12 +117,12 @@ lines_next this (line ∷ lines) none =
     ∙ ap (λ (n : ℤ). n +ℤ pos (lengths_from (after_line this line) lines)) (line_next this line none.0)
     ∙ +ℤ_assoc this.next (pos (length_with this line.statement)) (pos (lengths_from (after_line this line) lines))
 
-fold_append : (this : Places) (before behind : List Line)
+fold_append : (this : Placement) (before behind : List Line)
     → fold after_line this (before ++ behind) ≡ fold after_line (fold after_line this before) behind
 fold_append this [] behind = refl
 fold_append this (line ∷ before) behind = fold_append (after_line this line) before behind
 
-origin_next : (this : Places) (line : Line) (of : Operands) → origin_with line.statement ≡ Some of
+origin_next : (this : Placement) (line : Line) (of : Operands) → origin_with line.statement ≡ Some of
     → (after_line this line).next ≡ value_so_far this.values of.a
 origin_next this line of is = by line.statement is
   where
@@ -145,7 +145,7 @@ origin_next this line of is = by line.statement is
         ∙ body statement.body h
 
 -- a literal that is used goes last, unless it is there
-literal_use : (this : Places) (constant : Constant)
+literal_use : (this : Placement) (constant : Constant)
     → (with_literal this constant).literals ≡ with_use this.literals (characters_of constant)
 literal_use this constant = by (list_any (same_characters (characters_of constant)) this.literals)
   where
@@ -158,7 +158,7 @@ literal_use this constant = by (list_any (same_characters (characters_of constan
     by true = refl
     by false = refl
 
-operand_use : (this : Places) (field : OperandField)
+operand_use : (this : Placement) (field : OperandField)
     → (with_operand this field).literals ≡ fold with_use this.literals (literal_in field)
 operand_use this fields.Absent = refl
 operand_use this fields.Malformed = refl
@@ -170,17 +170,17 @@ uses_append : (used first second : List Characters)
 uses_append used [] second = refl
 uses_append used (literal ∷ first) second = uses_append (with_use used literal) first second
 
-areas_literals : (this : Places) (first : ℤ) (role : AreaRole) → (with_areas this first role).literals ≡ this.literals
+areas_literals : (this : Placement) (first : ℤ) (role : AreaRole) → (with_areas this first role).literals ≡ this.literals
 areas_literals this first areas.Ends = refl
 areas_literals this first (areas.Makes made) = refl
 areas_literals this first (areas.Divides span) = refl
 
-moved_literals : (this : Places) (row : Description) (step : Next) → (moved this row step).literals ≡ this.literals
+moved_literals : (this : Placement) (row : Description) (step : Next) → (moved this row step).literals ≡ this.literals
 moved_literals this row next.Behind = refl
 moved_literals this row next.Literals = refl
 moved_literals this row next.Value = refl
 
-uses_use : (this : Places) (asked : Addressing)
+uses_use : (this : Placement) (asked : Addressing)
     → (with_uses this asked).literals ≡ fold with_use this.literals (uses_by asked)
 uses_use this addressing.Nothing = refl
 uses_use this (addressing.Addresses of) =
@@ -191,7 +191,7 @@ uses_use this (addressing.EarlierValue of) = refl
 uses_use this (addressing.Value of) = refl
 uses_use this (addressing.Entry of) = refl
 
-body_use : (this : Places) (body : Body) → (behind_body this body).literals ≡ fold with_use this.literals (uses_in body)
+body_use : (this : Placement) (body : Body) → (behind_body this body).literals ≡ fold with_use this.literals (uses_in body)
 body_use this body =
     let row = describe body in
     let on = moved this row row.next in
@@ -199,7 +199,7 @@ body_use this body =
     ∙ ap (λ (used : List Characters). fold with_use used (uses_by row.addressing))
     (areas_literals on this.next row.areas ∙ moved_literals this row row.next)
 
-line_use : (this : Places) (line : Line)
+line_use : (this : Placement) (line : Line)
     → (after_line this line).literals ≡ fold with_use this.literals (uses_with line.statement)
 line_use this line = by line.statement
   where
@@ -211,7 +211,7 @@ line_use this line = by line.statement
         label_literals (behind_body this statement.body) (well_formed statement.label) (label_value this statement.body)
         ∙ body_use this statement.body
 
-lines_use : (this : Places) (lines : List Line)
+lines_use : (this : Placement) (lines : List Line)
     → (fold after_line this lines).literals ≡ fold with_use this.literals (uses lines)
 lines_use this [] = refl
 lines_use this (line ∷ lines) =
@@ -220,10 +220,10 @@ lines_use this (line ∷ lines) =
     ∙ sym (uses_append this.literals (uses_with line.statement) (uses lines))
 
 -- the spellings are those of the literals
-abbrev IsSpelled : Places → Type 0
+abbrev IsSpelled : Placement → Type 0
 IsSpelled this = map characters_of this.spellings ≡ this.literals
 
-literal_spelled : (this : Places) (constant : Constant) → IsSpelled this → IsSpelled (with_literal this constant)
+literal_spelled : (this : Placement) (constant : Constant) → IsSpelled this → IsSpelled (with_literal this constant)
 literal_spelled this constant so_far = by (list_any (same_characters (characters_of constant)) this.literals)
   where
     by : (b : Bool)
@@ -238,23 +238,23 @@ literal_spelled this constant so_far = by (list_any (same_characters (characters
         map-append characters_of this.spellings (constant ∷ [])
         ∙ ap (λ (used : List Characters). used ++ characters_of constant ∷ []) so_far
 
-operand_spelled : (this : Places) (field : OperandField) → IsSpelled this → IsSpelled (with_operand this field)
+operand_spelled : (this : Placement) (field : OperandField) → IsSpelled this → IsSpelled (with_operand this field)
 operand_spelled this fields.Absent so_far = so_far
 operand_spelled this fields.Malformed so_far = so_far
 operand_spelled this (fields.Operand (operands.Address address)) so_far = so_far
 operand_spelled this (fields.Operand (operands.Literal constant)) so_far = literal_spelled this constant so_far
 
-areas_spelled : (this : Places) (first : ℤ) (role : AreaRole) → IsSpelled this → IsSpelled (with_areas this first role)
+areas_spelled : (this : Placement) (first : ℤ) (role : AreaRole) → IsSpelled this → IsSpelled (with_areas this first role)
 areas_spelled this first areas.Ends so_far = so_far
 areas_spelled this first (areas.Makes made) so_far = so_far
 areas_spelled this first (areas.Divides span) so_far = so_far
 
-moved_spelled : (this : Places) (row : Description) (step : Next) → IsSpelled this → IsSpelled (moved this row step)
+moved_spelled : (this : Placement) (row : Description) (step : Next) → IsSpelled this → IsSpelled (moved this row step)
 moved_spelled this row next.Behind so_far = so_far
 moved_spelled this row next.Literals so_far = so_far
 moved_spelled this row next.Value so_far = so_far
 
-uses_spelled : (this : Places) (asked : Addressing) → IsSpelled this → IsSpelled (with_uses this asked)
+uses_spelled : (this : Placement) (asked : Addressing) → IsSpelled this → IsSpelled (with_uses this asked)
 uses_spelled this addressing.Nothing so_far = so_far
 uses_spelled this (addressing.Addresses of) so_far =
     operand_spelled (with_operand this of.a) of.b (operand_spelled this of.a so_far)
@@ -262,14 +262,14 @@ uses_spelled this (addressing.EarlierValue of) so_far = so_far
 uses_spelled this (addressing.Value of) so_far = so_far
 uses_spelled this (addressing.Entry of) so_far = so_far
 
-body_spelled : (this : Places) (body : Body) → IsSpelled this → IsSpelled (behind_body this body)
+body_spelled : (this : Placement) (body : Body) → IsSpelled this → IsSpelled (behind_body this body)
 body_spelled this body so_far =
     let row = describe body in
     let on = moved this row row.next in
     uses_spelled (with_areas on this.next row.areas) row.addressing
     (areas_spelled on this.next row.areas (moved_spelled this row row.next so_far))
 
-line_spelled : (this : Places) (line : Line) → IsSpelled this → IsSpelled (after_line this line)
+line_spelled : (this : Placement) (line : Line) → IsSpelled this → IsSpelled (after_line this line)
 line_spelled this line so_far = by line.statement
   where
     by : (statement : Option Statement)
@@ -282,7 +282,7 @@ line_spelled this line so_far = by line.statement
         ap (map characters_of) (label_spellings behind label value) ∙ body_spelled this statement.body so_far
         ∙ sym (label_literals behind label value)
 
-lines_spelled : (this : Places) (lines : List Line) → IsSpelled this → IsSpelled (fold after_line this lines)
+lines_spelled : (this : Placement) (lines : List Line) → IsSpelled this → IsSpelled (fold after_line this lines)
 lines_spelled this [] so_far = so_far
 lines_spelled this (line ∷ lines) so_far =
     lines_spelled (after_line this line) lines (line_spelled this line so_far)
@@ -290,10 +290,10 @@ lines_spelled this (line ∷ lines) so_far =
 pub placed_in_turn : (lines : List Line) → IsPlacedInTurn lines
 placed_in_turn lines = record {
   since = λ before since rest is none.
-      ap (λ (places : Places). places.next) (fold_append nothing_placed before since)
+      ap (λ (places : Placement). places.next) (fold_append nothing_placed before since)
       ∙ lines_next (placed before) since none;
   origin = λ before line rest of is origin.
-      ap (λ (places : Places). places.next) (fold_append nothing_placed before (line ∷ []))
+      ap (λ (places : Placement). places.next) (fold_append nothing_placed before (line ∷ []))
       ∙ origin_next (placed before) line of origin;
   literals = lines_use nothing_placed lines;
   spelled = lines_spelled nothing_placed lines refl;

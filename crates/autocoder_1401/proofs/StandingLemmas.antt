@@ -30,7 +30,7 @@ use Rattle.source_1401.specs.declared.statement.Statement.{Statement}
 use Rattle.source_1401.specs.declared.statement.Line.{Line}
 use Rattle.autocoder_1401.specs.Characters.{characters_of, same_characters}
 use Rattle.autocoder_1401.specs.Cells.{literal_value}
-use Rattle.autocoder_1401.specs.Placement.{Places, pending, units_from, with_literal, with_operand, with_uses}
+use Rattle.autocoder_1401.specs.Placement.{Placement, pending, units_from, with_literal, with_operand, with_uses}
 use Rattle.autocoder_1401.specs.Placement.{with_areas, moved, behind_body, label_value, with_label, after_line}
 use Rattle.autocoder_1401.specs.PlacementLaws.{total, places_by, places_in, places_with, with_use}
 use Rattle.autocoder_1401.specs.declared.characters.Characters.{Characters}
@@ -58,20 +58,20 @@ drop_at (suc n) (x ∷ xs) k =
     drop_at n xs k ∙ ap (slice_get (x ∷ xs)) behind
 
 -- each literal stays in its place, and with it its address
-record Grown (this after : Places) : Type 0 where
+record Grown (this after : Placement) : Type 0 where
   literals : (i : ℕ) (v : Characters) → slice_get this.literals i ≡ Some v → slice_get after.literals i ≡ Some v
   addresses : (i : ℕ) (v : ℤ) → slice_get this.addresses i ≡ Some v → slice_get after.addresses i ≡ Some v
 
-grown_on : (this between after : Places) → Grown this between → Grown between after → Grown this after
+grown_on : (this between after : Placement) → Grown this between → Grown between after → Grown this after
 grown_on this between after first second = record {
   literals = λ i v h. second.literals i v (first.literals i v h);
   addresses = λ i v h. second.addresses i v (first.addresses i v h);
 }
 
-unchanged : (this : Places) → Grown this this
+unchanged : (this : Placement) → Grown this this
 unchanged this = record { literals = λ i v h. h; addresses = λ i v h. h }
 
-literal_grown : (this : Places) (constant : Constant) → Grown this (with_literal this constant)
+literal_grown : (this : Placement) (constant : Constant) → Grown this (with_literal this constant)
 literal_grown this constant = by (list_any (same_characters (characters_of constant)) this.literals)
   where
     by : (b : Bool)
@@ -87,18 +87,18 @@ literal_grown this constant = by (list_any (same_characters (characters_of const
       addresses = λ i v h. h;
     }
 
-operand_grown : (this : Places) (field : OperandField) → Grown this (with_operand this field)
+operand_grown : (this : Placement) (field : OperandField) → Grown this (with_operand this field)
 operand_grown this fields.Absent = unchanged this
 operand_grown this fields.Malformed = unchanged this
 operand_grown this (fields.Operand (operands.Address address)) = unchanged this
 operand_grown this (fields.Operand (operands.Literal constant)) = literal_grown this constant
 
-areas_grown : (this : Places) (first : ℤ) (role : AreaRole) → Grown this (with_areas this first role)
+areas_grown : (this : Placement) (first : ℤ) (role : AreaRole) → Grown this (with_areas this first role)
 areas_grown this first areas.Ends = unchanged this
 areas_grown this first (areas.Makes made) = record { literals = λ i v h. h; addresses = λ i v h. h }
 areas_grown this first (areas.Divides span) = unchanged this
 
-moved_grown : (this : Places) (row : Description) (step : Next) → Grown this (moved this row step)
+moved_grown : (this : Placement) (row : Description) (step : Next) → Grown this (moved this row step)
 moved_grown this row next.Behind = record { literals = λ i v h. h; addresses = λ i v h. h }
 moved_grown this row next.Literals = record {
   literals = λ i v h. h;
@@ -106,7 +106,7 @@ moved_grown this row next.Literals = record {
 }
 moved_grown this row next.Value = record { literals = λ i v h. h; addresses = λ i v h. h }
 
-uses_grown : (this : Places) (asked : Addressing) → Grown this (with_uses this asked)
+uses_grown : (this : Placement) (asked : Addressing) → Grown this (with_uses this asked)
 uses_grown this addressing.Nothing = unchanged this
 uses_grown this (addressing.Addresses of) =
     let first = with_operand this of.a in
@@ -115,7 +115,7 @@ uses_grown this (addressing.EarlierValue of) = unchanged this
 uses_grown this (addressing.Value of) = unchanged this
 uses_grown this (addressing.Entry of) = unchanged this
 
-body_grown : (this : Places) (body : Body) → Grown this (behind_body this body)
+body_grown : (this : Placement) (body : Body) → Grown this (behind_body this body)
 body_grown this body =
     let row = describe body in
     let on = moved this row row.next in
@@ -124,11 +124,11 @@ body_grown this body =
     (grown_on this on made (moved_grown this row row.next) (areas_grown on this.next row.areas))
     (uses_grown made row.addressing)
 
-label_grown : (this : Places) (label : Option Label) (value : ℤ) → Grown this (with_label this label value)
+label_grown : (this : Placement) (label : Option Label) (value : ℤ) → Grown this (with_label this label value)
 label_grown this None value = unchanged this
 label_grown this (Some label) value = record { literals = λ i v h. h; addresses = λ i v h. h }
 
-line_grown : (this : Places) (line : Line) → Grown this (after_line this line)
+line_grown : (this : Placement) (line : Line) → Grown this (after_line this line)
 line_grown this line = by line.statement
   where
     by : (statement : Option Statement)
@@ -141,7 +141,7 @@ line_grown this line = by line.statement
         grown_on this behind (with_label behind label value) (body_grown this statement.body)
         (label_grown behind label value)
 
-lines_grown : (this : Places) (lines : List Line) → Grown this (fold after_line this lines)
+lines_grown : (this : Placement) (lines : List Line) → Grown this (fold after_line this lines)
 lines_grown this [] = unchanged this
 lines_grown this (line ∷ lines) =
     grown_on this (after_line this line) (fold after_line (after_line this line) lines) (line_grown this line)
@@ -159,12 +159,12 @@ units_at from (first ∷ literals) (suc k) literal h =
     ∙ ap (λ (n : ℤ). Some (n +ℤ negsuc 0)) (+ℤ_assoc from (pos first.len) (pos (total (take (suc k) literals))))
 
 -- areas and uses leave the addresses
-areas_units : (this : Places) (first : ℤ) (role : AreaRole) → (with_areas this first role).addresses ≡ this.addresses
+areas_units : (this : Placement) (first : ℤ) (role : AreaRole) → (with_areas this first role).addresses ≡ this.addresses
 areas_units this first areas.Ends = refl
 areas_units this first (areas.Makes made) = refl
 areas_units this first (areas.Divides span) = refl
 
-literal_units : (this : Places) (constant : Constant) → (with_literal this constant).addresses ≡ this.addresses
+literal_units : (this : Placement) (constant : Constant) → (with_literal this constant).addresses ≡ this.addresses
 literal_units this constant = by (list_any (same_characters (characters_of constant)) this.literals)
   where
     by : (b : Bool)
@@ -177,13 +177,13 @@ literal_units this constant = by (list_any (same_characters (characters_of const
     by true = refl
     by false = refl
 
-operand_units : (this : Places) (field : OperandField) → (with_operand this field).addresses ≡ this.addresses
+operand_units : (this : Placement) (field : OperandField) → (with_operand this field).addresses ≡ this.addresses
 operand_units this fields.Absent = refl
 operand_units this fields.Malformed = refl
 operand_units this (fields.Operand (operands.Address address)) = refl
 operand_units this (fields.Operand (operands.Literal constant)) = literal_units this constant
 
-uses_units : (this : Places) (asked : Addressing) → (with_uses this asked).addresses ≡ this.addresses
+uses_units : (this : Placement) (asked : Addressing) → (with_uses this asked).addresses ≡ this.addresses
 uses_units this addressing.Nothing = refl
 uses_units this (addressing.Addresses of) = operand_units (with_operand this of.a) of.b ∙ operand_units this of.a
 uses_units this (addressing.EarlierValue of) = refl
@@ -191,7 +191,7 @@ uses_units this (addressing.Value of) = refl
 uses_units this (addressing.Entry of) = refl
 
 -- EX and END place the literals that are used and not placed
-line_units : (this : Places) (line : Line) → places_with line.statement ≡ true
+line_units : (this : Placement) (line : Line) → places_with line.statement ≡ true
     → (after_line this line).addresses ≡ this.addresses ++ units_from this.next (pending this)
 line_units this line places = by line.statement places
   where
@@ -209,7 +209,7 @@ line_units this line places = by line.statement places
         uses_units (with_areas on this.next row.areas) row.addressing ∙ areas_units on this.next row.areas
         ∙ moved_units row row.next h
 
-    label_units : (behind : Places) (label : Option Label) (value : ℤ)
+    label_units : (behind : Placement) (label : Option Label) (value : ℤ)
         → (with_label behind label value).addresses ≡ behind.addresses
     label_units behind None value = refl
     label_units behind (Some label) value = refl
@@ -279,7 +279,7 @@ uses_distinct used (literal ∷ more) distinct =
     uses_distinct (with_use used literal) more (use_distinct used literal distinct)
 
 -- the value of a literal is the address in its place
-value_at : (all : Places) (i : ℕ) (literal : Characters) (units : ℤ) → IsDistinct all.literals
+value_at : (all : Placement) (i : ℕ) (literal : Characters) (units : ℤ) → IsDistinct all.literals
     → slice_get all.literals i ≡ Some literal → slice_get all.addresses i ≡ Some units
     → literal_value all literal ≡ units
 value_at all i literal units distinct there is =
@@ -287,7 +287,7 @@ value_at all i literal units distinct there is =
     rw (distinct i literal there, lt-ltb i (length all.literals) inside, is) refl
 
 -- a literal that a line places follows those that it places before it, whatever lines follow
-pub stands_behind : (this all : Places) (line : Line) (rest : List Line) (more : List Characters) (k : ℕ)
+pub stands_behind : (this all : Placement) (line : Line) (rest : List Line) (more : List Characters) (k : ℕ)
     (literal : Characters) → all ≡ fold after_line (after_line this line) rest → all.literals ≡ fold with_use [] more
     → places_with line.statement ≡ true → slice_get (pending this) k ≡ Some literal
     → literal_value all literal ≡ this.next +ℤ pos (total (take (k + 1) (pending this))) +ℤ negsuc 0

@@ -10,11 +10,11 @@ use Rattle.source_1401.specs.declared.description.Addressing.TheVariants as addr
 use Rattle.source_1401.specs.declared.statement.Body.{Body}
 use Rattle.source_1401.specs.declared.statement.Statement.{Statement}
 use Rattle.source_1401.specs.declared.statement.Line.{Line}
-use Rattle.autocoder_1401.specs.Cells.{place_of, cells_from}
+use Rattle.autocoder_1401.specs.Cells.{address_or_zero, cells_from}
 use Rattle.autocoder_1401.specs.FirstFault.{first_fault, IsFaultless, IsFirstFault}
 use Rattle.autocoder_1401.specs.Laws.{IsFirstOutside}
 use Rattle.autocoder_1401.specs.Listing.{listing_of}
-use Rattle.autocoder_1401.specs.Placement.{Places, nothing_placed, value_so_far, placed}
+use Rattle.autocoder_1401.specs.Placement.{Placement, nothing_placed, value_so_far, placed}
 use Rattle.autocoder_1401.specs.Segments.{segments_of}
 use Rattle.autocoder_1401.specs.Symbols.{declared_at}
 use Rattle.autocoder_1401.specs.Values.{first_outside}
@@ -26,22 +26,22 @@ abbrev pub lines_in : List ℕ → List Line
 lines_in source = map line_of (lines_of source)
 
 -- the value of END; of any other line, what is given for those after it
-abbrev pub entry_in_row : Places → Addressing → ℤ → ℤ
+abbrev pub entry_in_row : Placement → Addressing → ℤ → ℤ
 entry_in_row all addressing.Nothing behind = behind
 entry_in_row all (addressing.Addresses of) behind = behind
 entry_in_row all (addressing.EarlierValue of) behind = behind
 entry_in_row all (addressing.Value of) behind = behind
 entry_in_row all (addressing.Entry of) behind = value_so_far all.values of.a
 
-abbrev pub entry_by : Places → Body → ℤ → ℤ
+abbrev pub entry_by : Placement → Body → ℤ → ℤ
 entry_by all body behind = entry_in_row all (describe body).addressing behind
 
-abbrev pub entry_with : Places → Option Statement → ℤ → ℤ
+abbrev pub entry_with : Placement → Option Statement → ℤ → ℤ
 entry_with all None behind = behind
 entry_with all (Some statement) behind = entry_by all statement.body behind
 
 -- the value of the first END
-abbrev pub entry_in : Places → List Line → ℤ
+abbrev pub entry_in : Placement → List Line → ℤ
 entry_in all [] = pos 0
 entry_in all (line ∷ lines) = entry_with all line.statement (entry_in all lines)
 
@@ -55,8 +55,12 @@ image_of size lines =
     record {
       size = size;
       segments = segments_of (placed_cells lines);
-      start = place_of (entry_in (placed lines) lines);
+      start = address_or_zero (entry_in (placed lines) lines);
     }
+
+-- an image with the listing of a source
+abbrev pub with_listing : List ℕ → Image → Assembly
+with_listing source image = record { image = image; listing = listing_of (lines_of source) }
 
 -- the fault if there is one, and else the answer
 abbrev pub fault_or : {X : Type 0} → Option AsmFault → Result X AsmFault → Result X AsmFault
@@ -65,8 +69,7 @@ fault_or (Some fault) answer = Err fault
 
 -- the image and the listing of a source without a fault
 abbrev pub assembly_of : ℕ → List ℕ → Assembly
-assembly_of size source =
-    record { image = image_of size (lines_in source); listing = listing_of (lines_of source) }
+assembly_of size source = with_listing source (image_of size (lines_in source))
 
 -- the first fault of lines, and else the answer
 abbrev pub unless_fault : {X : Type 0} → ℕ → List Line → X → Result X AsmFault

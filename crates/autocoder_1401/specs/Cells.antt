@@ -30,13 +30,13 @@ use Rattle.source_1401.specs.declared.statement.Body.{Body}
 use Rattle.source_1401.specs.declared.statement.Statement.{Statement}
 use Rattle.source_1401.specs.declared.statement.Line.{Line}
 use Rattle.autocoder_1401.specs.Characters.{char_of, characters_of, codes_in, same_characters}
-use Rattle.autocoder_1401.specs.Placement.{Places, pending, instruction_length, after_line}
+use Rattle.autocoder_1401.specs.Placement.{Placement, pending, instruction_length, after_line}
 use Rattle.autocoder_1401.specs.Values.{address_value, last_place}
 use Rattle.autocoder_1401.specs.declared.characters.Characters.{Characters}
 
 -- the place that a value is the address of; one that is no address counts as 0, and is a fault of its line
-abbrev pub place_of : ℤ → ℕ
-place_of value = if int_le (pos 0) value && int_lt value (pos addresses) then nat_abs value else 0
+abbrev pub address_or_zero : ℤ → ℕ
+address_or_zero value = if int_le (pos 0) value && int_lt value (pos addresses) then nat_abs value else 0
 
 -- a character without a word mark
 abbrev pub plain : ℕ → Cell
@@ -57,33 +57,33 @@ with_index index [] = []
 with_index index (hundreds ∷ []) = hundreds ∷ []
 with_index index (hundreds ∷ tens ∷ units) = hundreds ∷ with_zone_of tens index ∷ units
 
-abbrev pub address_codes : Places → ℤ → Address → List ℕ
+abbrev pub address_codes : Placement → ℤ → Address → List ℕ
 address_codes all here address =
-    with_index (address.index % 4) (spelling_of (place_of (address_value all here address)))
+    with_index (address.index % 4) (spelling_of (address_or_zero (address_value all here address)))
 
 -- the units place of a literal
-abbrev pub literal_value : Places → Characters → ℤ
+abbrev pub literal_value : Placement → Characters → ℤ
 literal_value all literal =
     unwrap_or (option_and_then (λ i. slice_get all.addresses i) (position (same_characters literal) all.literals))
     (pos 0)
 
-abbrev pub operand_codes : Places → ℤ → OperandField → List ℕ
+abbrev pub operand_codes : Placement → ℤ → OperandField → List ℕ
 operand_codes all here fields.Absent = []
 operand_codes all here fields.Malformed = []
 operand_codes all here (fields.Operand (operands.Address address)) = address_codes all here address
 operand_codes all here (fields.Operand (operands.Literal constant)) =
-    spelling_of (place_of (literal_value all (characters_of constant)))
+    spelling_of (address_or_zero (literal_value all (characters_of constant)))
 
 abbrev pub d_codes : Option ℕ → List ℕ
 d_codes None = []
 d_codes (Some graphic) = char_of graphic ∷ []
 
 -- the addresses of an instruction
-abbrev pub operands_cells : Places → ℤ → Operands → List Cell
+abbrev pub operands_cells : Placement → ℤ → Operands → List Cell
 operands_cells all here of = map plain (operand_codes all here of.a) ++ map plain (operand_codes all here of.b)
 
 -- an instruction: its operation with a word mark, its addresses, its d-character
-abbrev pub instruction_cells : Places → ℤ → Instruction → Operands → List Cell
+abbrev pub instruction_cells : Placement → ℤ → Instruction → Operands → List Cell
 instruction_cells all here instruction of =
     marked (char_of instruction.operation) ∷ [] ++ operands_cells all here of ++ map plain (d_codes of.d)
 
@@ -140,7 +140,7 @@ areas_cells None lines = []
 areas_cells (Some areas) lines = repeated areas.count (area_cells areas.length (fields_behind lines))
 
 -- the cells of contents that begin at the next place, with these lines after them
-abbrev pub contents_cells : Places → Places → Contents → List Line → List Cell
+abbrev pub contents_cells : Placement → Placement → Contents → List Line → List Cell
 contents_cells all this contents.Nothing lines = []
 contents_cells all this (contents.Instruction instruction of) lines =
     instruction_cells all (last_place this.next (instruction_length of)) instruction of
@@ -150,16 +150,16 @@ contents_cells all this (contents.Space places) lines = []
 contents_cells all this (contents.Areas made) lines = areas_cells made lines
 
 -- the cells that a statement places: its own, or literals
-abbrev pub row_cells : Places → Places → Description → Next → List Line → List Cell
+abbrev pub row_cells : Placement → Placement → Description → Next → List Line → List Cell
 row_cells all this row next.Behind lines = contents_cells all this row.contents lines
 row_cells all this row next.Literals lines = flat_map literal_cells (pending this)
 row_cells all this row next.Value lines = []
 
 -- the cells that a body places, with these lines after it
-abbrev pub body_cells : Places → Places → Body → List Line → List Cell
+abbrev pub body_cells : Placement → Placement → Body → List Line → List Cell
 body_cells all this body lines = row_cells all this (describe body) (describe body).next lines
 
-abbrev pub statement_cells : Places → Places → Option Statement → List Line → List Cell
+abbrev pub statement_cells : Placement → Placement → Option Statement → List Line → List Cell
 statement_cells all this None lines = []
 statement_cells all this (Some statement) lines = body_cells all this statement.body lines
 
@@ -169,8 +169,8 @@ numbered at [] = []
 numbered at (cell ∷ cells) = (at, cell) ∷ numbered (at + 1) cells
 
 -- the cells in the order of placing, each with its address
-abbrev pub cells_from : Places → Places → List Line → List (ℕ × Cell)
+abbrev pub cells_from : Placement → Placement → List Line → List (ℕ × Cell)
 cells_from all this [] = []
 cells_from all this (line ∷ lines) =
-    numbered (place_of this.next) (statement_cells all this line.statement lines)
+    numbered (address_or_zero this.next) (statement_cells all this line.statement lines)
     ++ cells_from all (after_line this line) lines

@@ -18,7 +18,7 @@ use Rattle.source_1401.specs.declared.label.Label.{Label}
 use Rattle.source_1401.specs.declared.label.LabelField.{LabelField}
 use Rattle.source_1401.specs.declared.label.LabelField.TheVariants as labels
 use Rattle.source_1401.specs.declared.statement.Body.{Body}
-use Rattle.source_1401.specs.declared.statement.Bytes.{Bytes}
+use Rattle.source_1401.specs.declared.statement.LineCheck.{LineCheck}
 use Rattle.source_1401.specs.declared.statement.Line.{Line}
 use Rattle.source_1401.specs.declared.statement.Statement.{Statement}
 use Rattle.autocoder_1401.specs.AllFaults.{told_end}
@@ -94,7 +94,7 @@ undefined_operand declared anywhere (addressing.EarlierValue of) = symbol_in of.
 undefined_operand declared anywhere (addressing.Value of) = symbol_in of.a
 undefined_operand declared anywhere (addressing.Entry of) = symbol_in of.a
 
--- where a symbol is declared after all: too late
+-- the line in which a symbol is declared after all: too late
 abbrev pub symbol_cause : Declared → List Line → Option Label → Cause
 symbol_cause anywhere lines None = causes.Undeclared None
 symbol_cause anywhere lines (Some label) =
@@ -147,10 +147,10 @@ statement_stretch declared anywhere columns this kinds.NoEnd = stretch 1 0
 statement_stretch declared anywhere columns this kinds.AfterEnd = filled 6 (columns_in 6 72 columns)
 
 -- a comment can only be too long, or hold a byte that can't be there
-abbrev pub comment_cause : Bytes → Cause
+abbrev pub comment_cause : LineCheck → Cause
 comment_cause bytes = if is_long bytes then causes.LongLine else causes.ForeignByte
 
-abbrev pub comment_stretch : Bytes → List ℕ → Stretch
+abbrev pub comment_stretch : LineCheck → List ℕ → Stretch
 comment_stretch bytes columns = if is_long bytes then stretch 81 0 else foreign_stretch columns
 
 -- what is wrong with a line that has a fault of this kind, and in which columns

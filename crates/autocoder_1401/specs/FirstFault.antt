@@ -20,8 +20,8 @@ use Rattle.source_1401.specs.declared.description.Addressing.TheVariants as addr
 use Rattle.source_1401.specs.declared.description.AreaRole.{AreaRole}
 use Rattle.source_1401.specs.declared.description.AreaRole.TheVariants as roles
 use Rattle.source_1401.specs.declared.statement.Body.{Body}
-use Rattle.source_1401.specs.declared.statement.Bytes.{Bytes}
-use Rattle.source_1401.specs.declared.statement.Bytes.TheVariants as bytes
+use Rattle.source_1401.specs.declared.statement.LineCheck.{LineCheck}
+use Rattle.source_1401.specs.declared.statement.LineCheck.TheVariants as bytes
 use Rattle.source_1401.specs.declared.statement.Statement.{Statement}
 use Rattle.source_1401.specs.declared.statement.Line.{Line}
 use Rattle.autocoder_1401.specs.Fault.{rank}
@@ -29,7 +29,7 @@ use Rattle.autocoder_1401.specs.Symbols.{Declared, is_before, declared_at}
 use Rattle.autocoder_1401.specs.declared.fault.AsmKind.{AsmKind}
 use Rattle.autocoder_1401.specs.declared.fault.AsmKind.TheVariants as kinds
 use Rattle.autocoder_1401.specs.declared.fault.AsmFault.{AsmFault}
-use Rattle.autocoder_1401.specs.declared.first_fault.Place.{Place}
+use Rattle.autocoder_1401.specs.declared.first_fault.LineContext.{LineContext}
 
 -- the length of the areas that a field after these lines would divide: those of a DA, with nothing but its fields and
 -- comments after it
@@ -46,11 +46,11 @@ areas_behind areas line =
     option_map_or (λ (statement : Statement). areas_with areas statement.body) line.statement areas
 
 -- the place of the first line of a source
-abbrev pub first_place : Place
+abbrev pub first_place : LineContext
 first_place = record { number = 1; is_ended = false; areas = None }
 
 -- the place after a line
-abbrev pub place_behind : Place → Line → Place
+abbrev pub place_behind : LineContext → Line → LineContext
 place_behind this line =
     record { number = this.number + 1; is_ended = this.is_ended || is_end line; areas = areas_behind this.areas line }
 
@@ -130,22 +130,22 @@ is_past_areas areas body = is_past_by areas (describe body).areas
 abbrev pub bad_operands : Option ℕ → Body → Bool
 bad_operands areas body = has_bad_operands body || is_past_areas areas body
 
-abbrev pub is_long : Bytes → Bool
+abbrev pub is_long : LineCheck → Bool
 is_long bytes.Good = false
 is_long bytes.Long = true
 is_long bytes.Foreign = false
 
-abbrev pub is_foreign : Bytes → Bool
+abbrev pub is_foreign : LineCheck → Bool
 is_foreign bytes.Good = false
 is_foreign bytes.Long = false
 is_foreign bytes.Foreign = true
 
 -- what only a statement up to END is looked at for
-abbrev pub up_to_end_has : Place → Line → (Statement → Bool) → Bool
+abbrev pub up_to_end_has : LineContext → Line → (Statement → Bool) → Bool
 up_to_end_has at line test = not at.is_ended && option_map_or test line.statement false
 
 -- a line has a fault of this kind
-abbrev pub has_fault : Declared → Place → Line → AsmKind → Bool
+abbrev pub has_fault : Declared → LineContext → Line → AsmKind → Bool
 has_fault declared at line kinds.Memory = false
 has_fault declared at line kinds.LongLine = is_long line.bytes
 has_fault declared at line kinds.Graphic = is_foreign line.bytes
@@ -173,11 +173,11 @@ scanned =
     ∷ kinds.AfterEnd ∷ []
 
 -- the lowest kind of a line's faults
-abbrev pub lowest : Declared → Place → Line → Option AsmKind
+abbrev pub lowest : Declared → LineContext → Line → Option AsmKind
 lowest declared at line = first_of (has_fault declared at line) scanned
 
 -- the lowest kind that a statement up to END has
-abbrev pub lowest_in : Declared → Place → Statement → Option AsmKind
+abbrev pub lowest_in : Declared → LineContext → Statement → Option AsmKind
 lowest_in declared at this =
     if bad_label at.areas this then Some kinds.Label
     else if double_label declared at.number this.label then Some kinds.DoubleLabel
@@ -192,7 +192,7 @@ or_behind number None behind = behind
 or_behind number (Some kind) behind = Some (record { line = number; kind = kind })
 
 -- the first line with a fault, with its lowest kind; the end of a source without END is one
-abbrev pub first_fault_from : Declared → Place → List Line → Option AsmFault
+abbrev pub first_fault_from : Declared → LineContext → List Line → Option AsmFault
 first_fault_from declared at [] = if at.is_ended then None else Some (record { line = at.number; kind = kinds.NoEnd })
 first_fault_from declared at (line ∷ lines) =
     or_behind at.number (lowest declared at line) (first_fault_from declared (place_behind at line) lines)
@@ -201,16 +201,16 @@ abbrev pub first_fault : List Line → Option AsmFault
 first_fault lines = first_fault_from (declared_at lines) first_place lines
 
 -- the place of the line with this index: its number, whether one of those before it is an END, and the areas before it
-abbrev pub place_at : List Line → ℕ → Place
+abbrev pub place_at : List Line → ℕ → LineContext
 place_at lines k =
     record { number = k + 1; is_ended = list_any is_end (take k lines); areas = fold areas_behind None (take k lines) }
 
 -- a line has no fault
-abbrev pub IsClean : Declared → Place → Line → Type 0
+abbrev pub IsClean : Declared → LineContext → Line → Type 0
 IsClean declared at line = (kind : AsmKind) → has_fault declared at line kind ≡ false
 
 -- a line has this fault, and none of a lower kind
-abbrev pub IsLowest : Declared → Place → Line → AsmKind → Type 0
+abbrev pub IsLowest : Declared → LineContext → Line → AsmKind → Type 0
 IsLowest declared at line kind =
     (has_fault declared at line kind ≡ true)
     × ((lower : AsmKind) → rank lower < rank kind → has_fault declared at line lower ≡ false)

@@ -2,7 +2,7 @@
 use Rattle.std.specs.Prelude.{Option, None, Some}
 use Rattle.std.specs.Global.{Global}
 use Rattle.std.specs.declared.boxed.Box.{Box}
-use Rattle.source_1401.specs.declared.statement.Bytes.TheVariants as bytes
+use Rattle.source_1401.specs.declared.statement.LineCheck.TheVariants as bytes
 use Rattle.source_1401.specs.declared.statement.Line.{Line}
 
 abbrev pub said_line : Option (Box Line Global) → Line

@@ -3,6 +3,7 @@ pub mod Assembly
 pub mod Built
 pub mod Cells
 pub mod Characters
+pub mod CrossReference
 pub mod Explanation
 pub mod Fault
 pub mod FirstFault
@@ -13,6 +14,7 @@ pub mod OwnFault
 pub mod Placement
 pub mod PlacementLaws
 pub mod Segments
+pub mod SymbolTable
 pub mod Symbols
 pub mod Values
 pub mod View

@@ -21,7 +21,7 @@ use Rattle.source_1401.specs.declared.statement.Statement.{Statement}
 use Rattle.source_1401.specs.declared.statement.Line.{Line}
 use Rattle.autocoder_1401.specs.Cells.{contents_cells, literal_cells}
 use Rattle.autocoder_1401.specs.Characters.{characters_of}
-use Rattle.autocoder_1401.specs.Placement.{Places, nothing_placed, point_value, behind_literal, after_line, placed}
+use Rattle.autocoder_1401.specs.Placement.{Placement, nothing_placed, point_value, behind_literal, after_line, placed}
 
 -- the number of a line in at least four digits; four blanks for a line that isn't in the source
 unfoldable pub number_text : Option ℕ → List ℕ
@@ -68,16 +68,16 @@ literal_lines from (literal ∷ literals) =
     ∷ literal_lines (behind_literal from (characters_of literal)) literals
 
 -- how the literals were first written that a body places
-abbrev pub literals_by : Places → Next → List Constant
+abbrev pub literals_by : Placement → Next → List Constant
 literals_by this next.Behind = []
 literals_by this next.Literals = drop (length this.addresses) this.spellings
 literals_by this next.Value = []
 
-abbrev pub literals_at : Places → Body → List Constant
+abbrev pub literals_at : Placement → Body → List Constant
 literals_at this body = literals_by this (describe body).next
 
 -- the values of labels that an operand is looked up in: some are valued by the labels before them, the others by all labels
-abbrev pub values_for : Places → Places → Addressing → List (Label × ℤ)
+abbrev pub values_for : Placement → Placement → Addressing → List (Label × ℤ)
 values_for all this addressing.Nothing = this.values
 values_for all this (addressing.Addresses of) = this.values
 values_for all this (addressing.EarlierValue of) = this.values
@@ -85,28 +85,28 @@ values_for all this (addressing.Value of) = all.values
 values_for all this (addressing.Entry of) = all.values
 
 -- the address of a body: its first place, that of a field in the first area; the value of EQU, ORG, EX and END
-abbrev pub address_at : Places → Places → Body → ℤ
+abbrev pub address_at : Placement → Placement → Body → ℤ
 address_at all this body =
     let row = describe body in point_value (values_for all this row.addressing) this row row.shows
 
 -- the cells that the line of a body shows: those of an instruction, a constant or areas
-abbrev pub cells_at : Places → Places → Body → List Line → List Cell
+abbrev pub cells_at : Placement → Placement → Body → List Line → List Cell
 cells_at all this body lines = contents_cells all this (describe body).contents lines
 
 -- how the literals were first written that a line places: before EX and END each has a line of its own
-abbrev pub literals_in : Places → Option Statement → List Constant
+abbrev pub literals_in : Placement → Option Statement → List Constant
 literals_in this None = []
 literals_in this (Some statement) = literals_at this statement.body
 
 -- the line for a line of the source, with these lines after it; a comment has no address
-abbrev pub line_for : Places → Places → ℕ → List ℕ → Option Statement → List Line → List ℕ
+abbrev pub line_for : Placement → Placement → ℕ → List ℕ → Option Statement → List Line → List ℕ
 line_for all this number source None lines = listing_line (Some number) None [] source
 line_for all this number source (Some statement) lines =
     listing_line (Some number) (Some (address_at all this statement.body))
     (cells_at all this statement.body lines) source
 
 -- the listing from a line on that has this number
-abbrev pub listing_from : Places → Places → ℕ → List (List ℕ) → List (List ℕ)
+abbrev pub listing_from : Placement → Placement → ℕ → List (List ℕ) → List (List ℕ)
 listing_from all this number [] = []
 listing_from all this number (source ∷ sources) =
     literal_lines this.next (literals_in this (line_of source).statement)

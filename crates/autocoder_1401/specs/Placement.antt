@@ -37,7 +37,7 @@ use Rattle.autocoder_1401.specs.declared.characters.Characters.{Characters}
 
 -- what is placed so far: the next place, the first place of the last areas, the labels' values, the literals in order
 -- of first use with what each was first written as, and the units places of those that are placed
-pub record Places : Type 0 where
+pub record Placement : Type 0 where
   pub next : ℤ
   pub areas : ℤ
   pub values : List (Label × ℤ)
@@ -46,7 +46,7 @@ pub record Places : Type 0 where
   pub addresses : List ℤ
 
 -- before the first line the next place is 333
-abbrev pub nothing_placed : Places
+abbrev pub nothing_placed : Placement
 nothing_placed = record { next = pos 333; areas = pos 333; values = []; literals = []; spellings = []; addresses = [] }
 
 -- how many places an instruction takes: its operation, its addresses, its d-character
@@ -88,7 +88,7 @@ value_so_far values (fields.Operand (operands.Address address)) = base_so_far va
 value_so_far values (fields.Operand (operands.Literal constant)) = pos 0
 
 -- the literals that are used and not placed
-abbrev pub pending : Places → List Characters
+abbrev pub pending : Placement → List Characters
 pending this = drop (length this.addresses) this.literals
 
 -- the place after literals that begin at a place
@@ -105,7 +105,7 @@ units_from from (literal ∷ literals) =
     (behind_literal from literal +ℤ negsuc 0) ∷ units_from (behind_literal from literal) literals
 
 -- a literal that is used: a new one goes last
-abbrev pub with_literal : Places → Constant → Places
+abbrev pub with_literal : Placement → Constant → Placement
 with_literal this constant =
     if list_any (same_characters (characters_of constant)) this.literals then this
     else record this {
@@ -114,14 +114,14 @@ with_literal this constant =
           this.spellings ++ constant ∷ [];
     }
 
-abbrev pub with_operand : Places → OperandField → Places
+abbrev pub with_operand : Placement → OperandField → Placement
 with_operand this fields.Absent = this
 with_operand this fields.Malformed = this
 with_operand this (fields.Operand (operands.Address address)) = this
 with_operand this (fields.Operand (operands.Literal constant)) = with_literal this constant
 
 -- EX and END place the literals that are used and not placed
-abbrev pub with_pending : Places → Places
+abbrev pub with_pending : Placement → Placement
 with_pending this =
     record this {
       next = behind_literals this.next (pending this);
@@ -129,11 +129,11 @@ with_pending this =
           this.addresses ++ units_from this.next (pending this);
     }
 
-abbrev pub with_next : Places → ℤ → Places
+abbrev pub with_next : Placement → ℤ → Placement
 with_next this next = record this { next = next }
 
 -- the literals that addresses are
-abbrev pub with_uses : Places → Addressing → Places
+abbrev pub with_uses : Placement → Addressing → Placement
 with_uses this addressing.Nothing = this
 with_uses this (addressing.Addresses of) = with_operand (with_operand this of.a) of.b
 with_uses this (addressing.EarlierValue of) = this
@@ -141,30 +141,30 @@ with_uses this (addressing.Value of) = this
 with_uses this (addressing.Entry of) = this
 
 -- areas begin at this place
-abbrev pub with_areas : Places → ℤ → AreaRole → Places
+abbrev pub with_areas : Placement → ℤ → AreaRole → Placement
 with_areas this first areas.Ends = this
 with_areas this first (areas.Makes made) = record this { areas = first }
 with_areas this first (areas.Divides span) = this
 
 -- the value of the operand by the values so far
-abbrev pub own_value : Places → Addressing → ℤ
+abbrev pub own_value : Placement → Addressing → ℤ
 own_value this asked = value_so_far this.values (operands_in asked).a
 
 -- what becomes of the next place
-abbrev pub moved : Places → Description → Next → Places
+abbrev pub moved : Placement → Description → Next → Placement
 moved this row next.Behind = with_next this (this.next +ℤ pos (contents_length row.contents))
 moved this row next.Literals = with_pending this
 moved this row next.Value = with_next this (own_value this row.addressing)
 
 -- what is placed after a statement
-abbrev pub behind_row : Places → Description → Places
+abbrev pub behind_row : Placement → Description → Placement
 behind_row this row = with_uses (with_areas (moved this row row.next) this.next row.areas) row.addressing
 
-abbrev pub behind_body : Places → Body → Places
+abbrev pub behind_body : Placement → Body → Placement
 behind_body this body = behind_row this (describe body)
 
 -- the place that a statement's point names, with its operand by these values of labels
-abbrev pub point_value : List (Label × ℤ) → Places → Description → Point → ℤ
+abbrev pub point_value : List (Label × ℤ) → Placement → Description → Point → ℤ
 point_value values this row point.First = this.next
 point_value values this row point.Last = this.next +ℤ pos (contents_length row.contents) +ℤ negsuc 0
 point_value values this row (point.InArea place) = this.areas +ℤ pos place +ℤ negsuc 0
@@ -172,20 +172,20 @@ point_value values this row point.Value = value_so_far values (operands_in row.a
 
 -- the value of a label: the units place of a constant, the last place of DS, the last place of a field in the first
 -- area, the value of EQU, and else the first place
-abbrev pub label_value : Places → Body → ℤ
+abbrev pub label_value : Placement → Body → ℤ
 label_value this body = point_value this.values this (describe body) (describe body).names
 
-abbrev pub with_label : Places → Option Label → ℤ → Places
+abbrev pub with_label : Placement → Option Label → ℤ → Placement
 with_label this None value = this
 with_label this (Some label) value = record this { values = insert_entry same_label this.values label value }
 
-abbrev pub after_statement : Places → Statement → Places
+abbrev pub after_statement : Placement → Statement → Placement
 after_statement this statement =
     with_label (behind_body this statement.body) (well_formed statement.label) (label_value this statement.body)
 
-abbrev pub after_line : Places → Line → Places
+abbrev pub after_line : Placement → Line → Placement
 after_line this line = option_map_or (after_statement this) line.statement this
 
 -- what is placed by all lines
-abbrev pub placed : List Line → Places
+abbrev pub placed : List Line → Placement
 placed lines = fold after_line nothing_placed lines

@@ -18,7 +18,7 @@ use Rattle.source_1401.specs.declared.statement.Statement.{Statement}
 use Rattle.source_1401.specs.declared.statement.Line.{Line}
 use Rattle.autocoder_1401.specs.Cells.{literal_value}
 use Rattle.autocoder_1401.specs.Characters.{characters_of, same_characters}
-use Rattle.autocoder_1401.specs.Placement.{Places, pending, contents_length, value_so_far, after_line, placed}
+use Rattle.autocoder_1401.specs.Placement.{Placement, pending, contents_length, value_so_far, after_line, placed}
 use Rattle.autocoder_1401.specs.declared.characters.Characters.{Characters}
 
 -- how many places literals take
@@ -27,20 +27,20 @@ total [] = 0
 total (literal ∷ literals) = literal.len + total literals
 
 -- how many places a body takes: EX and END those of the literals that they place
-abbrev pub row_length : Places → Description → Next → ℕ
+abbrev pub row_length : Placement → Description → Next → ℕ
 row_length this row next.Behind = contents_length row.contents
 row_length this row next.Literals = total (pending this)
 row_length this row next.Value = 0
 
-abbrev pub body_length : Places → Body → ℕ
+abbrev pub body_length : Placement → Body → ℕ
 body_length this body = row_length this (describe body) (describe body).next
 
-abbrev pub length_with : Places → Option Statement → ℕ
+abbrev pub length_with : Placement → Option Statement → ℕ
 length_with this None = 0
 length_with this (Some statement) = body_length this statement.body
 
 -- how many places lines take, one after the other
-abbrev pub lengths_from : Places → List Line → ℕ
+abbrev pub lengths_from : Placement → List Line → ℕ
 lengths_from this [] = 0
 lengths_from this (line ∷ lines) = length_with this line.statement + lengths_from (after_line this line) lines
 

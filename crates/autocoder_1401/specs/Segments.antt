@@ -6,13 +6,13 @@ use Rattle.image_1401.specs.declared.image.Segment.{Segment}
 use Rattle.notation_1401.specs.Cells.{most_cells}
 
 -- an address; one that is none counts as 0, and is a fault of its line
-abbrev pub within : ℕ → ℕ
-within at = if nat_lt at addresses then at else 0
+abbrev pub start_or_zero : ℕ → ℕ
+start_or_zero at = if nat_lt at addresses then at else 0
 
 -- a segment with these cells, if there are any
 abbrev pub closed : ℕ → List Cell → List Segment
 closed at cells = if nat_le 1 (length cells) && nat_le (length cells) most_cells
-    then record { address = within at; cells = cells } ∷ [] else []
+    then record { address = start_or_zero at; cells = cells } ∷ [] else []
 
 -- a cell at this address goes on with a segment
 abbrev pub goes_on : ℕ → List Cell → ℕ → Bool

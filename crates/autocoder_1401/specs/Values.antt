@@ -18,20 +18,20 @@ use Rattle.source_1401.specs.declared.description.Next.TheVariants as next
 use Rattle.source_1401.specs.declared.statement.Body.{Body}
 use Rattle.source_1401.specs.declared.statement.Statement.{Statement}
 use Rattle.source_1401.specs.declared.statement.Line.{Line}
-use Rattle.autocoder_1401.specs.Placement.{Places, nothing_placed, contents_length, pending}
+use Rattle.autocoder_1401.specs.Placement.{Placement, nothing_placed, contents_length, pending}
 use Rattle.autocoder_1401.specs.Placement.{behind_literals, value_so_far, after_line, placed}
 use Rattle.autocoder_1401.specs.Symbols.{same_label}
 use Rattle.autocoder_1401.specs.declared.fault.AsmKind.TheVariants as kinds
 use Rattle.autocoder_1401.specs.declared.fault.AsmFault.{AsmFault}
 
 -- the value of what an address is counted from, with this place for an asterisk
-abbrev pub base_value : Places → ℤ → Base → ℤ
+abbrev pub base_value : Placement → ℤ → Base → ℤ
 base_value all here (bases.Number number) = pos number
 base_value all here (bases.Symbol label) = unwrap_or (lookup (same_label label) all.values) (pos 0)
 base_value all here bases.Here = here
 
 -- the value of an address before indexing
-abbrev pub address_value : Places → ℤ → Address → ℤ
+abbrev pub address_value : Placement → ℤ → Address → ℤ
 address_value all here address = base_value all here address.base +ℤ address.adjustment
 
 -- a value is the address of a place of core storage of this size
@@ -51,7 +51,7 @@ abbrev pub places_outside : ℕ → ℤ → ℕ → Bool
 places_outside size first length = nat_lt 0 length && not (are_in_core size first (first +ℤ pos length))
 
 -- an address other than a literal whose value isn't in core
-abbrev pub operand_outside : ℕ → Places → ℤ → OperandField → Bool
+abbrev pub operand_outside : ℕ → Placement → ℤ → OperandField → Bool
 operand_outside size all here fields.Absent = false
 operand_outside size all here fields.Malformed = false
 operand_outside size all here (fields.Operand (operands.Address address)) =
@@ -59,12 +59,12 @@ operand_outside size all here (fields.Operand (operands.Address address)) =
 operand_outside size all here (fields.Operand (operands.Literal constant)) = false
 
 -- a literal that is placed here and isn't in core
-abbrev pub literals_outside : ℕ → Places → Bool
+abbrev pub literals_outside : ℕ → Placement → Bool
 literals_outside size this =
     nat_lt 0 (length (pending this)) && not (are_in_core size this.next (behind_literals this.next (pending this)))
 
 -- literals that are placed here and aren't in core
-abbrev pub next_outside : ℕ → Places → Next → Bool
+abbrev pub next_outside : ℕ → Placement → Next → Bool
 next_outside size this next.Behind = false
 next_outside size this next.Literals = literals_outside size this
 next_outside size this next.Value = false
@@ -76,7 +76,7 @@ value_outside size value next.Literals = not (is_in_core size value)
 value_outside size value next.Value = not (are_in_core size value value)
 
 -- an address or a value that isn't in core
-abbrev pub addresses_outside : ℕ → Places → Places → Description → Addressing → Bool
+abbrev pub addresses_outside : ℕ → Placement → Placement → Description → Addressing → Bool
 addresses_outside size all this row addressing.Nothing = false
 addresses_outside size all this row (addressing.Addresses of) =
     let last = last_place this.next (contents_length row.contents) in
@@ -87,20 +87,20 @@ addresses_outside size all this row (addressing.Value of) = operand_outside size
 addresses_outside size all this row (addressing.Entry of) = operand_outside size all (pos 0) of.a
 
 -- a place of a statement that isn't in core, a literal that it places, or a value
-abbrev pub row_outside : ℕ → Places → Places → Description → Bool
+abbrev pub row_outside : ℕ → Placement → Placement → Description → Bool
 row_outside size all this row =
     places_outside size this.next (contents_length row.contents) || next_outside size this row.next
     || addresses_outside size all this row row.addressing
 
-abbrev pub body_outside : ℕ → Places → Places → Body → Bool
+abbrev pub body_outside : ℕ → Placement → Placement → Body → Bool
 body_outside size all this body = row_outside size all this (describe body)
 
-abbrev pub line_outside : ℕ → Places → Places → Line → Bool
+abbrev pub line_outside : ℕ → Placement → Placement → Line → Bool
 line_outside size all this line =
     option_map_or (λ (statement : Statement). body_outside size all this statement.body) line.statement false
 
 -- the first line of which something isn't in core
-abbrev pub first_outside_from : ℕ → Places → ℕ → Places → List Line → Option AsmFault
+abbrev pub first_outside_from : ℕ → Placement → ℕ → Placement → List Line → Option AsmFault
 first_outside_from size all number this [] = None
 first_outside_from size all number this (line ∷ lines) =
     if line_outside size all this line then Some (record { line = number; kind = kinds.OutOfCore })

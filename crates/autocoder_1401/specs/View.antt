@@ -1,8 +1,15 @@
 -- What the code holds, without where it lies in memory.
+use Rattle.std.specs.Prelude.{ℕ, List, []}
+use Rattle.std.specs.Global.{Global}
+use Rattle.std.specs.Option.{option_map_or}
+use Rattle.std.specs.declared.vec.Vec.{Vec}
+use Rattle.indexmap.specs.IndexMap.{IndexMap, get}
+use Rattle.source_1401.specs.declared.label.Label.{Label}
+use Rattle.autocoder_1401.specs.Symbols.{same_label}
 use Rattle.autocoder_1401.specs.declared.placing.Placing.{Placing}
-use Rattle.autocoder_1401.specs.Placement.{Places}
+use Rattle.autocoder_1401.specs.Placement.{Placement}
 
-abbrev pub places_of : Placing → Places
+abbrev pub places_of : Placing → Placement
 places_of this =
     record {
       next = this.next;
@@ -13,3 +20,7 @@ places_of this =
       spellings = this.spellings.items;
       addresses = this.addresses.items;
     }
+
+-- the lines that are noted for a label
+abbrev pub lines_naming : {S : Type 0} → IndexMap Label (Vec ℕ Global) S → Label → List ℕ
+lines_naming uses label = option_map_or (λ (lines : Vec ℕ Global). lines.items) (get same_label uses label) []

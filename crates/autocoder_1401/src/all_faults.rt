@@ -8,7 +8,7 @@ ghost use Rattle.autocoder_1401.specs.Fault.{IsMemory};
 ghost use Rattle.autocoder_1401.specs.OwnFault.{nothing_before};
 ghost use Rattle.autocoder_1401.specs.Symbols.{same_label};
 
-use crate::assembly::assemble;
+use crate::assembly::assemble_image;
 use crate::fault::{AsmFault, AsmKind};
 use crate::hashing::SourceHashing;
 use crate::kept_line::KeptLine;
@@ -101,7 +101,7 @@ pub(crate) fn fault_of(
     ensures ok { IfOk result (λ fault. fault ≡ fault_in (assembly_in size source.now)) }
     ensures err { IfErr result IsMemory }
 {
-    match assemble(alloc, source, size) {
+    match assemble_image(alloc, source, size) {
         Ok(_) => Ok(None),
         Err(fault) if matches!(fault.kind, AsmKind::Memory) => Err(AsmFault::MEMORY),
         Err(fault) => Ok(Some(fault)),

@@ -7,19 +7,19 @@ ghost use Rattle.core_1401.specs.Storage.{is_core_size};
 ghost use Rattle.image_1401.specs.Image.{IsInCore};
 ghost use Rattle.autocoder_1401.specs.Placement.{placed};
 ghost use Rattle.autocoder_1401.specs.Values.{first_outside};
-ghost use Rattle.autocoder_1401.specs.Assembly.{lines_in, entry_in, assembly_of, placed_cells};
-ghost use Rattle.autocoder_1401.specs.Assembly.{assembly_in, IsFaultOf};
+ghost use Rattle.autocoder_1401.specs.Assembly.{lines_in, entry_in, image_of, assembly_of, placed_cells};
+ghost use Rattle.autocoder_1401.specs.Assembly.{assembly_in, with_listing, IsFaultOf};
 ghost use Rattle.autocoder_1401.specs.Laws.{IsFirstOutside, IsCutOf};
 ghost use Rattle.autocoder_1401.specs.PlacementLaws.{IsPlacedInTurn};
 ghost use Rattle.autocoder_1401.specs.View.{places_of};
 
-use crate::cells::place_of;
+use crate::cells::address_or_zero;
 use crate::fault::AsmFault;
 use crate::first_fault::first_fault;
 use crate::hashing::SourceHashing;
 use crate::kept_line::KeptLine;
 use crate::listing::Listing;
-use crate::outputs::make_outputs;
+use crate::outputs::{make_listing, make_segments};
 use crate::placing::{Placing, place_all};
 use crate::reading::read_lines;
 use crate::symbols::declared;
@@ -65,7 +65,7 @@ fn entry(all: &Placing, lines: &[KeptLine]) -> Result<i64, AsmFault>
 }
 
 /// What is placed by lines, or the first of them with a fault.
-fn place_lines(
+pub(crate) fn place_lines(
     alloc: Global,
     hashing: SourceHashing,
     lines: &[KeptLine],
@@ -93,12 +93,39 @@ pub struct Assembly {
     pub listing: Listing,
 }
 
+/// The image of lines, once all is placed.
+///
+/// # Errors
+///
+/// `OutOfCore` for the first line of which something isn't in core; `Memory` if there is no room.
+fn make_image(
+    alloc: Global,
+    all: &Placing,
+    lines: &[KeptLine],
+    size: u16,
+) -> Result<Image, AsmFault>
+    requires few { length lines.now < 2 ^ 32 }
+    requires placed { places_of all.now ≡ placed lines.now }
+    ensures ok { IfOk result (λ image. image ≡ image_of size lines.now) }
+    ensures inside { OnOk result (first_outside size lines.now ≡ None) }
+    ensures outside { IfErr result (λ fault. IsMemory fault
+        ⊎ ((first_outside size lines.now ≡ Some fault) × IsFirstOutside size lines.now fault)) }
+{
+    let start = address_or_zero(entry(all, lines)?);
+    let segments = make_segments(alloc, all, size, lines)?;
+    Ok(Image {
+        size,
+        segments: Segments::from_vec(segments),
+        start,
+    })
+}
+
 /// The image and the listing of a source, which says these lines, once all is placed.
 ///
 /// # Errors
 ///
 /// `OutOfCore` for the first line of which something isn't in core; `Memory` if there is no room.
-fn make_assembly(
+pub(crate) fn make_assembly(
     alloc: Global,
     all: &Placing,
     source: &[u8],
@@ -113,18 +140,9 @@ fn make_assembly(
     ensures outside { IfErr result (λ fault. IsMemory fault
         ⊎ ((first_outside size lines.now ≡ Some fault) × IsFirstOutside size lines.now fault)) }
 {
-    let start = place_of(entry(all, lines)?);
-    let made = make_outputs(alloc, all, size, source, lines)?;
-    Ok(Assembly {
-        image: Image {
-            size,
-            segments: Segments::from_vec(made.segments),
-            start,
-        },
-        listing: Listing {
-            lines: made.listing,
-        },
-    })
+    let image = make_image(alloc, all, lines, size)?;
+    let listing = make_listing(alloc, all, source, lines)?;
+    Ok(Assembly { image, listing })
 }
 
 /// The core image and the listing of a source, in core storage of this size.
@@ -150,7 +168,7 @@ pub fn assemble(alloc: Global, source: &[u8], size: u16) -> Result<Assembly, Asm
     ensures segments { is_core_size size ≡ true → IfOk result (λ assembly.
         IsCutOf (placed_cells (lines_in source.now)) assembly.image.segments) }
 
-    // Places advance by the lengths of the lines, and from the value of an origin after one; literals are kept once
+    // Placement advance by the lengths of the lines, and from the value of an origin after one; literals are kept once
     // each in the order of their first use, and EX and END place them one after the other.
     ensures placement { OnOk result (IsPlacedInTurn (lines_in source.now)) }
 
@@ -162,4 +180,38 @@ pub fn assemble(alloc: Global, source: &[u8], size: u16) -> Result<Assembly, Asm
     let all = place_lines(alloc, hashing, &lines)?;
     let assembly = make_assembly(alloc, &all, source, &lines, size)?;
     Ok(assembly)
+}
+
+/// The core image of a source, in core storage of this size: that of `assemble`, in less time and memory, since no
+/// listing is made.
+///
+/// # Errors
+///
+/// As `assemble`.
+#[tactic(auto, using(crate::proofs::PlacementLawLemmas::placed_in_turn))]
+pub fn assemble_image(alloc: Global, source: &[u8], size: u16) -> Result<Image, AsmFault>
+    // With the listing of the source it is what `assemble` makes of it, or its first fault, unless memory is refused.
+    ensures exact { Gives (with_listing source.now) result (assembly_in size source.now) }
+
+    // Only a source without a fault has one.
+    ensures faultless { OnOk result (IsFaultless (declared_at (lines_in source.now)) (lines_in source.now)) }
+
+    // All of it is in core.
+    ensures in_core { is_core_size size ≡ true → IfOk result IsInCore }
+
+    // The segments are cut as those of `assemble`.
+    ensures segments { is_core_size size ≡ true → IfOk result (λ image.
+        IsCutOf (placed_cells (lines_in source.now)) image.segments) }
+
+    // All is placed as by `assemble`.
+    ensures placement { OnOk result (IsPlacedInTurn (lines_in source.now)) }
+
+    // A fault is the lowest of the first line that has one, or that something of a faultless source isn't in core.
+    ensures first { IfErr result (λ fault. IsMemory fault ⊎ IsFaultOf size (lines_in source.now) fault) }
+{
+    let lines = read_lines(alloc, source)?;
+    let hashing = SourceHashing::from_source(source);
+    let all = place_lines(alloc, hashing, &lines)?;
+    let image = make_image(alloc, &all, &lines, size)?;
+    Ok(image)
 }

@@ -4,7 +4,7 @@ ghost use Rattle.std.specs.List.{flat_map};
 ghost use Rattle.core_1401.specs.Address.{addresses, spelling_of};
 ghost use Rattle.autocoder_1401.specs.Fault.{IsMemory};
 ghost use Rattle.autocoder_1401.specs.Characters.{char_with};
-ghost use Rattle.autocoder_1401.specs.Cells.{place_of, plain, with_word_mark, with_index, literal_value, operand_codes};
+ghost use Rattle.autocoder_1401.specs.Cells.{address_or_zero, plain, with_word_mark, with_index, literal_value, operand_codes};
 ghost use Rattle.autocoder_1401.specs.Cells.{d_codes, operands_cells, instruction_cells, constant_cells, literal_cells};
 ghost use Rattle.autocoder_1401.specs.Cells.{fields_behind, with_mark_at, with_field, repeated, areas_cells};
 ghost use Rattle.autocoder_1401.specs.Cells.{contents_cells, row_cells, statement_cells};
@@ -23,8 +23,8 @@ use source_1401::{
 use std::alloc::Global;
 
 /// The place that a value is the address of; 0 if it is none.
-pub(crate) fn place_of(value: i64) -> u16
-    ensures value { result ≡ place_of value }
+pub(crate) fn address_or_zero(value: i64) -> u16
+    ensures value { result ≡ address_or_zero value }
     ensures range { result < addresses }
 {
     if value >= 0 && value < i64::from(ADDRESSES) {
@@ -111,11 +111,11 @@ impl Placing {
         match field {
             OperandField::Operand(Operand::Address(address)) => {
                 let value = self.address_value(here, address)?;
-                put_chars(out, &address_chars(place_of(value), address.index))?;
+                put_chars(out, &address_chars(address_or_zero(value), address.index))?;
             },
             OperandField::Operand(Operand::Literal(constant)) => {
                 let value = self.literal_value(&Characters::from_constant(constant));
-                put_chars(out, &encode(place_of(value)))?;
+                put_chars(out, &encode(address_or_zero(value)))?;
             },
             OperandField::Absent | OperandField::Malformed => {},
         }
@@ -139,9 +139,9 @@ impl Placing {
 
     /// The address of the next place; 0 if it is none.
     pub(crate) fn address(&self) -> u16
-        ensures { result ≡ place_of (places_of self.now).next }
+        ensures { result ≡ address_or_zero (places_of self.now).next }
     {
-        place_of(self.next)
+        address_or_zero(self.next)
     }
 
     /// Puts an instruction.

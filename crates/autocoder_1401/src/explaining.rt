@@ -141,7 +141,7 @@ fn source_explanations(alloc: Global, source: &[u8]) -> Result<Vec<Explanation>,
     Ok(explanations)
 }
 
-/// Adds what isn't in core, where there is no other fault.
+/// Adds what isn't in core, if there is no other fault.
 fn add_outside_explained(
     alloc: Global,
     source: &[u8],
@@ -183,7 +183,7 @@ pub fn explained_faults(
     // They are all faults of the source.
     ensures faults { IfOk result (λ v. faults_of v.items ≡ all_faults size (lines_in source.now)) }
 
-    // The first of them is the fault that the assembler tells; there is none exactly where it assembles.
+    // The first of them is the fault that the assembler tells; there is none exactly if it assembles.
     ensures first { IfOk result (λ v. first_in (faults_of v.items) ≡ fault_in (assembly_in size source.now)) }
 
     // Each is a fault of the line that it names.

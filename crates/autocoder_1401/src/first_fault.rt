@@ -12,12 +12,13 @@ use crate::fault::{AsmFault, AsmKind};
 use crate::kept_line::KeptLine;
 use crate::symbols::Labels;
 use source_1401::{
-    Addressing, AreaRole, Base, Body, Bytes, Label, LabelField, Operand, OperandField, Statement,
+    Addressing, AreaRole, Base, Body, Label, LabelField, LineCheck, Operand, OperandField,
+    Statement,
 };
 
 /// What the lines before a line tell of it.
 #[derive(Clone, Copy, Debug, PartialEq, Eq)]
-pub(crate) struct Place {
+pub(crate) struct LineContext {
     /// The line's number.
     pub number: u64,
     /// Whether there is an END before it.
@@ -26,20 +27,20 @@ pub(crate) struct Place {
     pub areas: Option<u16>,
 }
 
-impl Place {
+impl LineContext {
     /// The place of the first line.
-    pub(crate) const FIRST: Place = Place {
+    pub(crate) const FIRST: LineContext = LineContext {
         number: 1,
         is_ended: false,
         areas: None,
     };
 
     /// The place after a line.
-    pub(crate) fn behind(self, line: &KeptLine) -> Place
+    pub(crate) fn behind(self, line: &KeptLine) -> LineContext
         requires { self.number < 2 ^ 33 }
         ensures { result ≡ place_behind self line.now }
     {
-        Place {
+        LineContext {
             number: self.number + 1,
             is_ended: self.is_ended | line.line().is_end(),
             areas: self.areas_behind(line),
@@ -174,7 +175,7 @@ pub(crate) fn has_undefined(labels: &Labels, number: u64, body: Body) -> bool
 }
 
 /// The lowest kind of fault of a statement up to END.
-fn lowest_in_statement(labels: &Labels, at: Place, statement: Statement) -> Option<AsmKind>
+fn lowest_in_statement(labels: &Labels, at: LineContext, statement: Statement) -> Option<AsmKind>
     ensures { result ≡ lowest_in (get same_label labels.now) at statement }
 {
     if at.has_bad_label(statement) {
@@ -196,20 +197,20 @@ fn lowest_in_statement(labels: &Labels, at: Place, statement: Statement) -> Opti
 }
 
 /// The first kind that a line is found to have.
-fn lowest_of(labels: &Labels, at: Place, line: &KeptLine) -> Option<AsmKind>
+fn lowest_of(labels: &Labels, at: LineContext, line: &KeptLine) -> Option<AsmKind>
     ensures { result ≡ lowest (get same_label labels.now) at line.now }
 {
     match (line.line().bytes, line.line().statement) {
-        (Bytes::Long, _) => Some(AsmKind::LongLine),
-        (Bytes::Foreign, _) => Some(AsmKind::Graphic),
-        (Bytes::Good, None) => None,
-        (Bytes::Good, Some(_)) if at.is_ended => Some(AsmKind::AfterEnd),
-        (Bytes::Good, Some(statement)) => lowest_in_statement(labels, at, statement),
+        (LineCheck::Long, _) => Some(AsmKind::LongLine),
+        (LineCheck::Foreign, _) => Some(AsmKind::Graphic),
+        (LineCheck::Good, None) => None,
+        (LineCheck::Good, Some(_)) if at.is_ended => Some(AsmKind::AfterEnd),
+        (LineCheck::Good, Some(statement)) => lowest_in_statement(labels, at, statement),
     }
 }
 
 /// The lowest kind of a line's faults.
-pub(crate) fn lowest_kind(labels: &Labels, at: Place, line: &KeptLine) -> Option<AsmKind>
+pub(crate) fn lowest_kind(labels: &Labels, at: LineContext, line: &KeptLine) -> Option<AsmKind>
     ensures value { result ≡ lowest (get same_label labels.now) at line.now }
     ensures clean { IfNone result (IsClean (get same_label labels.now) at line.now) }
     ensures lowest { IfSome result (λ kind. IsLowest (get same_label labels.now) at line.now kind) }
@@ -225,7 +226,7 @@ pub(crate) fn first_fault(labels: &Labels, lines: &[KeptLine]) -> Option<AsmFaul
     ensures faultless { IfNone result (IsFaultless (get same_label labels.now) lines.now) }
     ensures first { IfSome result (λ fault. IsFirstFault (get same_label labels.now) lines.now fault) }
 {
-    let mut at = Place::FIRST;
+    let mut at = LineContext::FIRST;
     for line in lines {
         if let Some(kind) = lowest_kind(labels, at, line) {
             return Some(AsmFault {

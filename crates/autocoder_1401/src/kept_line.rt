@@ -3,13 +3,13 @@ ghost use Rattle.std.specs.Prelude.{◌≡◌, IfOk, IfErr};
 ghost use Rattle.autocoder_1401.specs.Fault.{IsMemory};
 
 use crate::fault::AsmFault;
-use source_1401::{Bytes, Line};
+use source_1401::{Line, LineCheck};
 use std::alloc::Global;
 use std::marker::Model;
 
 /// A comment that has no fault.
 static COMMENT: Line = Line {
-    bytes: Bytes::Good,
+    bytes: LineCheck::Good,
     statement: None,
 };
 
@@ -36,10 +36,12 @@ impl KeptLine {
         ensures err { IfErr result IsMemory }
     {
         match (line.bytes, line.statement) {
-            (Bytes::Good, None) => Ok(KeptLine { said: None }),
-            (Bytes::Good, Some(_)) | (Bytes::Long | Bytes::Foreign, _) => Ok(KeptLine {
-                said: Some(Box::new(alloc, line)?),
-            }),
+            (LineCheck::Good, None) => Ok(KeptLine { said: None }),
+            (LineCheck::Good, Some(_)) | (LineCheck::Long | LineCheck::Foreign, _) => Ok(
+                KeptLine {
+                    said: Some(Box::new(alloc, line)?),
+                },
+            ),
         }
     }
 

@@ -23,7 +23,10 @@ mod cells; // the cells of a line
 mod segments; // the cells, cut into segments
 mod printing; // the parts of a line of the listing
 pub mod listing; // the source with its addresses and cells
-mod outputs; // segments and listing, line by line
+mod outputs; // the segments, and the listing, line by line
+mod symbol_table; // each label with its address, its length and its line
+mod cross_reference; // the lines that name each label
+pub mod tables; // an assembly with its symbol table and its cross-reference
 mod own_fault; // faults that don't only follow from one told before
 pub mod explanation; // what is wrong at a fault, and in which columns
 pub mod all_faults; // all faults of a source
@@ -31,8 +34,9 @@ pub mod explaining; // all faults of a source, each with what is wrong
 pub mod fault; // the kinds of fault
 
 pub use all_faults::faults;
-pub use assembly::{Assembly, assemble};
+pub use assembly::{Assembly, assemble, assemble_image};
 pub use explaining::explained_faults;
 pub use explanation::{Cause, Explanation};
 pub use fault::{AsmFault, AsmKind};
 pub use listing::{Listing, ListingLine};
+pub use tables::{AssemblyTables, assemble_with_tables};

@@ -16,7 +16,7 @@ use crate::cells::{put_constant, put_contents};
 use crate::characters::Characters;
 use crate::fault::AsmFault;
 use crate::kept_line::KeptLine;
-use crate::placing::{Placing, plus};
+use crate::placing::{Placing, checked_sum};
 use crate::printing::{cut_last_blanks, put_address, put_characters, put_number, put_spelling};
 use bcd_1401::Cell;
 use source_1401::{Addressing, Body, Constant, Next, Statement};
@@ -108,7 +108,7 @@ fn put_literal_lines(
     for literal in literals {
         let characters = Characters::from_constant(*literal);
         lines.push(literal_line(alloc, next, *literal)?)?;
-        next = plus(next, i64::from(characters.len))?;
+        next = checked_sum(next, i64::from(characters.len))?;
     }
     Ok(())
 }

@@ -1,11 +1,11 @@
-//! The image and the listing of a source, made line by line once all labels have their values.
+//! The segments and the listing of a source, each made line by line once all labels have their values.
 ghost use Rattle.std.specs.Prelude.{◌≡◌, ◌∷◌, ◌++◌, ◌+◌, ◌<◌, ◌^◌, ◌⊎◌, ℕ, List, [], length, map, Some, None, IfOk};
 ghost use Rattle.std.specs.Prelude.{IfErr, OnOk};
 ghost use Rattle.bcd_1401.specs.declared.cell.Cell.{Cell as ACell};
 ghost use Rattle.source_1401.specs.SourceLine.{lines_of};
 ghost use Rattle.source_1401.specs.Statement.{line_of};
 ghost use Rattle.autocoder_1401.specs.Built.{built};
-ghost use Rattle.autocoder_1401.specs.Cells.{place_of, numbered, statement_cells, cells_from};
+ghost use Rattle.autocoder_1401.specs.Cells.{address_or_zero, numbered, statement_cells, cells_from};
 ghost use Rattle.autocoder_1401.specs.Fault.{IsMemory};
 ghost use Rattle.autocoder_1401.specs.Listing.{literal_lines, literals_in, line_for, listing_from};
 ghost use Rattle.autocoder_1401.specs.Placement.{nothing_placed, after_line};
@@ -15,35 +15,84 @@ ghost use Rattle.autocoder_1401.specs.View.{places_of};
 
 use crate::fault::{AsmFault, AsmKind};
 use crate::kept_line::KeptLine;
-use crate::listing::ListingLine;
+use crate::listing::{Listing, ListingLine};
 use crate::placing::Placing;
 use crate::segments::{Builder, lines_behind};
 use image_1401::Segment;
 use source_1401::split_line;
 use std::alloc::Global;
 
-/// What is made of the lines so far.
+/// The segments of the lines so far.
 #[derive(Drop)]
-pub(crate) struct Output {
+struct SegmentsSoFar {
     /// What is placed so far.
-    pub so_far: Placing,
+    so_far: Placing,
     /// The segments.
-    pub builder: Builder,
-    /// The lines of the listing.
-    pub listing: Vec<ListingLine>,
+    builder: Builder,
 }
 
-/// The segments and the listing of a source.
+/// The listing of the lines so far.
 #[derive(Drop)]
-pub(crate) struct Made {
-    /// The segments.
-    pub segments: Vec<Segment>,
+struct ListingSoFar {
+    /// What is placed so far.
+    so_far: Placing,
     /// The lines of the listing.
-    pub listing: Vec<ListingLine>,
+    listing: Vec<ListingLine>,
 }
 
-impl Output {
+impl SegmentsSoFar {
     /// Makes the cells of a line, with these lines after it, and places them.
+    fn put_line(
+        &mut self,
+        alloc: Global,
+        all: &Placing,
+        line: &KeptLine,
+        behind: &[KeptLine],
+    ) -> Result<(), AsmFault>
+        ensures built { OnOk result ((rest : List (ℕ × ACell)) → built self.new.builder rest
+            ≡ built self.old.builder (numbered (address_or_zero (places_of self.old.so_far).next)
+            (statement_cells (places_of all.now) (places_of self.old.so_far) line.now.statement behind.now) ++ rest)) }
+        ensures placed { OnOk result
+            (places_of self.new.so_far ≡ after_line (places_of self.old.so_far) line.now) }
+        ensures err { IfErr result IsMemory }
+    {
+        self.builder
+            .put_line(alloc, all, &self.so_far, line, behind)?;
+        self.so_far.place(line)?;
+        Ok(())
+    }
+
+    /// Makes the cells of lines, up to the first of which something isn't in core.
+    fn put_lines(
+        &mut self,
+        alloc: Global,
+        all: &Placing,
+        size: u16,
+        lines: &[KeptLine],
+    ) -> Result<(), AsmFault>
+        requires few { length lines.now < 2 ^ 32 }
+        ensures inside { OnOk result
+            (first_outside_from size (places_of all.now) 1 (places_of self.old.so_far) lines.now ≡ None) }
+        ensures built { OnOk result (built self.new.builder []
+            ≡ built self.old.builder (cells_from (places_of all.now) (places_of self.old.so_far) lines.now)) }
+        ensures err { IfErr result (λ fault. IsMemory fault
+            ⊎ (first_outside_from size (places_of all.now) 1 (places_of self.old.so_far) lines.now ≡ Some fault)) }
+    {
+        for (i, line) in lines.iter().enumerate() {
+            if self.so_far.is_line_outside(size, all, line)? {
+                return Err(AsmFault {
+                    line: i as u64 + 1,
+                    kind: AsmKind::OutOfCore,
+                });
+            }
+            self.put_line(alloc, all, line, lines_behind(lines, i))?;
+        }
+        Ok(())
+    }
+}
+
+impl ListingSoFar {
+    /// Lists a line, with these lines after it, and places it.
     fn put_line(
         &mut self,
         alloc: Global,
@@ -53,9 +102,6 @@ impl Output {
         line: &KeptLine,
         behind: &[KeptLine],
     ) -> Result<(), AsmFault>
-        ensures built { OnOk result ((rest : List (ℕ × ACell)) → built self.new.builder rest
-            ≡ built self.old.builder (numbered (place_of (places_of self.old.so_far).next)
-            (statement_cells (places_of all.now) (places_of self.old.so_far) line.now.statement behind.now) ++ rest)) }
         ensures listed { OnOk result (self.new.listing.items ≡ self.old.listing.items
             ++ (literal_lines (places_of self.old.so_far).next
             (literals_in (places_of self.old.so_far) line.now.statement)
@@ -65,41 +111,27 @@ impl Output {
             (places_of self.new.so_far ≡ after_line (places_of self.old.so_far) line.now) }
         ensures err { IfErr result IsMemory }
     {
-        self.builder
-            .put_line(alloc, all, &self.so_far, line, behind)?;
         self.so_far.list_line(alloc, all, number, source, line, behind, &mut self.listing)?;
         self.so_far.place(line)?;
         Ok(())
     }
 
-    /// Makes what the lines of a source stand for, up to the first of which something isn't in core.
+    /// Lists the lines of a source.
     fn put_lines(
         &mut self,
         alloc: Global,
         all: &Placing,
-        size: u16,
         source: &[u8],
         lines: &[KeptLine],
     ) -> Result<(), AsmFault>
         requires lines { lines.now ≡ map line_of (lines_of source.now) }
         requires few { length lines.now < 2 ^ 32 }
-        ensures inside { OnOk result
-            (first_outside_from size (places_of all.now) 1 (places_of self.old.so_far) lines.now ≡ None) }
-        ensures built { OnOk result (built self.new.builder []
-            ≡ built self.old.builder (cells_from (places_of all.now) (places_of self.old.so_far) lines.now)) }
         ensures listed { OnOk result (self.new.listing.items ≡ self.old.listing.items
             ++ listing_from (places_of all.now) (places_of self.old.so_far) 1 (lines_of source.now)) }
-        ensures err { IfErr result (λ fault. IsMemory fault
-            ⊎ (first_outside_from size (places_of all.now) 1 (places_of self.old.so_far) lines.now ≡ Some fault)) }
+        ensures err { IfErr result IsMemory }
     {
         let mut sources = source;
         for (i, line) in lines.iter().enumerate() {
-            if self.so_far.is_line_outside(size, all, line)? {
-                return Err(AsmFault {
-                    line: i as u64 + 1,
-                    kind: AsmKind::OutOfCore,
-                });
-            }
             let Some((text, behind)) = split_line(sources) else {
                 unreachable!()
             };
@@ -109,49 +141,58 @@ impl Output {
         }
         Ok(())
     }
-
-    /// The segments and the listing.
-    fn finish(self) -> Result<Made, AsmFault>
-        ensures segments { IfOk result (λ made. made.segments.items ≡ built self.builder []) }
-        ensures listing { IfOk result (λ made. made.listing ≡ self.listing) }
-        ensures err { IfErr result IsMemory }
-    {
-        let segments = self.builder.finish()?;
-        Ok(Made {
-            segments,
-            listing: self.listing,
-        })
-    }
 }
 
-/// The segments and the listing of a source, which says these lines, once all is placed.
+/// The segments of lines, once all is placed.
 ///
 /// # Errors
 ///
 /// `OutOfCore` for the first line of which something isn't in core; `Memory` if there is no room.
-pub(crate) fn make_outputs(
+pub(crate) fn make_segments(
     alloc: Global,
     all: &Placing,
     size: u16,
-    source: &[u8],
     lines: &[KeptLine],
-) -> Result<Made, AsmFault>
-    requires lines { lines.now ≡ map line_of (lines_of source.now) }
+) -> Result<Vec<Segment>, AsmFault>
     requires few { length lines.now < 2 ^ 32 }
     ensures inside { OnOk result (first_outside_from size (places_of all.now) 1 nothing_placed lines.now ≡ None) }
-    ensures segments { IfOk result (λ made. made.segments.items
+    ensures segments { IfOk result (λ segments. segments.items
         ≡ segments_of (cells_from (places_of all.now) nothing_placed lines.now)) }
-    ensures listing { IfOk result (λ made. made.listing.items
-        ≡ listing_from (places_of all.now) nothing_placed 1 (lines_of source.now)) }
     ensures err { IfErr result (λ fault. IsMemory fault
         ⊎ (first_outside_from size (places_of all.now) 1 nothing_placed lines.now ≡ Some fault)) }
 {
-    let mut output = Output {
+    let mut made = SegmentsSoFar {
         so_far: Placing::new(alloc, all.hashing),
         builder: Builder::new(alloc),
+    };
+    made.put_lines(alloc, all, size, lines)?;
+    let segments = made.builder.finish()?;
+    Ok(segments)
+}
+
+/// The listing of a source, which says these lines, once all is placed.
+///
+/// # Errors
+///
+/// `Memory` if there is no room.
+pub(crate) fn make_listing(
+    alloc: Global,
+    all: &Placing,
+    source: &[u8],
+    lines: &[KeptLine],
+) -> Result<Listing, AsmFault>
+    requires lines { lines.now ≡ map line_of (lines_of source.now) }
+    requires few { length lines.now < 2 ^ 32 }
+    ensures listing { IfOk result (λ listing. listing
+        ≡ listing_from (places_of all.now) nothing_placed 1 (lines_of source.now)) }
+    ensures err { IfErr result IsMemory }
+{
+    let mut made = ListingSoFar {
+        so_far: Placing::new(alloc, all.hashing),
         listing: Vec::new(alloc),
     };
-    output.put_lines(alloc, all, size, source, lines)?;
-    let made = output.finish()?;
-    Ok(made)
+    made.put_lines(alloc, all, source, lines)?;
+    Ok(Listing {
+        lines: made.listing,
+    })
 }

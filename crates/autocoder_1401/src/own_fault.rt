@@ -6,16 +6,16 @@ ghost use Rattle.autocoder_1401.specs.OwnFault.{undefined_anywhere, own_undefine
 ghost use Rattle.autocoder_1401.specs.Symbols.{same_label};
 
 use crate::fault::AsmKind;
-use crate::first_fault::{Place, has_double_label, has_undefined, is_undefined, lowest_kind};
+use crate::first_fault::{LineContext, has_double_label, has_undefined, is_undefined, lowest_kind};
 use crate::kept_line::KeptLine;
 use crate::symbols::Labels;
-use source_1401::{Addressing, AreaRole, Body, Bytes, OperandField, Statement};
+use source_1401::{Addressing, AreaRole, Body, LineCheck, OperandField, Statement};
 
 /// What the lines before a line tell of its faults.
 #[derive(Clone, Copy, Debug, PartialEq, Eq)]
 pub(crate) struct Before {
     /// What they tell of it anyway.
-    pub at: Place,
+    pub at: LineContext,
     /// Whether none of them has a fault.
     pub is_clean: bool,
     /// Whether a fault has lost the areas that a field here would divide.
@@ -29,7 +29,7 @@ pub(crate) struct Before {
 impl Before {
     /// Before the first line.
     pub(crate) const NOTHING: Before = Before {
-        at: Place::FIRST,
+        at: LineContext::FIRST,
         is_clean: true,
         lost_areas: false,
         is_past_end: false,
@@ -152,16 +152,16 @@ pub(crate) fn told_of(
         return lowest_kind(labels, before.at, line);
     }
     match (line.line().bytes, line.line().statement) {
-        (Bytes::Long, _) => Some(AsmKind::LongLine),
-        (Bytes::Foreign, _) => Some(AsmKind::Graphic),
-        (Bytes::Good, None) => None,
-        (Bytes::Good, Some(_)) if before.at.is_ended => {
+        (LineCheck::Long, _) => Some(AsmKind::LongLine),
+        (LineCheck::Foreign, _) => Some(AsmKind::Graphic),
+        (LineCheck::Good, None) => None,
+        (LineCheck::Good, Some(_)) if before.at.is_ended => {
             if before.is_past_end {
                 None
             } else {
                 Some(AsmKind::AfterEnd)
             }
         },
-        (Bytes::Good, Some(statement)) => own_in_statement(labels, anywhere, before, statement),
+        (LineCheck::Good, Some(statement)) => own_in_statement(labels, anywhere, before, statement),
     }
 }

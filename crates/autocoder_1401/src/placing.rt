@@ -47,7 +47,7 @@ pub(crate) struct Placing {
 }
 
 /// Adds; an overflow, far beyond any core, is reported as `Memory`.
-pub(crate) fn plus(one: i64, other: i64) -> Result<i64, AsmFault>
+pub(crate) fn checked_sum(one: i64, other: i64) -> Result<i64, AsmFault>
     ensures sum { IfOk result (λ sum. sum ≡ one +ℤ other) }
     ensures err { IfErr result IsMemory }
 {
@@ -62,8 +62,8 @@ pub(crate) fn last_place(first: i64, length: u32) -> Result<i64, AsmFault>
     ensures value { IfOk result (λ last. last ≡ last_place first length) }
     ensures err { IfErr result IsMemory }
 {
-    let behind = plus(first, i64::from(length))?;
-    plus(behind, -1)
+    let behind = checked_sum(first, i64::from(length))?;
+    checked_sum(behind, -1)
 }
 
 /// How many places an operand takes.
@@ -117,12 +117,12 @@ pub(crate) fn behind_literals(from: i64, literals: &[Characters]) -> Result<i64,
 {
     let mut next = from;
     for characters in literals {
-        next = plus(next, i64::from(characters.len))?;
+        next = checked_sum(next, i64::from(characters.len))?;
     }
     Ok(next)
 }
 
-/// Places literals from a place on, and says which place is next.
+/// Placement literals from a place on, and says which place is next.
 fn place_literals(
     from: i64,
     literals: &[Characters],
@@ -134,8 +134,8 @@ fn place_literals(
 {
     let mut next = from;
     for characters in literals {
-        let behind = plus(next, i64::from(characters.len))?;
-        addresses.push(plus(behind, -1)?)?;
+        let behind = checked_sum(next, i64::from(characters.len))?;
+        addresses.push(checked_sum(behind, -1)?)?;
         next = behind;
     }
     Ok(next)
@@ -177,7 +177,7 @@ impl Placing {
     }
 
     /// The value so far of what an address is counted from.
-    fn base_so_far(&self, base: Base) -> i64
+    pub(crate) fn base_so_far(&self, base: Base) -> i64
         ensures { result ≡ base_so_far (places_of self.now).values base }
     {
         match base {
@@ -193,7 +193,7 @@ impl Placing {
         ensures err { IfErr result IsMemory }
     {
         match field {
-            OperandField::Operand(Operand::Address(address)) => plus(
+            OperandField::Operand(Operand::Address(address)) => checked_sum(
                 self.base_so_far(address.base),
                 i64::from(address.adjustment),
             ),
@@ -217,7 +217,7 @@ impl Placing {
         match point {
             Point::First => Ok(self.next),
             Point::Last => last_place(self.next, contents_length(row.contents)),
-            Point::InArea(place) => plus(plus(self.areas, i64::from(place))?, -1),
+            Point::InArea(place) => checked_sum(checked_sum(self.areas, i64::from(place))?, -1),
             Point::Value => values.value_so_far(row.addressing.operands().a),
         }
     }
@@ -260,7 +260,7 @@ impl Placing {
         }
     }
 
-    /// Places the literals that are used and not placed.
+    /// Placement the literals that are used and not placed.
     fn place_pending(&mut self) -> Result<(), AsmFault>
         ensures ok { OnOk result (places_of self.new ≡ with_pending (places_of self.old)) }
         ensures err { IfErr result IsMemory }
@@ -278,7 +278,7 @@ impl Placing {
     {
         match row.next {
             Next::Behind => {
-                self.next = plus(self.next, i64::from(contents_length(row.contents)))?;
+                self.next = checked_sum(self.next, i64::from(contents_length(row.contents)))?;
             },
             Next::Literals => self.place_pending()?,
             Next::Value => self.next = self.value_so_far(row.addressing.operands().a)?,
@@ -318,7 +318,7 @@ impl Placing {
         self.note_uses(row.addressing)
     }
 
-    /// Places a line.
+    /// Placement a line.
     pub(crate) fn place(&mut self, line: &KeptLine) -> Result<(), AsmFault>
         ensures ok { OnOk result (places_of self.new ≡ after_line (places_of self.old) line.now) }
         ensures err { IfErr result IsMemory }
@@ -333,7 +333,7 @@ impl Placing {
         Ok(())
     }
 
-    /// Places lines.
+    /// Placement lines.
     fn place_each(&mut self, lines: &[KeptLine]) -> Result<(), AsmFault>
         ensures ok { OnOk result (places_of self.new ≡ fold after_line (places_of self.old) lines.now) }
         ensures err { IfErr result IsMemory }

@@ -2,8 +2,8 @@
 ghost use Rattle.std.specs.Prelude.{◌≡◌, ◌∷◌, ◌++◌, ◌+◌, ◌<◌, ℕ, List, [], length, drop, IfOk, IfErr, OnOk};
 ghost use Rattle.bcd_1401.specs.declared.cell.Cell.{Cell as ACell};
 ghost use Rattle.autocoder_1401.specs.Fault.{IsMemory};
-ghost use Rattle.autocoder_1401.specs.Cells.{place_of, numbered, statement_cells};
-ghost use Rattle.autocoder_1401.specs.Segments.{within, closed, goes_on, segments_of};
+ghost use Rattle.autocoder_1401.specs.Cells.{address_or_zero, numbered, statement_cells};
+ghost use Rattle.autocoder_1401.specs.Segments.{start_or_zero, closed, goes_on, segments_of};
 ghost use Rattle.autocoder_1401.specs.View.{places_of};
 ghost use Rattle.autocoder_1401.specs.Built.{built};
 
@@ -28,8 +28,8 @@ pub(crate) struct Builder {
 }
 
 /// The address; 0 if it is none.
-fn within(at: usize) -> u16
-    ensures { result ≡ within at }
+fn start_or_zero(at: usize) -> u16
+    ensures { result ≡ start_or_zero at }
 {
     if at < usize::from(ADDRESSES) {
         at as u16
@@ -68,7 +68,7 @@ impl Builder {
     {
         if let Some(cells) = Cells::from_slice(&self.cells) {
             self.done.push(Segment {
-                address: within(self.address),
+                address: start_or_zero(self.address),
                 cells,
             })?;
         }
@@ -114,7 +114,7 @@ impl Builder {
         behind: &[KeptLine],
     ) -> Result<(), AsmFault>
         ensures built { OnOk result ((rest : List (ℕ × ACell)) → built self.new rest ≡ built self.old
-            (numbered (place_of (places_of so_far.now).next)
+            (numbered (address_or_zero (places_of so_far.now).next)
             (statement_cells (places_of all.now) (places_of so_far.now) line.now.statement behind.now) ++ rest)) }
         ensures err { IfErr result IsMemory }
     {

@@ -8,7 +8,7 @@ ghost use Rattle.autocoder_1401.specs.View.{places_of};
 
 use crate::fault::AsmFault;
 use crate::kept_line::KeptLine;
-use crate::placing::{Placing, behind_literals, contents_length, last_place, plus};
+use crate::placing::{Placing, behind_literals, checked_sum, contents_length, last_place};
 use source_1401::{Address, Addressing, Base, Description, Next, Operand, OperandField, Statement};
 
 /// Whether a value is the address of a place of core storage of this size.
@@ -40,7 +40,7 @@ fn are_places_outside(size: u16, first: i64, length: u32) -> Result<bool, AsmFau
     ensures value { IfOk result (λ outside. outside ≡ places_outside size first length) }
     ensures err { IfErr result IsMemory }
 {
-    let behind = plus(first, i64::from(length))?;
+    let behind = checked_sum(first, i64::from(length))?;
     Ok(length > 0 && !are_in_core(size, first, behind))
 }
 
@@ -62,7 +62,7 @@ impl Placing {
         ensures err { IfErr result IsMemory }
     {
         let base = self.base_value(here, address.base);
-        plus(base, i64::from(address.adjustment))
+        checked_sum(base, i64::from(address.adjustment))
     }
 
     /// Whether an operand is an address whose value isn't in core.

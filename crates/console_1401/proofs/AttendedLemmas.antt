@@ -8,11 +8,11 @@ use Rattle.std.specs.Prelude.{Ok, Err}
 use mathlib.Core.List.{IsPrefix}
 use Rattle.command_1401.specs.declared.answer.Answer.{Answer}
 use Rattle.command_1401.specs.declared.command.Command.{Command}
-use Rattle.room_1401.specs.declared.entry.Pair.{Pair}
+use Rattle.room_1401.specs.declared.entry.SeatedCommand.{SeatedCommand}
 use Rattle.room_1401.specs.declared.fault.RoomFault.TheVariants.{Memory, JournalFull, NoReading, Unkept}
 use Rattle.room_1401.specs.Journal.{most_entries}
 use Rattle.room_1401.specs.Replay.{pair}
-use Rattle.room_1401.specs.Seen.{Knows}
+use Rattle.room_1401.specs.Seen.{SeatView}
 use Rattle.text_1401.specs.declared.line.Line.TheVariants as line
 use Rattle.console_1401.specs.declared.reply.Reply.{Reply}
 use Rattle.console_1401.specs.declared.reply.Reply.TheVariants as reply
@@ -37,31 +37,31 @@ prefix_trans xs ys zs p q =
 prefix_more : {A : Type 0} (xs : List A) (x : A) → IsPrefix xs (xs ++ x ∷ [])
 prefix_more xs x = (x ∷ [], refl)
 
-prefix_of_same : (xs ys : List Pair) → ys ≡ xs → IsPrefix xs ys
+prefix_of_same : (xs ys : List SeatedCommand) → ys ≡ xs → IsPrefix xs ys
 prefix_of_same xs ys same = subst (λ list. IsPrefix xs list) (sym same) (prefix_self xs)
 
 -- what goes beyond a list makes the other one go on from it
-goes_on : (size seat : ℕ) (before : List Pair) (carried : List (Command × Answer)) (list : List Pair)
+goes_on : (size seat : ℕ) (before : List SeatedCommand) (carried : List (Command × Answer)) (list : List SeatedCommand)
     → Stand size seat before carried list → IsPrefix before list
 goes_on size seat before [] list s = s
 goes_on size seat before (one ∷ more) list s =
-    let last : Pair = pair seat one.0 in
+    let last : SeatedCommand = pair seat one.0 in
     prefix_trans before s.0 list s.1
     (prefix_trans s.0 (s.0 ++ last ∷ []) list (prefix_more s.0 last)
     (goes_on size seat (s.0 ++ last ∷ []) more list s.3))
 
 -- what goes beyond a list goes beyond a beginning of it
-stand_from : (size seat : ℕ) (first before : List Pair) (carried : List (Command × Answer)) (list : List Pair)
+stand_from : (size seat : ℕ) (first before : List SeatedCommand) (carried : List (Command × Answer)) (list : List SeatedCommand)
     → IsPrefix first before → Stand size seat before carried list → Stand size seat first carried list
 stand_from size seat first before [] list p s = prefix_trans first before list p s
 stand_from size seat first before (one ∷ more) list p s = (s.0, prefix_trans first before s.0 p s.1, s.2, s.3)
 
-between_from : (first before after : List Pair) (P : List Pair → Type 0) → IsPrefix first before
+between_from : (first before after : List SeatedCommand) (P : List SeatedCommand → Type 0) → IsPrefix first before
     → Between before after P → Between first after P
 between_from first before after P p b = (b.0, prefix_trans first before b.0 p b.1, b.2, b.3)
 
 -- a reply between two lists is one between a beginning of the first and the second
-reply_from : (size : ℕ) (first before after : List Pair) (said : Said) (given : Option Reply) → IsPrefix first before
+reply_from : (size : ℕ) (first before after : List SeatedCommand) (said : Said) (given : Option Reply) → IsPrefix first before
     → LineReplied size before after said given → LineReplied size first after said given
 reply_from size first before after (Ok line.Empty) given p r = r
 reply_from size first before after (Ok (line.Command command)) None p r = r
@@ -86,14 +86,14 @@ reply_from size first before after (Ok (line.Glance address)) (Some reply.Bye) p
 reply_from size first before after (Ok line.Quit) given p r = r
 reply_from size first before after (Err fault) given p r = r
 
-all_from : (size : ℕ) (first before after : List Pair) (replied : List Replied) → IsPrefix first before
+all_from : (size : ℕ) (first before after : List SeatedCommand) (replied : List Replied) → IsPrefix first before
     → AllReplied size before after replied → AllReplied size first after replied
 all_from size first before after [] p r = tt
 all_from size first before after (given ∷ more) p r =
     (reply_from size first before after given.said given.reply p r.0, all_from size first before after more p r.1)
 
 -- One line in front of what is known of those after it.
-pub record Leads (size : ℕ) (before : Knows) (said : Said) (given : Option Reply) (middle after : Knows) : Type 0 where
+pub record Leads (size : ℕ) (before : SeatView) (said : Said) (given : Option Reply) (middle after : SeatView) : Type 0 where
   pub grows : IsPrefix before.list middle.list
   pub made_is : middle.made ≡ before.made + length (zip (command_in said) (answer_in given))
   pub reply : IsPrefix middle.list after.list → length after.list ≤ most_entries
@@ -102,14 +102,14 @@ pub record Leads (size : ℕ) (before : Knows) (said : Said) (given : Option Rep
       → Stand size before.number before.list (zip (command_in said) (answer_in given) ++ carried) after.list
 
 -- a line after which the seat knows the same, and which neither gives a command nor is answered by the machine
-pub record Stays (size : ℕ) (before : Knows) (said : Said) (given : Option Reply) (middle after : Knows) : Type 0 where
+pub record Stays (size : ℕ) (before : SeatView) (said : Said) (given : Option Reply) (middle after : SeatView) : Type 0 where
   pub grows : IsPrefix before.list middle.list
   pub made_is : middle.made ≡ before.made
   pub none : zip (command_in said) (answer_in given) ≡ []
   pub reply : IsPrefix middle.list after.list → length after.list ≤ most_entries
       → LineReplied size before.list after.list said given
 
-still : (size : ℕ) (before : Knows) (said : Said) (given : Option Reply) (middle after : Knows)
+still : (size : ℕ) (before : SeatView) (said : Said) (given : Option Reply) (middle after : SeatView)
     → Stays size before said given middle after → Leads size before said given middle after
 still size before said given middle after s = record {
   grows = s.grows;
@@ -121,31 +121,31 @@ still size before said given middle after s = record {
 }
 
 -- nothing was seen or made, whatever else the reply is
-same : (size : ℕ) (before : Knows) (said : Said) (given : Option Reply) (middle after : Knows) → middle ≡ before
+same : (size : ℕ) (before : SeatView) (said : Said) (given : Option Reply) (middle after : SeatView) → middle ≡ before
     → zip (command_in said) (answer_in given) ≡ [] → LineReplied size before.list after.list said given
     → Leads size before said given middle after
 same size before said given middle after is none replied =
     still size before said given middle after (record {
-      grows = prefix_of_same before.list middle.list (ap (λ (seat : Knows). seat.list) is);
-      made_is = ap (λ (seat : Knows). seat.made) is;
+      grows = prefix_of_same before.list middle.list (ap (λ (seat : SeatView). seat.list) is);
+      made_is = ap (λ (seat : SeatView). seat.made) is;
       none = none;
       reply = λ grows few. replied;
     })
 
 -- a list that goes on from a full one, and isn't longer than a full one, is full
-all_seen : (full list : List Pair) → length full ≡ most_entries → IsPrefix full list → length list ≤ most_entries
+all_seen : (full list : List SeatedCommand) → length full ≡ most_entries → IsPrefix full list → length list ≤ most_entries
     → length list ≡ most_entries
 all_seen full list is grows few = omega (arith, is, few, ap length (grows.1), length-append full grows.0)
 
 -- one line in front, by what it says and how it was answered
-in_front : (size : ℕ) (before : Knows) (said : Said) (given : Option Reply) (middle after : Knows)
+in_front : (size : ℕ) (before : SeatView) (said : Said) (given : Option Reply) (middle after : SeatView)
     → LineResponds size before said given middle → Leads size before said given middle after
 in_front size before (Ok line.Empty) given middle after r =
     same size before (Ok line.Empty) given middle after r.1 refl r.0
 in_front size before (Ok (line.Command command)) None middle after r = absurd r
 in_front size before (Ok (line.Command command)) (Some (reply.Answer answer)) middle after r =
     let carries = r.0 in
-    let last : Pair = pair before.number command in
+    let last : SeatedCommand = pair before.number command in
     let there : IsPrefix carries.front middle.list =
     subst (λ list. IsPrefix carries.front list) (sym carries.ends) (prefix_more carries.front last) in
     record {
@@ -200,11 +200,11 @@ in_front size before (Err fault) given middle after r =
     same size before (Err fault) given middle after r.1 refl r.0
 
 -- after each line the seat has seen no more than a full journal, so at the end too
-seen_few : (size : ℕ) (before : Knows) (lines : List Said) (written : List ℕ) (after : Knows)
+seen_few : (size : ℕ) (before : SeatView) (lines : List Said) (written : List ℕ) (after : SeatView)
     → length before.list ≤ most_entries → AnsweredAll (SeatResponds size) before lines written after
     → length after.list ≤ most_entries
 seen_few size before [] written after few a =
-    subst (λ (seat : Knows). length seat.list ≤ most_entries) (sym a.1) few
+    subst (λ (seat : SeatView). length seat.list ≤ most_entries) (sym a.1) few
 seen_few size before (said ∷ lines) written after few a = seen_few size a.0 lines a.2 after a.3.bound a.5
 
 -- how many commands these lines gave, one line apart
@@ -216,19 +216,19 @@ carried_more said given more =
     (record { said = said; reply = given }) more
 
 -- the lines answered at a seat, as the seat's own commands
-pub attended_at_seat : (size : ℕ) (before : Knows) (lines : List Said) (written : List ℕ) (after : Knows)
+pub attended_at_seat : (size : ℕ) (before : SeatView) (lines : List Said) (written : List ℕ) (after : SeatView)
     → AnsweredAll (SeatResponds size) before lines written after → Attended size before lines written after
 attended_at_seat size before [] written after a = record {
   replied = [];
   lines_are = refl;
   written_is = a.0;
-  number_is = ap (λ (seat : Knows). seat.number) a.1;
-  made_is = omega (arith, ap (λ (seat : Knows). seat.made) a.1);
-  stand = prefix_of_same before.list after.list (ap (λ (seat : Knows). seat.list) a.1);
+  number_is = ap (λ (seat : SeatView). seat.number) a.1;
+  made_is = omega (arith, ap (λ (seat : SeatView). seat.made) a.1);
+  stand = prefix_of_same before.list after.list (ap (λ (seat : SeatView). seat.list) a.1);
   each = tt;
 }
 attended_at_seat size before (said ∷ lines) written after a =
-    let middle : Knows = a.0 in
+    let middle : SeatView = a.0 in
     let given : Option Reply = a.1 in
     let more : Attended size middle lines a.2 after = attended_at_seat size middle lines a.2 after a.5 in
     let front : Leads size before said given middle after =
@@ -263,8 +263,8 @@ attended_at_seat size before (said ∷ lines) written after a =
       );
     }
 
-number_by_end : (size : ℕ) (last : SessionEnd) (left : Option (List ℕ)) (before : Knows) (read written : List ℕ)
-    (after : Knows) → HasEnded (Attended size) last left before read written after → after.number ≡ before.number
+number_by_end : (size : ℕ) (last : SessionEnd) (left : Option (List ℕ)) (before : SeatView) (read written : List ℕ)
+    (after : SeatView) → HasEnded (Attended size) last left before read written after → after.number ≡ before.number
 number_by_end size end.Quit left before read written after s = s.3.number_is
 number_by_end size end.EndOfInput left before read written after s = s.2.number_is
 number_by_end size end.Read left before read written after s = s.2.number_is
@@ -277,7 +277,7 @@ number_by_end size end.Unkept left before read written after s =
     s.4.last_answered.number_is ∙ s.4.front_answered.number_is
 
 -- a seat keeps its number
-pub number_stays : (size : ℕ) (last : SessionEnd) (l0 l1 t0 t1 : Option (List ℕ)) (before after : Knows)
+pub number_stays : (size : ℕ) (last : SessionEnd) (l0 l1 t0 t1 : Option (List ℕ)) (before after : SeatView)
     → SessionDid (Attended size) last l0 l1 t0 t1 before after → after.number ≡ before.number
 number_stays size last l0 l1 t0 t1 before after did =
     number_by_end size last l1 before did.read did.written after did.session

@@ -11,9 +11,10 @@ use Rattle.text_1401.specs.declared.line.Line.TheVariants.{Quit}
 use Rattle.console_1401.specs.declared.reply.Reply.{Reply}
 use Rattle.console_1401.specs.declared.session_end.SessionEnd.{SessionEnd}
 use Rattle.console_1401.specs.declared.session_end.SessionEnd.TheVariants as end
+use Rattle.streams_1401.specs.Sink.{BeginsWith}
 use Rattle.text_1401.specs.ConsoleLine.{Said, said_by}
 use Rattle.console_1401.specs.ReplyText.{text_of_reply, bytes_of}
-use Rattle.console_1401.specs.Session.{NoQuit, IsAllRead, LastLine, SessionDid}
+use Rattle.console_1401.specs.Session.{NoQuit, IsAllRead, LastLine, BrokenOff, SessionDid}
 use Rattle.console_1401.specs.Answering.{Response, AnsweredAll, AnswersLine, AnswersLast, EntersByte, end_after}
 use Rattle.console_1401.specs.Text.{cut_of, said_finished, last_said, lines_of}
 use Rattle.console_1401.proofs.AnsweringLemmas.{answered_one, answered_more}
@@ -158,6 +159,37 @@ some_bytes : (reply : Option Reply) → IsSome reply → 0 < length (bytes_of re
 some_bytes None h = cc
 some_bytes (Some reply) h = omega (arith, length-append (text_of_reply reply) (10 ∷ []))
 
+-- The lines in front were answered, and then the last one, of whose reply this part was written.
+broken_off : {S : Type 0} (responds : Response S) (before middle after : S) (front : List Said) (said : Said)
+    (written : List ℕ) (reply : Option Reply) (part all : List ℕ)
+    → AnsweredAll responds before front written middle → responds middle said reply after → IsSome reply
+    → BeginsWith (bytes_of reply) part → all ≡ written ++ part
+    → BrokenOff (AnsweredAll responds) before front said all after
+broken_off responds before middle after front said written reply part all answered responded has_reply begins is =
+    record {
+      replies = written;
+      middle = middle;
+      front_answered = answered;
+      reply = bytes_of reply;
+      last_answered = answered_one responds middle after said reply responded;
+      some = some_bytes reply has_reply;
+      part = part;
+      begins = begins;
+      written_is = is;
+    }
+
+-- the same if no byte of its reply was written
+unanswered : {S : Type 0} (responds : Response S) (before middle after : S) (front : List Said) (said : Said)
+    (written : List ℕ) (reply : Option Reply)
+    → AnsweredAll responds before front written middle → responds middle said reply after → IsSome reply
+    → (broken : BrokenOff (AnsweredAll responds) before front said written after) × (broken.part ≡ [])
+unfolding broken_off
+unanswered responds before middle after front said written reply answered responded has_reply = (
+  broken_off responds before middle after front said written reply [] written answered responded has_reply
+      (bytes_of reply, refl) (sym (append-nil written)),
+  refl,
+)
+
 -- The session ends with this line, which comes after those in front.
 ended_line : {S : Type 0} (responds : Response S) (last : SessionEnd) (ended : Bool) (before now after : Moment S)
     (read written : List ℕ) (front : List Said) (said : Said)
@@ -193,69 +225,30 @@ ended_line responds end.Write ended before now after read written front said c p
     front,
     said,
     last,
-    record {
-      replies = written;
-      middle = now.state;
-      front_answered = d;
-      reply = bytes_of a.reply;
-      last_answered = answered_one responds now.state after.state said a.reply a.responded;
-      some = some_bytes a.reply a.wrote.0;
-      part = a.wrote.1.0;
-      begins = a.wrote.1.1;
-      written_is = refl;
-    },
+    broken_off responds before.state now.state after.state front said written a.reply a.wrote.1.0
+        (written ++ a.wrote.1.0) d a.responded a.wrote.0 a.wrote.1.1 refl,
   );
 }
-ended_line responds end.Memory ended before now after read written front said c p n last d a = record {
-  read = read;
-  written = written;
-  consumed = c;
-  appended = Appends-kept before.received now.received after.received written p a.wrote.1;
-  bound = n;
-  session = (
-    ended,
-    front,
-    said,
-    last,
+ended_line responds end.Memory ended before now after read written front said c p n last d a =
+    let told = unanswered responds before.state now.state after.state front said written a.reply d a.responded a.wrote.0 in
     record {
-      replies = written;
-      middle = now.state;
-      front_answered = d;
-      reply = bytes_of a.reply;
-      last_answered = answered_one responds now.state after.state said a.reply a.responded;
-      some = some_bytes a.reply a.wrote.0;
-      part = [];
-      begins = (bytes_of a.reply, refl);
-      written_is = sym (append-nil written);
-    },
-    refl,
-  );
-}
-ended_line responds end.Unkept ended before now after read written front said c p n last d a = record {
-  read = read;
-  written = written;
-  consumed = c;
-  appended = Appends-kept before.received now.received after.received written p a.wrote.1;
-  bound = n;
-  session = (
-    ended,
-    front,
-    said,
-    last,
+      read = read;
+      written = written;
+      consumed = c;
+      appended = Appends-kept before.received now.received after.received written p a.wrote.1;
+      bound = n;
+      session = (ended, front, said, last, told.0, told.1);
+    }
+ended_line responds end.Unkept ended before now after read written front said c p n last d a =
+    let told = unanswered responds before.state now.state after.state front said written a.reply d a.responded a.wrote.0 in
     record {
-      replies = written;
-      middle = now.state;
-      front_answered = d;
-      reply = bytes_of a.reply;
-      last_answered = answered_one responds now.state after.state said a.reply a.responded;
-      some = some_bytes a.reply a.wrote.0;
-      part = [];
-      begins = (bytes_of a.reply, refl);
-      written_is = sym (append-nil written);
-    },
-    refl,
-  );
-}
+      read = read;
+      written = written;
+      consumed = c;
+      appended = Appends-kept before.received now.received after.received written p a.wrote.1;
+      bound = n;
+      session = (ended, front, said, last, told.0, told.1);
+    }
 ended_line responds end.EndOfInput ended before now after read written front said c p n last d a = absurd a.wrote
 ended_line responds end.Read ended before now after read written front said c p n last d a = absurd a.wrote
 ended_line responds end.Bound ended before now after read written front said c p n last d a = absurd a.wrote

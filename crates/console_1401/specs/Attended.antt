@@ -4,12 +4,12 @@ use Rattle.std.specs.List.{flat_map, zip}
 use mathlib.Core.List.{IsPrefix}
 use Rattle.command_1401.specs.declared.answer.Answer.{Answer}
 use Rattle.command_1401.specs.declared.command.Command.{Command}
-use Rattle.room_1401.specs.declared.entry.Pair.{Pair}
+use Rattle.room_1401.specs.declared.entry.SeatedCommand.{SeatedCommand}
 use Rattle.room_1401.specs.declared.fault.RoomFault.{RoomFault}
 use Rattle.room_1401.specs.declared.fault.RoomFault.TheVariants.{Memory, JournalFull, NoReading, Unkept}
 use Rattle.room_1401.specs.Journal.{most_entries}
 use Rattle.room_1401.specs.Replay.{pair, reply_to, cell_after}
-use Rattle.room_1401.specs.Seen.{Knows}
+use Rattle.room_1401.specs.Seen.{SeatView}
 use Rattle.text_1401.specs.declared.line.Line.TheVariants as line
 use Rattle.console_1401.specs.declared.reply.Reply.{Reply}
 use Rattle.console_1401.specs.declared.reply.Reply.TheVariants as reply
@@ -46,26 +46,26 @@ carried_in lines = flat_map (λ (given : Replied). zip (command_in given.said) (
 
 -- beyond a list, a longer one has these commands as those of a seat, in this order, each answered as the
 -- sequential machine of this size answers it there
-abbrev pub Stand : ℕ → ℕ → List Pair → List (Command × Answer) → List Pair → Type 0
+abbrev pub Stand : ℕ → ℕ → List SeatedCommand → List (Command × Answer) → List SeatedCommand → Type 0
 Stand size seat before [] list = IsPrefix before list
 Stand size seat before (carried ∷ more) list =
-    (front : List Pair) × IsPrefix before front × (carried.1 ≡ reply_to size front carried.0)
+    (front : List SeatedCommand) × IsPrefix before front × (carried.1 ≡ reply_to size front carried.0)
     × Stand size seat (front ++ pair seat carried.0 ∷ []) more list
 
 -- between two lists there is one of which this is so, which goes on from the first, and from which the second goes on
-abbrev pub Between : List Pair → List Pair → (List Pair → Type 0) → Type 0
-Between before after P = (list : List Pair) × IsPrefix before list × IsPrefix list after × P list
+abbrev pub Between : List SeatedCommand → List SeatedCommand → (List SeatedCommand → Type 0) → Type 0
+Between before after P = (list : List SeatedCommand) × IsPrefix before list × IsPrefix list after × P list
 
 -- why the room took no command: if its journal was full, the seat has then seen all of its 100,000 and no more; if
 -- memory was refused, it had seen fewer by then
-abbrev pub RoomRefused : List Pair → List Pair → RoomFault → Type 0
+abbrev pub RoomRefused : List SeatedCommand → List SeatedCommand → RoomFault → Type 0
 RoomRefused before after Memory = Between before after (λ list. length list < most_entries)
 RoomRefused before after JournalFull = length after ≡ most_entries
 RoomRefused before after NoReading = Unit {0}
 RoomRefused before after Unkept = Unit {0}
 
 -- a command has an answer, which `Stand` speaks of, or a fault of the room
-abbrev pub CommandReplied : List Pair → List Pair → Reply → Type 0
+abbrev pub CommandReplied : List SeatedCommand → List SeatedCommand → Reply → Type 0
 CommandReplied before after (reply.Answer answer) = Unit {0}
 CommandReplied before after (reply.RoomFault fault) = RoomRefused before after fault
 CommandReplied before after (reply.Glance glance) = ⊥
@@ -74,7 +74,7 @@ CommandReplied before after (reply.LineFault fault) = ⊥
 CommandReplied before after reply.Bye = ⊥
 
 -- a glance shows the cell after the commands that the seat had then seen, and how many they were
-abbrev pub GlanceReplied : ℕ → List Pair → List Pair → ℕ → Reply → Type 0
+abbrev pub GlanceReplied : ℕ → List SeatedCommand → List SeatedCommand → ℕ → Reply → Type 0
 GlanceReplied size before after address (reply.Glance glance) =
     (address < size)
     × Between before after (λ list. (glance.after ≡ length list) × (glance.cell ≡ cell_after size list address))
@@ -85,7 +85,7 @@ GlanceReplied size before after address (reply.LineFault fault) = ⊥
 GlanceReplied size before after address reply.Bye = ⊥
 
 -- what a line may be answered at a seat that had seen the first list before its console, and the second after it
-abbrev pub LineReplied : ℕ → List Pair → List Pair → Said → Option Reply → Type 0
+abbrev pub LineReplied : ℕ → List SeatedCommand → List SeatedCommand → Said → Option Reply → Type 0
 LineReplied size before after (Ok line.Empty) given = given ≡ None
 LineReplied size before after (Ok (line.Command command)) None = ⊥
 LineReplied size before after (Ok (line.Command command)) (Some given) = CommandReplied before after given
@@ -95,7 +95,7 @@ LineReplied size before after (Ok line.Quit) given = given ≡ Some reply.Bye
 LineReplied size before after (Err fault) given = given ≡ Some (reply.LineFault fault)
 
 -- each of these lines is answered so
-abbrev pub AllReplied : ℕ → List Pair → List Pair → List Replied → Type 0
+abbrev pub AllReplied : ℕ → List SeatedCommand → List SeatedCommand → List Replied → Type 0
 AllReplied size before after [] = Unit {0}
 AllReplied size before after (given ∷ more) =
     LineReplied size before after given.said given.reply × AllReplied size before after more
@@ -103,7 +103,7 @@ AllReplied size before after (given ∷ more) =
 -- The lines of a console at a seat were answered: what was written are their replies. The commands that the room
 -- didn't refuse are, in order, the seat's own in the list that it has seen then, beyond the one that it had seen,
 -- and each was answered as the machine answers it there; it made more by their number.
-pub record Attended (size : ℕ) (before : Knows) (lines : List Said) (written : List ℕ) (after : Knows) : Type 0 where
+pub record Attended (size : ℕ) (before : SeatView) (lines : List Said) (written : List ℕ) (after : SeatView) : Type 0 where
   pub replied : List Replied
   pub lines_are : map (λ (given : Replied). given.said) replied ≡ lines
   pub written_is : written ≡ flat_map (λ (given : Replied). bytes_of given.reply) replied

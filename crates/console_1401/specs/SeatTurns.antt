@@ -7,7 +7,7 @@ use Rattle.room_1401.specs.declared.fault.GlanceFault.TheVariants.{Range, Gone}
 use Rattle.room_1401.specs.declared.fault.RoomFault.TheVariants.{Memory, JournalFull}
 use Rattle.room_1401.specs.Journal.{most_entries}
 use Rattle.room_1401.specs.Replay.{cell_after}
-use Rattle.room_1401.specs.Seen.{Knows, Carries}
+use Rattle.room_1401.specs.Seen.{SeatView, Carries}
 use Rattle.text_1401.specs.declared.line.Line.TheVariants as line
 use Rattle.console_1401.specs.declared.reply.Reply.{Reply}
 use Rattle.console_1401.specs.declared.reply.Reply.TheVariants as reply
@@ -15,7 +15,7 @@ use Rattle.text_1401.specs.ConsoleLine.{Said}
 
 -- a command is carried out for the seat, and answered as the sequential machine answers it; or the room takes none, and
 -- the seat has seen no less: a full journal, or one that isn't full if memory is the reason
-abbrev pub CommandResponds : ℕ → Knows → Command → Reply → Knows → Type 0
+abbrev pub CommandResponds : ℕ → SeatView → Command → Reply → SeatView → Type 0
 CommandResponds size before command (reply.Answer answer) after =
     Carries size before.list after.list before.number command answer × (after.made ≡ before.made + 1)
 CommandResponds size before command (reply.RoomFault fault) after =
@@ -33,7 +33,7 @@ GlanceRefused size address Range = size ≤ address
 GlanceRefused size address Gone = address < size
 
 -- a glance shows the cell after a list of commands that goes on from what the seat had seen, and how long that is
-abbrev pub GlanceResponds : ℕ → Knows → ℕ → Reply → Knows → Type 0
+abbrev pub GlanceResponds : ℕ → SeatView → ℕ → Reply → SeatView → Type 0
 GlanceResponds size before address (reply.Glance glance) after =
     (address < size) × IsPrefix before.list after.list × (glance.after ≡ length after.list)
     × (glance.cell ≡ cell_after size after.list address) × (after.made ≡ before.made)
@@ -45,7 +45,7 @@ GlanceResponds size before address (reply.LineFault fault) after = ⊥
 GlanceResponds size before address reply.Bye after = ⊥
 
 -- by what the line says: an empty one has no reply, and but for commands and glances nothing is seen or made
-abbrev pub LineResponds : ℕ → Knows → Said → Option Reply → Knows → Type 0
+abbrev pub LineResponds : ℕ → SeatView → Said → Option Reply → SeatView → Type 0
 LineResponds size before (Ok line.Empty) given after = (given ≡ None) × (after ≡ before)
 LineResponds size before (Ok (line.Command command)) None after = ⊥
 LineResponds size before (Ok (line.Command command)) (Some given) after =
@@ -58,7 +58,7 @@ LineResponds size before (Err fault) given after = (given ≡ Some (reply.LineFa
 
 -- One line was answered at a seat of a room of this size, whose number stays, and which has seen no more than a full
 -- journal.
-pub record SeatResponds (size : ℕ) (before : Knows) (said : Said) (given : Option Reply) (after : Knows) : Type 0 where
+pub record SeatResponds (size : ℕ) (before : SeatView) (said : Said) (given : Option Reply) (after : SeatView) : Type 0 where
   pub number_is : after.number ≡ before.number
   pub bound : length after.list ≤ most_entries
   pub line : LineResponds size before said given after

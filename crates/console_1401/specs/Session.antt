@@ -51,6 +51,12 @@ pub record BrokenOff {S : Type 0} (answered : Exchange S) (before : S) (front : 
   pub begins : BeginsWith reply part
   pub written_is : written ≡ replies ++ part
 
+-- the bytes read end with a line of whose reply no byte was written
+abbrev pub EndsUnanswered : {S : Type 0} → Exchange S → Option (List ℕ) → S → List ℕ → List ℕ → S → Type 0
+EndsUnanswered answered left before read written after =
+    (ended : Bool) × (front : List Said) × (last : Said) × LastLine ended left read front last
+    × (broken : BrokenOff answered before front last written after) × (broken.part ≡ [])
+
 -- from the bytes read, what was written and what is left, by how the session ended
 abbrev pub HasEnded : {S : Type 0} → Exchange S → SessionEnd → Option (List ℕ) → S → List ℕ → List ℕ → S → Type 0
 HasEnded answered end.Quit left before read written after =
@@ -65,12 +71,8 @@ HasEnded answered end.Bound left before read written after =
 HasEnded answered end.Write left before read written after =
     (ended : Bool) × (front : List Said) × (last : Said) × LastLine ended left read front last
     × BrokenOff answered before front last written after
-HasEnded answered end.Memory left before read written after =
-    (ended : Bool) × (front : List Said) × (last : Said) × LastLine ended left read front last
-    × (broken : BrokenOff answered before front last written after) × (broken.part ≡ [])
-HasEnded answered end.Unkept left before read written after =
-    (ended : Bool) × (front : List Said) × (last : Said) × LastLine ended left read front last
-    × (broken : BrokenOff answered before front last written after) × (broken.part ≡ [])
+HasEnded answered end.Memory left before read written after = EndsUnanswered answered left before read written after
+HasEnded answered end.Unkept left before read written after = EndsUnanswered answered left before read written after
 
 -- What a session did: the bytes that it read, those that it wrote, and how these go together.
 pub record SessionDid {S : Type 0} (answered : Exchange S) (last : SessionEnd)

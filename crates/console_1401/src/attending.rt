@@ -10,7 +10,7 @@ use crate::door::Door;
 use crate::reply::Reply;
 use crate::responder::Responder;
 use crate::session_end::SessionEnd;
-use room_1401::{Keeper, Naming, Seat, SharedRoom};
+use room_1401::{Keeper, RoomId, Seat, SharedRoom};
 use std::alloc::Global;
 use std::marker::Model;
 use std::sync::Wait;
@@ -18,7 +18,7 @@ use streams_1401::{Sink, Source};
 use text_1401::{Line, LineFault};
 
 /// What answers at a console of a shared room: the seat, its room, and the door. Contracts see what the seat knows.
-struct Attendant<'a, J: Naming, R: Wait + Drop, P: Keeper + Drop, W: Wait, D: Door> {
+struct Attendant<'a, J: RoomId, R: Wait + Drop, P: Keeper + Drop, W: Wait, D: Door> {
     wait: &'a W,
     room: &'a SharedRoom<J, R, P>,
     seat: Seat<J>,
@@ -27,16 +27,16 @@ struct Attendant<'a, J: Naming, R: Wait + Drop, P: Keeper + Drop, W: Wait, D: Do
     kept: bool,
 }
 
-impl<'a, J: Naming, R: Wait + Drop, P: Keeper + Drop, W: Wait, D: Door> Model
+impl<'a, J: RoomId, R: Wait + Drop, P: Keeper + Drop, W: Wait, D: Door> Model
     for Attendant<'a, J, R, P, W, D> {
-    ghost use Rattle.room_1401.specs.Seen.{Knows};
+    ghost use Rattle.room_1401.specs.Seen.{SeatView};
 
-    ghost Value = { Knows };
+    ghost Value = { SeatView };
 
     ghost view = { λ attendant. attendant.seat };
 }
 
-impl<J: Naming, R: Wait + Drop, P: Keeper + Drop, W: Wait, D: Door> Attendant<'_, J, R, P, W, D> {
+impl<J: RoomId, R: Wait + Drop, P: Keeper + Drop, W: Wait, D: Door> Attendant<'_, J, R, P, W, D> {
     /// The seat.
     fn into_seat(self) -> Seat<J>
         ensures { result ≡ self.entry }
@@ -52,7 +52,7 @@ impl<J: Naming, R: Wait + Drop, P: Keeper + Drop, W: Wait, D: Door> Attendant<'_
     }
 }
 
-impl<J: Naming, R: Wait + Drop, P: Keeper + Drop, W: Wait, D: Door> Responder
+impl<J: RoomId, R: Wait + Drop, P: Keeper + Drop, W: Wait, D: Door> Responder
     for Attendant<'_, J, R, P, W, D> {
     ghost responds = { SeatResponds J.size };
 
@@ -100,7 +100,7 @@ impl<J: Naming, R: Wait + Drop, P: Keeper + Drop, W: Wait, D: Door> Responder
 /// back. A byte is read only when the reply to the line before it is written. The door is told of each line, before it
 /// is carried out and after its reply is written. A glance is the seat's own, and waits for no other seat's command. A
 /// command whose entry wasn't kept has no reply, and ends the console.
-pub fn attend<J: Naming, R: Wait + Drop, P: Keeper + Drop, W: Wait, S: Source, K: Sink, D: Door>(
+pub fn attend<J: RoomId, R: Wait + Drop, P: Keeper + Drop, W: Wait, S: Source, K: Sink, D: Door>(
     alloc: Global,
     wait: &W,
     room: &SharedRoom<J, R, P>,

@@ -5,7 +5,7 @@ ghost use Rattle.console_1401.specs.Served.{AreAllSeats, CountsConsoles};
 
 use crate::attending::attend;
 use crate::door::Door;
-use room_1401::{Naming, Room, Seat, SharedRoom};
+use room_1401::{Room, RoomId, Seat, SharedRoom};
 use std::alloc::Global;
 use std::net::{TcpListener, TcpStream};
 use std::sync::Wait;
@@ -38,7 +38,7 @@ pub struct Served {
 
 /// What the consoles leave: the seats that are back, and how many of them had a console.
 #[derive(Drop)]
-struct Consoles<J: Naming> {
+struct Consoles<J: RoomId> {
     seats: Vec<Seat<J>>,
     count: u8,
     fault: Option<ServeFault>,
@@ -48,7 +48,7 @@ struct Consoles<J: Naming> {
 /// of its own. When all of them have ended, the room is closed; or it is abandoned, if a seat was lost with a thread
 /// that was refused. After a fault no more connections are accepted, and the consoles that there are go on to the end.
 pub fn serve<
-    J: Naming + Send + Sync,
+    J: RoomId + Send + Sync,
     H: Wait + Drop + Send + Sync,
     R: Threads + Wait + Sync,
     D: Door + Sync,
@@ -82,7 +82,7 @@ pub fn serve<
 }
 
 /// Closes a room, or abandons it if not all of its seats are back.
-fn end_room<J: Naming, H: Wait + Drop>(room: SharedRoom<J, H>, seats: Vec<Seat<J>>) -> Room
+fn end_room<J: RoomId, H: Wait + Drop>(room: SharedRoom<J, H>, seats: Vec<Seat<J>>) -> Room
     requires { J.parts ≡ J.seats }
     ensures size { result.size ≡ J.size }
     ensures legal { IsLegal J.size result.journal }
@@ -95,7 +95,7 @@ fn end_room<J: Naming, H: Wait + Drop>(room: SharedRoom<J, H>, seats: Vec<Seat<J
 
 /// Attends a console at each seat, each in a thread of its own, until all of them have ended.
 fn attend_seats<
-    J: Naming + Send + Sync,
+    J: RoomId + Send + Sync,
     H: Wait + Drop + Send + Sync,
     R: Threads + Wait + Sync,
     D: Door + Sync,
@@ -134,7 +134,7 @@ fn attend_seats<
 
 /// The threads that attend consoles, and the seats that have none.
 #[derive(Drop)]
-struct Started<J: Naming> {
+struct Started<J: RoomId> {
     threads: Vec<JoinHandle<Seat<J>>>,
     back: Vec<Seat<J>>,
     count: u8,
@@ -152,7 +152,7 @@ fn start_each<'s, E: 's, J, H, R, D>(
     door: &'s D,
 ) -> Started<J>
 where
-    J: Naming + Send + Sync + 's,
+    J: RoomId + Send + Sync + 's,
     H: Wait + Drop + Send + Sync + 's,
     R: Threads + Wait + Sync + 's,
     D: Door + Sync + 's,
@@ -201,7 +201,7 @@ where
 }
 
 /// Waits for these threads, and adds their seats to those that are back.
-fn join_each<J: Naming + Send, R: Threads>(
+fn join_each<J: RoomId + Send, R: Threads>(
     wait: &R,
     threads: Vec<JoinHandle<Seat<J>>>,
     back: Vec<Seat<J>>,
@@ -216,7 +216,7 @@ fn join_each<J: Naming + Send, R: Threads>(
 }
 
 /// Attends the console of a connection.
-fn attend_stream<J: Naming, H: Wait + Drop, R: Wait, D: Door>(
+fn attend_stream<J: RoomId, H: Wait + Drop, R: Wait, D: Door>(
     alloc: Global,
     wait: &R,
     room: &SharedRoom<J, H>,

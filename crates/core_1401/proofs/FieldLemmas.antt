@@ -26,7 +26,7 @@ below_true i n lt = grind (arith, nat_tests)
 same_false : (n : ℕ) → nat_lt n n ≡ false
 same_false n = grind (arith, nat_tests)
 
--- the cells from a place down, by how far below it they stand
+-- the cells from a place down, by how far below it they are
 down_is : (storage : Storage) (at : ℕ) → at < length storage → cells_down storage at ≡ reverse (take (at + 1) storage)
 down_is storage at lt = ap (λ (b : Bool). if b then reverse (take (at + 1) storage) else [])
     (in_core_true storage at lt)
@@ -239,7 +239,7 @@ above storage at k =
     let place : at + 1 + k ≡ at + (k + 1) = omega arith in
     ap (λ (cell : Cell). cell.mark) (get_or-drop (at + 1) storage k blank) ∙ ap (λ n. (cell_at storage n).mark) place
 
--- the next word mark is so far above, where there is none before and one there, or the end of core
+-- the next word mark is this far above, if there is none before and one there, or the end of core
 next_mark_is : (storage : Storage) (at len : ℕ) → 0 < len → at + len ≤ length storage → NoMarkTo storage at len
     → (at + len < length storage → (cell_at storage (at + len)).mark ≡ true) → next_mark_from storage at ≡ len
 next_mark_is storage at len some inside none there =
@@ -252,7 +252,7 @@ next_mark_is storage at len some inside none there =
     (λ h. above storage at (len - 1) ∙ ap (λ n. (cell_at storage (at + n)).mark) last ∙ there (omega (arith, left))) in
     omega (arith, first)
 
--- it is no less, where there is none before
+-- it is no less, if there is none before
 next_mark_least : (storage : Storage) (at len : ℕ) → at + len ≤ length storage → NoMarkTo storage at len
     → len ≤ next_mark_from storage at
 next_mark_least storage at len inside none =

@@ -19,7 +19,7 @@ pub length_held : (chars words : List ℕ) → length (held chars words) ≡ len
 unfolding held
 length_held chars words = length-map-range_with_len (held_cell chars words) 0 (length chars)
 
--- what stands at a place
+-- what is at a place
 pub cell_at-held : (chars words : List ℕ) (at : ℕ) → at < length chars
     → cell_at (held chars words) at ≡ held_cell chars words at
 unfolding held
@@ -151,7 +151,7 @@ got chars words storage at place char mark view e in_core chars_is mark_is =
 pub most_places : (size : ℕ) → is_core_size size ≡ true → size ≤ addresses
 most_places size e = grind (arith, nat_tests)
 
--- where no word has a bit there is no mark
+-- if no word has a bit there is no mark
 pub none_marked : (words : List ℕ) (count at : ℕ) → words ≡ replicate count 0 → mark_bit words at ≡ 0
 none_marked words count at e =
     ap (λ (l : List ℕ). mark_bit l at) e ∙ ap (λ (w : ℕ). bit_at w (at % 64)) (all_zero count (at / 64 + 1))
@@ -167,7 +167,7 @@ whole-mark chars words at word mark in_core in_words bit whole = record {
       (λ e. absurd (omega (arith, e, beyond, in_core))) ∙ whole.none_beyond q beyond;
 }
 
--- the words behind the first are the word marks
+-- the words after the first are the word marks
 pub are_mark_words : (chars words : List ℕ) (count : ℕ) → IsWhole chars words → count < length words
     → count ≡ (length chars + 63) / 64
     → AreMarkWords (held chars words) (take count (drop 1 words))

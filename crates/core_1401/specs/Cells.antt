@@ -1,4 +1,4 @@
--- How a list of 1 to 40 cells is held: in front, with blanks behind.
+-- How a list of 1 to 40 cells is held: in front, with blanks after them.
 use Rattle.std.specs.Prelude.{◌≡◌, ℕ, ◌-◌, ◌<◌, ◌≤◌, List, ◌++◌, length, take, drop, replicate}
 use Rattle.std.proofs.Common.{sym, ◌∙◌, ap, arith, length-take, take-append-drop}
 use Rattle.bcd_1401.specs.declared.cell.Cell.{Cell}
@@ -9,14 +9,14 @@ use Rattle.core_1401.specs.Storage.{blank}
 abbrev pub held_cells : Inside → List Cell
 held_cells c = take c.len c.cells
 
--- 1 to 40 cells are held, and blanks behind them
+-- 1 to 40 cells are held, and blanks after them
 pub record IsHeld (c : Inside) : Type 0 where
   pub some : 0 < c.len
   pub most : c.len ≤ 40
   pub room : length c.cells ≡ 40
   pub blanks : drop c.len c.cells ≡ replicate (40 - c.len) blank
 
--- the list with blanks behind it
+-- the list with blanks after it
 abbrev pub holding : List Cell → Inside
 holding cells = record { cells = cells ++ replicate (40 - length cells) blank; len = length cells }
 

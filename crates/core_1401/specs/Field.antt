@@ -5,7 +5,7 @@ use Rattle.std.specs.List.{position_or_len, zip}
 use Rattle.bcd_1401.specs.declared.cell.Cell.{Cell}
 use Rattle.core_1401.specs.Storage.{Storage, is_in_core}
 
--- the cells at an address, at the one below it, and so on down to address 0; none where the address isn't in core
+-- the cells at an address, at the one below it, and so on down to address 0; none if the address isn't in core
 abbrev pub cells_down : Storage → ℕ → List Cell
 cells_down storage at = if is_in_core storage at then reverse (take (at + 1) storage) else []
 

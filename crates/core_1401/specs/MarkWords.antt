@@ -16,11 +16,11 @@ pub record AreMarkWords (storage : Storage) (words : List ℕ) : Type 0 where
   pub marks : (at : ℕ) → at < length storage → (bit_for words at == 1) ≡ (cell_at storage at).mark
   pub none_beyond : (at : ℕ) → length storage ≤ at → bit_for words at ≡ 0
 
--- the same bit where one word stands before that of address 0, so that 64 places below any address have bits
+-- the same bit if one word comes before that of address 0, so that 64 places below any address have bits
 abbrev pub mark_bit : List ℕ → ℕ → ℕ
 mark_bit words at = bit_at (slice_index_or words (at / 64 + 1) 0) (at % 64)
 
--- what stands at a place, by the list of characters and the words
+-- what is at a place, by the list of characters and the words
 abbrev pub held_cell : List ℕ → List ℕ → ℕ → Cell
 held_cell chars words at = record { char = slice_index_or chars at 0; mark = mark_bit words at == 1 }
 
@@ -45,7 +45,7 @@ IsWindowUp words at window = (j : ℕ) → j < 64 → bit_at window j ≡ mark_b
 abbrev pub NoneBelow : List ℕ → ℕ → ℕ → Type 0
 NoneBelow words at n = (j : ℕ) → j < n → j ≤ at → mark_bit words (at - j) ≡ 0
 
--- the first mark from an address down stands n below it, or there is none down to address 0 and n is beyond that
+-- the first mark from an address down is n below it, or there is none down to address 0 and n is beyond that
 pub record IsFirstMark (words : List ℕ) (at n : ℕ) : Type 0 where
   pub none_before : (j : ℕ) → j < n → j ≤ at → mark_bit words (at - j) ≡ 0
   pub mark_there : n ≤ at → mark_bit words (at - n) ≡ 1
@@ -55,7 +55,7 @@ pub record IsFirstPair (words : List ℕ) (a b n : ℕ) : Type 0 where
   pub none_before : (j : ℕ) → j < n → j ≤ a → j ≤ b → max (mark_bit words (a - j)) (mark_bit words (b - j)) ≡ 0
   pub mark_there : n ≤ a → n ≤ b → max (mark_bit words (a - n)) (mark_bit words (b - n)) ≡ 1
 
--- the next mark above an address stands n above it, or there is none so near and n is this most
+-- the next mark above an address is n above it, or there is none so near and n is this most
 pub record IsNextMark (words : List ℕ) (at most n : ℕ) : Type 0 where
   pub some : 0 < n
   pub near : n ≤ most

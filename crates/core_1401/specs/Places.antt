@@ -9,7 +9,7 @@ use Rattle.core_1401.specs.Storage.{Storage, cell_at}
 abbrev pub is_within : ℕ → ℕ → ℕ → Bool
 is_within at n place = nat_le place at && nat_lt at (place + n)
 
--- what a place holds where these cells, units first, stand at the n places from an address down
+-- what a place holds if these cells, units first, are at the n places from an address down
 abbrev pub written_cell : Storage → ℕ → ℕ → (ℕ → Cell) → ℕ → Cell
 written_cell storage at n cell_of place = if is_within at n place then cell_of (at - place) else cell_at storage place
 

@@ -31,7 +31,7 @@ is_core_size size = list_any (λ each. size == each) core_sizes
 abbrev pub is_in_core : Storage → ℕ → Bool
 is_in_core storage at = nat_lt at (length storage)
 
--- what stands at a place
+-- what is at a place
 abbrev pub cell_at : Storage → ℕ → Cell
 cell_at storage at = slice_index_or storage at blank
 

@@ -4,7 +4,7 @@ ghost use Rattle.std.specs.Prelude.{◌≡◌, ◌≤◌, length, ◌&&◌, Some
 use bcd_1401::Cell;
 use std::marker::Model;
 
-/// How many cells a line or a segment has at the most.
+/// How many cells a line or a segment has at most.
 pub const MOST_CELLS: usize = 40;
 
 /// From 1 to 40 cells. Contracts see the list of them.
@@ -32,7 +32,7 @@ impl Model for Cells {
 }
 
 impl Cells {
-    /// These cells; none where there is none of them, or more than 40.
+    /// These cells; none if there is none of them, or more than 40.
     pub fn from_slice(cells: &[Cell]) -> Option<Cells>
         ensures { let n = length cells.now in
             result ≡ (if nat_le 1 n && nat_le n 40 then Some cells.now else None) }

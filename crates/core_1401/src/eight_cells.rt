@@ -7,7 +7,7 @@ use crate::mark_words::marks_up;
 use crate::storage::Core;
 use bcd_1401::Char;
 
-/// Eight cells in a row. Two of them are equal where the cells are.
+/// Eight cells in a row. Two of them are equal if the cells are.
 #[derive(Clone, Copy, Debug, PartialEq, Eq)]
 pub struct EightCells {
     /// The codes of the characters, a byte each, with the first in the lowest.
@@ -17,7 +17,7 @@ pub struct EightCells {
 }
 
 impl Core {
-    /// What stands at eight places from one up.
+    /// What is at eight places from one up.
     #[inline(always)]
     #[tactic(auto, using(crate::proofs::HeldLemmas::length_held))]
     pub fn eight_cells(&self, at: u16) -> EightCells

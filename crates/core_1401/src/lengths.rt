@@ -6,7 +6,7 @@ use crate::mark_words::{first_mark, first_pair, next_mark};
 use crate::storage::Core;
 
 impl Core {
-    /// The length of the field with its units at this place: up to and including the first word mark; none where there
+    /// The length of the field with its units at this place: up to and including the first word mark; none if there
     /// is no word mark down to address 0.
     #[inline]
     #[tactic(auto, using(crate::proofs::HeldLemmas::length_held))]
@@ -23,7 +23,7 @@ impl Core {
         }
     }
 
-    /// How many places two fields have, down to and including the first word mark in either; none where one of them
+    /// How many places two fields have, down to and including the first word mark in either; none if one of them
     /// comes to address 0 first.
     #[inline]
     #[tactic(auto, using(crate::proofs::HeldLemmas::length_held))]

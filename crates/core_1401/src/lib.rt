@@ -16,6 +16,7 @@ mod address_tables;
 pub mod indexing;
 
 // core storage: its characters, the words of marks beside them, and how both are read and written
+pub mod block_ops;
 pub mod cells;
 pub mod eight_cells;
 pub mod fault;
@@ -23,7 +24,6 @@ pub mod lending;
 pub mod mark_words;
 mod short_copies;
 pub mod storage;
-pub mod stretches;
 
 // where a field or an instruction ends
 pub mod lengths;

@@ -7,7 +7,7 @@ ghost use Rattle.core_1401.specs.MarkWords.{IsCleared, AreCleared, AreMarkWords,
 
 use crate::storage::Core;
 
-/// How many words there are: one for every 64 addresses, one before the first and one behind the last.
+/// How many words there are: one for every 64 addresses, one before the first and one after the last.
 pub(crate) const WORDS: usize = 252;
 
 impl Core {
@@ -21,7 +21,7 @@ impl Core {
     }
 }
 
-/// This many words behind the first.
+/// This many words after the first.
 #[inline(always)]
 fn behind_first(words: &[u64], count: usize) -> &[u64]
     requires { count < length words.now }
@@ -76,7 +76,7 @@ pub(crate) fn marks_up(words: &[u64], at: usize) -> u8
     (window_up(words, at) % 256) as u8
 }
 
-/// How far below a place the first mark stands; more than there are places where there is none. Most fields end within
+/// How far below a place the first mark is; more than there are places if there is none. Most fields end within
 /// 64 places, so the marks of those are looked at first.
 #[inline(always)]
 pub(crate) fn first_mark(words: &[u64], at: usize) -> usize
@@ -92,7 +92,7 @@ pub(crate) fn first_mark(words: &[u64], at: usize) -> usize
     first_mark_by_words(words, at)
 }
 
-/// The same where none of the marks of the 64 places next to it is set: by the whole words below.
+/// The same if none of the marks of the 64 places next to it is set: by the whole words below.
 #[inline(never)]
 fn first_mark_by_words(words: &[u64], at: usize) -> usize
     requires within { at / 64 + 1 < length words.now }
@@ -110,7 +110,7 @@ fn first_mark_by_words(words: &[u64], at: usize) -> usize
     at + 1
 }
 
-/// How far below two places the first mark below either stands; more than there are places below one of them where
+/// How far below two places the first mark below either is; more than there are places below one of them if
 /// there is none. The 64 places next to them are looked at first.
 #[inline(always)]
 pub(crate) fn first_pair(words: &[u64], a: usize, b: usize) -> usize
@@ -129,7 +129,7 @@ pub(crate) fn first_pair(words: &[u64], a: usize, b: usize) -> usize
     first_pair_by_words(words, a, b)
 }
 
-/// The same where none of the marks of the 64 places next to either is set.
+/// The same if none of the marks of the 64 places next to either is set.
 #[inline(never)]
 #[tactic(auto, using(crate::proofs::MarkWordLemmas::nearer_mark))]
 fn first_pair_by_words(words: &[u64], a: usize, b: usize) -> usize
@@ -144,7 +144,7 @@ fn first_pair_by_words(words: &[u64], a: usize, b: usize) -> usize
     first_mark_by_words(words, a).min(first_mark_by_words(words, b))
 }
 
-/// How far above a place the next mark stands; this most where there is none so near.
+/// How far above a place the next mark is; this most if there is none so near.
 #[inline(always)]
 pub(crate) fn next_mark(words: &[u64], at: usize, most: usize) -> usize
     requires within { at / 64 + 2 < length words.now }

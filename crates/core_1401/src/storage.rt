@@ -48,7 +48,7 @@ impl Core {
     ///
     /// # Errors
     ///
-    /// `Size` where no core storage of that size is made, else `Memory` where there is no room for it.
+    /// `Size` if no core storage of that size is made, else `Memory` if there is no room for it.
     #[tactic(auto, using(crate::proofs::HeldLemmas::held_blank))]
     pub fn power_on(alloc: Global, size: u16) -> Result<Core, CoreFault>
         ensures ok { IfOk result (λ core. core ≡ blanks size) }
@@ -86,7 +86,7 @@ impl Core {
         at < self.size()
     }
 
-    /// What stands at a place.
+    /// What is at a place.
     #[inline]
     #[tactic(auto, using(crate::proofs::HeldLemmas::length_held))]
     pub fn get(&self, at: u16) -> Cell

@@ -117,7 +117,7 @@ a_zone_is_not_another : (passes 50 (plain 33) ≡ false) × (passes 34 (plain 17
 unfolding graphics
 a_zone_is_not_another = (refl, refl, refl)
 
--- 3, C, L and T: a mark does where the zone is another one, and the zone does without a mark
+-- 3, C, L and T: a mark does if the zone is another one, and the zone does without a mark
 either_does : (passes 3 (marked 33) ≡ true) × (passes 51 (marked 1) ≡ true) × (passes 35 (marked 1) ≡ true)
     × (passes 19 (marked 1) ≡ true)
 unfolding graphics
@@ -149,7 +149,7 @@ a_branch_of_four_is_taken : step (record (with_program branch_to_seven 0) { b = 
 unfolding step graphics
 a_branch_of_four_is_taken = refl
 
--- the same with Z behind
+-- the same with Z after it
 abbrev overflow_to_seven : Storage
 overflow_to_seven = marked 50 ∷ plain 10 ∷ plain 10 ∷ plain 7 ∷ plain 25 ∷ marked 59 ∷ []
 
@@ -167,7 +167,7 @@ a_branch_of_five_passed_by_leaves_b : step (record (with_program overflow_to_sev
 unfolding step graphics
 a_branch_of_five_passed_by_leaves_b = refl
 
--- a blank without a word mark as the fifth character: four characters, whatever stands behind
+-- a blank without a word mark as the fifth character: four characters, whatever follows
 a_blank_ends_a_branch : (step (with_program (marked 50 ∷ plain 10 ∷ plain 10 ∷ plain 7 ∷ plain 0 ∷ plain 9 ∷ plain 9
     ∷ plain 9 ∷ []) 0)).state
     ≡ record (with_program (marked 50 ∷ plain 10 ∷ plain 10 ∷ plain 7 ∷ plain 0 ∷ plain 9 ∷ plain 9 ∷ plain 9
@@ -175,7 +175,7 @@ a_blank_ends_a_branch : (step (with_program (marked 50 ∷ plain 10 ∷ plain 10
 unfolding step graphics
 a_blank_ends_a_branch = refl
 
--- B with the addresses 001 and 003 and a 1 behind: place 003 holds a 1 with no mark
+-- B with the addresses 001 and 003 and a 1 after them: place 003 holds a 1 with no mark
 abbrev equal_character : Storage
 equal_character = marked 50 ∷ plain 10 ∷ plain 10 ∷ plain 1 ∷ plain 10 ∷ plain 10 ∷ plain 3 ∷ plain 1 ∷ marked 59 ∷ []
 

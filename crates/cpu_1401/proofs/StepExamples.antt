@@ -13,7 +13,7 @@ use Rattle.cpu_1401.specs.State.{power_on, regs_of}
 use Rattle.cpu_1401.specs.Step.{step}
 use Rattle.cpu_1401.proofs.ExampleCells.{plain, marked, with_program}
 
--- a comma with address 001, and a halt behind it
+-- a comma with address 001, and a halt after it
 abbrev set_mark : Storage
 set_mark = marked 27 ∷ plain 10 ∷ plain 10 ∷ plain 1 ∷ marked 59 ∷ []
 

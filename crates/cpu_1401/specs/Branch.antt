@@ -32,7 +32,7 @@ abbrev pub branch_if : Bool → ℕ → Instruction → State → State
 branch_if true b this s = branch_to this s
 branch_if false b this s = pass_by b this s
 
--- an operation that goes on at its address where it has one, and else at the next instruction
+-- an operation that goes on at its address if it has one, and else at the next instruction
 abbrev pub go_on : Bool → Instruction → State → State
 go_on true this s = branch_to this s
 go_on false this s = record s { i = this.next }
@@ -56,7 +56,7 @@ conditions =
     ∷ row (codes "@") ChannelTwelve
     ∷ []
 
--- the same for a d-character; none where it looks at nothing
+-- the same for a d-character; none if it looks at nothing
 abbrev pub condition_of : ℕ → Option Condition
 condition_of d = meaning_in conditions (slice_index graphics d)
 
@@ -99,7 +99,7 @@ branch_on_cell test this s =
 abbrev pub has_char : ℕ → Cell → Bool
 has_char char cell = cell.char == char
 
--- a branch: of four characters always, of five on a condition, of eight where the character at b is the d-character
+-- a branch: of four characters always, of five on a condition, of eight if the character at b is the d-character
 abbrev pub after_branch : Instruction → State → Stepped
 after_branch this s =
     if this.len == 4 then step_to (branch_to this s)

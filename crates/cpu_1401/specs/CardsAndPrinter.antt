@@ -12,8 +12,8 @@ use Rattle.devices_1401.specs.Devices.{Devices, after_read, is_full, printed, pu
 use Rattle.devices_1401.specs.declared.card.Card.{Card}
 use Rattle.devices_1401.specs.declared.fault.ControlFault.{ControlFault}
 use Rattle.devices_1401.specs.declared.fault.ControlFault.TheVariants as fault
-use Rattle.cpu_1401.specs.declared.asked.Asked.{Asked}
-use Rattle.cpu_1401.specs.declared.asked.CardWork.{CardWork}
+use Rattle.cpu_1401.specs.declared.io_request.IoRequest.{IoRequest}
+use Rattle.cpu_1401.specs.declared.io_request.CardWork.{CardWork}
 use Rattle.cpu_1401.specs.declared.instruction.Instruction.{Instruction}
 use Rattle.cpu_1401.specs.declared.stop.Stop.{Stop}
 use Rattle.cpu_1401.specs.declared.stop.Stop.TheVariants as stop
@@ -47,7 +47,7 @@ card_columns = 80
 abbrev pub print_positions : ℕ
 print_positions = 132
 
--- the places behind the areas, one of which an operation leaves in the B register
+-- the places after the areas, one of which an operation leaves in the B register
 abbrev pub behind_read_area : ℕ
 behind_read_area = read_area + card_columns
 
@@ -61,7 +61,7 @@ behind_print_area = print_area + print_positions
 abbrev pub characters_line : Storage → List ℕ
 characters_line storage = chars_from storage print_area print_positions
 
--- or its word marks: a 1 where there is one, and a blank where there is none
+-- or its word marks: a 1 for each, and a blank for none
 abbrev pub mark_char : Cell → ℕ
 mark_char cell = if cell.mark then 1 else 0
 
@@ -69,12 +69,12 @@ abbrev pub marks_line : Storage → List ℕ
 marks_line storage = map (λ i. mark_char (cell_at storage (print_area + i))) (range_with_len 0 print_positions)
 
 -- why it can't be done: the paper is looked at first, then the hopper, then the stacker
-abbrev pub hindrance : Asked → Devices → Option Stop
-hindrance asked devices =
-    if is_some asked.line && is_full devices.paper then Some stop.Forms
+abbrev pub first_io_stop : IoRequest → Devices → Option Stop
+first_io_stop request devices =
+    if is_some request.line && is_full devices.paper then Some stop.Forms
     else (
-    if asked.reads && (length devices.hopper == 0) then Some stop.Reader
-    else (if asked.punches && is_full devices.stacker then Some stop.Stacker else None)
+    if request.reads && (length devices.hopper == 0) then Some stop.Reader
+    else (if request.punches && is_full devices.stacker then Some stop.Stacker else None)
     )
 
 -- a line printed, if there is one
@@ -103,24 +103,24 @@ with_punch false s = s
 with_punch true s = record s { devices = punched s.devices (card_of s.storage) }
 
 -- all that is asked for, in the order write, read, punch
-abbrev pub with_all : Asked → State → State
-with_all asked s = with_punch asked.punches (with_read asked.reads (with_line asked.line s))
+abbrev pub with_all : IoRequest → State → State
+with_all request s = with_punch request.punches (with_read request.reads (with_line request.line s))
 
--- then a branch where there is an address; else the next instruction, with the place behind the last area in the B
+-- then a branch if there is an address; else the next instruction, with the place after the last area in the B
 -- register
 abbrev pub move_on : Bool → ℕ → Instruction → State → State
 move_on true b this s = branch_to this s
 move_on false b this s = record s { i = this.next; b = b }
 
--- nothing is done where something hinders
+-- nothing is done if something hinders
 abbrev pub unless_hindered : Option Stop → State → State → Stepped
 unless_hindered (Some why) s after = stopped why s
 unless_hindered None s after = step_to after
 
--- an operation of the card reader, the punch and the printer; b is the place behind the area of the last
-abbrev pub after_cards : Asked → ℕ → Instruction → State → Stepped
-after_cards asked b this s =
-    unless_hindered (hindrance asked s.devices) s (move_on (nat_le 4 this.len) b this (with_all asked s))
+-- an operation of the card reader, the punch and the printer; b is the place after the area of the last
+abbrev pub after_cards : IoRequest → ℕ → Instruction → State → Stepped
+after_cards request b this s =
+    unless_hindered (first_io_stop request s.devices) s (move_on (nat_le 4 this.len) b this (with_all request s))
 
 -- what the six operations without a d-character do, each by its name
 abbrev pub reading : CardWork
@@ -142,7 +142,7 @@ abbrev pub all_three : CardWork
 all_three = record { writes = true; reads = true; punches = true }
 
 -- what is asked for by such work: the line is that of the print area's characters
-abbrev pub asks : CardWork → Storage → Asked
+abbrev pub asks : CardWork → Storage → IoRequest
 asks work storage =
     record {
       line = if work.writes then Some (characters_line storage) else None;
@@ -150,7 +150,7 @@ asks work storage =
       punches = work.punches;
     }
 
--- the place behind the area of the last that is done
+-- the place after the area of the last that is done
 abbrev pub behind_last : CardWork → ℕ
 behind_last work =
     if work.punches then behind_punch_area else (if work.reads then behind_read_area else behind_print_area)
@@ -164,7 +164,7 @@ abbrev pub has_d : ℕ → Bool
 has_d len = (len == 2) || (len == 5)
 
 -- a line written alone: the word marks of the print area, or its characters
-abbrev pub line_alone : Bool → Storage → Asked
+abbrev pub line_alone : Bool → Storage → IoRequest
 line_alone marks storage =
     record {
       line = if marks then Some (marks_line storage)

@@ -14,7 +14,7 @@ pub record IsAddress (storage : Storage) (at : ℕ) (address : Address) : Type 0
   pub value : value_at storage at ≡ address.value
   pub register : zone_of (cell_at storage (at + 1)).char ≡ address.register
 
--- what stands at a place is this instruction, and it has one of the lengths of its operation
+-- what is at a place is this instruction, and it has one of the lengths of its operation
 pub record Says (storage : Storage) (at : ℕ) (this : Decoded) : Type 0 where
   pub mark : (cell_at storage at).mark ≡ true
   pub operation : operation_of (cell_at storage at).char ≡ Some this.operation
@@ -27,7 +27,7 @@ pub record Says (storage : Storage) (at : ℕ) (this : Decoded) : Type 0 where
   pub a : 4 ≤ this.len → IsAddress storage (at + 1) this.a
   pub b : 7 ≤ this.len → IsAddress storage (at + 4) this.b
 
--- eight cells are this instruction, wherever they stand
+-- eight cells are this instruction, wherever they are
 abbrev pub AlwaysSay : ℕ → ℕ → Decoded → Type 0
 AlwaysSay codes marks this =
     (storage : Storage) → (at : ℕ) → at + 8 ≤ length storage → AreEightCells storage at codes marks

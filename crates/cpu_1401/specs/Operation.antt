@@ -82,7 +82,7 @@ seven fifth = 7
 abbrev four_before_a_blank : ℕ → ℕ
 four_before_a_blank fifth = if fifth == 0 then 4 else 8
 
--- Instructions of 1, 4 and 7 characters have no address, one and two; those of 2, 5 and 8 have a d-character behind.
+-- Instructions of 1, 4 and 7 characters have no address, one and two; those of 2, 5 and 8 have a d-character as well.
 abbrev pub form_of : Operation → Form
 form_of Add = form (1 ∷ 4 ∷ 7 ∷ []) [] eight true
 form_of Subtract = form (1 ∷ 4 ∷ 7 ∷ []) [] eight true

@@ -5,7 +5,7 @@ use Rattle.cpu_1401.specs.declared.stop.Stop.TheVariants as stop
 use Rattle.cpu_1401.specs.State.{State}
 use Rattle.cpu_1401.specs.Step.{step}
 
--- how many instructions a run carries out at the most
+-- how many instructions a run carries out at most
 abbrev pub most_steps : ℕ
 most_steps = 1000000
 

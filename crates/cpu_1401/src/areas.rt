@@ -15,11 +15,11 @@ pub(crate) const PUNCH_AREA: u16 = 101;
 /// The first place of the area that a line is printed from, 201 to 332.
 pub(crate) const PRINT_AREA: u16 = 201;
 
-/// The place behind the read area.
+/// The place after the read area.
 pub(crate) const BEHIND_READ_AREA: u16 = READ_AREA + COLUMNS;
 
-/// The place behind the punch area.
+/// The place after the punch area.
 pub(crate) const BEHIND_PUNCH_AREA: u16 = PUNCH_AREA + COLUMNS;
 
-/// The place behind the print area.
+/// The place after the print area.
 pub(crate) const BEHIND_PRINT_AREA: u16 = PRINT_AREA + POSITIONS;

@@ -8,7 +8,7 @@ use crate::condition::{Condition, passes};
 use crate::instruction::Instruction;
 use crate::machine::Machine;
 use crate::stop::Stop;
-use fields_1401::below;
+use fields_1401::step_down;
 
 impl Machine {
     /// Carries out a `B`: of four characters it branches always, of five on a condition, and of eight where the
@@ -34,11 +34,11 @@ impl Machine {
             return Some(Stop::Address);
         }
         let is_equal = self.core.get(this.b).char == this.d;
-        self.branch_if(is_equal, below(this.b, 1), this);
+        self.branch_if(is_equal, step_down(this.b, 1), this);
         None
     }
 
-    /// Carries out a `V`: it branches where the cell at the B address has the word mark or the zone that the
+    /// Carries out a `V`: it branches if the cell at the B address has the word mark or the zone that the
     /// d-character looks for.
     #[inline(always)]
     pub(crate) fn branch_on_cell(&mut self, this: Instruction) -> Option<Stop>
@@ -53,7 +53,7 @@ impl Machine {
             return Some(Stop::Address);
         }
         let is_met = passes(this.d, self.core.get(this.b));
-        self.branch_if(is_met, below(this.b, 1), this);
+        self.branch_if(is_met, step_down(this.b, 1), this);
         None
     }
 

@@ -22,14 +22,14 @@ pub enum Condition {
     LastCard,
     /// `B` to `G`: that sense switch is on.
     SwitchOn(SwitchName),
-    /// `9`: the carriage stands at the line of channel 9.
+    /// `9`: the carriage is at the line of channel 9.
     ChannelNine,
-    /// `@`: the carriage stands at the line of channel 12.
+    /// `@`: the carriage is at the line of channel 12.
     ChannelTwelve,
 }
 
 impl Condition {
-    /// The condition of this d-character; none where it stands for none, and the branch is never taken.
+    /// The condition of this d-character; none if it stands for none, and the branch is never taken.
     pub fn from_char(d: Char) -> Option<Condition>
         ensures { result ≡ condition_of d }
     {

@@ -19,7 +19,7 @@ pub(crate) struct Address {
 }
 
 /// Which addresses an instruction takes as they are spelled.
-#[derive(Clone, Copy)]
+#[derive(Clone, Copy, PartialEq, Eq)]
 pub(crate) enum Spelled {
     /// Both of its two.
     Both,

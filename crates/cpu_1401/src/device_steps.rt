@@ -4,13 +4,13 @@ ghost use Rattle.core_1401.specs.Address.{addresses};
 ghost use Rattle.core_1401.specs.Storage.{cell_at};
 ghost use Rattle.devices_1401.specs.Carriage.{controlled};
 ghost use Rattle.devices_1401.specs.Devices.{is_full};
-ghost use Rattle.cpu_1401.specs.CardsAndPrinter.{after_cards, after_control, after_line, after_work, has_d, hindrance};
+ghost use Rattle.cpu_1401.specs.CardsAndPrinter.{after_cards, after_control, after_line, after_work, has_d, first_io_stop};
 ghost use Rattle.cpu_1401.specs.CardsAndPrinter.{behind_print_area, line_alone};
 ghost use Rattle.cpu_1401.specs.CardsAndPrinter.{with_chars_from, with_line, with_punch, with_read};
 
 use crate::areas::{BEHIND_PRINT_AREA, READ_AREA};
-use crate::asked::{Asked, CardWork, card_of};
 use crate::instruction::Instruction;
+use crate::io_request::{CardWork, IoRequest, card_of};
 use crate::machine::Machine;
 use crate::stop::Stop;
 use bcd_1401::Char;
@@ -22,7 +22,7 @@ const LOZENGE: u8 = 60;
 
 impl Machine {
     /// Writes the print area, reads a card and punches one, as far as the operation does. The B register is then the
-    /// place behind the area of the last, unless there is an address to branch to.
+    /// place after the area of the last, unless there is an address to branch to.
     pub(crate) fn use_cards(&mut self, this: Instruction, work: CardWork) -> Option<Stop>
         requires a { this.a < addresses }
         requires next { this.next < addresses }
@@ -30,11 +30,11 @@ impl Machine {
         ensures state { self.new ≡ (after_work work this self.old).state }
         ensures size { length self.new.storage ≡ length self.old.storage }
     {
-        let asked = Asked::of(&self.core, work);
-        self.carry_cards(this, &asked, work.behind_last())
+        let request = IoRequest::of(&self.core, work);
+        self.carry_cards(this, &request, work.behind_last())
     }
 
-    /// Writes a line: the characters of the print area, or its word marks where the d-character is the lozenge.
+    /// Writes a line: the characters of the print area, or its word marks if the d-character is the lozenge.
     pub(crate) fn write_line(&mut self, this: Instruction) -> Option<Stop>
         requires a { this.a < addresses }
         requires next { this.next < addresses }
@@ -56,32 +56,32 @@ impl Machine {
     fn write_alone(&mut self, this: Instruction, marks: bool) -> Option<Stop>
         requires a { this.a < addresses }
         requires next { this.next < addresses }
-        ensures stop { let asked = line_alone marks self.old.storage in
-            result ≡ (after_cards asked behind_print_area this self.old).stop }
-        ensures state { let asked = line_alone marks self.old.storage in
-            self.new ≡ (after_cards asked behind_print_area this self.old).state }
+        ensures stop { let request = line_alone marks self.old.storage in
+            result ≡ (after_cards request behind_print_area this self.old).stop }
+        ensures state { let request = line_alone marks self.old.storage in
+            self.new ≡ (after_cards request behind_print_area this self.old).state }
         ensures size { length self.new.storage ≡ length self.old.storage }
     {
-        let asked = Asked::to_write(&self.core, marks);
-        self.carry_cards(this, &asked, BEHIND_PRINT_AREA)
+        let request = IoRequest::to_write(&self.core, marks);
+        self.carry_cards(this, &request, BEHIND_PRINT_AREA)
     }
 
     /// Does what is asked for of the card reader, the punch and the printer, or says what hinders it. Then it branches
-    /// where there is an address, and else leaves this in the B register.
-    fn carry_cards(&mut self, this: Instruction, asked: &Asked, b: u16) -> Option<Stop>
+    /// if there is an address, and else leaves this in the B register.
+    fn carry_cards(&mut self, this: Instruction, request: &IoRequest, b: u16) -> Option<Stop>
         requires a { this.a < addresses }
         requires next { this.next < addresses }
         requires b { b < addresses }
-        ensures stop { result ≡ (after_cards asked.now b this self.old).stop }
-        ensures state { self.new ≡ (after_cards asked.now b this self.old).state }
+        ensures stop { result ≡ (after_cards request.now b this self.old).stop }
+        ensures state { self.new ≡ (after_cards request.now b this self.old).state }
         ensures size { length self.new.storage ≡ length self.old.storage }
     {
-        if let Some(why) = self.hindrance(asked) {
+        if let Some(why) = self.first_io_stop(request) {
             return Some(why);
         }
-        self.write(asked);
-        self.read(asked);
-        self.punch(asked);
+        self.write(request);
+        self.read(request);
+        self.punch(request);
         if this.len >= 4 {
             self.branch_if(true, b, this);
         } else {
@@ -107,27 +107,27 @@ impl Machine {
     }
 
     /// What hinders what is asked for: full paper, then an empty hopper, then a full stacker.
-    fn hindrance(&self, asked: &Asked) -> Option<Stop>
-        ensures { result ≡ hindrance asked.now self.now.devices }
+    fn first_io_stop(&self, request: &IoRequest) -> Option<Stop>
+        ensures { result ≡ first_io_stop request.now self.now.devices }
     {
-        if asked.line.is_some() && usize::from(self.devices.paper()) == MOST_HELD {
+        if request.line.is_some() && usize::from(self.devices.paper()) == MOST_HELD {
             return Some(Stop::Forms);
         }
-        if asked.reads && self.devices.hopper() == 0 {
+        if request.reads && self.devices.hopper() == 0 {
             return Some(Stop::Reader);
         }
-        if asked.punches && usize::from(self.devices.stacker()) == MOST_HELD {
+        if request.punches && usize::from(self.devices.stacker()) == MOST_HELD {
             return Some(Stop::Stacker);
         }
         None
     }
 
     /// Prints the line that is asked for, if one is. There is room for it.
-    fn write(&mut self, asked: &Asked)
-        requires { IsSome asked.now.line → is_full self.old.devices.paper ≡ false }
-        ensures { self.new ≡ with_line asked.now.line self.old }
+    fn write(&mut self, request: &IoRequest)
+        requires { IsSome request.now.line → is_full self.old.devices.paper ≡ false }
+        ensures { self.new ≡ with_line request.now.line self.old }
     {
-        if let Some(text) = asked.line {
+        if let Some(text) = request.line {
             if self.devices.print(text).is_err() {
                 unreachable!();
             }
@@ -135,11 +135,11 @@ impl Machine {
     }
 
     /// Reads the first card of the hopper into the read area, if one is asked for and is there.
-    fn read(&mut self, asked: &Asked)
-        ensures state { self.new ≡ with_read asked.now.reads self.old }
+    fn read(&mut self, request: &IoRequest)
+        ensures state { self.new ≡ with_read request.now.reads self.old }
         ensures size { length self.new.storage ≡ length self.old.storage }
     {
-        if !asked.reads {
+        if !request.reads {
             return;
         }
         let size = self.core.size();
@@ -150,11 +150,11 @@ impl Machine {
     }
 
     /// Punches the characters of the punch area, if that is asked for. There is room for the card.
-    fn punch(&mut self, asked: &Asked)
-        requires { asked.now.punches ≡ true → is_full self.old.devices.stacker ≡ false }
-        ensures { self.new ≡ with_punch asked.now.punches self.old }
+    fn punch(&mut self, request: &IoRequest)
+        requires { request.now.punches ≡ true → is_full self.old.devices.stacker ≡ false }
+        ensures { self.new ≡ with_punch request.now.punches self.old }
     {
-        if asked.punches {
+        if request.punches {
             let card = card_of(&self.core);
             let Ok(()) = self.devices.punch(card) else {
                 unreachable!();
@@ -177,7 +177,7 @@ pub(crate) fn put_chars(core: &mut Core, at: u16, chars: &[Char])
     ensures value { core.new ≡ with_chars_from core.old at chars.now }
     ensures size { length core.new ≡ length core.old }
 
-    // Each character stands at its place. The places below and all word marks stay as they were.
+    // Each character is at its place. The places below and all word marks stay as they were.
     ensures each { (i : ℕ) → i < length chars.now → (cell_at core.new (at + i)).char ≡ slice_index_or chars.now i 0 }
     ensures below { (k : ℕ) → k < at → cell_at core.new k ≡ cell_at core.old k }
     ensures marks { (k : ℕ) → (cell_at core.new k).mark ≡ (cell_at core.old k).mark }

@@ -13,7 +13,7 @@ use crate::stop::Stop;
 use fields_1401::{Done, FieldStop, clear_down, compare};
 
 impl Machine {
-    /// Takes the registers that an operation on fields left, turns the overflow indicator on where a sum was too large,
+    /// Takes the registers that an operation on fields left, turns the overflow indicator on if a sum was too large,
     /// and goes on to the next instruction.
     #[inline(always)]
     pub(crate) fn after_field(

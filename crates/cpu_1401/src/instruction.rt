@@ -11,7 +11,7 @@ pub struct Instruction {
     pub a: u16,
     /// The B address, below 16,000.
     pub b: u16,
-    /// Where the next instruction stands, below 16,000.
+    /// The address of the next instruction, below 16,000.
     pub next: u16,
     /// The last character, which is the d-character of an instruction of 2, 5 or 8 characters.
     pub d: Char,

@@ -18,7 +18,7 @@ struct CacheEntry {
     ghost says: { AlwaysSay cells.codes cells.marks decoded },
 }
 
-/// A decode cache: for each place but the last eight, the instruction that was decoded there last, with its eight cells.
+/// A decode cache: for each place but the last eight, the last instruction decoded there, with its eight cells.
 /// So the next instruction begins at a place too. Contracts see how many places that are.
 #[derive(Drop)]
 pub(crate) struct DecodeCache {
@@ -47,7 +47,7 @@ impl DecodeCache {
         Ok(DecodeCache { kept })
     }
 
-    /// The instruction at a place, if it was decoded there from cells like those that stand there now.
+    /// The instruction at a place, if it was decoded there from the same cells that are there now.
     #[inline(always)]
     pub(crate) fn find(&self, core: &Core, at: u16) -> Option<&Decoded>
         requires { self.now + 8 ≤ length core.now }

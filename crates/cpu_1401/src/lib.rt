@@ -29,10 +29,10 @@ pub mod stepping;
 pub mod stop;
 
 // what each kind of operation does
-mod asked;
 mod branch_steps;
 mod device_steps;
 mod field_steps;
+mod io_request;
 mod register_steps;
 
 pub use frame::step_law;

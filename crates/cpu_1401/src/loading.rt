@@ -17,12 +17,12 @@ impl Machine {
     ///
     /// # Errors
     ///
-    /// Where the hopper is empty. The machine is as it was.
+    /// If the hopper is empty. The machine is as it was.
     pub fn load_key(&mut self) -> Result<(), ReaderEmpty>
         ensures loaded { is_ok result ≡ not (length self.old.devices.hopper == 0) }
         ensures state { self.new ≡ load self.old }
 
-        // The card stands in the read area, and its first place alone has a word mark there.
+        // The card is in the read area, and its first place alone has a word mark there.
         ensures chars { IfSome (slice_get self.old.devices.hopper 0) (λ card. (i : ℕ) → i < card_columns →
             (cell_at self.new.storage (read_area + i)).char ≡ slice_index_or card.0 i 0) }
         ensures marks { IfOk result (λ done. (i : ℕ) → i < card_columns →
@@ -39,11 +39,11 @@ impl Machine {
         Ok(())
     }
 
-    /// Puts a card behind those in the hopper.
+    /// Puts a card after those in the hopper.
     ///
     /// # Errors
     ///
-    /// Where the hopper holds 500 cards.
+    /// If the hopper holds 500 cards.
     pub fn feed(&mut self, card: Card) -> Result<(), HopperFull>
         ensures refused { is_ok result ≡ not (is_full self.old.devices.hopper) }
         ensures state { let fed_one = with_devices (fed self.old.devices card) self.old in
@@ -52,7 +52,7 @@ impl Machine {
         self.devices.feed(card)
     }
 
-    /// Takes the oldest printed line; none where all are taken.
+    /// Takes the oldest printed line; none if all are taken.
     pub fn take_line(&mut self) -> Option<PrintLine>
         ensures line { result ≡ slice_get self.old.devices.paper 0 }
         ensures state { self.new ≡ with_devices (after_line self.old.devices) self.old }
@@ -60,7 +60,7 @@ impl Machine {
         self.devices.take_line()
     }
 
-    /// Takes the oldest punched card; none where all are taken.
+    /// Takes the oldest punched card; none if all are taken.
     pub fn take_card(&mut self) -> Option<Card>
         ensures card { result ≡ slice_get self.old.devices.stacker 0 }
         ensures state { self.new ≡ with_devices (after_card self.old.devices) self.old }

@@ -2,12 +2,13 @@
 ghost use Rattle.std.specs.Prelude.{◌≡◌, ◌<◌, ◌↔◌, false, length, IfOk};
 ghost use Rattle.core_1401.specs.Storage.{is_core_size};
 ghost use Rattle.cpu_1401.specs.State.{IsInRange, power_on, regs_of, with_cell, with_switch};
+ghost use Rattle.devices_1401.specs.Movement.{pending_of};
 
 use crate::kept::DecodeCache;
 use crate::regs::Regs;
 use bcd_1401::Cell;
 use core_1401::{Core, CoreFault};
-use devices_1401::Devices;
+use devices_1401::{Devices, Movement};
 use std::alloc::Global;
 use std::marker::Model;
 
@@ -16,7 +17,7 @@ use std::marker::Model;
 pub struct Machine {
     pub(crate) core: Core,
     pub(crate) kept: DecodeCache,
-    // The I register stands between the others: beside each other they would be computed as one pair, in more
+    // The I register is between the others: beside each other they would be computed as one pair, in more
     // instructions.
     pub(crate) a: u16,
     pub(crate) i: u16,
@@ -58,7 +59,7 @@ impl Machine {
     ///
     /// # Errors
     ///
-    /// `Size` where no core storage of that size is made, else `Memory` where there is no room for it.
+    /// `Size` if no core storage of that size is made, else `Memory` if there is no room for it.
     pub fn power_on(alloc: Global, size: u16) -> Result<Machine, CoreFault>
         ensures ok { IfOk result (λ machine. machine ≡ power_on size) }
         ensures size { (result ≡ Err CoreFault.Size) ↔ (is_core_size size ≡ false) }
@@ -112,6 +113,14 @@ impl Machine {
             form: self.devices.form(),
             line: self.devices.line(),
         }
+    }
+
+    /// The movement of the carriage that waits for the next print; `None` if none does, and the next print spaces one
+    /// line.
+    pub fn pending_movement(&self) -> Option<Movement>
+        ensures { pending_of result ≡ self.now.devices.carriage.pending }
+    {
+        self.devices.pending_movement()
     }
 
     /// Sets the I register to a place, from which the next instruction is taken.

@@ -35,7 +35,7 @@ pub enum Operation {
     ZeroSuppress,
     /// `E`: moves the A field into the control word in the B field.
     Edit,
-    /// `B`: branches always, on a condition, or where a character is the d-character.
+    /// `B`: branches always, on a condition, or if a character is the d-character.
     Branch,
     /// `V`: branches by the word mark and the zone of a cell.
     BranchOnCell,
@@ -68,7 +68,7 @@ pub enum Operation {
 }
 
 impl Operation {
-    /// The operation of this character; none where the character is no operation of this machine.
+    /// The operation of this character; none if the character is no operation of this machine.
     pub fn from_char(char: Char) -> Option<Operation>
         ensures { result ≡ operation_of char }
     {

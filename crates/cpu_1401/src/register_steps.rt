@@ -7,7 +7,7 @@ use crate::instruction::Instruction;
 use crate::machine::Machine;
 use crate::stop::Stop;
 use core_1401::{Core, encode};
-use fields_1401::below;
+use fields_1401::step_down;
 
 impl Machine {
     /// Stores an address in the three places that end at the A address. The word marks there stay, and so does the zone
@@ -26,7 +26,7 @@ impl Machine {
         }
         put_address(&mut self.core, this.a, address);
         self.i = this.next;
-        self.a = below(this.a, 3);
+        self.a = step_down(this.a, 3);
         None
     }
 }

@@ -3,7 +3,7 @@
 /// What an operator reads from the machine beside its storage.
 #[derive(Clone, Copy, Debug, PartialEq, Eq)]
 pub struct Regs {
-    /// The I register: where the next instruction stands, below 16,000.
+    /// The I register: the address of the next instruction, below 16,000.
     pub i: u16,
     /// The A register, below 16,000.
     pub a: u16,

@@ -29,13 +29,16 @@ impl Machine {
         ensures most { result.steps ≤ limit }
         ensures limit { result.stop ≡ Stop.Limit → result.steps ≡ limit }
     {
-        for steps in 0..limit {
+        // Counted down, which takes the host less than up.
+        let mut left = limit;
+        while left > 0 {
             if let Some(stop) = self.step() {
                 return Ran {
-                    steps: steps + carried_out(stop),
+                    steps: limit - left + carried_out(stop),
                     stop,
                 };
             }
+            left -= 1;
         }
         Ran {
             steps: limit,

@@ -6,9 +6,9 @@ ghost use Rattle.cpu_1401.specs.Step.{perform, step};
 ghost use Rattle.cpu_1401.specs.Decoded.{Says};
 ghost use Rattle.cpu_1401.specs.Stepped.{stopped};
 
-use crate::asked::CardWork;
 use crate::decoded::{Decoded, Spelled};
 use crate::instruction::Instruction;
+use crate::io_request::CardWork;
 use crate::machine::Machine;
 use crate::operation::Operation;
 use crate::stop::Stop;
@@ -21,7 +21,7 @@ use fields_1401::{
 impl Machine {
     /// Carries out the instruction at the I register, or says why it can't. A halt is carried out; any other stop
     /// leaves the machine as it was.
-    #[inline]
+    #[inline(always)]
     #[tactic(auto, using(crate::proofs::DecodedLemmas::says_step))]
     pub fn step(&mut self) -> Option<Stop>
         ensures stop { result ≡ (step self.old).stop }
@@ -95,10 +95,12 @@ impl Machine {
         ensures b { result.b < addresses }
         ensures next { result.next < addresses }
     {
-        let (a, b) = match said.spelled {
-            Spelled::Both => (self.spelled_a(said), self.spelled_b(said)),
-            Spelled::Only => (self.spelled_a(said), self.only_b(said)),
-            Spelled::NotAll => (self.a_address(said), self.b_address(said)),
+        let (a, b) = if said.spelled == Spelled::Both {
+            (self.spelled_a(said), self.spelled_b(said))
+        } else if said.spelled == Spelled::Only {
+            (self.spelled_a(said), self.only_b(said))
+        } else {
+            (self.a_address(said), self.b_address(said))
         };
         Instruction {
             len: said.len,

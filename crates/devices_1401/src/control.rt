@@ -7,24 +7,30 @@ use crate::fault::ControlFault;
 use bcd_1401::Char;
 
 /// How many lines a space moves the carriage.
-#[derive(Clone, Copy)]
-pub(crate) enum Spaces {
+#[derive(Clone, Copy, Debug, PartialEq, Eq)]
+pub enum Spaces {
+    /// One line.
     One,
+    /// Two lines.
     Two,
+    /// Three lines.
     Three,
 }
 
 /// A hole of the tape, by its channel.
-#[derive(Clone, Copy)]
-pub(crate) enum Hole {
+#[derive(Clone, Copy, Debug, PartialEq, Eq)]
+pub enum Hole {
+    /// That of channel 1.
     First,
+    /// That of channel 9.
     Ninth,
+    /// That of channel 12.
     Twelfth,
 }
 
 /// A movement of the carriage.
-#[derive(Clone, Copy)]
-pub(crate) enum Movement {
+#[derive(Clone, Copy, Debug, PartialEq, Eq)]
+pub enum Movement {
     /// A number of lines on.
     SpaceBy(Spaces),
     /// To the line of a hole.
@@ -41,8 +47,8 @@ pub(crate) struct Control {
 }
 
 impl Spaces {
-    /// How many lines.
-    pub(crate) fn count(self) -> u32
+    /// How many lines, 1 to 3.
+    pub fn count(self) -> u32
         ensures value { result ≡ count_of self }
         ensures least { 1 ≤ result }
         ensures most { result ≤ 3 }
@@ -69,7 +75,7 @@ impl Hole {
     }
 
     /// The line of the hole, 1 to 66.
-    pub(crate) fn line(self) -> u32
+    pub fn line(self) -> u32
         ensures value { result ≡ line_of_hole self }
         ensures least { 1 ≤ result }
         ensures most { result ≤ 66 }

@@ -5,6 +5,7 @@ ghost use Rattle.std.specs.Result.{result_ok};
 ghost use Rattle.devices_1401.specs.Carriage.{positions, form_of, line_of, controlled, is_at_channel, IsMovedOn};
 ghost use Rattle.devices_1401.specs.Devices.{no_cards, most_held, is_full, fed, punched, printed};
 ghost use Rattle.devices_1401.specs.Devices.{after_read, after_card, after_line};
+ghost use Rattle.devices_1401.specs.Movement.{pending_of};
 
 use crate::card::Card;
 use crate::carriage::{LINES_OF_FORM, POSITIONS, moved};
@@ -234,5 +235,12 @@ impl Devices {
         ensures bound { result ≤ 66 }
     {
         (self.position % LINES_OF_FORM + 1) as u8
+    }
+
+    /// The movement that waits for the next print; `None` if none does, and the next print spaces one line.
+    pub fn pending_movement(&self) -> Option<Movement>
+        ensures { pending_of result ≡ self.now.carriage.pending }
+    {
+        self.pending
     }
 }

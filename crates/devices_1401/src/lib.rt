@@ -16,11 +16,12 @@ pub mod print_line;
 
 // the carriage, its controls, and the devices together
 mod carriage;
-mod control;
+pub mod control;
 pub mod devices;
 pub mod fault;
 
 pub use card::Card;
+pub use control::{Hole, Movement, Spaces};
 pub use devices::{Devices, MOST_HELD};
 pub use fault::{ControlFault, FormsFull, HopperFull, ReaderEmpty, StackerFull};
 pub use print_line::PrintLine;

@@ -22,7 +22,7 @@ use Rattle.source_1401.specs.declared.operands.OperandField.TheVariants as field
 use Rattle.source_1401.specs.declared.operands.Operands.{Operands}
 use Rattle.autocoder_1401.specs.Cells.{plain, marked, address_codes, d_codes, instruction_cells}
 use Rattle.autocoder_1401.specs.Characters.{char_of}
-use Rattle.autocoder_1401.specs.Placement.{Places}
+use Rattle.autocoder_1401.specs.Placement.{Placement}
 use Rattle.disassembly_1401.specs.Address.{register_in, address_text}
 use Rattle.disassembly_1401.specs.Assembled.{is_spelling, has_no_mark, IsOwn}
 use Rattle.disassembly_1401.specs.InstructionText.{graphic_of, operands_text}
@@ -48,7 +48,7 @@ pub record IsRead (instruction : Instruction) (text : List ℕ) (wanted : List C
   pub good : has_malformed of ≡ false
   pub few : length text ≤ 50
   pub shows : list_all is_graphic text ≡ true
-  pub cells : (all : Places) (here : ℤ) → instruction_cells all here instruction of ≡ wanted
+  pub cells : (all : Placement) (here : ℤ) → instruction_cells all here instruction of ≡ wanted
 
 marked_by : (char : ℕ) (mark : Bool) → mark ≡ true → marked char ≡ record { char = char; mark = mark }
 marked_by char true h = refl

@@ -10,9 +10,9 @@ use Rattle.std.proofs.lemmas.Slice.Eq.{bytes_eq-Decides}
 use Rattle.bcd_1401.specs.Graphic.{graphics}
 use Rattle.bcd_1401.specs.declared.cell.Cell.{Cell}
 use Rattle.core_1401.specs.Address.{addresses, value_of, spelling_of}
-use Rattle.autocoder_1401.specs.Cells.{place_of, plain, with_index, address_codes}
+use Rattle.autocoder_1401.specs.Cells.{address_or_zero, plain, with_index, address_codes}
 use Rattle.autocoder_1401.specs.Characters.{char_of}
-use Rattle.autocoder_1401.specs.Placement.{Places}
+use Rattle.autocoder_1401.specs.Placement.{Placement}
 use Rattle.disassembly_1401.specs.Address.{register_in}
 use Rattle.disassembly_1401.specs.Assembled.{is_spelling, has_no_mark, IsOwn}
 use Rattle.disassembly_1401.specs.InstructionText.{graphic_of}
@@ -22,7 +22,7 @@ by_place : (value : ℕ) (inside : Bool) → inside ≡ true → (if inside then
 by_place value true h = refl
 by_place value false h = absurd (false≢true h)
 
-place_again : (value : ℕ) → value < 16000 → place_of (pos value) ≡ value
+place_again : (value : ℕ) → value < 16000 → address_or_zero (pos value) ≡ value
 place_again value fits = by_place value (int_le (pos 0) (pos value) && int_lt (pos value) (pos 16000)) (grind (
   arith,
   nat_tests,
@@ -33,7 +33,7 @@ codes_by : (value index place : ℕ) → place ≡ value
 codes_by value index place e = rw e refl
 
 -- an address in the assembler's spelling is spelled so again
-pub address_codes_again : (h t u : ℕ) → is_spelling h t u ≡ true → (all : Places) (here : ℤ)
+pub address_codes_again : (h t u : ℕ) → is_spelling h t u ≡ true → (all : Placement) (here : ℤ)
     → address_codes all here (numbered (value_of h t u) (register_in t)) ≡ h ∷ t ∷ u ∷ []
 address_codes_again h t u spelled all here =
     let parts = and_parts (nat_lt (value_of h t u) addresses)
@@ -42,9 +42,9 @@ address_codes_again h t u spelled all here =
     let same : register_in t % 4 ≡ register_in t = omega arith in
     let spelt = bytes_eq-Decides (with_index (register_in t) (spelling_of (value_of h t u))) (h ∷ t ∷ u ∷ []) in
     let sum : value_of h t u + 0 ≡ value_of h t u = omega arith in
-    ap (λ (index : ℕ). with_index index (spelling_of (place_of (pos (value_of h t u + 0))))) same
-    ∙ codes_by (value_of h t u) (register_in t) (place_of (pos (value_of h t u + 0)))
-    (ap (λ (value : ℕ). place_of (pos value)) sum ∙ place_again (value_of h t u) inside)
+    ap (λ (index : ℕ). with_index index (spelling_of (address_or_zero (pos (value_of h t u + 0))))) same
+    ∙ codes_by (value_of h t u) (register_in t) (address_or_zero (pos (value_of h t u + 0)))
+    (ap (λ (value : ℕ). address_or_zero (pos value)) sum ∙ place_again (value_of h t u) inside)
     ∙ spelt.0 parts.1
 
 plain_by : (char : ℕ) (mark : Bool) → not mark ≡ true

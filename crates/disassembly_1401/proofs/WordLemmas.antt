@@ -19,7 +19,7 @@ use Rattle.source_1401.specs.declared.label.LabelField.TheVariants as labels
 use Rattle.source_1401.specs.declared.mnemonic.Instruction.{Instruction}
 use Rattle.source_1401.specs.declared.operands.Operands.{Operands}
 use Rattle.source_1401.specs.declared.statement.Body.TheVariants as bodies
-use Rattle.source_1401.specs.declared.statement.Bytes.TheVariants as bytes
+use Rattle.source_1401.specs.declared.statement.LineCheck.TheVariants as bytes
 use Rattle.source_1401.specs.declared.statement.Line.{Line}
 use Rattle.autocoder_1401.specs.Placement.{instruction_length}
 use Rattle.autocoder_1401.specs.Values.{last_place}

@@ -12,11 +12,11 @@ use Rattle.source_1401.specs.Mnemonic.{ARow, instructions}
 use Rattle.source_1401.specs.Statement.{line_of, has_bad_label, has_bad_operands}
 use Rattle.source_1401.specs.declared.mnemonic.DCharacter.{DCharacter}
 use Rattle.source_1401.specs.declared.mnemonic.DCharacter.TheVariants as kinds
-use Rattle.source_1401.specs.declared.statement.Bytes.TheVariants as bytes
+use Rattle.source_1401.specs.declared.statement.LineCheck.TheVariants as bytes
 use Rattle.source_1401.specs.declared.statement.Line.{Line}
 use Rattle.source_1401.specs.declared.statement.Statement.{Statement}
 use Rattle.autocoder_1401.specs.Cells.{statement_cells, with_index}
-use Rattle.autocoder_1401.specs.Placement.{Places}
+use Rattle.autocoder_1401.specs.Placement.{Placement}
 use Rattle.disassembly_1401.specs.Address.{register_in}
 use Rattle.disassembly_1401.specs.InstructionText.{graphic_of, addresses_in, d_in}
 
@@ -81,7 +81,7 @@ pub record IsAssembled (line : Line) (wanted : List Cell) : Type 0 where
   pub bytes : line.bytes ≡ bytes.Good
   pub label : option_map_or has_bad_label line.statement true ≡ false
   pub operands : option_map_or (λ (statement : Statement). has_bad_operands statement.body) line.statement true ≡ false
-  pub cells : (all this : Places) (lines : List Line) → statement_cells all this line.statement lines ≡ wanted
+  pub cells : (all this : Placement) (lines : List Line) → statement_cells all this line.statement lines ≡ wanted
 
 -- a text that is assembled as these cells
 abbrev pub IsTextOf : List ℕ → List Cell → Type 0

@@ -5,7 +5,7 @@ use Rattle.bcd_1401.specs.declared.cell.Cell.{Cell}
 use Rattle.image_1401.specs.declared.image.Segment.{Segment}
 use Rattle.autocoder_1401.specs.Cells.{numbered}
 use Rattle.notation_1401.specs.Cells.{most_cells}
-use Rattle.autocoder_1401.specs.Segments.{within}
+use Rattle.autocoder_1401.specs.Segments.{start_or_zero}
 use Rattle.disassembly_1401.specs.declared.stretches.Builder.{Builder}
 
 -- the cells of segments in their order, each with its address
@@ -20,7 +20,7 @@ goes_on at cells next mark = (next == at + length cells) && not mark && nat_lt (
 abbrev pub closed : ℕ → List Cell → List Segment
 closed at cells =
     if nat_le 1 (length cells) && nat_le (length cells) most_cells
-    then record { address = within at; cells = cells } ∷ [] else []
+    then record { address = start_or_zero at; cells = cells } ∷ [] else []
 
 -- the stretches of the cells so far, and of those after them
 abbrev pub cut : ℕ → List Cell → List (ℕ × Cell) → List Segment

@@ -3,7 +3,7 @@ ghost use Rattle.std.specs.Prelude.{◌≡◌, ◌∷◌, ◌++◌, ◌≤◌, �
 ghost use Rattle.bcd_1401.specs.declared.cell.Cell.{Cell as ACell};
 ghost use Rattle.notation_1401.specs.Cells.{most_cells};
 ghost use Rattle.autocoder_1401.specs.Cells.{numbered};
-ghost use Rattle.autocoder_1401.specs.Segments.{within};
+ghost use Rattle.autocoder_1401.specs.Segments.{start_or_zero};
 ghost use Rattle.disassembly_1401.specs.Stretches.{closed, goes_on, cut, placed_cells, stretches_of, built};
 
 use bcd_1401::Cell;
@@ -23,8 +23,8 @@ pub(crate) struct Builder {
 }
 
 /// A place that is an address, or 0.
-fn within(at: usize) -> u16
-    ensures { result ≡ within at }
+fn start_or_zero(at: usize) -> u16
+    ensures { result ≡ start_or_zero at }
 {
     if at < usize::from(ADDRESSES) {
         at as u16
@@ -63,7 +63,7 @@ impl Builder {
     {
         if let Some(cells) = Cells::from_slice(&self.cells) {
             self.done.push(Segment {
-                address: within(self.address),
+                address: start_or_zero(self.address),
                 cells,
             })?;
         }

@@ -49,7 +49,7 @@ pub length-unzoned_across : (s : Storage) (at n : ℕ) → at < length s → n �
 length-unzoned_across s at n in_core above =
     length-units_unzoned (chars_across s at n) ∙ length-across s at n in_core above
 
--- the character of place i: without its zone where it is the last
+-- the character of place i: without its zone if it is the last
 pub unzoned_read : (s : Storage) (at n i : ℕ) → at < length s → n ≤ at + 1 → i < n
     → get_or (units_unzoned (chars_across s at n)) i 0
     ≡ (if i + 1 == n then with_zone_of (cell_at s (at - (n - 1 - i))).char 0 else (cell_at s (at - (n - 1 - i))).char)

@@ -93,7 +93,7 @@ either false true n highest e = refl
 either true false n highest e = e
 either false false n highest e = e
 
--- a pair differs where there is a highest one
+-- a pair differs if there is a highest one
 pub any_is_highest : (s : Storage) (a b n : ℕ) → list_any (is_unequal_pair s a b) (range_with_len 0 n)
     ≡ is_some (highest_difference s a b n)
 any_is_highest s a b zero = sym (ap is_some (no_pairs s a b))
@@ -125,7 +125,7 @@ unfolding orders_across chars_across
 one_place_more s at n in_core above =
     ap (λ (cells : List Cell). map order_of (map (λ (cell : Cell). cell.char) cells)) (cells_across s at n in_core above)
 
--- how the two fields stand by the pair that decides
+-- how the two fields compare by the pair that decides
 abbrev pub deciding : Storage → ℕ → ℕ → Option ℕ → Ordering
 deciding s a b None = Equal
 deciding s a b (Some i) = nat_cmp (order_at s (a - i)) (order_at s (b - i))
@@ -165,7 +165,7 @@ Decides s a b n =
 abbrev pub IsApart : Storage → ℕ → ℕ → Option ℕ → Type 0
 IsApart s a b pair = IfSome pair (λ i. order_at s (a - i) ≢ order_at s (b - i))
 
--- one pair more: where it differs it decides, and else those below it do
+-- one pair more: if it differs it decides, and else those below it do
 decides_more : (s : Storage) (a b n : ℕ) → a < length s → b < length s → n < a + 1 → n < b + 1
     → IsApart s a b (highest_difference s a b (suc n))
     → (IsApart s a b (highest_difference s a b n) → Decides s a b n) → Decides s a b (suc n)
@@ -202,7 +202,7 @@ none_is : (highest : Option ℕ) → is_some highest ≡ false → None ≡ high
 none_is None e = refl
 none_is (Some i) e = absurd cc
 
--- where no two characters differ there is no highest pair that does
+-- if no two characters differ there is no highest pair that does
 pub none_differs : (s : Storage) (a b n : ℕ) → list_any (is_unequal_pair s a b) (range_with_len 0 n) ≡ false
     → None ≡ highest_difference s a b n
 none_differs s a b n e = none_is (highest_difference s a b n) (sym (any_is_highest s a b n) ∙ e)
@@ -267,7 +267,7 @@ pub low_or_high : (s : Storage) (a b : ℕ) (pair : Option ℕ) (some ends highe
 low_or_high s a b pair some ends higher e_some e_higher =
     three some ends higher (λ e. e_some ∙ higher_differs s a b pair (sym e_higher ∙ e))
 
--- the place behind the first word mark of a list of cells, which has as many as this
+-- the place after the first word mark of a list of cells, which has as many as this
 first_mark : (cells : List Cell) (n : ℕ) → option_map (λ i. i + 1) (position (λ (cell : Cell). cell.mark) cells) ≡ Some n
     → (k : ℕ) × (k + 1 ≡ n) × (position (λ (cell : Cell). cell.mark) cells ≡ Some k)
 first_mark cells n len = found (position (λ (cell : Cell). cell.mark) cells) refl len where
@@ -276,7 +276,7 @@ first_mark cells n len = found (position (λ (cell : Cell). cell.mark) cells) re
   found None e none = absurd cc
   found (Some k) e some = (k, cc, e)
 
--- where the first word mark stands at one place of two lists, so does the first of their pairs
+-- if the first word mark is at one place of two lists, so is the first of their pairs
 first_pair : (xs ys : List Cell) (k : ℕ) → position (λ (cell : Cell). cell.mark) xs ≡ Some k
     → position (λ (cell : Cell). cell.mark) ys ≡ Some k
     → position (λ (pair : Cell × Cell). pair.0.mark || pair.1.mark) (zip xs ys) ≡ Some k

@@ -29,13 +29,13 @@ the_r : slice_index graphics r_char ∷ [] ≡ codes "R"
 unfolding graphics
 the_r = refl
 
--- the first figure stands left of the comma
+-- the first figure is to the left of the comma
 a_sum_of_money : edited (chars_of_graphics (codes "   ,  0.  &CR")) (chars_of_graphics (codes "00257426")) Plus
     ≡ chars_of_graphics (codes "  2,574.26   ")
 unfolding edited before_significant limit_of chars_of_graphics graphics
 a_sum_of_money = refl
 
--- no figure stands left of the last zero of the control word, at place 6
+-- no figure is to the left of the last zero of the control word, at place 6
 a_small_sum_of_money : edited (chars_of_graphics (codes "   ,  0.  &CR")) (chars_of_graphics (codes "00000005")) Plus
     ≡ chars_of_graphics (codes "       .05   ")
 unfolding edited before_significant limit_of chars_of_graphics graphics
@@ -77,7 +77,7 @@ a_comma_right_of_the_first_taken_stays : edited (chars_of_graphics (codes "   , 
 unfolding edited before_significant limit_of chars_of_graphics graphics
 a_comma_right_of_the_first_taken_stays = refl
 
--- all of it stands behind the replaceable places
+-- all of it is after the replaceable places
 no_replaceable_place : edited (chars_of_graphics (codes "&.,-")) [] Plus ≡ chars_of_graphics (codes " .  ")
 unfolding edited before_significant limit_of chars_of_graphics graphics
 no_replaceable_place = refl
@@ -112,19 +112,19 @@ a_comma_from_a : edited (chars_of_graphics (codes "    0")) (chars_of_graphics (
 unfolding edited before_significant limit_of chars_of_graphics graphics
 a_comma_from_a = refl
 
--- the second comma stands right of the limit
+-- the second comma is to the right of the limit
 a_comma_behind_the_last_zero : edited (chars_of_graphics (codes " ,0, ")) (chars_of_graphics (codes "000")) Plus
     ≡ chars_of_graphics (codes "   ,0")
 unfolding edited before_significant limit_of chars_of_graphics graphics
 a_comma_behind_the_last_zero = refl
 
--- the first comma stands left of the 1
+-- the first comma is to the left of the 1
 the_first_significant_place_ends_it : edited (chars_of_graphics (codes " ,0, ")) (chars_of_graphics (codes "012")) Plus
     ≡ chars_of_graphics (codes "  1,2")
 unfolding edited before_significant limit_of chars_of_graphics graphics
 the_first_significant_place_ends_it = refl
 
--- nothing stands left of it
+-- nothing is to the left of it
 a_significant_place_on_the_left : edited (chars_of_graphics (codes " ,0, ")) (chars_of_graphics (codes "102")) Plus
     ≡ chars_of_graphics (codes "1,0,2")
 unfolding edited before_significant limit_of chars_of_graphics graphics
@@ -136,7 +136,7 @@ the_last_place_is_the_limit : edited (chars_of_graphics (codes "  0")) (chars_of
 unfolding edited before_significant limit_of chars_of_graphics graphics
 the_last_place_is_the_limit = refl
 
--- the second zero stands right of it
+-- the second zero is to the right of it
 the_first_place_is_the_limit : edited (chars_of_graphics (codes "0  ")) (chars_of_graphics (codes "005")) Plus
     ≡ chars_of_graphics (codes " 05")
 unfolding edited before_significant limit_of chars_of_graphics graphics
@@ -148,13 +148,13 @@ a_limit_that_took_nothing : edited (chars_of_graphics (codes "0   ")) (chars_of_
 unfolding edited before_significant limit_of chars_of_graphics graphics
 a_limit_that_took_nothing = refl
 
--- so the zero behind it goes
+-- so the zero after it goes
 a_blank_from_a_is_not_significant : edited (chars_of_graphics (codes "   0")) (chars_of_graphics (codes "  05")) Plus
     ≡ chars_of_graphics (codes "   5")
 unfolding edited before_significant limit_of chars_of_graphics graphics
 a_blank_from_a_is_not_significant = refl
 
--- also where A is minus
+-- also if A is minus
 a_comma_behind_all_goes : edited (chars_of_graphics (codes "  ,")) (chars_of_graphics (codes "12")) Minus
     ≡ chars_of_graphics (codes "12 ")
 unfolding edited before_significant limit_of chars_of_graphics graphics
@@ -166,13 +166,13 @@ other_characters_stay : edited (chars_of_graphics (codes "$  .  *")) (chars_of_g
 unfolding edited before_significant limit_of chars_of_graphics graphics
 other_characters_stay = refl
 
--- it stays where A is minus
+-- it stays if A is minus
 a_minus_sign_on_the_right : edited (chars_of_graphics (codes "   -")) (chars_of_graphics (codes "123")) Minus
     ≡ chars_of_graphics (codes "123-")
 unfolding edited before_significant limit_of chars_of_graphics graphics
 a_minus_sign_on_the_right = refl
 
--- and goes where it is plus
+-- and goes if it is plus
 no_minus_sign_on_the_right : edited (chars_of_graphics (codes "   -")) (chars_of_graphics (codes "123")) Plus
     ≡ chars_of_graphics (codes "123 ")
 unfolding edited before_significant limit_of chars_of_graphics graphics
@@ -244,7 +244,7 @@ unfolding edit_at edit_lengths_at with_edited with_across with_cells edited befo
     chars_across
 a_shared_place = refl
 
--- no place is taken, but the sign stands in the control word
+-- no place is taken, but the sign is in the control word
 a_shared_sign : edit_at (marked 51 ∷ plain 41 ∷ []) 0 1 ≡ Err Overlap
 unfolding edit_at edit_lengths_at with_edited with_across with_cells edited before_significant limit_of units_unzoned
     chars_across

@@ -23,7 +23,7 @@ use Rattle.fields_1401.proofs.AcrossLemmas.{length-unzoned_across, unzoned_down_
 use Rattle.fields_1401.proofs.LendingLemmas.{lent_at_first, char_lent, lent-set}
 use Rattle.fields_1401.proofs.PlacesLemmas.{cell_at-with_chars, length-with_chars, with_chars_changed, with_chars_same}
 
--- a place is one of those from it on, where it is replaceable
+-- a place is one of those from it on, if it is replaceable
 pub replaceable_here : (word : List ℕ) (i : ℕ) → i < length word → is_replaceable (get_or word i 0) ≡ true
     → count_by is_replaceable (drop i word) ≡ count_by is_replaceable (drop (i + 1) word) + 1
 replaceable_here word i within e =
@@ -36,7 +36,7 @@ replaceable_beyond word i within e =
     sum_by-drop_more (λ x. cond (is_replaceable x) 1 0) word i 0 within
     ∙ ap (λ b. cond b 1 0 + count_by is_replaceable (drop (i + 1) word)) e ∙ omega arith
 
--- a replaceable place with fewer than t behind it takes one of t characters
+-- a replaceable place with fewer than t after it takes one of t characters
 pub takes_one : (digits : List ℕ) (own behind t : ℕ) → length digits ≡ t → is_replaceable own ≡ true → behind < t
     → Some (get_or digits (t - 1 - behind) 0) ≡ taken_from digits own behind
 takes_one digits own behind t size replaceable lt =
@@ -57,7 +57,7 @@ takes_none digits own behind t size (inr le) =
     && nat_lt behind (length digits)) _ _
     (and_right (is_replaceable own) (nat_lt behind (length digits)) (le-ltb behind (length digits) (omega arith))))
 
--- how many places stand left of the first significant one
+-- how many places are to the left of the first significant one
 pub before_significant_is : (word digits : List ℕ) (i : ℕ) → i ≤ length word
     → ((k : ℕ) → k < i → is_significant (taken_by word digits k) ≡ false)
     → (i < length word → is_significant (taken_by word digits i) ≡ true) → before_significant word digits ≡ i
@@ -188,7 +188,7 @@ shown_again word digits sign j count within e =
           ap (λ b. if b then without_zero before else before) off ∙ plain ∙ ap place (sym off ∙ test) ∙ sym full
     ]
 
--- those from a place on, where it is one of them or it isn't
+-- those from a place on, if it is one of them or it isn't
 pub replaceable_more : (word : List ℕ) (j own behind from : ℕ) → j < length word → own ≡ get_or word j 0 → behind
     ≡ replaceable_behind word j
     → ((is_replaceable own ≡ true) × (from ≡ behind + 1)) ⊎ ((is_replaceable own ≡ false) × (from ≡ behind)) → from

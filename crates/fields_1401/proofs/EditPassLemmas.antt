@@ -1,18 +1,18 @@
 -- The pass of an edit from the right.
-use Rattle.std.proofs.Common.{◌≡◌, set, ℕ, ◌+◌, ◌-◌, ◌<◌, ◌≤◌, ◌⊎◌, ◌==◌, true, false, List, Option, Some}
-use Rattle.std.proofs.Common.{length, get_or, drop, ap, sym, ◌∙◌, inl, inr, arith}
+use Rattle.std.proofs.Common.{◌≡◌, set, ℕ, ◌+◌, ◌-◌, ◌<◌, ◌≤◌, ◌⊎◌, true, false, List, Option, Some, None}
+use Rattle.std.proofs.Common.{length, get_or, drop, ap, sym, refl, ◌∙◌, inl, inr, arith}
 use Rattle.std.specs.List.{count_by}
-use Rattle.std.specs.Prelude.{not, nat_lt, ◌&&◌}
-use Rattle.std.proofs.lemmas.Bool.{cases_eq, cases_Bool, and_left, cond-false}
+use Rattle.std.specs.Prelude.{not}
+use Rattle.std.proofs.lemmas.Bool.{cases_eq, lt-ltb, le-ltb}
 use Rattle.std.proofs.lemmas.Bool.Decides.{nat_tests}
 use Rattle.std.proofs.lemmas.List.{length-set, drop_all}
-use Rattle.std.proofs.lemmas.Option.{none-some}
 use Rattle.core_1401.specs.Storage.{Storage, cell_at, with_char}
 use Rattle.fields_1401.specs.declared.sign.Sign.{Sign}
-use Rattle.fields_1401.specs.Across.{chars_across, units_unzoned, char_to}
+use Rattle.fields_1401.specs.Across.{chars_across, units_unzoned, char_to, unzoned_down}
 use Rattle.fields_1401.specs.Edit.{is_replaceable, is_significant, replaceable_in, replaceable_behind, taken_by}
-use Rattle.fields_1401.specs.Edit.{taken_char, taken_down, unsuppressed, sign_at, shown, is_shared}
+use Rattle.fields_1401.specs.Edit.{kept_char, taken_char, taken_down, unsuppressed, sign_at, shown, is_shared}
 use Rattle.fields_1401.specs.Places.{with_chars, with_all_chars, chars_of}
+use Rattle.fields_1401.specs.Suppress.{blank_char}
 use Rattle.fields_1401.proofs.AcrossLemmas.{length-across, char_across, length-unzoned_across}
 use Rattle.fields_1401.proofs.EditLemmas.{not_shared, length-unsuppressed, shown_place, replaceable_more}
 use Rattle.fields_1401.proofs.EditLemmas.{taken_down_is, takes_here}
@@ -50,21 +50,31 @@ put_none s chars a t b m b_in above lent =
       here = λ lt. absurd (omega (arith, lt));
     }
 
--- a place that took a character is replaceable
-pub takes_replaceable : (chars : List ℕ) (a t own behind char : ℕ) → Some char ≡ taken_down chars a t own behind
-    → is_replaceable own ≡ true
-takes_replaceable chars a t own behind char took =
-    elim (cases_Bool (is_replaceable own)) [
-      | inl is ↦ is
-      | inr fails ↦ absurd (none-some char (sym (took ∙ cond-false (is_replaceable own && nat_lt behind t) _ _
-          (and_left (is_replaceable own) (nat_lt behind t) fails))))
-    ]
+-- a replaceable place takes a character of A while one is left
+pub one_taken : (chars : List ℕ) (a t own behind : ℕ) → is_replaceable own ≡ true → behind < t
+    → Some (unzoned_down chars a behind) ≡ taken_down chars a t own behind
+one_taken chars a t own behind is left = rw (is, lt-ltb behind t left) refl
+
+-- else none
+pub none_left : (chars : List ℕ) (a t own behind : ℕ) → is_replaceable own ≡ true → t ≤ behind
+    → None ≡ taken_down chars a t own behind
+none_left chars a t own behind is past = rw (is, le-ltb behind t past) refl
+
+-- nor does another place
+pub none_taken : (chars : List ℕ) (a t own behind : ℕ) → is_replaceable own ≡ false
+    → None ≡ taken_down chars a t own behind
+none_taken chars a t own behind isnt = rw isnt refl
+
+-- a replaceable place that took none shows a blank
+pub blank_left : (t replaceable behind own : ℕ) (sign : Sign) → is_replaceable own ≡ true
+    → blank_char ≡ kept_char t replaceable sign behind false own
+blank_left t replaceable behind own sign is = rw is refl
 
 -- a character that is neither zero nor blank is significant
 pub significant_is : (char : ℕ) → is_significant (Some char) ≡ not (is_replaceable char)
 significant_is char = grind (arith, nat_tests)
 
--- a character that was taken shows itself where nothing is suppressed
+-- a character that was taken shows itself if nothing is suppressed
 pub taken_plain : (char : ℕ) → taken_char false char ≡ char
 taken_plain char = grind (arith, nat_tests)
 

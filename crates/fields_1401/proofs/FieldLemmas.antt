@@ -54,7 +54,7 @@ char_down s at n i within above in_core = ap (λ (cell : Cell). cell.char) (plac
 pub char_past : (s : Storage) (at n i : ℕ) → n ≤ i → n ≤ at + 1 → at < length s → char_at (places_down s at n) i ≡ 0
 char_past s at n i past above in_core = ap (λ (cell : Cell). cell.char) (past_places s at n i past above in_core)
 
--- the first word mark stands at the same place where the marks up to it are the same
+-- the first word mark is at the same place if the marks up to it are the same
 pub same_first_mark : (xs ys : List Cell) (k : ℕ) → position (λ (cell : Cell). cell.mark) xs ≡ Some k → k < length ys
     → ((i : ℕ) → i ≤ k → (get_or ys i blank).mark ≡ (get_or xs i blank).mark)
     → position (λ (cell : Cell). cell.mark) ys ≡ Some k
@@ -65,7 +65,7 @@ same_first_mark xs ys k first lt same =
     (λ i before. same i (omega arith) ∙ marks.2 i before) (λ _. same k (omega arith) ∙ marks.1) in
     rw (index, lt-ltb k (length ys) lt) refl
 
--- a field keeps its length where the word marks stay
+-- a field keeps its length if the word marks stay
 pub same_field_len : (storage after : Storage) (at n : ℕ) → at < length storage → length after ≡ length storage
     → ((q : ℕ) → q < length storage → (cell_at after q).mark ≡ (cell_at storage q).mark)
     → field_len_of storage at ≡ Some n → field_len_of after at ≡ Some n
@@ -93,7 +93,7 @@ zip_none : (cells : List Cell) → zip {K = Cell} {X = Cell} cells [] ≡ []
 zip_none [] = refl
 zip_none (cell ∷ cells) = refl
 
--- two fields have no length where one of them isn't in core
+-- two fields have no length if one of them isn't in core
 pub no_pair_without_a : (storage : Storage) (a b : ℕ) → is_in_core storage a ≡ false → pair_len_of storage a b ≡ None
 no_pair_without_a storage a b e = rw e refl
 

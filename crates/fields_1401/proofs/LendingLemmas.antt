@@ -15,7 +15,7 @@ pub length-with_all_chars : (s : Storage) (chars : List ℕ) → length (with_al
 unfolding with_all_chars
 length-with_all_chars s chars = length-map-range_with_len (lent_cell s chars) 0 (length s)
 
--- what stands at a place
+-- what is at a place
 pub cell_at-with_all_chars : (s : Storage) (chars : List ℕ) (q : ℕ) → q < length s
     → cell_at (with_all_chars s chars) q ≡ lent_cell s chars q
 unfolding with_all_chars

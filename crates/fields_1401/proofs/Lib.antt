@@ -10,6 +10,7 @@ mod EditPassLemmas
 mod ExampleCells
 mod ExampleGraphics
 mod FieldLemmas
+mod LaneLemmas
 mod LendingLemmas
 mod LoadExamples
 mod LoadLemmas
@@ -22,5 +23,6 @@ mod PartsLemmas
 mod PlacesLemmas
 mod PlainLemmas
 mod RefusalLemmas
+mod SixteenLemmas
 mod SuppressExamples
 mod SuppressLemmas

@@ -11,14 +11,14 @@ use Rattle.fields_1401.proofs.PlacesLemmas.{is_within-above, is_within-below, wi
 use Rattle.fields_1401.specs.Load.{is_overwritten}
 use Rattle.fields_1401.specs.Move.{source_of, moved}
 
--- where the B field begins above the A field, or further below it than the i-th place, a character is its own source
+-- if the B field begins above the A field, or further below it than the i-th place, a character is its own source
 source_far : (a b i : ℕ) → a ≤ b → source_of a b i ≡ a - i
 source_far a b i le = grind (arith, nat_tests)
 
 source_before : (a b i : ℕ) → b + i < a → source_of a b i ≡ a - i
 source_before a b i lt = grind (arith, nat_tests, mod-eq_of_lt)
 
--- where it was moved before, it has the source of the place that it stands at
+-- if it was moved before, it has the source of the place where it is
 source_again : (a b i j : ℕ) → b < a → a - b + j ≡ i → source_of a b j ≡ source_of a b i
 source_again a b i j lt e = let same = add-mod_left (a - b) j in grind (arith, nat_tests)
 
@@ -59,7 +59,7 @@ moved_more storage a b i a_in b_in in_a in_b =
 overlaps : (a b n : ℕ) → b < a → a < b + n → is_overwritten a b n ≡ false → ⊥
 overlaps a b n lt near apart = grind (arith, nat_tests)
 
--- where nothing is written over before it is read, each character is its own source
+-- if nothing is written over before it is read, each character is its own source
 own_source : (a b n i : ℕ) → is_overwritten a b n ≡ false → i < n → source_of a b i ≡ a - i
 own_source a b n i apart within =
     elim (cases_lt b a) [

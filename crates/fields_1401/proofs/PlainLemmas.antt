@@ -79,7 +79,7 @@ plain_kept : (word digits : List ℕ) (sign : Sign) (j : ℕ) → IsPlain word �
 plain_kept word digits sign j plain within none =
     rw (none, plain j within) refl
 
--- a place that takes one shows it, or a blank where it is suppressed
+-- a place that takes one shows it, or a blank if it is suppressed
 plain_took : (word digits : List ℕ) (sign : Sign) (j char : ℕ) → taken_by word digits j ≡ Some char
     → shown_at word digits sign j ≡ taken_char (is_suppressed word digits j) char
 plain_took word digits sign j char took = rw took refl

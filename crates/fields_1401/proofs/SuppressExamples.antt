@@ -86,7 +86,7 @@ two_places_are_written : suppress_at (marked 10 ∷ plain 37 ∷ plain 1 ∷ mar
 unfolding suppress_at with_suppressed with_across with_cells suppressed units_unzoned chars_across
 two_places_are_written = refl
 
--- a field may be suppressed where it stands: its own mark goes
+-- a field may be suppressed in place: its own mark goes
 in_its_own_place : suppress_at (plain 7 ∷ marked 10 ∷ plain 37 ∷ []) 2 2
     ≡ Ok (plain 7 ∷ plain 0 ∷ plain 5 ∷ [], registers_of 0 3)
 unfolding suppress_at with_suppressed with_across with_cells suppressed units_unzoned chars_across

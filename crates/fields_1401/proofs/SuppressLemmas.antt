@@ -8,7 +8,7 @@ use Rattle.std.proofs.lemmas.Bool.{cases_lt}
 use Rattle.std.specs.Prelude.{not}
 use Rattle.fields_1401.specs.Suppress.{is_figure, before_figures, suppressed}
 
--- those that stand left of the first figure are some of all
+-- those that are to the left of the first figure are some of all
 pub before_figures-le : (xs : List ℕ) → before_figures xs ≤ length xs
 before_figures-le xs = prefix_len-le-length (λ x. not (is_figure x)) xs
 
@@ -36,7 +36,7 @@ suppressed_right xs j le =
     get_or-append_right (replicate k 0) (drop k xs) k j 0 (length-replicate {A = ℕ} k 0) le ∙ get_or-drop k xs (j - k) 0
     ∙ ap (λ i. get_or xs i 0) (omega arith)
 
--- the first figure stands where it stood
+-- the first figure is where it was
 before_figures-suppressed : (xs : List ℕ) → before_figures (suppressed xs) ≡ before_figures xs
 before_figures-suppressed xs =
     let k = before_figures xs in

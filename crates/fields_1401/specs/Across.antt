@@ -35,7 +35,7 @@ char_to chars i = slice_index chars (length chars - 1 - i)
 abbrev pub unzoned_down : List ℕ → ℕ → ℕ → ℕ
 unzoned_down chars at i = if i == 0 then with_zone_of (slice_index chars (at - i)) 0 else slice_index chars (at - i)
 
--- no word mark stands at the n places that end at an address
+-- there is no word mark at the n places that end at an address
 abbrev pub IsUnmarked : Storage → ℕ → ℕ → Type 0
 IsUnmarked storage at n = (i : ℕ) → i < n → (cell_at storage (at - i)).mark ≡ false
 

@@ -23,7 +23,7 @@ abbrev pub is_unequal : Storage → ℕ → ℕ → ℕ → Bool
 is_unequal storage a b n =
     list_any (is_unequal_pair storage a b) (range_with_len 0 n) || ends_first storage a b n
 
--- the highest of n pairs whose characters differ, counted from the units; none where no two differ
+-- the highest of n pairs whose characters differ, counted from the units; none if no two differ
 unfoldable pub highest_difference : Storage → ℕ → ℕ → ℕ → Option ℕ
 highest_difference storage a b n = find (is_unequal_pair storage a b) (reverse (range_with_len 0 n))
 
@@ -41,8 +41,8 @@ is_higher storage a b (Some i) = nat_lt (order_at storage (a - i)) (order_at sto
 abbrev pub is_high : Storage → ℕ → ℕ → ℕ → Bool
 is_high storage a b n = ends_first storage a b n || is_higher storage a b (highest_difference storage a b n)
 
--- two fields compared over the pairs up to and including the first word mark in either, B low where it is unequal and
--- not high; refused where there is none
+-- two fields compared over the pairs up to and including the first word mark in either, B low if it is unequal and
+-- not high; refused if there is none
 abbrev pub compared : Storage → ℕ → ℕ → Option ℕ → Result Done FieldStop
 compared storage a b None = Err Address
 compared storage a b (Some n) =
@@ -60,7 +60,7 @@ comparison_at storage a b = compared storage a b (pair_len_of storage a b)
 unfoldable pub orders_across : Storage → ℕ → ℕ → List ℕ
 orders_across storage at n = map order_of (chars_across storage at n)
 
--- B is high where A comes before it, low where A comes behind it, and unequal where it is either
+-- B is high if A comes before it, low if A comes after it, and unequal in both cases
 pub record Tells (done : Done) (order : Ordering) : Type 0 where
   pub unequal : done.unequal ≡ not (is_eq order)
   pub low : done.low ≡ is_gt order

@@ -44,11 +44,11 @@ is_sign_char char = char == c_char || (char == r_char || char == minus_char)
 abbrev pub replaceable_in : List ℕ → ℕ
 replaceable_in word = count_by is_replaceable word
 
--- how many of them stand right of place i
+-- how many of them are to the right of place i
 abbrev pub replaceable_behind : List ℕ → ℕ → ℕ
 replaceable_behind word i = count_by is_replaceable (drop (i + 1) word)
 
--- What a place of the control word takes of A, by how many replaceable places stand right of it: of the replaceable
+-- What a place of the control word takes of A, by how many replaceable places are to its right: of the replaceable
 -- places the last takes the last character, the one before it the one before that, and so on; none takes one that isn't
 -- there.
 abbrev pub taken_from : List ℕ → ℕ → ℕ → Option ℕ
@@ -70,12 +70,12 @@ abbrev pub is_significant : Option ℕ → Bool
 is_significant (Some char) = not (char == zero_char || char == blank_char)
 is_significant None = false
 
--- how many places stand left of the first significant one: all, where there is none
+-- how many places are to the left of the first significant one: all, if there is none
 unfoldable pub before_significant : List ℕ → List ℕ → ℕ
 before_significant word digits =
     position_or_len is_significant (map (taken_by word digits) (range_with_len 0 (length word)))
 
--- how many places there are up to and including the last zero of the control word: none, where it has no zero
+-- how many places there are up to and including the last zero of the control word: none, if it has no zero
 unfoldable pub limit_of : List ℕ → ℕ
 limit_of word = length word - suffix_len (λ char. not (char == zero_char)) word
 
@@ -89,20 +89,20 @@ abbrev pub taken_char : Bool → ℕ → ℕ
 taken_char suppressed char = if char == zero_char && suppressed then blank_char else char
 
 -- whether a place is left over: the t characters of A were too few for the replaceable places, and t of these or more
--- stand right of it, so that all that took one do
+-- are to the right of it, so that all that took one do
 abbrev pub is_left_over : ℕ → ℕ → ℕ → Bool
 is_left_over t replaceable behind = nat_lt t replaceable && nat_le t behind
 
--- whether no replaceable place stands right of a place
+-- whether no replaceable place is to the right of a place
 abbrev pub is_behind_all : ℕ → Bool
 is_behind_all behind = behind == 0
 
--- a comma goes with what is left over, behind all replaceable places, and where zeros are suppressed
+-- a comma goes with what is left over, after all replaceable places, and if zeros are suppressed
 abbrev pub is_comma_blanked : ℕ → ℕ → ℕ → Bool → Bool
 is_comma_blanked t replaceable behind suppressed =
     is_left_over t replaceable behind || (is_behind_all behind || suppressed)
 
--- a part of a sign goes behind all replaceable places, unless A is minus
+-- a part of a sign goes after all replaceable places, unless A is minus
 abbrev pub is_sign_blanked : Sign → ℕ → Bool
 is_sign_blanked Plus behind = is_behind_all behind
 is_sign_blanked Minus behind = false
@@ -144,7 +144,7 @@ unsuppressed word digits sign = map (unsuppressed_at word digits sign) (range_wi
 abbrev pub without_zero : ℕ → ℕ
 without_zero char = if char == zero_char || char == comma_char then blank_char else char
 
--- what the i-th of n places from the units shows, where so many from the left are suppressed
+-- what the i-th of n places from the units shows, if this many from the left are suppressed
 abbrev pub suppressed_to : (ℕ → ℕ) → ℕ → ℕ → ℕ → ℕ
 suppressed_to char_of n count i = if nat_lt (n - 1 - i) count then without_zero (char_of i) else char_of i
 
@@ -152,14 +152,14 @@ suppressed_to char_of n count i = if nat_lt (n - 1 - i) count then without_zero 
 unfoldable pub edited : List ℕ → List ℕ → Sign → List ℕ
 edited word digits sign = map (shown_at word digits sign) (range_with_len 0 (length word))
 
--- how many characters of A are taken, and how many places the control word has; none where a place that is needed isn't
+-- how many characters of A are taken, and how many places the control word has; none if a place that is needed isn't
 -- in core
 abbrev pub taken_at : Storage → ℕ → ℕ → Option (ℕ × ℕ)
 taken_at storage a b =
     option_and_then (λ m. option_map (λ t. (t, m)) (used_len_of storage a (replaceable_in (chars_across storage b m))))
     (field_len_of storage b)
 
--- how many places from a down are read: that of the sign alone, where none is taken
+-- how many places from a down are read: that of the sign alone, if none is taken
 abbrev pub read_of : ℕ → ℕ
 read_of t = max t 1
 

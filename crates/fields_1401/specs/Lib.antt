@@ -1,5 +1,6 @@
 pub mod Across
 pub mod Arithmetic
+pub mod Columns
 pub mod Compare
 pub mod Edit
 pub mod Load

@@ -19,7 +19,7 @@ has_places storage at n = is_in_core storage at && nat_le n (at + 1)
 abbrev pub is_overwritten : ℕ → ℕ → ℕ → Bool
 is_overwritten a b n = is_within a n b && nat_lt b a
 
--- the same with the registers behind both fields, where the A field has a length and can be loaded
+-- the same with the registers after both fields, if the A field has a length and can be loaded
 abbrev pub load_by : Storage → ℕ → ℕ → Option ℕ → Outcome
 load_by storage a b None = Err Address
 load_by storage a b (Some n) =

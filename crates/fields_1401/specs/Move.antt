@@ -8,7 +8,7 @@ use Rattle.fields_1401.specs.Places.{with_chars}
 
 -- The place whose character comes to the i-th place of the B field, where each character is moved after the one to its
 -- right. If the B field begins p places below the A field, what is moved from p places on was moved there before: so
--- the first p characters repeat. The first p themselves stand where they come from, since i % p is i below p.
+-- the first p characters repeat. The first p themselves stay where they are, since i % p is i below p.
 abbrev pub source_of : ℕ → ℕ → ℕ → ℕ
 source_of a b i = if nat_lt b a then a - i % (a - b) else a - i
 
@@ -16,7 +16,7 @@ source_of a b i = if nat_lt b a then a - i % (a - b) else a - i
 unfoldable pub moved : Storage → ℕ → ℕ → ℕ → Storage
 moved storage a b n = with_chars storage b n (λ i. (cell_at storage (source_of a b i)).char)
 
--- the same with the registers behind both fields, where they have a length
+-- the same with the registers after both fields, if they have a length
 abbrev pub move_by : Storage → ℕ → ℕ → Option ℕ → Outcome
 move_by storage a b None = Err Address
 move_by storage a b (Some n) = Ok (moved storage a b n, registers_of (below_by a n) (below_by b n))

@@ -5,7 +5,7 @@ use Rattle.core_1401.specs.Storage.{Storage}
 use Rattle.fields_1401.specs.declared.done.Done.{Done}
 use Rattle.fields_1401.specs.declared.done.FieldStop.{FieldStop}
 
--- the core and what stands beside it afterwards, or why the operation can't be carried out
+-- the core and what goes with it afterwards, or why the operation can't be carried out
 abbrev pub Outcome : Type 0
 Outcome = Result (Storage × Done) FieldStop
 

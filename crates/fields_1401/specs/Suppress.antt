@@ -27,7 +27,7 @@ comma_char = 27
 abbrev pub is_figure : ℕ → Bool
 is_figure char = not (char == zero_char || (char == blank_char || char == comma_char))
 
--- how many characters stand left of the first that stops the suppression: all, where none does
+-- how many characters are to the left of the first that stops the suppression: all, if none does
 abbrev pub before_figures : List ℕ → ℕ
 before_figures chars = position_or_len is_figure chars
 
@@ -46,7 +46,7 @@ with_suppressed storage a b n = (
   registers_of (below_by a n) (above b),
 )
 
--- the same where the A field has a length: a missing place is refused before an overlap
+-- the same if the A field has a length: a missing place is refused before an overlap
 abbrev pub suppress_by : Storage → ℕ → ℕ → Option ℕ → Outcome
 suppress_by storage a b None = Err Address
 suppress_by storage a b (Some n) =

@@ -10,7 +10,7 @@ ghost use Rattle.fields_1401.specs.Compare.{orders_across, IsOneOfThree, Tells};
 
 use crate::done::{Done, FieldStop};
 use crate::lengths::pair_len;
-use crate::registers::{below, registers};
+use crate::registers::{registers, step_down};
 use crate::slices::char_at;
 use core_1401::Core;
 
@@ -20,14 +20,14 @@ const BLOCK: u16 = 8;
 /// How many pairs are compared one by one.
 const FEW: u16 = 16;
 
-/// Compares the fields at both addresses, up to and including the first word mark in either: they are unequal where two
-/// characters differ, or where the A field ends before the B field (A24-1403, "Compare"). An unequal B field is high
-/// where the A field ends before it, or where the highest place at which they differ has the higher character in B; else
+/// Compares the fields at both addresses, up to and including the first word mark in either: they are unequal if two
+/// characters differ, or if the A field ends before the B field (A24-1403, "Compare"). An unequal B field is high
+/// if the A field ends before it, or if the highest place at which they differ has the higher character in B; else
 /// it is low (A24-1403, "High-Low-Equal Compare Device").
 ///
 /// # Errors
 ///
-/// `Address` where one of the addresses isn't in core, or one field comes to address 0 before a word mark stands in
+/// `Address` if one of the addresses isn't in core, or one field comes to address 0 before a word mark in
 /// either.
 pub fn compare(core: &Core, a: u16, b: u16) -> Result<Done, FieldStop>
     requires a { a < addresses }
@@ -52,7 +52,7 @@ pub fn compare(core: &Core, a: u16, b: u16) -> Result<Done, FieldStop>
         unequal,
         low: unequal & !high,
         high,
-        ..registers(below(a, n), below(b, n))
+        ..registers(step_down(a, n), step_down(b, n))
     })
 }
 

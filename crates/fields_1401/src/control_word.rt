@@ -4,12 +4,13 @@ ghost use Rattle.std.specs.Prelude.{IfSome};
 ghost use Rattle.core_1401.specs.Address.{addresses};
 ghost use Rattle.core_1401.specs.Field.{field_len_of};
 ghost use Rattle.fields_1401.specs.Across.{chars_across};
-ghost use Rattle.fields_1401.specs.Edit.{is_replaceable, replaceable_in, taken_down};
+ghost use Rattle.fields_1401.specs.Edit.{is_replaceable, replaceable_in};
 ghost use Rattle.fields_1401.specs.Edit.{limit_of, taken_at, is_shared, edit_lengths_at};
 ghost use Rattle.fields_1401.specs.Refusal.{used_len_of};
 
-use crate::across::{char_across, unzoned_down};
+use crate::across::char_across;
 use crate::done::FieldStop;
+use crate::lanes::{bits_of, codes_across};
 use crate::lengths::field_len;
 use crate::operands::used_len;
 use crate::refusals::share_place;
@@ -48,8 +49,8 @@ impl ControlWord {
     ///
     /// # Errors
     ///
-    /// `Address` where there is no B field, where a isn't in core, or where the A field comes to address 0 before its
-    /// word mark with a replaceable place left; else `Overlap` where a place of A that is read is one of the control
+    /// `Address` if there is no B field, if a isn't in core, or if the A field comes to address 0 before its
+    /// word mark with a replaceable place left; else `Overlap` if a place of A that is read is one of the control
     /// word.
     #[tactic(auto, unfolding(crate::specs::Edit::edit_lengths_at))]
     pub(crate) fn at(core: &Core, a: u16, b: u16) -> Result<ControlWord, FieldStop>
@@ -82,20 +83,6 @@ impl ControlWord {
             replaceable,
         })
     }
-
-    /// What a place with this character takes of the A field, by how many replaceable places stand right of it: of the
-    /// characters by address.
-    #[inline(always)]
-    pub(crate) fn takes_of(self, chars: &[Char], own: Char, behind: usize) -> Option<Char>
-        requires { self.a < length chars.now }
-        ensures { result ≡ taken_down chars.now self.a self.taken own behind }
-    {
-        if is_replaceable(own) && behind < usize::from(self.taken) {
-            Some(unzoned_down(chars, usize::from(self.a), behind))
-        } else {
-            None
-        }
-    }
 }
 
 /// Whether a character of the control word may be replaced by one of A: a blank or a zero.
@@ -107,7 +94,24 @@ pub(crate) fn is_replaceable(char: Char) -> bool
 }
 
 /// How many replaceable places n places that end at an address have.
+#[inline(always)]
 fn count_replaceable(core: &Core, at: u16, n: u16) -> u16
+    requires at { at < length core.now }
+    requires n { n ≤ at + 1 }
+    ensures value { result ≡ replaceable_in (chars_across core.now at n) }
+    ensures bound { result ≤ n }
+{
+    if at < 15 || n > 16 {
+        return count_by_places(core, at, n);
+    }
+    let codes = codes_across(core.chars(), usize::from(at));
+    let found = (bits_of(codes, 0) + bits_of(codes, ZERO)) >> u64::from(16 - n);
+    found.count_ones() as u16
+}
+
+/// The same, place by place.
+#[inline(never)]
+fn count_by_places(core: &Core, at: u16, n: u16) -> u16
     requires at { at < length core.now }
     requires n { n ≤ at + 1 }
     ensures value { result ≡ replaceable_in (chars_across core.now at n) }
@@ -122,7 +126,7 @@ fn count_replaceable(core: &Core, at: u16, n: u16) -> u16
     count
 }
 
-/// How many characters of A are taken by this many replaceable places; none where a place that is needed isn't in core.
+/// How many characters of A are taken by this many replaceable places; none if a place that is needed isn't in core.
 fn taken_len(core: &Core, a: u16, replaceable: u16) -> Option<u16>
     requires { a < addresses }
     ensures value { result ≡ used_len_of core.now a replaceable }
@@ -138,9 +142,24 @@ fn taken_len(core: &Core, a: u16, replaceable: u16) -> Option<u16>
     }
 }
 
-/// How many of n places that end at an address there are up to and including the last zero: none, where there is no
+/// How many of n places that end at an address there are up to and including the last zero: none, if there is no
 /// zero.
+#[inline(always)]
 pub(crate) fn limit(core: &Core, at: u16, n: u16) -> u16
+    requires at { at < length core.now }
+    requires n { n ≤ at + 1 }
+    ensures { result ≡ limit_of (chars_across core.now at n) }
+{
+    if at < 15 || n > 16 {
+        return limit_by_places(core, at, n);
+    }
+    let found = bits_of(codes_across(core.chars(), usize::from(at)), ZERO) >> u64::from(16 - n);
+    (64 - found.leading_zeros()) as u16
+}
+
+/// The same, place by place.
+#[inline(never)]
+fn limit_by_places(core: &Core, at: u16, n: u16) -> u16
     requires at { at < length core.now }
     requires n { n ≤ at + 1 }
     ensures { result ≡ limit_of (chars_across core.now at n) }

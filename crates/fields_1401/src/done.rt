@@ -9,13 +9,13 @@ pub struct Done {
     pub a: u16,
     /// The B register afterwards, below 16,000.
     pub b: u16,
-    /// Whether a sum was too large for the B field; false where the operation adds nothing.
+    /// Whether a sum was too large for the B field; false if the operation adds nothing.
     pub overflow: bool,
-    /// Whether the fields compared differ; false where the operation compares nothing.
+    /// Whether the fields compared differ; false if the operation compares nothing.
     pub unequal: bool,
-    /// Whether the B field is lower than the A field; false where the operation compares nothing.
+    /// Whether the B field is lower than the A field; false if the operation compares nothing.
     pub low: bool,
-    /// Whether the B field is higher than the A field; false where the operation compares nothing.
+    /// Whether the B field is higher than the A field; false if the operation compares nothing.
     pub high: bool,
 }
 

@@ -12,9 +12,10 @@ ghost use Rattle.fields_1401.specs.Edit.{ShowsWithBlanks};
 ghost use Rattle.fields_1401.specs.Outcome.{CarriesOut};
 ghost use Rattle.fields_1401.specs.Places.{with_chars};
 
+use crate::across::unzoned_down;
 use crate::control_word::{ControlWord, is_replaceable, limit};
 use crate::done::{Done, FieldStop};
-use crate::registers::{below, registers};
+use crate::registers::{registers, step_down};
 use crate::sign::Sign;
 use crate::slices::{char_at, put_char};
 use crate::suppression::{COMMA, ZERO};
@@ -53,8 +54,8 @@ struct Rules {
 ///
 /// # Errors
 ///
-/// `Address` where there is no B field, where a isn't in core, or where the A field comes to address 0 before its word
-/// mark with a place left to replace; else `Overlap` where a place of A that is read is one of the B field.
+/// `Address` if there is no B field, if a isn't in core, or if the A field comes to address 0 before its word
+/// mark with a place left to replace; else `Overlap` if a place of A that is read is one of the B field.
 #[tactic(auto, unfolding(crate::specs::Edit::edit_at, crate::specs::Edit::with_edited))]
 pub fn edit(core: &mut Core, a: u16, b: u16) -> Result<Done, FieldStop>
     requires a { a < addresses }
@@ -74,7 +75,7 @@ pub fn edit(core: &mut Core, a: u16, b: u16) -> Result<Done, FieldStop>
         sign: Sign::of_units(core.get(a).char),
     };
     put_edited(core, word, rules);
-    Ok(registers(below(a, word.taken), below(b, word.len)))
+    Ok(registers(step_down(a, word.taken), step_down(b, word.len)))
 }
 
 /// Puts what each place shows, without word marks.
@@ -120,20 +121,18 @@ fn put_unsuppressed(core: &mut Core, word: ControlWord, rules: Rules) -> usize
     let mut significant = len;
     for i in 0..len {
         let own = char_at(chars, units - i);
-        match word.takes_of(chars, own, behind) {
-            Some(char) => {
-                if !is_replaceable(char) {
-                    significant = len - 1 - i;
-                }
-                put_char(chars, units - i, char);
-                behind += 1;
+        if !is_replaceable(own) {
+            put_char(chars, units - i, rules.kept_char(behind, own));
+        } else if behind < rules.taken {
+            let char = unzoned_down(chars, usize::from(word.a), behind);
+            if !is_replaceable(char) {
+                significant = len - 1 - i;
             }
-            None => {
-                put_char(chars, units - i, rules.kept_char(behind, own));
-                if is_replaceable(own) {
-                    behind += 1;
-                }
-            }
+            put_char(chars, units - i, char);
+            behind += 1;
+        } else {
+            put_char(chars, units - i, Char::BLANK);
+            behind += 1;
         }
     }
     significant
@@ -190,14 +189,14 @@ impl Rules {
             || (is_sign_char(own) && self.is_sign_blanked(behind))
     }
 
-    /// Whether a comma becomes blank: with what is left over, and behind all replaceable places.
+    /// Whether a comma becomes blank: with what is left over, and after all replaceable places.
     fn is_comma_blanked(self, behind: usize) -> bool
         ensures { result ≡ is_comma_blanked self.taken self.replaceable behind false }
     {
         self.is_left_over(behind) || behind == 0
     }
 
-    /// Whether a part of a sign becomes blank: behind all replaceable places, unless A is minus.
+    /// Whether a part of a sign becomes blank: after all replaceable places, unless A is minus.
     fn is_sign_blanked(self, behind: usize) -> bool
         ensures { result ≡ is_sign_blanked self.sign behind }
     {

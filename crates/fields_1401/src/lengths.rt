@@ -5,7 +5,7 @@ ghost use Rattle.core_1401.specs.Field.{field_len_of, pair_len_of};
 use crate::refusals::are_in_core;
 use core_1401::Core;
 
-/// How many places a field has; none where it isn't in core, or comes to address 0 before a word mark.
+/// How many places a field has; none if it isn't in core, or comes to address 0 before a word mark.
 pub(crate) fn field_len(core: &Core, at: u16) -> Option<u16>
     ensures value { result ≡ field_len_of core.now at }
     ensures in_core { IfSome result (λ n. at < length core.now) }
@@ -18,7 +18,7 @@ pub(crate) fn field_len(core: &Core, at: u16) -> Option<u16>
     core.field_len(at)
 }
 
-/// How many places two fields have down to the first word mark in either; none where one of them isn't in core, or
+/// How many places two fields have down to the first word mark in either; none if one of them isn't in core, or
 /// comes to address 0 before it.
 #[tactic(auto, using(crate::proofs::FieldLemmas::no_pair))]
 pub(crate) fn pair_len(core: &Core, a: u16, b: u16) -> Option<u16>

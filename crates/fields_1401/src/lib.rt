@@ -32,6 +32,7 @@ mod digits;
 mod like_signs;
 mod operands;
 pub mod sign;
+mod sixteen_columns;
 mod unlike_signs;
 pub mod zero_sums;
 
@@ -39,6 +40,7 @@ pub mod zero_sums;
 mod across;
 mod control_word;
 pub mod editing;
+mod lanes;
 pub mod suppression;
 
 pub use arithmetic::{add, subtract};
@@ -49,7 +51,7 @@ pub use loads::load_chars;
 pub use marks::{clear_down, clear_marks, set_marks};
 pub use moves::move_chars;
 pub use parts::{move_digit, move_zone};
-pub use registers::below;
+pub use registers::step_down;
 pub use sign::Sign;
 pub use suppression::suppress;
 pub use zero_sums::{zero_add, zero_subtract};

@@ -8,7 +8,7 @@ ghost use Rattle.fields_1401.specs.Outcome.{CarriesOut};
 use crate::done::{Done, FieldStop};
 use crate::lengths::field_len;
 use crate::refusals::{has_places, is_overwritten};
-use crate::registers::{below, registers};
+use crate::registers::{registers, step_down};
 use core_1401::Core;
 
 /// Loads the A field with its word mark to b and the places below it, from right to left. The word marks that stood
@@ -16,8 +16,8 @@ use core_1401::Core;
 ///
 /// # Errors
 ///
-/// `Address` where a isn't in core or its field comes to address 0 before a word mark, where b isn't in core or has too
-/// few places below it, or where the word mark would be written over before it is met.
+/// `Address` if a isn't in core or its field comes to address 0 before a word mark, if b isn't in core or has too
+/// few places below it, or if the word mark would be written over before it is met.
 #[tactic(auto, unfolding(crate::specs::Load::load_at))]
 pub fn load_chars(core: &mut Core, a: u16, b: u16) -> Result<Done, FieldStop>
     requires a { a < addresses }
@@ -32,7 +32,7 @@ pub fn load_chars(core: &mut Core, a: u16, b: u16) -> Result<Done, FieldStop>
         return Err(FieldStop::Address);
     }
     load_places(core, a, b, n);
-    Ok(registers(below(a, n), below(b, n)))
+    Ok(registers(step_down(a, n), step_down(b, n)))
 }
 
 /// Loads the n cells of the A field.

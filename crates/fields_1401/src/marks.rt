@@ -7,14 +7,14 @@ ghost use Rattle.fields_1401.specs.Places.{chars_of};
 
 use crate::done::{Done, FieldStop};
 use crate::refusals::are_in_core;
-use crate::registers::{below, registers};
+use crate::registers::{registers, step_down};
 use core_1401::Core;
 
 /// Sets the word marks at both addresses (A24-1403, "Set Word Mark").
 ///
 /// # Errors
 ///
-/// `Address` where one of the places isn't in core.
+/// `Address` if one of the places isn't in core.
 pub fn set_marks(core: &mut Core, a: u16, b: u16) -> Result<Done, FieldStop>
     requires a { a < addresses }
     requires b { b < addresses }
@@ -28,7 +28,7 @@ pub fn set_marks(core: &mut Core, a: u16, b: u16) -> Result<Done, FieldStop>
 ///
 /// # Errors
 ///
-/// `Address` where one of the places isn't in core.
+/// `Address` if one of the places isn't in core.
 pub fn clear_marks(core: &mut Core, a: u16, b: u16) -> Result<Done, FieldStop>
     requires a { a < addresses }
     requires b { b < addresses }
@@ -43,7 +43,7 @@ pub fn clear_marks(core: &mut Core, a: u16, b: u16) -> Result<Done, FieldStop>
 ///
 /// # Errors
 ///
-/// `Address` where b isn't in core.
+/// `Address` if b isn't in core.
 pub fn clear_down(core: &mut Core, b: u16) -> Result<Done, FieldStop>
     requires { b < addresses }
     ensures { CarriesOut (clear_down_at core.old b) core.old core.new result }
@@ -53,7 +53,7 @@ pub fn clear_down(core: &mut Core, b: u16) -> Result<Done, FieldStop>
     }
     let hundred = b / 100 * 100;
     clear_places(core, b, b + 1 - hundred);
-    Ok(registers(b, below(hundred, 1)))
+    Ok(registers(b, step_down(hundred, 1)))
 }
 
 /// Sets both word marks, or clears them.
@@ -69,7 +69,7 @@ fn put_marks(core: &mut Core, a: u16, b: u16, mark: bool) -> Result<Done, FieldS
     }
     core.put_mark(a, mark);
     core.put_mark(b, mark);
-    Ok(registers(below(a, 1), below(b, 1)))
+    Ok(registers(step_down(a, 1), step_down(b, 1)))
 }
 
 /// Clears n places from an address down.

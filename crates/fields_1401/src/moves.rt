@@ -9,7 +9,7 @@ ghost use Rattle.fields_1401.specs.Places.{marks_of};
 use crate::done::{Done, FieldStop};
 use crate::lengths::pair_len;
 use crate::refusals::is_overwritten;
-use crate::registers::{below, registers};
+use crate::registers::{registers, step_down};
 use core_1401::Core;
 
 /// Moves the characters of the A field to the B field, from right to left and down to the first word mark in either.
@@ -17,8 +17,8 @@ use core_1401::Core;
 ///
 /// # Errors
 ///
-/// `Address` where one of the addresses isn't in core, or one of the fields comes to address 0 before a word mark
-/// stands in either.
+/// `Address` if one of the addresses isn't in core, or one of the fields comes to address 0 before a word mark
+/// in either.
 #[tactic(auto, unfolding(crate::specs::Move::move_at))]
 pub fn move_chars(core: &mut Core, a: u16, b: u16) -> Result<Done, FieldStop>
     requires a { a < addresses }
@@ -30,10 +30,10 @@ pub fn move_chars(core: &mut Core, a: u16, b: u16) -> Result<Done, FieldStop>
         return Err(FieldStop::Address);
     };
     move_places(core, a, b, n);
-    Ok(registers(below(a, n), below(b, n)))
+    Ok(registers(step_down(a, n), step_down(b, n)))
 }
 
-/// Moves n characters, each after the one to its right: a copy, but where some of them repeat.
+/// Moves n characters, each after the one to its right: a copy, unless some of them repeat.
 fn move_places(core: &mut Core, a: u16, b: u16, n: u16)
     requires a_in { a < length core.old }
     requires b_in { b < length core.old }

@@ -36,7 +36,7 @@ impl Operands {
     ///
     /// # Errors
     ///
-    /// `Address` where there is no B field, or a place of A that is needed isn't in core; else `Overlap` where the
+    /// `Address` if there is no B field, or a place of A that is needed isn't in core; else `Overlap` if the
     /// addresses differ and a place of A that is used is one of the B field.
     #[inline(always)]
     #[tactic(auto, unfolding(crate::specs::Refusal::lengths_at))]
@@ -78,7 +78,7 @@ impl Operands {
     }
 }
 
-/// How many places of A are used, and how many the B field has; none where one of them isn't in core.
+/// How many places of A are used, and how many the B field has; none if one of them isn't in core.
 #[inline(always)]
 fn needed(core: &Core, a: u16, b: u16) -> Option<(u16, u16)>
     requires { a < addresses }
@@ -94,7 +94,7 @@ fn needed(core: &Core, a: u16, b: u16) -> Option<(u16, u16)>
 }
 
 /// How many places of A are used beside a B field of this length: down to its first word mark, but no more than that;
-/// none where one of them isn't in core.
+/// none if one of them isn't in core.
 #[inline(always)]
 pub(crate) fn used_len(core: &Core, a: u16, len: u16) -> Option<u16>
     requires a { a < addresses }

@@ -9,14 +9,14 @@ ghost use Rattle.fields_1401.specs.Places.{marks_of};
 
 use crate::done::{Done, FieldStop};
 use crate::refusals::are_in_core;
-use crate::registers::{below, registers};
+use crate::registers::{registers, step_down};
 use core_1401::Core;
 
 /// Moves the four low bits of the character at a to b. The zone and the word mark there stay (A24-1403, "Move Digit").
 ///
 /// # Errors
 ///
-/// `Address` where one of the places isn't in core.
+/// `Address` if one of the places isn't in core.
 #[tactic(auto, using(crate::proofs::PartsLemmas::part_put))]
 pub fn move_digit(core: &mut Core, a: u16, b: u16) -> Result<Done, FieldStop>
     requires a { a < addresses }
@@ -32,14 +32,14 @@ pub fn move_digit(core: &mut Core, a: u16, b: u16) -> Result<Done, FieldStop>
     let zone = core.get(b).char.zone();
     let char = core.get(a).char.with_zone(zone);
     core.put_char(b, char);
-    Ok(registers(below(a, 1), below(b, 1)))
+    Ok(registers(step_down(a, 1), step_down(b, 1)))
 }
 
 /// Moves the zone of the character at a to b. The four low bits and the word mark there stay (A24-1403, "Move Zone").
 ///
 /// # Errors
 ///
-/// `Address` where one of the places isn't in core.
+/// `Address` if one of the places isn't in core.
 #[tactic(auto, using(crate::proofs::PartsLemmas::part_put))]
 pub fn move_zone(core: &mut Core, a: u16, b: u16) -> Result<Done, FieldStop>
     requires a { a < addresses }
@@ -55,5 +55,5 @@ pub fn move_zone(core: &mut Core, a: u16, b: u16) -> Result<Done, FieldStop>
     let zone = core.get(a).char.zone();
     let char = core.get(b).char.with_zone(zone);
     core.put_char(b, char);
-    Ok(registers(below(a, 1), below(b, 1)))
+    Ok(registers(step_down(a, 1), step_down(b, 1)))
 }

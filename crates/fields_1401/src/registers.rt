@@ -7,7 +7,7 @@ use crate::done::Done;
 use core_1401::ADDRESSES;
 
 /// The address that many places below, modulo 16,000.
-pub fn below(at: u16, by: u16) -> u16
+pub fn step_down(at: u16, by: u16) -> u16
     requires at { at < addresses }
     requires by { by ≤ addresses }
     ensures value { result ≡ below_by at by }

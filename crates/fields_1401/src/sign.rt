@@ -8,14 +8,14 @@ use bcd_1401::Char;
 /// The sign of a number, by the zone over its units. A zero has one too.
 #[derive(Clone, Copy, Debug, PartialEq, Eq)]
 pub enum Sign {
-    /// No zone, zone A, or both stand over the units.
+    /// No zone, zone A, or both are over the units.
     Plus,
-    /// Zone B alone stands over the units.
+    /// Zone B alone is over the units.
     Minus,
 }
 
 impl Sign {
-    /// The sign of a number by the character over its units: minus where the zone is B alone.
+    /// The sign of a number by the character over its units: minus if the zone is B alone.
     pub(crate) fn of_units(units: Char) -> Sign
         ensures { result ≡ sign_under (zone_of units) }
     {

@@ -13,7 +13,7 @@ use crate::across::{unzoned_char, unzoned_down};
 use crate::done::{Done, FieldStop};
 use crate::lengths::field_len;
 use crate::refusals::{has_places, is_overlap};
-use crate::registers::{below, registers};
+use crate::registers::{registers, step_down};
 use crate::slices::put_char;
 use bcd_1401::Char;
 use core_1401::{ADDRESSES, Core};
@@ -30,8 +30,8 @@ pub(crate) const COMMA: u8 = 27;
 ///
 /// # Errors
 ///
-/// `Address` where a isn't in core or its field comes to address 0 before a word mark, or where b isn't in core or has
-/// too few places below it; else `Overlap` where the addresses differ and the places share one.
+/// `Address` if a isn't in core or its field comes to address 0 before a word mark, or if b isn't in core or has
+/// too few places below it; else `Overlap` if the addresses differ and the places share one.
 #[tactic(auto, unfolding(crate::specs::Suppress::suppress_at, crate::specs::Suppress::with_suppressed))]
 pub fn suppress(core: &mut Core, a: u16, b: u16) -> Result<Done, FieldStop>
     requires a { a < addresses }
@@ -55,7 +55,7 @@ pub fn suppress(core: &mut Core, a: u16, b: u16) -> Result<Done, FieldStop>
     }
     let blanks = before_figures(core, a, n);
     put_suppressed(core, a, b, n, blanks);
-    Ok(registers(below(a, n), (b + 1) % ADDRESSES))
+    Ok(registers(step_down(a, n), (b + 1) % ADDRESSES))
 }
 
 /// Whether a character stops the suppression: it is none of zero, blank and comma.
@@ -66,8 +66,8 @@ fn is_figure(char: Char) -> bool
     !(code == ZERO || code == 0 || code == COMMA)
 }
 
-/// How many of n characters that end at an address, the units without their zone, stand left of the first that stops
-/// the suppression.
+/// How many of n characters that end at an address, the units without their zone, are to the left of the first that
+/// stops the suppression.
 fn before_figures(core: &Core, at: u16, n: u16) -> u16
     requires at { at < length core.now }
     requires n { n ≤ at + 1 }

@@ -75,8 +75,8 @@ fn put_in_place<R: Files + AllocGlobal>(rt: &R, name: &str, text: &[u8]) -> io::
 ///
 /// # Errors
 ///
-/// `Unwritten` where no file can be made beside it, or the text isn't written, or the file that is there can't be
-/// written; `Memory` where there is no room for a name. A file that was there is then as it was.
+/// `Unwritten` if no file can be made beside it, or the text isn't written, or the file that is there can't be
+/// written; `Memory` if there is no room for a name. A file that was there is then as it was.
 pub fn write_whole<R: Files + AllocGlobal>(
     rt: &R,
     name: &str,

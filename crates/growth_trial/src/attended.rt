@@ -5,9 +5,9 @@ use crate::recorded::{load, new_room};
 use crate::shared::open_room;
 use crate::shown::show_room;
 use crate::written::SOURCE;
-use autocoder_1401::assemble;
+use autocoder_1401::assemble_image;
 use console_1401::{FromReader, OpenDoor, ToWriter};
-use room_1401::{Naming, Opened, Room};
+use room_1401::{Opened, Room, RoomId};
 use std::alloc::Global;
 use std::io;
 use std::marker::Brand;
@@ -33,9 +33,9 @@ pub fn session(rt: &(impl Input + Print), alloc: Global) -> io::Result<()> {
 /// A session at a machine into which a program was loaded as it came from the assembler.
 pub fn program(rt: &(impl Input + Print), alloc: Global) -> io::Result<()> {
     for _ in 0..2 {
-        match assemble(alloc, SOURCE, 4_000) {
-            Ok(assembly) => {
-                if let Some(mut room) = load(rt, alloc, &assembly.image)? {
+        match assemble_image(alloc, SOURCE, 4_000) {
+            Ok(image) => {
+                if let Some(mut room) = load(rt, alloc, &image)? {
                     return hold_session(rt, alloc, &mut room);
                 }
             }
@@ -46,7 +46,7 @@ pub fn program(rt: &(impl Input + Print), alloc: Global) -> io::Result<()> {
 }
 
 /// Lines at the first of two seats; then the other one, which asks for one place. False if the room was refused.
-fn operate<J: Naming, R: Wait + Input + Print>(
+fn operate<J: RoomId, R: Wait + Input + Print>(
     rt: &R,
     alloc: Global,
     opened: Opened,

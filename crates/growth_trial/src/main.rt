@@ -28,6 +28,7 @@ fn main(rt: HostRuntime) -> io::Result<()> {
         "shared" => shared::power_on(&rt, alloc),
         "command" => shared::command(&rt, alloc),
         "assemble" => written::assembly(&rt, alloc),
+        "assemble_image" => written::image_alone(&rt, alloc),
         "write_image" => written::image(&rt, alloc),
         "read_image" => written::images(&rt, alloc),
         "reply_text" => written::replies(&rt, alloc),

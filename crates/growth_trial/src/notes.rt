@@ -3,7 +3,7 @@ ghost use Rattle.std.specs.Prelude.{◌≡◌};
 
 use crate::shared::{give_line, open_room, show_glance};
 use crate::shown::show_room;
-use room_1401::{Naming, Opened, Seat, SharedRoom};
+use room_1401::{Opened, RoomId, Seat, SharedRoom};
 use std::alloc::Global;
 use std::io;
 use std::marker::Brand;
@@ -19,7 +19,7 @@ enum End {
 }
 
 /// Seat 1 deposits a character, glances, and tells seat 2, which had glanced before; then each gives a command more.
-fn exchange<J: Naming, R: Wait + Print>(
+fn exchange<J: RoomId, R: Wait + Print>(
     rt: &R,
     room: &SharedRoom<J, &R>,
     one: &mut Seat<J>,
@@ -37,7 +37,7 @@ fn exchange<J: Naming, R: Wait + Print>(
 }
 
 /// Closes a room with its first seat alone, and then with both.
-fn close<J: Naming, R: Wait + Print>(
+fn close<J: RoomId, R: Wait + Print>(
     rt: &R,
     room: SharedRoom<J, &R>,
     seats: Vec<Seat<J>>,
@@ -62,7 +62,7 @@ fn close<J: Naming, R: Wait + Print>(
 }
 
 /// Both seats' commands, and the room's end. False if the room was refused.
-fn operate<J: Naming, R: Wait + Print>(
+fn operate<J: RoomId, R: Wait + Print>(
     rt: &R,
     alloc: Global,
     opened: Opened,

@@ -4,7 +4,7 @@ ghost use Rattle.std.specs.Prelude.{◌≡◌};
 use crate::shared::open_room;
 use crate::shown::{show_bytes, show_room};
 use console_1401::Door;
-use room_1401::{Naming, Opened};
+use room_1401::{Opened, RoomId};
 use std::alloc::Global;
 use std::io;
 use std::io::{Read, Write};
@@ -70,7 +70,7 @@ fn show_replies(rt: &impl Print, stream: &mut TcpStream) -> io::Result<()> {
 
 /// Serves the two, and prints their replies, how the service ended, the journal and the machine.
 fn operate<
-    J: Naming + Send + Sync,
+    J: RoomId + Send + Sync,
     R: Threads + Wait + Print + Sync + Net<Listener = TcpListener, Stream = TcpStream>,
 >(rt: &R, alloc: Global, opened: Opened) -> io::Result<()>
     requires history { opened.book ≡ J.book }

@@ -4,7 +4,7 @@ ghost use Rattle.room_1401.specs.Seen.{newcomers};
 
 use crate::recorded::COMMANDS;
 use crate::shown::show_room;
-use room_1401::{Command, Naming, Opened, RoomFault, Seat, SharedRoom, StartFault};
+use room_1401::{Command, Opened, RoomFault, RoomId, Seat, SharedRoom, StartFault};
 use std::alloc::Global;
 use std::io;
 use std::marker::Brand;
@@ -12,7 +12,7 @@ use std::sync::Wait;
 use text_1401::{Line, parse_line};
 
 /// Why a room isn't made.
-fn fault_of<J: Naming, R: Wait>(
+fn fault_of<J: RoomId, R: Wait>(
     rt: &R,
     alloc: Global,
     size: u16,
@@ -27,7 +27,7 @@ fn fault_of<J: Naming, R: Wait>(
 }
 
 /// A room of 4,000 places with two seats. None if it was refused, which is told.
-pub fn open_room<J: Naming, R: Wait + Print>(
+pub fn open_room<J: RoomId, R: Wait + Print>(
     rt: &R,
     alloc: Global,
     opened: Opened,
@@ -79,7 +79,7 @@ pub fn power_on(rt: &(impl Print + Wait), alloc: Global) -> io::Result<()> {
 }
 
 /// Has a seat's command carried out, and asks for it a second time if it was refused.
-fn give<J: Naming, R: Wait + Print>(
+fn give<J: RoomId, R: Wait + Print>(
     rt: &R,
     room: &SharedRoom<J, &R>,
     seat: &mut Seat<J>,
@@ -100,7 +100,7 @@ fn give<J: Naming, R: Wait + Print>(
 }
 
 /// Prints what a seat sees at place 500.
-pub fn show_glance<J: Naming>(rt: &impl Print, seat: &mut Seat<J>) -> io::Result<()> {
+pub fn show_glance<J: RoomId>(rt: &impl Print, seat: &mut Seat<J>) -> io::Result<()> {
     match seat.glance(500) {
         Ok(glance) => println!(rt; "seat {} glances {glance:?}", seat.number()),
         Err(fault) => println!(rt; "{fault:?}"),
@@ -108,7 +108,7 @@ pub fn show_glance<J: Naming>(rt: &impl Print, seat: &mut Seat<J>) -> io::Result
 }
 
 /// A seat gives a line's command, and then glances.
-pub fn give_line<J: Naming, R: Wait + Print>(
+pub fn give_line<J: RoomId, R: Wait + Print>(
     rt: &R,
     room: &SharedRoom<J, &R>,
     seat: &mut Seat<J>,
@@ -122,7 +122,7 @@ pub fn give_line<J: Naming, R: Wait + Print>(
 }
 
 /// Two operators give commands in turn. False if the room was refused.
-fn operate<J: Naming, R: Wait + Print>(rt: &R, alloc: Global, opened: Opened) -> io::Result<bool>
+fn operate<J: RoomId, R: Wait + Print>(rt: &R, alloc: Global, opened: Opened) -> io::Result<bool>
     requires history { opened.book ≡ J.book }
     requires ledger { (opened.ledger ≡ J.name) × (opened.parts ≡ J.parts) × (J.parts ≡ J.seats) }
     requires named { (4000 ≡ J.size) × (2 ≡ J.seats) }

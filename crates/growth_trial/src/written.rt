@@ -2,7 +2,7 @@
 
 use crate::recorded::COMMANDS;
 use crate::shown::show_bytes;
-use autocoder_1401::{AsmKind, assemble};
+use autocoder_1401::{AsmKind, assemble, assemble_image};
 use cpu_1401::Machine;
 use image_1401::{ImageFault, read_image, write_image};
 use room_1401::{Answer, carry_out};
@@ -19,6 +19,9 @@ pub const SOURCE: &[u8] =
 /// Its image.
 const IMAGE: &[u8] = b"IMAGE2 04000\n00400 24 ~?423420~A423420~.414~   ~HI~E\nEND 00400\n";
 
+/// A source without a fault, and one with one.
+const SOURCES: [&[u8]; 2] = [SOURCE, b"               B    Q\n"];
+
 /// Texts that are an image's and texts that aren't.
 const IMAGES: [&[u8]; 6] = [
     IMAGE,
@@ -31,7 +34,7 @@ const IMAGES: [&[u8]; 6] = [
 
 /// The image and the listing of a source, and the fault of one that has one.
 pub fn assembly(rt: &impl Print, alloc: Global) -> io::Result<()> {
-    for source in [SOURCE, b"               B    Q\n".as_slice()] {
+    for source in SOURCES {
         for _ in 0..2 {
             match assemble(alloc, source, 4_000) {
                 Ok(assembly) => {
@@ -40,6 +43,28 @@ pub fn assembly(rt: &impl Print, alloc: Global) -> io::Result<()> {
                         show_bytes(rt, line.as_slice())?;
                         println!(rt; "")?;
                     }
+                    break;
+                }
+                Err(fault) if fault.kind == AsmKind::Memory => {
+                    println!(rt; "refused Memory at line {}", fault.line)?;
+                }
+                Err(fault) => {
+                    println!(rt; "{fault:?}")?;
+                    break;
+                }
+            }
+        }
+    }
+    Ok(())
+}
+
+/// The image alone of a source, and the fault of one that has one.
+pub fn image_alone(rt: &impl Print, alloc: Global) -> io::Result<()> {
+    for source in SOURCES {
+        for _ in 0..2 {
+            match assemble_image(alloc, source, 4_000) {
+                Ok(image) => {
+                    println!(rt; "{image:?}")?;
                     break;
                 }
                 Err(fault) if fault.kind == AsmKind::Memory => {

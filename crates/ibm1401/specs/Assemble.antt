@@ -1,14 +1,20 @@
 -- What a call that assembles a source has written and told, once the file is read (own).
-use Rattle.std.specs.Prelude.{◌≡◌, ◌⊎◌, ℕ, ⊤, Bool, IsTrue, List, ◌++◌, Option, Result, Ok, Err, IsOk, codes}
+use Rattle.std.specs.Prelude.{◌≡◌, ◌⊎◌, ℕ, ⊤, Bool, IsTrue, if◌then◌else◌, List, [], ◌∷◌, ◌++◌, Option, Some, Result, Ok, Err, IsOk, codes}
 use Rattle.std.specs.Io.KnownBytes.{Appends, Keeps}
 use Rattle.std.specs.List.{flat_map}
-use Rattle.autocoder_1401.specs.Assembly.{assembly_in}
+use Rattle.autocoder_1401.specs.Assembly.{assembly_in, lines_in}
+use Rattle.autocoder_1401.specs.CrossReference.{references_text}
 use Rattle.autocoder_1401.specs.Fault.{IsMemory}
+use Rattle.autocoder_1401.specs.SymbolTable.{symbols_text}
 use Rattle.autocoder_1401.specs.declared.assembly.Assembly.{Assembly}
+use Rattle.deck_1401.specs.Contents.{first_taken, storage_of}
+use Rattle.deck_1401.specs.Deck.{deck_text}
+use Rattle.deck_1401.specs.declared.fault.DeckFault.TheVariants.{Place}
 use Rattle.streams_1401.specs.Sink.{AppendsPart}
 use Rattle.image_1401.specs.ImageText.{IsTextOf, written_text}
 use Rattle.arguments_1401.specs.declared.call.Product.{Product}
 use Rattle.arguments_1401.specs.declared.call.Product.TheVariants as product
+use Rattle.arguments_1401.specs.declared.call.Tables.{Tables}
 use Rattle.ibm1401.specs.declared.fault.Fault.{Fault}
 use Rattle.ibm1401.specs.declared.fault.Fault.TheVariants as fault
 
@@ -20,10 +26,29 @@ line_text line = line ++ codes "\n"
 unfoldable pub listing_text : List (List ℕ) → List ℕ
 listing_text lines = flat_map line_text lines
 
--- the text is what is written of an assembly: that of its image in the newest version, or its listing
-abbrev pub IsProduct : Product → Assembly → List ℕ → Type 0
-IsProduct product.Image assembly text = (text ≡ written_text assembly.image) × IsTextOf text assembly.image
-IsProduct product.Listing assembly text = text ≡ listing_text assembly.listing
+-- a part of a text after those before it, with an empty line between them
+abbrev pub with_part : List ℕ → List ℕ → List ℕ
+with_part [] part = part
+with_part (byte ∷ bytes) [] = byte ∷ bytes
+with_part (byte ∷ bytes) (first ∷ more) = (byte ∷ bytes) ++ codes "\n" ++ first ∷ more
+
+abbrev pub with_part_if : Bool → List ℕ → List ℕ → List ℕ
+with_part_if asked text part = if asked then with_part text part else text
+
+-- the listing, the symbol table and the cross-reference, so far as they are asked for
+abbrev pub tables_text : Tables → List ℕ → List ℕ → List ℕ → List ℕ
+tables_text asked listing symbols references =
+    with_part_if asked.references (with_part_if asked.symbols (with_part_if asked.listing [] listing) symbols) references
+
+-- the text is what is written of a source and its assembly: that of its image in the newest version, its listing, or
+-- tables
+abbrev pub IsProduct : Product → List ℕ → Assembly → List ℕ → Type 0
+IsProduct product.Image source assembly text = (text ≡ written_text assembly.image) × IsTextOf text assembly.image
+IsProduct product.Listing source assembly text = text ≡ listing_text assembly.listing
+IsProduct (product.Tables asked) source assembly text =
+    text
+    ≡ tables_text asked (listing_text assembly.listing) (symbols_text (lines_in source))
+    (references_text (lines_in source))
 
 -- why nothing was written: the source's own fault, or want of memory for it; or want of memory for the text
 abbrev pub IsWhyNotAssembled : ℕ → List ℕ → Fault → Type 0
@@ -35,6 +60,7 @@ IsWhyNotAssembled size source (fault.Unread name) = ⊥
 IsWhyNotAssembled size source (fault.File name why) = ⊥
 IsWhyNotAssembled size source (fault.Image why) = ⊥
 IsWhyNotAssembled size source (fault.Faulty told) = ⊥
+IsWhyNotAssembled size source (fault.Deck why) = ⊥
 IsWhyNotAssembled size source (fault.Source why) = IsMemory why ⊎ (assembly_in size source ≡ Err why)
 IsWhyNotAssembled size source (fault.Unwritten name) = ⊥
 IsWhyNotAssembled size source (fault.Run why) = ⊥
@@ -51,6 +77,24 @@ IsWhyNotAssembled size source fault.Port = ⊥
 IsWhyNotAssembled size source fault.Accept = ⊥
 IsWhyNotAssembled size source fault.Thread = ⊥
 
+-- the text is that of the deck of what the source stands for
+pub record IsDeckOf (size : ℕ) (source text : List ℕ) : Type 0 where
+  pub assembly : Assembly
+  pub stands_for : assembly_in size source ≡ Ok assembly
+  pub text_is : text ≡ deck_text assembly.image
+
+-- the source is assembled, and its image has something in the places where the cards of a deck are read
+pub record HasNoDeck (size : ℕ) (source : List ℕ) (told : Fault) : Type 0 where
+  pub assembly : Assembly
+  pub stands_for : assembly_in size source ≡ Ok assembly
+  pub place : ℕ
+  pub told_is : told ≡ fault.Deck (Place place)
+  pub taken : first_taken (storage_of assembly.image) ≡ Some place
+
+-- why no deck was made: as for an image, or its own reason
+abbrev pub IsWhyNoDeckOf : ℕ → List ℕ → Fault → Type 0
+IsWhyNoDeckOf size source told = IsWhyNotAssembled size source told ⊎ HasNoDeck size source told
+
 -- what an output received of a text: all of it, or a beginning where a write to it has failed
 abbrev pub Wrote : List ℕ → Option (List ℕ) → Option (List ℕ) → Bool → Result ⊤ Fault → Type 0
 Wrote text old new failed outcome =
@@ -61,7 +105,7 @@ Wrote text old new failed outcome =
 pub record IsProductOf (size : ℕ) (source : List ℕ) (product : Product) (text : List ℕ) : Type 0 where
   pub assembly : Assembly
   pub stands_for : assembly_in size source ≡ Ok assembly
-  pub text_is : IsProduct product assembly text
+  pub text_is : IsProduct product source assembly text
 
 -- Nothing was written.
 pub record NotAssembled (size : ℕ) (source : List ℕ) (old new : Option (List ℕ))

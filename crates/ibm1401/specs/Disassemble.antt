@@ -24,6 +24,7 @@ IsWhyNotListed text (fault.Unread name) = ⊥
 IsWhyNotListed text (fault.File name why) = ⊥
 IsWhyNotListed text (fault.Image why) = IsRefused text why
 IsWhyNotListed text (fault.Faulty told) = ⊥
+IsWhyNotListed text (fault.Deck why) = ⊥
 IsWhyNotListed text (fault.Source why) = ⊥
 IsWhyNotListed text (fault.Unwritten name) = ⊥
 IsWhyNotListed text (fault.Run why) = ⊥

@@ -37,6 +37,7 @@ IsWhyNotLoaded text (fault.Unread name) = ⊥
 IsWhyNotLoaded text (fault.File name why) = ⊥
 IsWhyNotLoaded text (fault.Image why) = IsRefused text why
 IsWhyNotLoaded text (fault.Faulty told) = ⊥
+IsWhyNotLoaded text (fault.Deck why) = ⊥
 IsWhyNotLoaded text (fault.Source why) = ⊥
 IsWhyNotLoaded text (fault.Unwritten name) = ⊥
 IsWhyNotLoaded text (fault.Run why) = ⊥

@@ -20,6 +20,7 @@ status_of (fault.File name why) = 1
 status_of (fault.Image why) = 1
 status_of (fault.Source why) = 1
 status_of (fault.Faulty told) = 1
+status_of (fault.Deck why) = 1
 status_of (fault.Unwritten name) = 1
 status_of (fault.Run why) = 1
 status_of fault.JournalFull = 1

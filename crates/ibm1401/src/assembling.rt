@@ -1,17 +1,23 @@
 //! What the subcommand `assemble` does.
-ghost use Rattle.std.specs.Prelude.{◌≡◌, true, false, Err, IfOk, IfErr, OnOk, OnErr};
+ghost use Rattle.std.specs.Prelude.{◌≡◌, true, false, Ok, Err, IfOk, IfErr, OnOk, OnErr};
 ghost use Rattle.core_1401.specs.Storage.{is_core_size};
 ghost use Rattle.image_1401.specs.Image.{IsInCore};
-ghost use Rattle.ibm1401.specs.Assemble.{listing_text, IsProduct, IsProductOf, IsWhyNotAssembled};
-ghost use Rattle.ibm1401.specs.Assemble.{Wrote, AssembleDid};
+ghost use Rattle.autocoder_1401.specs.Assembly.{assembly_in, with_listing};
+ghost use Rattle.arguments_1401.specs.declared.call.Product.TheVariants.{Image as InImage, Listing, Tables as InTables};
+ghost use Rattle.ibm1401.specs.Assemble.{listing_text, with_part, tables_text, IsProductOf, IsWhyNotAssembled};
+ghost use Rattle.ibm1401.specs.Assemble.{IsDeckOf, IsWhyNoDeckOf, Wrote, AssembleDid};
 
 use crate::fault::Fault;
-use arguments_1401::Product;
-use autocoder_1401::{Assembly, ListingLine, assemble};
+use arguments_1401::{Product, Tables};
+use autocoder_1401::{AssemblyTables, ListingLine, assemble, assemble_image, assemble_with_tables};
 use console_1401::{Sink, put_all};
 use core_1401::Core;
-use image_1401::write_image;
+use deck_1401::{DeckFault, write_deck};
+use image_1401::{Image, write_image};
 use std::alloc::{AllocError, Global};
+
+/// What parts the listing and the tables.
+const EMPTY_LINE: &[u8] = b"\n";
 
 /// Looks at the size of core storage that is asked for.
 ///
@@ -29,7 +35,7 @@ pub fn check_size(size: u16) -> Result<(), Fault>
     }
 }
 
-/// Writes what a source stands for: the text of its image, or its listing.
+/// Writes what a source stands for: the text of its image, its listing, or its tables.
 ///
 /// # Errors
 ///
@@ -50,7 +56,7 @@ pub fn write_assembly<W: Sink>(
     write_text(&text, writer)
 }
 
-/// The text of what a source stands for: of its image, or of its listing.
+/// The text of what a source stands for: of its image, of its listing, or its tables.
 ///
 /// # Errors
 ///
@@ -65,25 +71,115 @@ pub(crate) fn assembly_text(
     ensures ok { IfOk result (λ text. IsProductOf size source.now product text.items) }
     ensures err { IfErr result (IsWhyNotAssembled size source.now) }
 {
-    let assembly = match assemble(alloc, source, size) {
-        Ok(assembly) => assembly,
-        Err(fault) => return Err(Fault::Source(fault)),
-    };
-    match product_text(alloc, &assembly, product) {
+    match product {
+        Product::Image => image_text(alloc, source, size),
+        Product::Listing => source_listing(alloc, source, size),
+        Product::Tables(asked) => source_tables(alloc, source, size, asked),
+    }
+}
+
+/// The image of a source.
+fn image_of(alloc: Global, source: &[u8], size: u16) -> Result<Image, Fault>
+    ensures ok { IfOk result (λ image. assembly_in size source.now ≡ Ok (with_listing source.now image)) }
+    ensures in_core { is_core_size size ≡ true → IfOk result IsInCore }
+    ensures err { IfErr result (IsWhyNotAssembled size source.now) }
+{
+    match assemble_image(alloc, source, size) {
+        Ok(image) => Ok(image),
+        Err(fault) => Err(Fault::Source(fault)),
+    }
+}
+
+/// The text of a source's image.
+fn image_text(alloc: Global, source: &[u8], size: u16) -> Result<Vec<u8>, Fault>
+    requires { is_core_size size ≡ true }
+    ensures ok { IfOk result (λ text. IsProductOf size source.now InImage text.items) }
+    ensures err { IfErr result (IsWhyNotAssembled size source.now) }
+{
+    let image = image_of(alloc, source, size)?;
+    match write_image(alloc, &image) {
         Ok(text) => Ok(text),
         Err(_) => Err(Fault::Memory),
     }
 }
 
-/// What is written of an assembly.
-fn product_text(alloc: Global, assembly: &Assembly, product: Product) -> Result<Vec<u8>, AllocError>
-    requires { IsInCore assembly.now.image }
-    ensures { IfOk result (λ text. IsProduct product assembly.now text.items) }
+/// The text of the deck that brings a source's image into core storage, and starts it.
+///
+/// # Errors
+///
+/// `Source` where the source can't be assembled, `Deck` where its image has something in the places where a deck's cards
+/// are read, and `Memory` where there is no room for the text.
+pub(crate) fn source_deck(alloc: Global, source: &[u8], size: u16) -> Result<Vec<u8>, Fault>
+    requires { is_core_size size ≡ true }
+    ensures ok { IfOk result (λ text. IsDeckOf size source.now text.items) }
+    ensures err { IfErr result (IsWhyNoDeckOf size source.now) }
 {
-    match product {
-        Product::Image => write_image(alloc, &assembly.image),
-        Product::Listing => listing_text(alloc, assembly.listing.as_slice()),
+    let image = image_of(alloc, source, size)?;
+    match write_deck(alloc, &image) {
+        Ok(text) => Ok(text),
+        Err(DeckFault::Memory) => Err(Fault::Memory),
+        Err(DeckFault::Place(place)) => Err(Fault::Deck(DeckFault::Place(place))),
     }
+}
+
+/// The text of a source's listing.
+fn source_listing(alloc: Global, source: &[u8], size: u16) -> Result<Vec<u8>, Fault>
+    ensures ok { IfOk result (λ text. IsProductOf size source.now Listing text.items) }
+    ensures err { IfErr result (IsWhyNotAssembled size source.now) }
+{
+    let assembly = match assemble(alloc, source, size) {
+        Ok(assembly) => assembly,
+        Err(why) => return Err(Fault::Source(why)),
+    };
+    match listing_text(alloc, assembly.listing.as_slice()) {
+        Ok(text) => Ok(text),
+        Err(_) => Err(Fault::Memory),
+    }
+}
+
+/// The text of a source's tables.
+fn source_tables(alloc: Global, source: &[u8], size: u16, asked: Tables) -> Result<Vec<u8>, Fault>
+    ensures ok { IfOk result (λ text. IsProductOf size source.now (InTables asked) text.items) }
+    ensures err { IfErr result (IsWhyNotAssembled size source.now) }
+{
+    let made = match assemble_with_tables(alloc, source, size) {
+        Ok(made) => made,
+        Err(why) => return Err(Fault::Source(why)),
+    };
+    match tables_text(alloc, &made, asked) {
+        Ok(text) => Ok(text),
+        Err(_) => Err(Fault::Memory),
+    }
+}
+
+/// The tables that are asked for, an empty line between one and the next.
+fn tables_text(alloc: Global, made: &AssemblyTables, asked: Tables) -> Result<Vec<u8>, AllocError>
+    ensures { IfOk result (λ text. text.items ≡ tables_text asked (listing_text made.now.assembly.listing)
+        made.now.symbols.items made.now.references.items) }
+{
+    let mut text = Vec::new(alloc);
+    if asked.listing {
+        let listing = listing_text(alloc, made.assembly.listing.as_slice())?;
+        put_part(&mut text, listing.as_slice())?;
+    }
+    if asked.symbols {
+        put_part(&mut text, made.symbols.as_slice())?;
+    }
+    if asked.references {
+        put_part(&mut text, made.references.as_slice())?;
+    }
+    Ok(text)
+}
+
+/// Adds a part, after an empty line if there is something before it.
+fn put_part(text: &mut Vec<u8>, part: &[u8]) -> Result<(), AllocError>
+    ensures { OnOk result (text.new.items ≡ with_part text.old.items part.now) }
+{
+    if !text.is_empty() && !part.is_empty() {
+        text.extend_from_slice(EMPTY_LINE)?;
+    }
+    text.extend_from_slice(part)?;
+    Ok(())
 }
 
 /// The lines of a listing, each with a line feed behind it.

@@ -5,6 +5,7 @@ ghost use Rattle.ibm1401.specs.Status.{outcome_of, run_status, status_of};
 use autocoder_1401::AsmFault;
 use clap::Error as Refusal;
 use console_1401::SessionEnd;
+use deck_1401::DeckFault;
 use files_1401::FileFault;
 use image_1401::ImageFault;
 use keeping_1401::KeepFault;
@@ -51,6 +52,9 @@ pub enum Fault {
     /// The file has no source that can be assembled: a line for each of its faults.
     #[error("{0}")]
     Faulty(String),
+    /// The image of the source has no deck that loads itself.
+    #[error("{0}")]
+    Deck(DeckFault),
     /// The file has no image's text.
     #[error("image refused: {0}")]
     Image(ImageFault),
@@ -101,7 +105,7 @@ impl Fault {
             Fault::Text | Fault::Usage(_) => MISUSED,
             Fault::Output | Fault::Size | Fault::Memory => FAILED,
             Fault::Unread(_) | Fault::File(..) | Fault::Image(_) | Fault::JournalFull => FAILED,
-            Fault::Source(_) | Fault::Faulty(_) => FAILED,
+            Fault::Source(_) | Fault::Faulty(_) | Fault::Deck(_) => FAILED,
             Fault::Unwritten(_) | Fault::Run(_) => FAILED,
             Fault::Read | Fault::Write | Fault::Bound | Fault::Reply => FAILED,
             Fault::Unkept | Fault::Kept(_) => FAILED,

@@ -21,7 +21,7 @@ use std::{fs, io};
 ///
 /// # Errors
 ///
-/// `Kept` where the file can't be read or has no journal, `Output` where standard output doesn't take the text, or
+/// `Kept` if the file can't be read or has no journal, `Output` if standard output doesn't take the text, or
 /// `Memory`.
 pub fn journal_file<R: Files<File = File> + Print + AllocGlobal>(
     rt: &R,
@@ -84,7 +84,7 @@ fn new_room(alloc: Global, size: u16) -> Result<Room, Fault> {
 ///
 /// # Errors
 ///
-/// `Size` or `Memory` where there is no such room, `Kept` where the file can't be made, or what ended the session but
+/// `Size` or `Memory` if there is no such room, `Kept` if the file can't be made, or what ended the session but
 /// QUIT and the end of the input.
 pub fn keep_console<R: Files<File = File> + Input + Print + AllocGlobal>(
     rt: &R,
@@ -99,7 +99,7 @@ pub fn keep_console<R: Files<File = File> + Input + Print + AllocGlobal>(
 ///
 /// # Errors
 ///
-/// `Unread` where the image's file can't be read, what `load` fails by, and as those of `keep_console`.
+/// `Unread` if the image's file can't be read, what `load` fails by, and as those of `keep_console`.
 pub fn keep_loaded<R: Files<File = File> + Input + Print + AllocGlobal>(
     rt: &R,
     file: String,
@@ -146,11 +146,11 @@ fn keep_by<S: Sink + Drop, R: Source, W: Sink>(
 }
 
 /// Carries out the commands of a journal again, and holds a session of standard input and output that goes on there. It
-/// is kept in the same file, or in a new one; or, where only the first of the commands are asked for, it isn't kept.
+/// is kept in the same file, or in a new one; or, if only the first of the commands are asked for, it isn't kept.
 ///
 /// # Errors
 ///
-/// `Kept` where a file can't be had or has no journal, `Memory`, or what ended the session but QUIT and the end of the
+/// `Kept` if a file can't be had or has no journal, `Memory`, or what ended the session but QUIT and the end of the
 /// input.
 pub fn resume_file<R: Files<File = File> + Input + Print + Eprint + AllocGlobal>(
     rt: &R,

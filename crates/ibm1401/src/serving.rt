@@ -5,7 +5,7 @@ ghost use Rattle.ibm1401.specs.Status.{service_outcome, start_fault};
 use crate::fault::Fault;
 use arguments_1401::Service;
 use console_1401::{OpenDoor, ServeFault, serve};
-use room_1401::{Naming, Opened, SharedRoom, StartFault};
+use room_1401::{Opened, RoomId, SharedRoom, StartFault};
 use std::alloc::Global;
 use std::marker::Brand;
 use std::net::{Ipv4Addr, Net, TcpListener, TcpStream};
@@ -59,7 +59,7 @@ pub fn open_room<
 
 /// The same for a room of this name.
 fn serve_room<
-    J: Naming + Send + Sync,
+    J: RoomId + Send + Sync,
     R: Threads + Wait + Sync + Print + Net<Listener = TcpListener, Stream = TcpStream>,
 >(rt: &R, alloc: Global, service: Service, opened: Opened) -> Result<(), Fault>
     requires history { opened.book ≡ J.book }

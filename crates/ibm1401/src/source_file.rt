@@ -1,6 +1,6 @@
 //! The subcommand `assemble`, from the source's file to what is written.
 
-use crate::assembling::{assembly_text, check_size, write_assembly};
+use crate::assembling::{assembly_text, check_size, source_deck, write_assembly};
 use crate::fault::Fault;
 use crate::loading::read_file;
 use crate::source_faults::fault_lines;
@@ -11,6 +11,27 @@ use std::alloc::Global;
 use std::io;
 use std::rt::Files;
 use streams_1401::ToWriter;
+
+/// Writes a text to the file of this name, whole or not at all.
+fn put_file(rt: &(impl Files + AllocGlobal), name: String, text: &[u8]) -> Result<(), Fault> {
+    match write_whole(rt, name.as_str(), text) {
+        Ok(()) => Ok(()),
+        Err(WriteFault::Memory) => Err(Fault::Memory),
+        Err(WriteFault::Unwritten) => Err(Fault::Unwritten(name)),
+    }
+}
+
+/// Writes the deck of a source to the file of this name.
+fn put_deck(
+    rt: &(impl Files + AllocGlobal),
+    source: &[u8],
+    size: u16,
+    name: String,
+) -> Result<(), Fault> {
+    check_size(size)?;
+    let text = source_deck(rt.alloc(), source, size)?;
+    put_file(rt, name, text.as_slice())
+}
 
 /// Writes what a source stands for to standard output, or to the file of this name.
 fn write_product<R: Files + Print + AllocGlobal>(
@@ -24,17 +45,33 @@ fn write_product<R: Files + Print + AllocGlobal>(
     match out {
         Some(name) => {
             let text = assembly_text(rt.alloc(), source, size, product)?;
-            match write_whole(rt, name.as_str(), text.as_slice()) {
-                Ok(()) => Ok(()),
-                Err(WriteFault::Memory) => Err(Fault::Memory),
-                Err(WriteFault::Unwritten) => Err(Fault::Unwritten(name)),
-            }
+            put_file(rt, name, text.as_slice())
         }
         None => {
             let mut writer = ToWriter::new(io::writer(rt));
             write_assembly(rt.alloc(), source, size, product, &mut writer)
         }
     }
+}
+
+/// Writes the deck of a source, where one is asked for, and then what else is: not the image, where neither it nor a
+/// file for it is named.
+fn write_asked<R: Files + Print + AllocGlobal>(
+    rt: &R,
+    source: &[u8],
+    size: u16,
+    product: Product,
+    out: Option<String>,
+    deck: Option<String>,
+) -> Result<(), Fault> {
+    let Some(name) = deck else {
+        return write_product(rt, source, size, product, out);
+    };
+    put_deck(rt, source, size, name)?;
+    if product == Product::Image && out.is_none() {
+        return Ok(());
+    }
+    write_product(rt, source, size, product, out)
 }
 
 /// The fault of a source of this name with each of its faults on a line of its own, in place of the first of them.
@@ -49,13 +86,13 @@ fn all_told(alloc: Global, name: &str, source: &[u8], size: u16, first: Fault) -
     }
 }
 
-/// Assembles the source of a file, and writes its image or its listing.
+/// Assembles the source of a file, and writes its image, its listing or its tables, and its deck.
 ///
 /// # Errors
 ///
 /// `Size` where no core storage of the size named is made, `Unread` where the file can't be read; `Source` or `Faulty`
-/// where it can't be assembled, and nothing is written then; `Output` or `Unwritten` where the text isn't written; or
-/// `Memory`.
+/// where it can't be assembled, and `Deck` where its image has no deck, and nothing is written then; `Output` or
+/// `Unwritten` where a text isn't written; or `Memory`.
 pub fn assemble_file<R: Files + Print + AllocGlobal>(
     rt: &R,
     asked: Assembling,
@@ -65,6 +102,7 @@ pub fn assemble_file<R: Files + Print + AllocGlobal>(
         size,
         product,
         out,
+        deck,
         told,
     } = asked;
     check_size(size)?;
@@ -75,7 +113,7 @@ pub fn assemble_file<R: Files + Print + AllocGlobal>(
     };
     let source = read_file(rt, file)?;
     match (
-        write_product(rt, source.as_slice(), size, product, out),
+        write_asked(rt, source.as_slice(), size, product, out, deck),
         told,
     ) {
         (Err(Fault::Source(first)), Told::All) if first.kind != AsmKind::Memory => Err(all_told(

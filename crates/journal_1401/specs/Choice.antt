@@ -2,7 +2,7 @@
 use Rattle.std.specs.Prelude.{ℕ, nat_le, ◌==◌, Bool, not, ◌&&◌, if◌then◌else◌, List, [], ◌∷◌}
 use Rattle.std.specs.List.{list_any}
 use Rattle.room_1401.specs.declared.entry.Entry.{Entry}
-use Rattle.room_1401.specs.declared.entry.Pair.{Pair}
+use Rattle.room_1401.specs.declared.entry.SeatedCommand.{SeatedCommand}
 use Rattle.room_1401.specs.Journal.{pair_of}
 use Rattle.room_1401.specs.Kept.{lines_by}
 
@@ -11,9 +11,9 @@ unfoldable pub is_chosen : ℕ → List ℕ → ℕ → Bool
 is_chosen until without number = nat_le number until && not (list_any (λ left_out. left_out == number) without)
 
 -- what is chosen of an entry: its command, or nothing
-abbrev pub chosen_of : ℕ → List ℕ → ℕ → Entry → List Pair
+abbrev pub chosen_of : ℕ → List ℕ → ℕ → Entry → List SeatedCommand
 chosen_of until without number entry = if is_chosen until without number then pair_of entry ∷ [] else []
 
 -- the commands that are chosen, in their order
-abbrev pub chosen : ℕ → List ℕ → List Entry → List Pair
+abbrev pub chosen : ℕ → List ℕ → List Entry → List SeatedCommand
 chosen until without journal = lines_by (chosen_of until without) 1 journal

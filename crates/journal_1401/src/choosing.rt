@@ -9,7 +9,7 @@ use room_1401::{Entry, Room, RoomFault};
 use std::alloc::Global;
 
 /// A new room in which each seat has given its commands of a journal again, in their order: those up to a number,
-/// without some. Answers may differ from the journal's where a command before them is missing.
+/// without some. Answers may differ from the journal's if a command before them is missing.
 ///
 /// # Errors
 ///

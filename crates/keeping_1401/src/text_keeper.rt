@@ -23,7 +23,7 @@ impl Beginning for Brand {
     ghost first = { None };
 }
 
-/// Writes each entry as a line, by one write where the sink takes it whole. `J` says what the sink had before the
+/// Writes each entry as a line, by one write if the sink takes it whole. `J` says what the sink had before the
 /// journal.
 #[derive(Drop)]
 pub struct TextKeeper<J: Beginning, S: Sink + Drop> {

@@ -3,10 +3,10 @@ use Rattle.std.proofs.Common.{◌≡◌, ◌≢◌, ℕ, zero, suc, ◌+◌, ◌
 use Rattle.std.proofs.Common.{List, [], ◌∷◌, ◌++◌, length, refl, ap, sym, ◌∙◌, arith, true≢false}
 use Rattle.std.proofs.lemmas.Bool.Decides.{nat_tests}
 use Rattle.room_1401.specs.declared.entry.Entry.{Entry}
-use Rattle.room_1401.specs.declared.entry.Pair.{Pair}
+use Rattle.room_1401.specs.declared.entry.SeatedCommand.{SeatedCommand}
 use Rattle.room_1401.specs.Closing.{has_seat, back_of, made_of, AllFit, AllExact, AllSeated, IsSettled}
 use Rattle.room_1401.specs.Journal.{pairs_of}
-use Rattle.room_1401.specs.Seen.{Knows, own}
+use Rattle.room_1401.specs.Seen.{SeatView, own}
 use Rattle.room_1401.proofs.ReplayLemmas.{length-pairs_of}
 use Rattle.room_1401.proofs.SeenLemmas.{at_most_one, one_if}
 
@@ -17,17 +17,17 @@ is_true false is = absurd (omega arith)
 equal : (x y : ℕ) → (x == y) ≡ true → x ≡ y
 equal x y is = grind (arith, nat_tests)
 
-abbrev without : Bool → Knows → List Knows → List Knows → List Knows
+abbrev without : Bool → SeatView → List SeatView → List SeatView → List SeatView
 without true seat seats rest = seats
 without false seat seats rest = seat ∷ rest
 
 -- the seats but the first of this number
-abbrev take_out : ℕ → List Knows → List Knows
+abbrev take_out : ℕ → List SeatView → List SeatView
 take_out n [] = []
 take_out n (seat ∷ seats) = without (seat.number == n) seat seats (take_out n seats)
 
 -- the weights of the seats by their numbers, added up
-abbrev pub weigh : (ℕ → ℕ) → List Knows → ℕ
+abbrev pub weigh : (ℕ → ℕ) → List SeatView → ℕ
 weigh weight [] = 0
 weigh weight (seat ∷ seats) = weight seat.number + weigh weight seats
 
@@ -36,7 +36,7 @@ abbrev pub sum_to : (ℕ → ℕ) → ℕ → ℕ
 sum_to weight zero = 0
 sum_to weight (suc n) = weight (suc n) + sum_to weight n
 
-weigh_out_by : (weight : ℕ → ℕ) (n : ℕ) (seat : Knows) (seats : List Knows) (test : Bool) → (seat.number == n) ≡ test
+weigh_out_by : (weight : ℕ → ℕ) (n : ℕ) (seat : SeatView) (seats : List SeatView) (test : Bool) → (seat.number == n) ≡ test
     → (has_seat n seats ≡ true → weigh weight seats ≡ weight n + weigh weight (take_out n seats))
     → (test || has_seat n seats) ≡ true
     → weigh weight (seat ∷ seats) ≡ weight n + weigh weight (without test seat seats (take_out n seats))
@@ -45,24 +45,24 @@ weigh_out_by weight n seat seats true is more there =
 weigh_out_by weight n seat seats false is more there =
     let rest : weigh weight seats ≡ weight n + weigh weight (take_out n seats) = more there in omega arith
 
-weigh_out : (weight : ℕ → ℕ) (n : ℕ) (seats : List Knows) → has_seat n seats ≡ true
+weigh_out : (weight : ℕ → ℕ) (n : ℕ) (seats : List SeatView) → has_seat n seats ≡ true
     → weigh weight seats ≡ weight n + weigh weight (take_out n seats)
 weigh_out weight n [] there = absurd (true≢false (sym there))
 weigh_out weight n (seat ∷ seats) there =
     weigh_out_by weight n seat seats (seat.number == n) refl (weigh_out weight n seats) there
 
-length_out_by : (n : ℕ) (seat : Knows) (seats : List Knows) (test : Bool)
+length_out_by : (n : ℕ) (seat : SeatView) (seats : List SeatView) (test : Bool)
     → (has_seat n seats ≡ true → length seats ≡ suc (length (take_out n seats)))
     → (test || has_seat n seats) ≡ true
     → length (seat ∷ seats) ≡ suc (length (without test seat seats (take_out n seats)))
 length_out_by n seat seats true more there = refl
 length_out_by n seat seats false more there = ap suc (more there)
 
-length_out : (n : ℕ) (seats : List Knows) → has_seat n seats ≡ true → length seats ≡ suc (length (take_out n seats))
+length_out : (n : ℕ) (seats : List SeatView) → has_seat n seats ≡ true → length seats ≡ suc (length (take_out n seats))
 length_out n [] there = absurd (true≢false (sym there))
 length_out n (seat ∷ seats) there = length_out_by n seat seats (seat.number == n) (length_out n seats) there
 
-has_out_by : (m n : ℕ) (seat : Knows) (seats : List Knows) (test : Bool) → (seat.number == n) ≡ test → m ≢ n
+has_out_by : (m n : ℕ) (seat : SeatView) (seats : List SeatView) (test : Bool) → (seat.number == n) ≡ test → m ≢ n
     → has_seat m (take_out n seats) ≡ has_seat m seats
     → has_seat m (without test seat seats (take_out n seats)) ≡ has_seat m (seat ∷ seats)
 has_out_by m n seat seats true is apart more = other (seat.number == m) refl
@@ -72,11 +72,11 @@ has_out_by m n seat seats true is apart more = other (seat.number == m) refl
     other false there = refl
 has_out_by m n seat seats false is apart more = ap (λ (test : Bool). (seat.number == m) || test) more
 
-has_out : (m n : ℕ) (seats : List Knows) → m ≢ n → has_seat m (take_out n seats) ≡ has_seat m seats
+has_out : (m n : ℕ) (seats : List SeatView) → m ≢ n → has_seat m (take_out n seats) ≡ has_seat m seats
 has_out m n [] apart = refl
 has_out m n (seat ∷ seats) apart = has_out_by m n seat seats (seat.number == n) refl apart (has_out m n seats apart)
 
-back_out : (n m : ℕ) (seats : List Knows) → n < m → back_of n (take_out m seats) ≡ back_of n seats
+back_out : (n m : ℕ) (seats : List SeatView) → n < m → back_of n (take_out m seats) ≡ back_of n seats
 back_out zero m seats less = refl
 back_out (suc n) m seats less =
     let apart : suc n ≢ m = λ same. omega arith in
@@ -85,32 +85,32 @@ back_out (suc n) m seats less =
     let rest : back_of n (take_out m seats) ≡ back_of n seats = back_out n m seats (omega arith) in
     omega arith
 
-back_most : (n : ℕ) (seats : List Knows) → back_of n seats ≤ n
+back_most : (n : ℕ) (seats : List SeatView) → back_of n seats ≤ n
 back_most zero seats = omega arith
 back_most (suc n) seats = omega (arith, back_most n seats, at_most_one (has_seat (suc n) seats))
 
 -- All numbers up to n + 1 are back.
-record AllBack (n : ℕ) (seats : List Knows) : Type 0 where
+record AllBack (n : ℕ) (seats : List SeatView) : Type 0 where
   pub here : has_seat (suc n) seats ≡ true
   pub below : back_of n seats ≡ n
 
-all_back : (n : ℕ) (seats : List Knows) → back_of (suc n) seats ≡ suc n → AllBack n seats
+all_back : (n : ℕ) (seats : List SeatView) → back_of (suc n) seats ≡ suc n → AllBack n seats
 all_back n seats all =
     let few = back_most n seats in
     let most = at_most_one (has_seat (suc n) seats) in
     record { here = is_true (has_seat (suc n) seats) (omega (arith, all)); below = omega (arith, all) }
 
-none : (seats : List Knows) → length seats ≤ 0 → seats ≡ []
+none : (seats : List SeatView) → length seats ≤ 0 → seats ≡ []
 none [] few = refl
 none (seat ∷ seats) few = absurd (omega arith)
 
 -- with no more seats than numbers, each number has one
-each_once : (weight : ℕ → ℕ) (n : ℕ) (seats : List Knows) → back_of n seats ≡ n → length seats ≤ n
+each_once : (weight : ℕ → ℕ) (n : ℕ) (seats : List SeatView) → back_of n seats ≡ n → length seats ≤ n
     → (weigh weight seats ≡ sum_to weight n) × (length seats ≡ n)
 each_once weight zero seats all few = (ap (weigh weight) (none seats few), ap length (none seats few))
 each_once weight (suc n) seats all few =
     let back = all_back n seats all in
-    let others : List Knows = take_out (suc n) seats in
+    let others : List SeatView = take_out (suc n) seats in
     let len : length seats ≡ suc (length others) = length_out (suc n) seats back.here in
     let there : back_of n others ≡ n = back_out n (suc n) seats (omega arith) ∙ back.below in
     let rest = each_once weight n others there (omega arith) in
@@ -118,7 +118,7 @@ each_once weight (suc n) seats all few =
     (out ∙ ap (λ sum. weight (suc n) + sum) rest.0, len ∙ ap suc rest.1)
 
 -- there are as many seats as numbers then
-pub all_once : (n : ℕ) (seats : List Knows) → back_of n seats ≡ n → length seats ≤ n → length seats ≡ n
+pub all_once : (n : ℕ) (seats : List SeatView) → back_of n seats ≡ n → length seats ≤ n → length seats ≡ n
 all_once n seats all few = (each_once (λ number. 0) n seats all few).1
 
 abbrev hit : ℕ → ℕ → ℕ
@@ -151,7 +151,7 @@ hit_most x (suc n) = by_test (x == suc n) refl (hit_most x n)
         omega arith
     by_test false is most = omega arith
 
-hit_has : (x n : ℕ) (seats : List Knows) → back_of n seats ≡ n → 0 < sum_to (hit x) n → has_seat x seats ≡ true
+hit_has : (x n : ℕ) (seats : List SeatView) → back_of n seats ≡ n → 0 < sum_to (hit x) n → has_seat x seats ≡ true
 hit_has x zero seats all some = absurd (omega arith)
 hit_has x (suc n) seats all some = by_test (x == suc n) refl (hit_has x n seats (all_back n seats all).below)
   where
@@ -160,10 +160,10 @@ hit_has x (suc n) seats all some = by_test (x == suc n) refl (hit_has x n seats 
     by_test true is more = ap (λ number. has_seat number seats) (equal x (suc n) is) ∙ (all_back n seats all).here
     by_test false is more = let here : one_if (x == suc n) ≡ 0 = ap one_if is in more (omega arith)
 
-abbrev owns : List Pair → ℕ → ℕ
+abbrev owns : List SeatedCommand → ℕ → ℕ
 owns pairs seat = own seat pairs
 
-own_first : (pair : Pair) (pairs : List Pair) (n : ℕ)
+own_first : (pair : SeatedCommand) (pairs : List SeatedCommand) (n : ℕ)
     → sum_to (owns (pair ∷ pairs)) n ≡ sum_to (hit pair.seat) n + sum_to (owns pairs) n
 own_first pair pairs n = sum_add (hit pair.seat) (owns pairs) n
 
@@ -172,12 +172,12 @@ own_none zero = refl
 own_none (suc n) = let rest : sum_to (owns []) n ≡ 0 = own_none n in omega arith
 
 -- all seats together have no more commands than there are
-sum_most : (n : ℕ) (pairs : List Pair) → sum_to (owns pairs) n ≤ length pairs
+sum_most : (n : ℕ) (pairs : List SeatedCommand) → sum_to (owns pairs) n ≤ length pairs
 sum_most n [] = omega (arith, own_none n)
 sum_most n (pair ∷ pairs) = omega (arith, own_first pair pairs n, hit_most pair.seat n, sum_most n pairs)
 
 -- if they have them all, each command is of a seat that is there
-all_seated : (n : ℕ) (seats : List Knows) (pairs : List Pair) → back_of n seats ≡ n
+all_seated : (n : ℕ) (seats : List SeatView) (pairs : List SeatedCommand) → back_of n seats ≡ n
     → length pairs ≤ sum_to (owns pairs) n → AllSeated seats pairs
 all_seated n seats [] all full = tt
 all_seated n seats (pair ∷ pairs) all full =
@@ -189,7 +189,7 @@ all_seated n seats (pair ∷ pairs) all full =
     )
 
 -- each has at least what it made
-fit_most : (pairs : List Pair) (seats : List Knows) → AllFit pairs seats → made_of seats ≤ weigh (owns pairs) seats
+fit_most : (pairs : List SeatedCommand) (seats : List SeatView) → AllFit pairs seats → made_of seats ≤ weigh (owns pairs) seats
 fit_most pairs [] fit = omega arith
 fit_most pairs (seat ∷ seats) fit =
     let rest : made_of seats ≤ weigh (owns pairs) seats = fit_most pairs seats fit.1 in
@@ -197,7 +197,7 @@ fit_most pairs (seat ∷ seats) fit =
     omega arith
 
 -- and exactly this, if they have no more together
-all_exact : (pairs : List Pair) (seats : List Knows) → AllFit pairs seats → weigh (owns pairs) seats ≤ made_of seats
+all_exact : (pairs : List SeatedCommand) (seats : List SeatView) → AllFit pairs seats → weigh (owns pairs) seats ≤ made_of seats
     → AllExact pairs seats
 all_exact pairs [] fit full = tt
 all_exact pairs (seat ∷ seats) fit full =
@@ -206,11 +206,11 @@ all_exact pairs (seat ∷ seats) fit full =
     ((fit.0.0, omega arith), all_exact pairs seats fit.1 (omega arith))
 
 -- all seats are back, what each has seen is a prefix of the journal, and what they made is as much as there is
-pub settled : (n : ℕ) (journal : List Entry) (seats : List Knows)
+pub settled : (n : ℕ) (journal : List Entry) (seats : List SeatView)
     → back_of n seats ≡ n → length seats ≤ n → AllFit (pairs_of journal) seats → made_of seats ≡ length journal
     → IsSettled journal seats
 settled n journal seats all few fit made =
-    let pairs : List Pair = pairs_of journal in
+    let pairs : List SeatedCommand = pairs_of journal in
     let once = each_once (owns pairs) n seats all few in
     let len : length pairs ≡ length journal = length-pairs_of journal in
     let most : sum_to (owns pairs) n ≤ length pairs = sum_most n pairs in
@@ -221,7 +221,7 @@ settled n journal seats all few fit made =
       made = sym made;
     }
 
-pub made_push : (seats : List Knows) (last : Knows) → made_of (seats ++ last ∷ []) ≡ made_of seats + last.made
+pub made_push : (seats : List SeatView) (last : SeatView) → made_of (seats ++ last ∷ []) ≡ made_of seats + last.made
 made_push [] last = omega arith
 made_push (seat ∷ seats) last =
     let rest : made_of (seats ++ last ∷ []) ≡ made_of seats + last.made = made_push seats last in omega arith

@@ -6,14 +6,14 @@ use Rattle.std.proofs.lemmas.Bool.Decides.{nat_tests}
 use mathlib.Core.List.{IsPrefix}
 use prog.Atomic.{either}
 use Rattle.logbook.specs.Pages.{Cell, cell, keeps, no_nib, step, Moves, Goes}
-use Rattle.room_1401.specs.declared.entry.Pair.{Pair}
+use Rattle.room_1401.specs.declared.entry.SeatedCommand.{SeatedCommand}
 use Rattle.room_1401.specs.History.{IsKept, Adds}
 use Rattle.room_1401.proofs.PrefixLemmas.{prefix_whole}
 
-abbrev pub shown : List Pair → List Pair
+abbrev pub shown : List SeatedCommand → List SeatedCommand
 shown history = []
 
-abbrev pub moved : List Pair → List Pair → ℕ → Type 0
+abbrev pub moved : List SeatedCommand → List SeatedCommand → ℕ → Type 0
 moved before after n = Unit {0}
 
 -- the length after the exchange of a length by one more
@@ -21,12 +21,12 @@ abbrev pub one_more : ℕ → ℕ → ℕ
 one_more old n = either (n == old) (old + 1) n
 
 -- the exchange over a history, of which this much was seen
-abbrev pub GoesOn : List Pair → Pair → ℕ → List Cell → List Pair → Type 0
+abbrev pub GoesOn : List SeatedCommand → SeatedCommand → ℕ → List Cell → List SeatedCommand → Type 0
 GoesOn seen pair old words history =
     Goes IsKept shown moved 0 (seen, (no_nib, None)) (one_more old)
     (Adds (step 0 old (old + 1) pair) (seen, (no_nib, None))) words history
 
-pub adds_goes : (history seen : List Pair) (pair : Pair) (old : ℕ) → length seen ≡ old → IsPrefix seen history
+pub adds_goes : (history seen : List SeatedCommand) (pair : SeatedCommand) (old : ℕ) → length seen ≡ old → IsPrefix seen history
     → (same : Bool) → (length history == old) ≡ same
     → GoesOn seen pair old ((length history, true) ∷ (0, true) ∷ []) history
 adds_goes history seen pair old len begins true is =
@@ -55,7 +55,7 @@ adds_goes history seen pair old len begins false is =
     )
 
 -- whatever the history is, the exchange adds the command to all that was seen, or finds that the history is longer
-pub adds_moves : (seen : List Pair) (pair : Pair) (old : ℕ) → length seen ≡ old
+pub adds_moves : (seen : List SeatedCommand) (pair : SeatedCommand) (old : ℕ) → length seen ≡ old
     → Moves IsKept shown moved 0 (seen, (no_nib, None)) (one_more old)
     (Adds (step 0 old (old + 1) pair) (seen, (no_nib, None)))
 adds_moves seen pair old len words history kept begins away =

@@ -6,7 +6,7 @@ use mathlib.Core.List.{IsPrefix}
 use Rattle.logbook.specs.Pages.{Book}
 use Rattle.cpu_1401.specs.State.{State, power_on}
 use Rattle.command_1401.specs.declared.command.Command.{Command}
-use Rattle.room_1401.specs.declared.entry.Pair.{Pair}
+use Rattle.room_1401.specs.declared.entry.SeatedCommand.{SeatedCommand}
 use Rattle.room_1401.specs.declared.published.Shown.{Shown}
 use Rattle.room_1401.specs.declared.published.Change.{Change}
 use Rattle.command_1401.specs.CarryOut.{carry_out}
@@ -23,7 +23,7 @@ fold-append f first [] ys = refl
 fold-append f first (x ∷ xs) ys = fold-append f (f first x) xs ys
 
 -- The change is that of one command more.
-pub record IsNext (book : Book) (size : ℕ) (change : Change) (pairs : List Pair) (seat : ℕ) (command : Command)
+pub record IsNext (book : Book) (size : ℕ) (change : Change) (pairs : List SeatedCommand) (seat : ℕ) (command : Command)
     : Type 0 where
   pub of_command : change.command ≡ Some command
   pub count : change.count ≡ length change.front.log
@@ -33,30 +33,30 @@ pub record IsNext (book : Book) (size : ℕ) (change : Change) (pairs : List Pai
   pub storage : length (replay size (pairs ++ pair seat command ∷ [])).storage ≡ size
 
 -- after the pending changes it leads to the replay of one command more
-next_publishes : (book : Book) (size : ℕ) (shown : Shown) (change : Change) (pending : List Change) (pairs : List Pair)
+next_publishes : (book : Book) (size : ℕ) (shown : Shown) (change : Change) (pending : List Change) (pairs : List SeatedCommand)
     (seat : ℕ) (command : Command)
     → Publishes book size shown pending pairs → IsNext book size change pairs seat command
     → Publishes book size shown (pending ++ change ∷ []) (pairs ++ pair seat command ∷ [])
 next_publishes book size shown change pending pairs seat command was next =
     let before : Shown = fold changed shown pending in
     let after : Shown = changed before change in
-    let more : List Pair = pairs ++ pair seat command ∷ [] in
+    let more : List SeatedCommand = pairs ++ pair seat command ∷ [] in
     let last : fold changed shown (pending ++ change ∷ []) ≡ after = fold-append changed shown pending (change ∷ []) in
     let machine : moved before.machine change.command ≡ replay size more =
     ap (λ (one : Option Command). moved before.machine one) next.of_command
     ∙ ap (λ (s : State). (carry_out s command).state)
-    (was.follows.0.machine ∙ ap (λ (list : List Pair). replay size list) was.list)
+    (was.follows.0.machine ∙ ap (λ (list : List SeatedCommand). replay size list) was.list)
     ∙ sym (state_after-append (power_on size) pairs (pair seat command)) in
     let is_replay : IsReplay book size after = record {
       of_book = next.of_book;
-      machine = machine ∙ ap (λ (list : List Pair). replay size list) (sym next.list);
+      machine = machine ∙ ap (λ (list : List SeatedCommand). replay size list) (sym next.list);
       storage = ap (λ (s : State). length s.storage) machine ∙ next.storage;
       count = next.count;
       bound = omega (arith, next.count, next.bound);
     } in
     let one_more : IsPrefix before.front.log after.front.log = (
       pair seat command ∷ [],
-      ap (λ (list : List Pair). list ++ pair seat command ∷ []) was.list ∙ sym next.list,
+      ap (λ (list : List SeatedCommand). list ++ pair seat command ∷ []) was.list ∙ sym next.list,
     ) in
     let grows : IsPrefix shown.front.log after.front.log =
     prefix_trans shown.front.log before.front.log after.front.log was.follows.1 one_more in
@@ -68,18 +68,18 @@ next_publishes book size shown change pending pairs seat command was next =
 
 -- so does what an append leaves
 pub follows : (book : Book) (size : ℕ) (shown now : Shown) (change : Change) (pending more : List Change)
-    (pairs : List Pair) (seat : ℕ) (command : Command)
+    (pairs : List SeatedCommand) (seat : ℕ) (command : Command)
     → Publishes book size shown pending pairs → IsNext book size change pairs seat command
     → now ≡ shown → more ≡ pending ++ change ∷ []
     → Publishes book size now more (pairs ++ pair seat command ∷ [])
 follows book size shown now change pending more pairs seat command was next same one =
-    let all : List Pair = pairs ++ pair seat command ∷ [] in
+    let all : List SeatedCommand = pairs ++ pair seat command ∷ [] in
     subst (λ (changes : List Change). Publishes book size now changes all) (sym one)
     (subst (λ (s : Shown). Publishes book size s (pending ++ change ∷ []) all) (sym same)
     (next_publishes book size shown change pending pairs seat command was next))
 
 -- what was published, with nothing pending
-pub published : (book : Book) (size : ℕ) (shown now : Shown) (pending left : List Change) (pairs : List Pair)
+pub published : (book : Book) (size : ℕ) (shown now : Shown) (pending left : List Change) (pairs : List SeatedCommand)
     → Publishes book size shown pending pairs → now ≡ fold changed shown pending → left ≡ []
     → Publishes book size now left pairs
 published book size shown now pending left pairs was is none =
@@ -89,7 +89,7 @@ published book size shown now pending left pairs was is none =
     (record { follows = (was.follows.0, prefix_self last.front.log); list = was.list }))
 
 -- a seat that had seen all commands, and then sees one more
-pub seat_follows : (seen pairs front after : List Pair) (seat : ℕ) (command : Command)
+pub seat_follows : (seen pairs front after : List SeatedCommand) (seat : ℕ) (command : Command)
     → seen ≡ pairs → front ≡ pairs ++ pair seat command ∷ []
     → after ≡ (if ltb (length seen) (length front) then front else seen) → IsPrefix front after
     → after ≡ pairs ++ pair seat command ∷ []
@@ -98,12 +98,12 @@ seat_follows seen pairs front after seat command same grown is that =
     caught_up seen front after is (omega (arith, ap length same, ap length grown, more)) that ∙ grown
 
 -- the replay's storage is as long as that of the room's machine
-pub storage_of : (size of_room : ℕ) (machine : State) (pairs more : List Pair)
+pub storage_of : (size of_room : ℕ) (machine : State) (pairs more : List SeatedCommand)
     → machine ≡ replay of_room pairs → length machine.storage ≡ of_room → of_room ≡ size → pairs ≡ more
     → length (replay size more).storage ≡ size
 storage_of size of_room machine pairs more is len same list =
     ap (λ n. length (replay n more).storage) (sym same)
-    ∙ ap (λ (all : List Pair). length (replay of_room all).storage) (sym list)
+    ∙ ap (λ (all : List SeatedCommand). length (replay of_room all).storage) (sym list)
     ∙ ap (λ (s : State). length s.storage) (sym is)
     ∙ len
     ∙ same

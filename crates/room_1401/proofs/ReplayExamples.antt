@@ -13,7 +13,7 @@ use Rattle.command_1401.specs.declared.answer.Answer.TheVariants.{Done, Cells, R
 use Rattle.command_1401.specs.declared.answer.Refusal.TheVariants as refusal
 use Rattle.command_1401.specs.declared.command.Command.TheVariants.{Deposit, Examine, SetI, Feed, LoadKey, Run}
 use Rattle.command_1401.specs.CarryOut.{carry_out}
-use Rattle.room_1401.specs.declared.entry.Pair.{Pair}
+use Rattle.room_1401.specs.declared.entry.SeatedCommand.{SeatedCommand}
 use Rattle.room_1401.specs.Replay.{pair, answers_of, replay}
 
 -- a halt, 59
@@ -21,7 +21,7 @@ abbrev a_halt : Cell
 a_halt = record { char = 59; mark = true }
 
 -- a halt is put at the last place and run, and then it is shown
-abbrev halt_and_look : List Pair
+abbrev halt_and_look : List SeatedCommand
 halt_and_look =
     pair 0 (Deposit 2 (a_halt ∷ []))
     ∷ pair 1 (SetI 2)

@@ -6,18 +6,18 @@ use Rattle.cpu_1401.specs.State.{State, power_on}
 use Rattle.command_1401.specs.declared.answer.Answer.{Answer}
 use Rattle.command_1401.specs.declared.command.Command.{Command}
 use Rattle.room_1401.specs.declared.entry.Entry.{Entry}
-use Rattle.room_1401.specs.declared.entry.Pair.{Pair}
+use Rattle.room_1401.specs.declared.entry.SeatedCommand.{SeatedCommand}
 use Rattle.room_1401.specs.Account.{IsExplained}
 use Rattle.command_1401.specs.CarryOut.{carry_out}
 use Rattle.room_1401.specs.Replay.{pair, state_after, answers_after, replay, answers_of}
 use Rattle.room_1401.specs.Journal.{entry, pair_of, answer_in, pairs_of, state_of, IsLegal, answer_to, most_entries}
 
-pub state_after-append : (s : State) (pairs : List Pair) (last : Pair)
+pub state_after-append : (s : State) (pairs : List SeatedCommand) (last : SeatedCommand)
     → state_after s (pairs ++ last ∷ []) ≡ (carry_out (state_after s pairs) last.command).state
 state_after-append s [] last = refl
 state_after-append s (first ∷ pairs) last = state_after-append (carry_out s first.command).state pairs last
 
-answers_after-append : (s : State) (pairs : List Pair) (last : Pair)
+answers_after-append : (s : State) (pairs : List SeatedCommand) (last : SeatedCommand)
     → answers_after s (pairs ++ last ∷ [])
     ≡ answers_after s pairs ++ (carry_out (state_after s pairs) last.command).answer ∷ []
 answers_after-append s [] last = refl
@@ -38,7 +38,7 @@ length-pairs_of (entry ∷ journal) = ap suc (length-pairs_of journal)
 pub state_of-append : (size : ℕ) (journal : List Entry) (last : Entry)
     → state_of size (journal ++ last ∷ []) ≡ (carry_out (state_of size journal) last.command).state
 state_of-append size journal last =
-    ap (λ (pairs : List Pair). replay size pairs) (map_push pair_of journal last)
+    ap (λ (pairs : List SeatedCommand). replay size pairs) (map_push pair_of journal last)
     ∙ state_after-append (power_on size) (pairs_of journal) (pair_of last)
 
 -- a legal journal stays legal by one command and its answer more
@@ -50,7 +50,7 @@ legal-append size seat journal command legal =
     map_push answer_in journal last
     ∙ ap (λ (answers : List Answer). answers ++ answer ∷ []) legal
     ∙ sym (answers_after-append (power_on size) (pairs_of journal) (pair_of last))
-    ∙ ap (λ (pairs : List Pair). answers_of size pairs) (sym (map_push pair_of journal last))
+    ∙ ap (λ (pairs : List SeatedCommand). answers_of size pairs) (sym (map_push pair_of journal last))
 
 -- the room's machine and journal after one command more
 pub explained-append : (machine next : State) (seat : ℕ) (journal : List Entry) (command : Command) (answer : Answer)

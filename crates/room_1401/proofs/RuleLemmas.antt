@@ -7,19 +7,19 @@ use lib.ListN.{get_elem?}
 use Rattle.crossbeam_utils.specs.Register.{Admits, Turns, TurnsAt}
 use Rattle.atomic_table.proofs.Lists.{at_set, at_snoc}
 use Rattle.logbook.specs.Pages.{Book}
-use Rattle.room_1401.specs.declared.entry.Pair.{Pair}
+use Rattle.room_1401.specs.declared.entry.SeatedCommand.{SeatedCommand}
 use Rattle.room_1401.specs.declared.published.Shown.{Shown}
 use Rattle.room_1401.specs.declared.published.Change.{Change}
 use Rattle.room_1401.specs.Rule.{IsReplay, Keeps, Sees, Follows, changed}
 use Rattle.room_1401.proofs.PrefixLemmas.{prefix_self, prefix_trans}
 
-empty_prefix : (pairs : List Pair) → IsPrefix [] pairs
+empty_prefix : (pairs : List SeatedCommand) → IsPrefix [] pairs
 empty_prefix pairs = (pairs, refl)
 
 -- a reader that has seen nothing has seen a prefix
-nothing_seen : (shown : Shown) (view : List Pair) → [] ≡ view → IsPrefix view shown.front.log
+nothing_seen : (shown : Shown) (view : List SeatedCommand) → [] ≡ view → IsPrefix view shown.front.log
 nothing_seen shown view is =
-    subst (λ (list : List Pair). IsPrefix list shown.front.log) is (empty_prefix shown.front.log)
+    subst (λ (list : List SeatedCommand). IsPrefix list shown.front.log) is (empty_prefix shown.front.log)
 
 -- the rule holds if nothing was seen
 pub begins : (book : Book) (size : ℕ) (shown : Shown) → IsReplay book size shown → Keeps book size shown ([] ∷ [])
@@ -42,7 +42,7 @@ admits book size shown views keeps = (
 )
 
 -- so does a step of one reader, or of the writer, to a replay of a list that goes on
-pub moves : (book : Book) (size reader : ℕ) (seen : List Pair) (old new : Shown)
+pub moves : (book : Book) (size reader : ℕ) (seen : List SeatedCommand) (old new : Shown)
     → (IsReplay book size old → IsReplay book size new) → IsPrefix old.front.log new.front.log
     → TurnsAt (Keeps book size) reader seen old new (Sees book size)
 moves book size reader seen old new ok grows views keeps at =
@@ -52,7 +52,7 @@ moves book size reader seen old new ok grows views keeps at =
         ok keeps.0,
         λ other view is. ⊎_elim
             (λ (there : (other ≡ reader) × (all ≡ view)).
-            subst (λ (list : List Pair). IsPrefix list all) there.1 (prefix_self all))
+            subst (λ (list : List SeatedCommand). IsPrefix list all) there.1 (prefix_self all))
             (λ (there : (other ≢ reader) × (get_elem? views other ≡ some view)).
             prefix_trans view old.front.log all (keeps.1 other view there.1) grows)
             (at_set views reader other all view is),
@@ -61,13 +61,13 @@ moves book size reader seen old new ok grows views keeps at =
     )
 
 -- entering shows what is shown
-pub enters : (book : Book) (size reader : ℕ) (seen : List Pair)
+pub enters : (book : Book) (size reader : ℕ) (seen : List SeatedCommand)
     → Turns (Keeps book size) reader seen (λ shown. shown) (Sees book size)
 enters book size reader seen shown =
     moves book size reader seen shown shown (λ keeps. keeps) (prefix_self shown.front.log)
 
 -- publishing shows what the pending changes lead to
-pub shows : (book : Book) (size reader : ℕ) (seen : List Pair) (shown next : Shown) (pending : List Change)
+pub shows : (book : Book) (size reader : ℕ) (seen : List SeatedCommand) (shown next : Shown) (pending : List Change)
     → Follows book size shown pending → next ≡ fold changed shown pending
     → TurnsAt (Keeps book size) reader seen shown next (Sees book size)
 shows book size reader seen shown next pending ok is =

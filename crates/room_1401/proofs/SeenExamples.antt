@@ -6,24 +6,24 @@ use Rattle.command_1401.specs.declared.answer.Answer.TheVariants.{Done, Cells, R
 use Rattle.command_1401.specs.declared.answer.Refusal.TheVariants.{Address}
 use Rattle.command_1401.specs.declared.command.Command.TheVariants.{Deposit, Examine, SetI}
 use Rattle.room_1401.specs.declared.entry.Entry.{Entry}
-use Rattle.room_1401.specs.declared.entry.Pair.{Pair}
+use Rattle.room_1401.specs.declared.entry.SeatedCommand.{SeatedCommand}
 use Rattle.room_1401.specs.declared.fault.CloseFault.TheVariants.{Unreturned}
 use Rattle.command_1401.specs.CarryOut.{carry_out}
 use Rattle.room_1401.specs.Closing.{ClosesBy, IsSettled, back_of}
 use Rattle.room_1401.specs.Journal.{entry}
 use Rattle.room_1401.specs.Replay.{cell_after, pair}
-use Rattle.room_1401.specs.Seen.{Carries, Knows, newcomer, newcomers, own}
+use Rattle.room_1401.specs.Seen.{Carries, SeatView, newcomer, newcomers, own}
 
 -- K with a word mark
 abbrev marked_k : Cell
 marked_k = record { char = 34; mark = true }
 
 -- seat 1 puts a K at place 1
-abbrev first : List Pair
+abbrev first : List SeatedCommand
 first = pair 1 (Deposit 1 (marked_k ∷ [])) ∷ []
 
 -- then seat 2 looks at places 0 and 1, and seat 1 starts out of core
-abbrev all : List Pair
+abbrev all : List SeatedCommand
 all = pair 1 (Deposit 1 (marked_k ∷ [])) ∷ pair 2 (Examine 0 2) ∷ pair 1 (SetI 3) ∷ []
 
 two_seats_are_numbered_from_one : newcomers 2 ≡ newcomer 1 ∷ newcomer 2 ∷ []
@@ -45,10 +45,10 @@ a_glance_before_it_shows_a_blank : cell_after 3 [] 1 ≡ blank
 a_glance_before_it_shows_a_blank = refl
 
 -- seat 1 made two commands and saw all, seat 2 made one and didn't see the last
-abbrev one : Knows
+abbrev one : SeatView
 one = record { number = 1; made = 2; list = all }
 
-abbrev two : Knows
+abbrev two : SeatView
 two = record { number = 2; made = 1; list = pair 1 (Deposit 1 (marked_k ∷ [])) ∷ pair 2 (Examine 0 2) ∷ [] }
 
 -- the journal of the three commands

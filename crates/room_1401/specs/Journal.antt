@@ -4,7 +4,7 @@ use Rattle.cpu_1401.specs.State.{State}
 use Rattle.command_1401.specs.declared.answer.Answer.{Answer}
 use Rattle.command_1401.specs.declared.command.Command.{Command}
 use Rattle.room_1401.specs.declared.entry.Entry.{Entry}
-use Rattle.room_1401.specs.declared.entry.Pair.{Pair}
+use Rattle.room_1401.specs.declared.entry.SeatedCommand.{SeatedCommand}
 use Rattle.room_1401.specs.declared.fault.RoomFault.{RoomFault}
 use Rattle.room_1401.specs.declared.fault.RoomFault.TheVariants.{Memory, JournalFull}
 use Rattle.room_1401.specs.Replay.{pair, replay, answers_of, reply_to}
@@ -14,7 +14,7 @@ abbrev pub entry : ℕ → Command → Answer → Entry
 entry seat command answer = record { seat = seat; command = command; answer = answer }
 
 -- what an entry asks, and who asks it
-abbrev pub pair_of : Entry → Pair
+abbrev pub pair_of : Entry → SeatedCommand
 pair_of entry = pair entry.seat entry.command
 
 -- the answer that an entry records
@@ -22,7 +22,7 @@ abbrev pub answer_in : Entry → Answer
 answer_in entry = entry.answer
 
 -- the commands of a journal, each with its seat
-abbrev pub pairs_of : List Entry → List Pair
+abbrev pub pairs_of : List Entry → List SeatedCommand
 pairs_of journal = map pair_of journal
 
 -- the machine that a journal explains

@@ -5,7 +5,7 @@ use mathlib.Core.List.{IsPrefix}
 use mathlib.Core.Option.{some}
 use lib.ListN.{get_elem?}
 use Rattle.logbook.specs.Pages.{Book}
-use Rattle.room_1401.specs.declared.entry.Pair.{Pair}
+use Rattle.room_1401.specs.declared.entry.SeatedCommand.{SeatedCommand}
 use Rattle.room_1401.specs.declared.published.Shown.{Shown}
 use Rattle.room_1401.specs.declared.published.Change.{Change}
 use Rattle.command_1401.specs.declared.command.Command.{Command}
@@ -36,13 +36,13 @@ pub record IsReplay (book : Book) (size : ℕ) (shown : Shown) : Type 0 where
   pub bound : length shown.front.log ≤ most_entries
 
 -- The rule: what is shown is a replay, and what each reader has seen is a prefix of its list.
-abbrev pub Keeps : Book → ℕ → Shown → List (List Pair) → Type 0
+abbrev pub Keeps : Book → ℕ → Shown → List (List SeatedCommand) → Type 0
 Keeps book size shown views =
     IsReplay book size shown
-    × ((reader : ℕ) (view : List Pair) → get_elem? views reader ≡ some view → IsPrefix view shown.front.log)
+    × ((reader : ℕ) (view : List SeatedCommand) → get_elem? views reader ≡ some view → IsPrefix view shown.front.log)
 
 -- What a step tells its reader: the list that is shown afterwards, which goes on from what the reader had seen.
-abbrev pub Sees : Book → ℕ → List Pair → Shown → Shown → List Pair → Type 0
+abbrev pub Sees : Book → ℕ → List SeatedCommand → Shown → Shown → List SeatedCommand → Type 0
 Sees book size before old new after = IsReplay book size new × IsPrefix before after × (after ≡ new.front.log)
 
 -- The changes lead to a replay of a list that goes on from the one shown.
@@ -51,6 +51,6 @@ Follows book size shown changes =
     let last = fold changed shown changes in IsReplay book size last × IsPrefix shown.front.log last.front.log
 
 -- Once the pending changes are shown, what is shown is the replay of these commands.
-pub record Publishes (book : Book) (size : ℕ) (shown : Shown) (pending : List Change) (pairs : List Pair) : Type 0 where
+pub record Publishes (book : Book) (size : ℕ) (shown : Shown) (pending : List Change) (pairs : List SeatedCommand) : Type 0 where
   pub follows : Follows book size shown pending
   pub list : (fold changed shown pending).front.log ≡ pairs

@@ -2,13 +2,13 @@
 ghost use Rattle.std.specs.Prelude.{◌≡◌, ◌+◌, ◌≤◌, true, length};
 ghost use Rattle.room_1401.specs.Closing.{AllFit, back_of, has_seat, made_of};
 
-use crate::history::Front;
-use crate::naming::Naming;
+use crate::history::SeenPrefix;
+use crate::naming::RoomId;
 use crate::seat::Seat;
 use std::sync::ledger::Share;
 
 /// Whether a seat of this number is there.
-fn is_there<J: Naming>(seats: &[Seat<J>], number: u8) -> bool
+fn is_there<J: RoomId>(seats: &[Seat<J>], number: u8) -> bool
     ensures { result ≡ has_seat number seats.now }
 {
     match seats {
@@ -18,7 +18,7 @@ fn is_there<J: Naming>(seats: &[Seat<J>], number: u8) -> bool
 }
 
 /// How many of the numbers from 1 to this one have a seat there.
-pub(crate) fn count_back<J: Naming>(seats: &[Seat<J>], total: u8) -> u8
+pub(crate) fn count_back<J: RoomId>(seats: &[Seat<J>], total: u8) -> u8
     ensures back { result ≡ back_of total seats.now }
     ensures bound { result ≤ total }
 {
@@ -32,7 +32,7 @@ pub(crate) fn count_back<J: Naming>(seats: &[Seat<J>], total: u8) -> u8
 }
 
 /// Whether what each seat has seen is no longer than these commands; it is a prefix of them then.
-pub(crate) fn all_fit<J: Naming>(seats: &[Seat<J>], front: &Front<J>) -> bool
+pub(crate) fn all_fit<J: RoomId>(seats: &[Seat<J>], front: &SeenPrefix<J>) -> bool
     ensures { result ≡ true → AllFit front.now seats.now }
 {
     match seats {
@@ -42,7 +42,7 @@ pub(crate) fn all_fit<J: Naming>(seats: &[Seat<J>], front: &Front<J>) -> bool
 }
 
 /// All parts of the ledger that the seats have, with what they made.
-pub(crate) fn merge_all<J: Naming>(seats: Vec<Seat<J>>, rest: Share<J>) -> Share<J>
+pub(crate) fn merge_all<J: RoomId>(seats: Vec<Seat<J>>, rest: Share<J>) -> Share<J>
     requires { (rest.parts ≡ 0) × (rest.amount ≡ 0) }
     ensures parts { (result.parts ≡ length seats.items) × (result.parts ≤ J.parts) }
     ensures amount { result.amount ≡ made_of seats.items }

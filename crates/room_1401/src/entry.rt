@@ -5,21 +5,21 @@ use command_1401::{Answer, Command};
 
 /// A command with the seat that gave it.
 #[derive(Clone, Copy, Debug, PartialEq, Eq)]
-pub struct Pair {
+pub struct SeatedCommand {
     /// The seat, numbered from 1; 0 is the console of a machine that isn't shared.
     pub seat: u8,
     /// The command.
     pub command: Command,
 }
 
-impl Pair {
+impl SeatedCommand {
     ghost use Rattle.room_1401.specs.Replay.{pair};
 
     /// A command of a seat.
-    pub fn new(seat: u8, command: &Command) -> Pair
+    pub fn new(seat: u8, command: &Command) -> SeatedCommand
         ensures { result ≡ pair seat command.now }
     {
-        Pair {
+        SeatedCommand {
             seat,
             command: *command,
         }

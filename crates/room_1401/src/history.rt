@@ -6,8 +6,8 @@ ghost use mathlib.Core.List.{IsPrefix};
 ghost use Rattle.room_1401.specs.History.{head_of};
 ghost use Rattle.room_1401.specs.Journal.{most_entries};
 
-use crate::entry::Pair;
-use crate::naming::Naming;
+use crate::entry::SeatedCommand;
+use crate::naming::RoomId;
 use logbook::{Gain, Offer, Plain, Play, Rule, Seen, Start, Word};
 use std::marker::{Model, PhantomData};
 use std::sync::ledger::{Blank, Book, Share};
@@ -15,7 +15,7 @@ use std::sync::ledger::{Blank, Book, Share};
 /// The rule of the history.
 pub struct Law;
 
-impl Rule<Pair, u64> for Law {
+impl Rule<SeatedCommand, u64> for Law {
     ghost use Rattle.std.specs.Prelude.{[]};
     ghost use base.Fml.{ftrue};
     ghost use Rattle.room_1401.specs.History.{IsKept};
@@ -36,7 +36,7 @@ impl Rule<Pair, u64> for Law {
 /// Threads trade nothing by the history.
 pub struct Nothing;
 
-impl Gain<Pair, u64> for Nothing {
+impl Gain<SeatedCommand, u64> for Nothing {
     ghost use base.Fml.{ftrue};
 
     ghost after = { λ names about answer. ftrue };
@@ -45,13 +45,13 @@ impl Gain<Pair, u64> for Nothing {
 /// The step that adds a command.
 pub struct Extend;
 
-impl Play<Pair, u64> for Extend {
+impl Play<SeatedCommand, u64> for Extend {
     ghost use Rattle.room_1401.specs.History.{Adds};
 
     ghost then = { Adds };
 }
 
-impl Plain<Pair, Pair, u64> for Extend {
+impl Plain<SeatedCommand, SeatedCommand, u64> for Extend {
     ghost use Rattle.std.specs.Prelude.{None};
 
     ghost ask = { λ pair. pair };
@@ -60,12 +60,12 @@ impl Plain<Pair, Pair, u64> for Extend {
 }
 
 /// A token that says which list the history has reached. It takes no bytes.
-pub type Reached = Seen<Pair, u64, Law>;
+pub type Reached = Seen<SeatedCommand, u64, Law>;
 
 /// An empty history and a ledger, of which a shared room is made. Contracts see what names the room.
 #[derive(Drop)]
 pub struct Opened {
-    head: Word<Pair, u64, Law>,
+    head: Word<SeatedCommand, u64, Law>,
     seen: Reached,
     blank: Blank,
 }
@@ -100,7 +100,7 @@ impl Opened {
     }
 
     /// The history under a name, a front that has seen nothing, and the ledger with one share that has all its parts.
-    pub(crate) fn named<J: Naming>(self) -> (Head<J>, Front<J>, Book<J>, Share<J>)
+    pub(crate) fn named<J: RoomId>(self) -> (Head<J>, SeenPrefix<J>, Book<J>, Share<J>)
         requires book { self.book ≡ J.book }
         requires ledger { self.ledger ≡ J.name }
         requires parts { self.parts ≡ J.parts }
@@ -114,7 +114,7 @@ impl Opened {
             head,
             of: PhantomData,
         };
-        let front = Front {
+        let front = SeenPrefix {
             count: 0,
             seen,
             of: PhantomData,
@@ -125,26 +125,26 @@ impl Opened {
 
 /// The word that holds the length of the history.
 #[derive(Drop)]
-pub struct Head<J: Naming> {
-    head: Word<Pair, u64, Law>,
+pub struct Head<J: RoomId> {
+    head: Word<SeatedCommand, u64, Law>,
     of: PhantomData<J>,
     ghost head_is: { head ≡ head_of J.book },
 }
 
 /// A beginning of the history that was seen, no longer than a journal can be. Contracts see its commands, oldest first.
 #[derive(Drop)]
-pub struct Front<J: Naming> {
+pub struct SeenPrefix<J: RoomId> {
     count: u64,
     seen: Reached,
     of: PhantomData<J>,
 }
 
-impl<J: Naming> Model for Front<J> {
+impl<J: RoomId> Model for SeenPrefix<J> {
     ghost use Rattle.std.specs.Prelude.{◌≡◌, ◌≤◌, List, length};
     ghost use Rattle.room_1401.specs.Journal.{most_entries};
-    ghost use Rattle.room_1401.specs.declared.entry.Pair.{Pair};
+    ghost use Rattle.room_1401.specs.declared.entry.SeatedCommand.{SeatedCommand};
 
-    ghost Value = { List Pair };
+    ghost Value = { List SeatedCommand };
 
     ghost view = { λ front. front.seen.log };
 
@@ -154,7 +154,7 @@ impl<J: Naming> Model for Front<J> {
         × (length front.seen.log ≤ most_entries) };
 }
 
-impl<J: Naming> Front<J> {
+impl<J: RoomId> SeenPrefix<J> {
     /// How many commands it has.
     pub(crate) fn len(&self) -> u64
         ensures value { result ≡ length self.now }
@@ -164,10 +164,10 @@ impl<J: Naming> Front<J> {
     }
 
     /// A copy.
-    pub(crate) fn again(&self) -> Front<J>
+    pub(crate) fn again(&self) -> SeenPrefix<J>
         ensures { result ≡ self.now }
     {
-        Front {
+        SeenPrefix {
             count: self.count,
             seen: self.seen.again(),
             of: PhantomData,
@@ -183,12 +183,12 @@ impl<J: Naming> Front<J> {
     }
 
     /// The front of a token.
-    pub(crate) fn of_token(count: u64, seen: &Reached) -> Front<J>
+    pub(crate) fn of_token(count: u64, seen: &Reached) -> SeenPrefix<J>
         requires token { (count ≡ length seen.now.log) × (seen.now.book ≡ J.book) }
         requires bound { count ≤ most_entries }
         ensures { result ≡ seen.now.log }
     {
-        Front {
+        SeenPrefix {
             count,
             seen: seen.again(),
             of: PhantomData,
@@ -196,7 +196,7 @@ impl<J: Naming> Front<J> {
     }
 
     /// The longer of two fronts, which the other begins.
-    pub(crate) fn longer(&self, other: &Front<J>) -> Front<J>
+    pub(crate) fn longer(&self, other: &SeenPrefix<J>) -> SeenPrefix<J>
         ensures is { result ≡ (if ltb (length self.now) (length other.now) then other.now else self.now) }
         ensures this { IsPrefix self.now result }
         ensures that { IsPrefix other.now result }
@@ -211,12 +211,16 @@ impl<J: Naming> Front<J> {
     }
 
     /// Adds a command to all that was seen, and says whether it did: it does not if the history is longer.
-    pub(crate) fn extend(&mut self, head: &Head<J>, pair: Pair) -> bool
+    pub(crate) fn extend(&mut self, head: &Head<J>, pair: SeatedCommand) -> bool
         requires { length self.old < most_entries }
         ensures { MatchBool result (self.new ≡ self.old ++ pair ∷ []) (self.new ≡ self.old) }
     {
         let mut seen = self.seen.again();
-        let mut offer: Offer<Pair, u64, Law, Nothing> = seen.plain::<Nothing, Pair, Extend>(&pair);
+        let mut offer: Offer<SeatedCommand, u64, Law, Nothing> = seen.plain::<
+            Nothing,
+            SeatedCommand,
+            Extend,
+        >(&pair);
         let mut pen = seen.no_pen();
         let count = self.count;
         let found = head

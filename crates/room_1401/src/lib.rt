@@ -41,12 +41,12 @@ pub mod seat;
 pub mod shared_room;
 
 pub use command_1401::{Answer, Command, Refusal, carry_out};
-pub use entry::{Entry, Pair};
+pub use entry::{Entry, SeatedCommand};
 pub use fault::{CloseFault, GlanceFault, RoomFault, StartFault};
 pub use history::Opened;
 pub use keeper::{Carried, Keeper, NoKeeper, Unkept};
 pub use kept_room::KeptRoom;
-pub use naming::Naming;
+pub use naming::RoomId;
 pub use room::Room;
 pub use seat::{Glance, Seat, Told};
 pub use shared_room::SharedRoom;

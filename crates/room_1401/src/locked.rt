@@ -10,11 +10,11 @@ ghost use Rattle.room_1401.specs.Rule.{Publishes};
 ghost use Rattle.room_1401.specs.Seen.{Carries, own};
 
 use crate::closing::{all_fit, merge_all};
-use crate::entry::{Entry, Pair};
+use crate::entry::{Entry, SeatedCommand};
 use crate::fault::RoomFault;
-use crate::history::{Front, Head};
+use crate::history::{Head, SeenPrefix};
 use crate::keeper::{Carried, Keeper};
-use crate::naming::Naming;
+use crate::naming::RoomId;
 use crate::published::Change;
 use crate::publisher::Publisher;
 use crate::room::Room;
@@ -28,11 +28,11 @@ use std::sync::ledger::{Book, Share};
 /// each recorded answer are those of the replay of its journal; the history and what is published are the journal's,
 /// the total is its length, and what is kept is its text, or breaks off in the last line after a failed write.
 #[derive(Drop)]
-pub struct LockedRoom<J: Naming, R: Wait + Drop, K: Keeper + Drop> {
+pub struct LockedRoom<J: RoomId, R: Wait + Drop, K: Keeper + Drop> {
     room: Room,
     total: Book<J>,
     head: Head<J>,
-    front: Front<J>,
+    front: SeenPrefix<J>,
     publisher: Publisher<J, R>,
     keeper: K,
     // No part of the ledger: the seats have them all.
@@ -40,7 +40,7 @@ pub struct LockedRoom<J: Naming, R: Wait + Drop, K: Keeper + Drop> {
     seats: u8,
 }
 
-impl<J: Naming, R: Wait + Drop, K: Keeper + Drop> Model for LockedRoom<J, R, K> {
+impl<J: RoomId, R: Wait + Drop, K: Keeper + Drop> Model for LockedRoom<J, R, K> {
     ghost use Rattle.std.specs.Prelude.{◌≡◌, length, drop};
     ghost use Rattle.room_1401.specs.Account.{Account};
     ghost use Rattle.room_1401.specs.Journal.{pairs_of};
@@ -64,13 +64,13 @@ impl<J: Naming, R: Wait + Drop, K: Keeper + Drop> Model for LockedRoom<J, R, K> 
         (K.kept locked.keeper) };
 }
 
-impl<J: Naming, R: Wait + Drop, K: Keeper + Drop> LockedRoom<J, R, K> {
+impl<J: RoomId, R: Wait + Drop, K: Keeper + Drop> LockedRoom<J, R, K> {
     /// What the lock of a new room keeps.
     pub(crate) fn new(
         room: Room,
         total: Book<J>,
         head: Head<J>,
-        front: Front<J>,
+        front: SeenPrefix<J>,
         publisher: Publisher<J, R>,
         keeper: K,
         rest: Share<J>,
@@ -137,7 +137,7 @@ impl<J: Naming, R: Wait + Drop, K: Keeper + Drop> LockedRoom<J, R, K> {
         self.room.reserve()?;
         let number = seat.number();
         let mut front = self.front.again();
-        let pair = Pair::new(number, &command);
+        let pair = SeatedCommand::new(number, &command);
         if !front.extend(&self.head, pair) {
             return Err(RoomFault::NoReading);
         }
@@ -234,7 +234,7 @@ impl<J: Naming, R: Wait + Drop, K: Keeper + Drop> LockedRoom<J, R, K> {
 }
 
 /// The change by a command that leads to the commands of this front.
-fn change_to<J: Naming>(command: &Command, front: &Front<J>) -> Change
+fn change_to<J: RoomId>(command: &Command, front: &SeenPrefix<J>) -> Change
     ensures command { result.command ≡ Some command.now }
     ensures count { result.count ≡ length front.now }
     ensures bound { result.count ≤ most_entries }

@@ -4,7 +4,7 @@ use std::sync::ledger::Ledger;
 
 /// What names one shared room: its ledger, its history, its size and the number of its seats. A function that makes a
 /// room is generic in it, and its caller picks the names.
-pub trait Naming: Ledger {
+pub trait RoomId: Ledger {
     ghost use Rattle.std.specs.Prelude.{ℕ};
     ghost use Rattle.logbook.specs.Pages.{Book};
 
@@ -18,7 +18,7 @@ pub trait Naming: Ledger {
     ghost seats: { ℕ };
 }
 
-impl Naming for Brand {
+impl RoomId for Brand {
     ghost book = { record { number = 0; log_name = 0; cells_name = 0 } };
 
     ghost size = { 0 };

@@ -1,9 +1,9 @@
 //! The writer of what a shared room shows.
 ghost use Rattle.std.specs.Prelude.{◌≡◌, ◌<◌, [], ◌∷◌, ◌++◌, List, drop, fold, IfOk, OnOk, OnErr};
-ghost use Rattle.room_1401.specs.declared.entry.Pair.{Pair};
+ghost use Rattle.room_1401.specs.declared.entry.SeatedCommand.{SeatedCommand};
 ghost use Rattle.room_1401.specs.Rule.{Follows, Keeps, Publishes, changed};
 
-use crate::naming::Naming;
+use crate::naming::RoomId;
 use crate::published::{Change, Shown};
 use crate::rule::{RoomReader, RoomWriter, Sees};
 use core::mem::replace_with;
@@ -12,19 +12,19 @@ use std::alloc::{AllocError, Global};
 use std::sync::Wait;
 
 /// The writer, with the handle by which its end waits for the readers.
-pub struct Publisher<J: Naming, R: Wait + Drop> {
+pub struct Publisher<J: RoomId, R: Wait + Drop> {
     writer: RoomWriter<J>,
     rt: R,
 }
 
-impl<J: Naming, R: Wait + Drop> Drop for Publisher<J, R> {
+impl<J: RoomId, R: Wait + Drop> Drop for Publisher<J, R> {
     fn drop(self) {
         let Self { writer, rt } = self;
         drop(writer.take(&rt));
     }
 }
 
-impl<J: Naming, R: Wait + Drop> Publisher<J, R> {
+impl<J: RoomId, R: Wait + Drop> Publisher<J, R> {
     /// A writer over two states that are alike, with places for this number of readers.
     pub(crate) fn new(
         rt: R,
@@ -74,7 +74,7 @@ impl<J: Naming, R: Wait + Drop> Publisher<J, R> {
     pub(crate) fn show_kept(&mut self, kept: bool)
         requires { Follows J.book J.size self.old.writer.desk.shown.value
             (drop self.old.writer.behind self.old.writer.log.items) }
-        ensures { (pairs : List Pair)
+        ensures { (pairs : List SeatedCommand)
             → Publishes J.book J.size self.old.writer.desk.shown.value
             (drop self.old.writer.behind self.old.writer.log.items) pairs
             → Publishes J.book J.size self.new.writer.desk.shown.value
@@ -87,7 +87,7 @@ impl<J: Naming, R: Wait + Drop> Publisher<J, R> {
 }
 
 /// Shows the pending changes. It waits for those that still read the state from before.
-fn show<J: Naming, R: Wait>(writer: RoomWriter<J>, rt: &R) -> (RoomWriter<J>, ())
+fn show<J: RoomId, R: Wait>(writer: RoomWriter<J>, rt: &R) -> (RoomWriter<J>, ())
     requires { Follows J.book J.size writer.desk.shown.value (drop writer.behind writer.log.items) }
     ensures shown { result.0.desk.shown.value
         ≡ fold changed writer.desk.shown.value (drop writer.behind writer.log.items) }

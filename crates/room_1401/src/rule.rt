@@ -1,7 +1,7 @@
 //! The rule that each step of the writer and the readers of a shared room keeps.
 
-use crate::entry::Pair;
-use crate::naming::Naming;
+use crate::entry::SeatedCommand;
+use crate::naming::RoomId;
 use crate::published::{Change, Shown};
 use command_1401::carry_out;
 use crossbeam_utils::rule::{Outcome, Protocol};
@@ -38,7 +38,7 @@ pub struct Shows<J> {
     of: PhantomData<J>,
 }
 
-impl<J: Naming> Protocol<Shown, LinkedList<Pair>> for Shows<J> {
+impl<J: RoomId> Protocol<Shown, LinkedList<SeatedCommand>> for Shows<J> {
     ghost use Rattle.std.specs.Prelude.{[]};
     ghost use Rattle.room_1401.specs.Rule.{Keeps};
 
@@ -52,14 +52,14 @@ pub struct Sees<J> {
     of: PhantomData<J>,
 }
 
-impl<J: Naming> Outcome<Shown, LinkedList<Pair>> for Sees<J> {
+impl<J: RoomId> Outcome<Shown, LinkedList<SeatedCommand>> for Sees<J> {
     ghost use Rattle.room_1401.specs.Rule.{Sees};
 
     ghost then = { Sees J.book J.size };
 }
 
 /// A seat's reader.
-pub type RoomReader<J> = Reader<Shown, LinkedList<Pair>, Shows<J>>;
+pub type RoomReader<J> = Reader<Shown, LinkedList<SeatedCommand>, Shows<J>>;
 
 /// The room's writer.
-pub type RoomWriter<J> = Writer<Shown, Change, LinkedList<Pair>, Shows<J>>;
+pub type RoomWriter<J> = Writer<Shown, Change, LinkedList<SeatedCommand>, Shows<J>>;

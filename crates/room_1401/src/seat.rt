@@ -7,8 +7,8 @@ ghost use Rattle.room_1401.specs.Replay.{cell_after};
 ghost use Rattle.room_1401.specs.Seen.{own};
 
 use crate::fault::GlanceFault;
-use crate::history::{Front, Reached};
-use crate::naming::Naming;
+use crate::history::{Reached, SeenPrefix};
+use crate::naming::RoomId;
 use crate::rule::{RoomReader, Sees};
 use bcd_1401::Cell;
 use core::mem::replace_with;
@@ -36,7 +36,7 @@ struct PublishedCell {
 }
 
 /// Reads a cell of the published machine; `None` once nothing is published any more.
-fn read_published<J: Naming>(
+fn read_published<J: RoomId>(
     reader: RoomReader<J>,
     address: u16,
 ) -> (RoomReader<J>, Option<PublishedCell>)
@@ -62,22 +62,22 @@ fn read_published<J: Naming>(
 
 /// A note of what a seat has seen, for another seat of the same room. Contracts see those commands, oldest first.
 #[derive(Drop)]
-pub struct Told<J: Naming> {
-    front: Front<J>,
+pub struct Told<J: RoomId> {
+    front: SeenPrefix<J>,
 }
 
-impl<J: Naming> Model for Told<J> {
+impl<J: RoomId> Model for Told<J> {
     ghost use Rattle.std.specs.Prelude.{List};
-    ghost use Rattle.room_1401.specs.declared.entry.Pair.{Pair};
+    ghost use Rattle.room_1401.specs.declared.entry.SeatedCommand.{SeatedCommand};
 
-    ghost Value = { List Pair };
+    ghost Value = { List SeatedCommand };
 
     ghost view = { λ told. told.front };
 }
 
-impl<J: Naming> Told<J> {
+impl<J: RoomId> Told<J> {
     /// The note of these commands.
-    pub(crate) fn new(front: Front<J>) -> Told<J>
+    pub(crate) fn new(front: SeenPrefix<J>) -> Told<J>
         ensures { result ≡ front }
     {
         Told { front }
@@ -86,20 +86,20 @@ impl<J: Naming> Told<J> {
 
 /// A seat. Contracts see its number, how many of its commands were carried out, and the commands that it has seen.
 #[derive(Drop)]
-pub struct Seat<J: Naming> {
+pub struct Seat<J: RoomId> {
     number: u8,
     size: u16,
     made: u64,
     share: Share<J>,
-    front: Front<J>,
+    front: SeenPrefix<J>,
     reader: RoomReader<J>,
 }
 
-impl<J: Naming> Model for Seat<J> {
+impl<J: RoomId> Model for Seat<J> {
     ghost use Rattle.std.specs.Prelude.{◌≡◌, ◌≤◌};
-    ghost use Rattle.room_1401.specs.Seen.{Knows, own};
+    ghost use Rattle.room_1401.specs.Seen.{SeatView, own};
 
-    ghost Value = { Knows };
+    ghost Value = { SeatView };
 
     ghost view = { λ seat. record { number = seat.number; made = seat.made; list = seat.front } };
 
@@ -110,13 +110,13 @@ impl<J: Naming> Model for Seat<J> {
         × (seat.made ≤ own seat.number seat.front) };
 }
 
-impl<J: Naming> Seat<J> {
+impl<J: RoomId> Seat<J> {
     /// A seat that made nothing.
     pub(crate) fn new(
         number: u8,
         size: u16,
         share: Share<J>,
-        front: Front<J>,
+        front: SeenPrefix<J>,
         reader: RoomReader<J>,
     ) -> Seat<J>
         requires share { (share.amount ≡ 0) × (share.parts ≡ 1) }
@@ -161,7 +161,7 @@ impl<J: Naming> Seat<J> {
     }
 
     /// Brings the seat up to date with these commands.
-    pub(crate) fn see(&mut self, front: &Front<J>)
+    pub(crate) fn see(&mut self, front: &SeenPrefix<J>)
         ensures same { (self.new.number ≡ self.old.number) × (self.new.made ≡ self.old.made) }
         ensures is { self.new.list
             ≡ (if ltb (length self.old.list) (length front.now) then front.now else self.old.list) }
@@ -210,7 +210,7 @@ impl<J: Naming> Seat<J> {
         if found.count < self.front.len() {
             return Err(GlanceFault::Gone);
         }
-        let front = Front::of_token(found.count, &found.front);
+        let front = SeenPrefix::of_token(found.count, &found.front);
         self.front = self.front.longer(&front);
         Ok(Glance {
             after: found.count,
@@ -231,7 +231,7 @@ impl<J: Naming> Seat<J> {
     }
 
     /// Whether what it has seen is no longer than these commands; it is a prefix of them then.
-    pub(crate) fn fits(&self, front: &Front<J>) -> bool
+    pub(crate) fn fits(&self, front: &SeenPrefix<J>) -> bool
         ensures { result ≡ true → IsPrefix self.now.list front.now × (self.now.made ≤ own self.now.number front.now) }
     {
         let _both = self.front.longer(front);

@@ -13,10 +13,10 @@ ghost use Rattle.room_1401.specs.Seen.{Carries, most_seats, newcomers, own};
 
 use crate::closing::count_back;
 use crate::fault::{CloseFault, RoomFault, StartFault};
-use crate::history::{Front, Opened, Reached};
+use crate::history::{Opened, Reached, SeenPrefix};
 use crate::keeper::{Carried, Keeper, NoKeeper};
 use crate::locked::LockedRoom;
-use crate::naming::Naming;
+use crate::naming::RoomId;
 use crate::published::{Change, Shown};
 use crate::publisher::Publisher;
 use crate::room::Room;
@@ -34,11 +34,11 @@ const MOST_SEATS: u8 = 8;
 /// A room that operators share by its seats, under a lock. `J` names it, and `R` is the handle by which its end waits
 /// for those that still read what it shows. `K` keeps its journal outside of it.
 #[derive(Drop)]
-pub struct SharedRoom<J: Naming, R: Wait + Drop, K: Keeper + Drop = NoKeeper> {
+pub struct SharedRoom<J: RoomId, R: Wait + Drop, K: Keeper + Drop = NoKeeper> {
     locked: Mutex<LockedRoom<J, R, K>>,
 }
 
-impl<J: Naming, R: Wait + Drop> SharedRoom<J, R> {
+impl<J: RoomId, R: Wait + Drop> SharedRoom<J, R> {
     /// A room with a machine of this size at power-on and an empty journal, and its seats, numbered from 1 in order. It
     /// is made of what `Opened::new` opened for as many seats.
     ///
@@ -99,7 +99,7 @@ impl<J: Naming, R: Wait + Drop> SharedRoom<J, R> {
     }
 }
 
-impl<J: Naming, R: Wait + Drop, K: Keeper + Drop> SharedRoom<J, R, K> {
+impl<J: RoomId, R: Wait + Drop, K: Keeper + Drop> SharedRoom<J, R, K> {
     /// As `power_on`, of a room whose journal is kept outside of it. The keeper has the head of its text.
     ///
     /// # Errors
@@ -288,7 +288,7 @@ impl<J: Naming, R: Wait + Drop, K: Keeper + Drop> SharedRoom<J, R, K> {
 
 /// The writer over two machines at power-on, with a change that does nothing pending. So its list of changes has grown,
 /// and no command grows it again.
-fn open_publisher<J: Naming, R: Wait + Drop>(
+fn open_publisher<J: RoomId, R: Wait + Drop>(
     rt: R,
     alloc: Global,
     size: u16,
@@ -337,10 +337,10 @@ fn at_power_on(alloc: Global, size: u16, token: &Reached) -> Result<Shown, CoreF
 
 /// Fills in the seats of a new room, each with a part of the ledger and a reader. False if there is no place for a
 /// reader.
-fn fill_seats<J: Naming, R: Wait + Drop>(
+fn fill_seats<J: RoomId, R: Wait + Drop>(
     seats: &mut Vec<Seat<J>>,
     publisher: &Publisher<J, R>,
-    front: &Front<J>,
+    front: &SeenPrefix<J>,
     whole: &mut Share<J>,
     size: u16,
     total: u8,

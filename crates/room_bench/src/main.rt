@@ -6,7 +6,7 @@
 
 ghost use Rattle.std.specs.Prelude.{◌≡◌};
 
-use room_1401::{Command, Naming, Opened, Room, Seat, SharedRoom};
+use room_1401::{Command, Opened, Room, RoomId, Seat, SharedRoom};
 use std::alloc::Global;
 use std::marker::Brand;
 use std::rt::Env;
@@ -69,7 +69,7 @@ fn time_room(rt: &(impl Clock + Print), alloc: Global) -> io::Result<()> {
 }
 
 /// Gives this many commands, or fewer where one is refused.
-fn give<J: Naming, R: Wait>(
+fn give<J: RoomId, R: Wait>(
     rt: &R,
     room: &SharedRoom<J, &R>,
     mut seat: Seat<J>,
@@ -84,7 +84,7 @@ fn give<J: Naming, R: Wait>(
 }
 
 /// Times a shared room whose seats each give their part of the commands.
-fn time_seats<J: Naming + Send + Sync, R: Threads + Wait + Clock + Print + Sync>(
+fn time_seats<J: RoomId + Send + Sync, R: Threads + Wait + Clock + Print + Sync>(
     rt: &R,
     alloc: Global,
     opened: Opened,
@@ -112,7 +112,7 @@ fn time_seats<J: Naming + Send + Sync, R: Threads + Wait + Clock + Print + Sync>
 }
 
 /// The time of each glance, in nanoseconds, the two readings of the clock included.
-fn glance_times<J: Naming, R: Clock>(rt: &R, alloc: Global, mut seat: Seat<J>) -> Vec<u64> {
+fn glance_times<J: RoomId, R: Clock>(rt: &R, alloc: Global, mut seat: Seat<J>) -> Vec<u64> {
     let mut times = Vec::new(alloc);
     for _ in 0..GLANCES {
         let Ok(start) = Instant::now(rt) else {
@@ -130,7 +130,7 @@ fn glance_times<J: Naming, R: Clock>(rt: &R, alloc: Global, mut seat: Seat<J>) -
 }
 
 /// Times the glances of one seat while another gives commands.
-fn time_glances<J: Naming + Send + Sync, R: Threads + Wait + Clock + Print + Sync>(
+fn time_glances<J: RoomId + Send + Sync, R: Threads + Wait + Clock + Print + Sync>(
     rt: &R,
     alloc: Global,
     opened: Opened,

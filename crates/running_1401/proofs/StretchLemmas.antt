@@ -53,7 +53,7 @@ nothing_left now steps limit why lines cards =
     same_job now why steps (steps + 0) lines (lines ++ []) cards (cards ++ []) (omega arith) (sym (append-nil lines))
     (sym (append-nil cards))
 
--- a part of a job is all of it where it stopped, or has as many steps
+-- a part of a job is all of it if it stopped, or has as many steps
 all_of_it : (n left : ℕ) (why : Stop) (s : State) → n ≤ left → (why ≢ stop.Limit) ⊎ (left ≤ n)
     → (why ≢ stop.Limit → AtEnd n s) → unattended left s ≡ unattended n s
 all_of_it n left why s few (inl no_limit) ended =
@@ -122,7 +122,7 @@ at_first limit start first =
       within = omega arith;
     }
 
--- output behind output
+-- output that follows output
 output_twice : (lines more : List PrintLine) (cards others : List Card) (steps ran : ℕ) (job : Job)
     → after_output lines cards steps (after_output more others ran job)
     ≡ after_output (lines ++ more) (cards ++ others) (steps + ran) job
@@ -132,7 +132,7 @@ output_twice lines more cards others steps ran job =
     ((cards ++ others) ++ job.cards) (omega arith) (sym (append_assoc lines more job.lines))
     (sym (append_assoc cards others job.cards))
 
--- a stretch behind what was written
+-- a stretch that follows what was written
 pub record Grown (limit left : ℕ) (start after : State) (first new : Received) (stretch : Stretch)
     (printed punched : ℕ) : Type 0 where
   pub lines : List PrintLine

@@ -73,7 +73,7 @@ told_of s after (Some v) (Some w) now steps why lines cards e counted none some 
   cards_is = ap (λ (job : Job). job.cards) e;
 }
 
--- more lie there than before if there is one behind them
+-- more lie there than before if there is one after them
 more_lie : (n k : ℕ) → nat_lt n (n + k) ≡ nat_lt 0 k
 more_lie n zero = search arith
 more_lie n (suc k) = search arith
@@ -108,7 +108,7 @@ unfolding trace_text
 taken_out zero s = refl
 taken_out (suc limit) s = refl
 
--- what is left of the trace behind a step
+-- what is left of the trace after a step
 rest_of_trace : (after now : State) (stopped told found : Option Stop) (why : Stop) (k left steps : ℕ)
     → left ≡ suc k → emptied after ≡ now → told ≡ stopped → (stopped ≡ None → steps ≡ 1)
     → (told ≡ None → why ≡ stop.Limit)
@@ -257,7 +257,7 @@ trace_at_first is limit start first at e = record {
   whole = refl;
 }
 
--- a stretch behind it
+-- a stretch after it
 grown_by : (is : Bool) (limit left steps : ℕ) (found : Option Stop) (start now after : State)
     (first at new : Option (List ℕ)) (so_far : TraceSoFar is limit left start now first at)
     (stretch : TracedStretch is left steps found now after at new)

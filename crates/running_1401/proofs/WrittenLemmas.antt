@@ -27,7 +27,7 @@ pub part_of_longer : (old new : Option (List ℕ)) (text more whole : List ℕ) 
 part_of_longer old new text more whole e part =
     (part.0, (part.1.0 ++ more, e ∙ ap (λ t. t ++ more) part.1.1 ∙ append_assoc part.0 part.1.0 more), part.2)
 
--- a part of a text behind another
+-- a part of a text after another
 pub part_behind : (old between new : Option (List ℕ)) (text more whole : List ℕ) → whole ≡ text ++ more
     → Appends old between text → AppendsPart between new more → AppendsPart old new whole
 part_behind old between new text more whole e all part = (
@@ -36,7 +36,7 @@ part_behind old between new text more whole e all part = (
   Appends-trans old between new text part.0 all part.2,
 )
 
--- the text of lines behind others
+-- the text of lines after others
 pub paper_behind : (place : Place) (lines more : List PrintLine)
     → paper_text place (lines ++ more) ≡ paper_text place lines ++ paper_text (place_behind place lines) more
 paper_behind place [] more = refl
@@ -45,13 +45,13 @@ paper_behind place (line ∷ lines) more =
     ∙ sym (append_assoc (line_text place line) (paper_text (place_after line) lines)
     (paper_text (place_behind (place_after line) lines) more))
 
--- where the paper goes on behind them
+-- where the paper goes on after them
 pub place_behind_both : (place : Place) (lines more : List PrintLine)
     → place_behind place (lines ++ more) ≡ place_behind (place_behind place lines) more
 place_behind_both place [] more = refl
 place_behind_both place (line ∷ lines) more = place_behind_both (place_after line) lines more
 
--- lines and cards written behind others
+-- lines and cards written after others
 pub both_written : (place : Place) (lines more : List PrintLine) (cards others : List Card) (a b c : Received)
     → HasWritten place lines cards a b → HasWritten (place_behind place lines) more others b c
     → HasWritten place (lines ++ more) (cards ++ others) a c
@@ -91,14 +91,14 @@ first_part_written place lines cards job a b first paper punch = record {
       (ap (λ all. cards_text all) (sym first.cards.joined) ∙ flat_map-append card_text cards first.cards.rest) punch;
 }
 
--- the same where the paper has all these lines
+-- the same if the paper has all these lines
 pub paper_and_part_written : (place : Place) (lines : List PrintLine) (cards : List Card) (job : Job) (a b : Received)
     → IsPartOf lines cards job → Appends a.paper b.paper (paper_text place lines)
     → AppendsPart a.punch b.punch (cards_text cards) → HasWrittenPart place job.lines job.cards a b
 paper_and_part_written place lines cards job a b first paper punch =
     first_part_written place lines cards job a b first (all_of_it a.paper b.paper (paper_text place lines) paper) punch
 
--- a part behind lines and cards that were written
+-- a part after lines and cards that were written
 pub part_written_behind : (place : Place) (lines more : List PrintLine) (cards others : List Card) (a b c : Received)
     → HasWritten place lines cards a b → HasWrittenPart (place_behind place lines) more others b c
     → HasWrittenPart place (lines ++ more) (cards ++ others) a c

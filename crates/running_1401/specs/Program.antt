@@ -34,7 +34,7 @@ IsAssembled size source (Ok program) =
 IsAssembled size source (Err told) =
     (why : AsmFault) × (told ≡ fault.Source why) × (IsMemory why ⊎ (assembly_in size source ≡ Err why))
 
--- the cells of a segment put where they go
+-- the cells of a segment put at their places
 abbrev pub with_segment : State → Segment → State
 with_segment s segment = record s { storage = deposited s.storage segment.address segment.cells }
 

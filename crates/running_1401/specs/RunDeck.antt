@@ -21,7 +21,7 @@ use Rattle.running_1401.specs.declared.deck_running.Broken.TheVariants as broken
 use Rattle.running_1401.specs.declared.deck_running.Stretch.{Stretch}
 use Rattle.running_1401.specs.declared.job_report.JobReport.{JobReport}
 
--- what the files of paper and of punched cards have received, where it is known
+-- what the files of paper and of punched cards have received, if it is known
 pub record Received : Type 0 where
   pub paper : Option (List ℕ)
   pub punch : Option (List ℕ)
@@ -60,7 +60,7 @@ IsWhyUnwritten broken.Paper paper paper' punch punch' = IsTrue paper' × (punch'
 IsWhyUnwritten broken.Punch paper paper' punch punch' = (paper' ≡ paper) × IsTrue punch'
 IsWhyUnwritten broken.Trace paper paper' punch punch' = (paper' ≡ paper) × (punch' ≡ punch)
 
--- what is left of a job: nothing where it has stopped
+-- what is left of a job: nothing if it has stopped
 abbrev pub rest_of : Option Stop → ℕ → State → Job
 rest_of None limit s = unattended limit s
 rest_of (Some why) limit s = record { state = s; steps = 0; stop = why; lines = []; cards = [] }

@@ -1,60 +1,123 @@
--- What a run of files may be refused or fail by (own). Nothing is said of the files themselves.
-use Rattle.std.specs.Prelude.{◌≡◌, ◌≢◌, ◌⊎◌, ℕ, ⊤, false}
+-- What a run of files may be refused or fail by (own). Nothing is said of the files themselves. A name is the list of
+-- its bytes.
+use Rattle.std.specs.Prelude.{◌≡◌, ◌≢◌, ◌⊎◌, ℕ, ⊤, false, List, Option, Some, option_map, string_bytes}
 use Rattle.core_1401.specs.Storage.{is_core_size}
 use Rattle.cpu_1401.specs.declared.stop.Stop.TheVariants as stop
+use Rattle.arguments_1401.specs.declared.call.Job.{Job}
 use Rattle.arguments_1401.specs.declared.call.Start.{Start}
 use Rattle.arguments_1401.specs.declared.call.Start.TheVariants as start
 use Rattle.running_1401.specs.declared.fault.RunFault.{RunFault}
 use Rattle.running_1401.specs.declared.fault.RunFault.TheVariants as fault
 
--- a file that can't be read, or is no deck
-abbrev pub IsOfFile : RunFault → Type 0
-IsOfFile fault.Output = ⊥
-IsOfFile fault.Size = ⊥
-IsOfFile (fault.File name why) = ⊤
-IsOfFile (fault.Unwritten name) = ⊥
-IsOfFile (fault.Deck name why) = ⊤
-IsOfFile (fault.Stopped ending) = ⊥
-IsOfFile (fault.Source why) = ⊥
-IsOfFile (fault.Image why) = ⊥
-IsOfFile fault.Memory = ⊤
+-- a file of this name that can't be read
+abbrev pub IsUnreadFile : List ℕ → RunFault → Type 0
+IsUnreadFile file fault.Output = ⊥
+IsUnreadFile file fault.Size = ⊥
+IsUnreadFile file (fault.File name why) = string_bytes name ≡ file
+IsUnreadFile file (fault.Unwritten name) = ⊥
+IsUnreadFile file (fault.Deck name why) = ⊥
+IsUnreadFile file (fault.Stopped ending) = ⊥
+IsUnreadFile file (fault.Source why) = ⊥
+IsUnreadFile file (fault.Image why) = ⊥
+IsUnreadFile file fault.Memory = ⊤
+
+-- a file of this name that can't be read, or is no deck
+abbrev pub IsOfFile : List ℕ → RunFault → Type 0
+IsOfFile file fault.Output = ⊥
+IsOfFile file fault.Size = ⊥
+IsOfFile file (fault.File name why) = string_bytes name ≡ file
+IsOfFile file (fault.Unwritten name) = ⊥
+IsOfFile file (fault.Deck name why) = string_bytes name ≡ file
+IsOfFile file (fault.Stopped ending) = ⊥
+IsOfFile file (fault.Source why) = ⊥
+IsOfFile file (fault.Image why) = ⊥
+IsOfFile file fault.Memory = ⊤
+
+-- the names of the files that a run reads: its program, and its deck if it has one
+pub record InputNames : Type 0 where
+  pub program : List ℕ
+  pub deck : Option (List ℕ)
+
+abbrev pub input_names : List ℕ → Option (List ℕ) → InputNames
+input_names program deck = record { program = program; deck = deck }
+
+-- a file that can't be read is that of the program or the deck
+abbrev pub IsInput : InputNames → List ℕ → Type 0
+IsInput names name = (name ≡ names.program) ⊎ (names.deck ≡ Some name)
+
+-- a file that is no deck is that of the deck, or one that loads itself
+abbrev pub IsDeck : Start → InputNames → List ℕ → Type 0
+IsDeck how names name = ((how ≡ start.LoadKey) × (name ≡ names.program)) ⊎ (names.deck ≡ Some name)
 
 -- why there is nothing to be run: no such size; a file; a source or an image, unless the load key is pressed
-abbrev pub IsUnread : Start → ℕ → RunFault → Type 0
-IsUnread how size fault.Output = ⊥
-IsUnread how size fault.Size = is_core_size size ≡ false
-IsUnread how size (fault.File name why) = ⊤
-IsUnread how size (fault.Unwritten name) = ⊥
-IsUnread how size (fault.Deck name why) = ⊤
-IsUnread how size (fault.Stopped ending) = ⊥
-IsUnread how size (fault.Source why) = how ≡ start.Entry
-IsUnread how size (fault.Image why) = how ≡ start.Entry
-IsUnread how size fault.Memory = ⊤
+abbrev pub IsUnread : Start → ℕ → InputNames → RunFault → Type 0
+IsUnread how size names fault.Output = ⊥
+IsUnread how size names fault.Size = is_core_size size ≡ false
+IsUnread how size names (fault.File name why) = IsInput names (string_bytes name)
+IsUnread how size names (fault.Unwritten name) = ⊥
+IsUnread how size names (fault.Deck name why) = IsDeck how names (string_bytes name)
+IsUnread how size names (fault.Stopped ending) = ⊥
+IsUnread how size names (fault.Source why) = how ≡ start.Entry
+IsUnread how size names (fault.Image why) = how ≡ start.Entry
+IsUnread how size names fault.Memory = ⊤
 
--- what isn't written: a file, or standard output
-abbrev pub IsUnwritten : RunFault → Type 0
-IsUnwritten fault.Output = ⊤
-IsUnwritten fault.Size = ⊥
-IsUnwritten (fault.File name why) = ⊥
-IsUnwritten (fault.Unwritten name) = ⊤
-IsUnwritten (fault.Deck name why) = ⊥
-IsUnwritten (fault.Stopped ending) = ⊥
-IsUnwritten (fault.Source why) = ⊥
-IsUnwritten (fault.Image why) = ⊥
-IsUnwritten fault.Memory = ⊤
+-- the names of the files that a run writes, each if there is one
+pub record WrittenNames : Type 0 where
+  pub paper : Option (List ℕ)
+  pub punch : Option (List ℕ)
+  pub trace : Option (List ℕ)
+
+abbrev pub written_names : Option (List ℕ) → Option (List ℕ) → Option (List ℕ) → WrittenNames
+written_names paper punch trace = record { paper = paper; punch = punch; trace = trace }
+
+-- a file that isn't written is one of them
+abbrev pub IsWrittenName : WrittenNames → List ℕ → Type 0
+IsWrittenName names name = (names.paper ≡ Some name) ⊎ ((names.punch ≡ Some name) ⊎ (names.trace ≡ Some name))
+
+-- what isn't written: the file of this name, or standard output if there is no name
+abbrev pub IsUnwrittenFile : Option (List ℕ) → RunFault → Type 0
+IsUnwrittenFile file fault.Output = ⊤
+IsUnwrittenFile file fault.Size = ⊥
+IsUnwrittenFile file (fault.File name why) = ⊥
+IsUnwrittenFile file (fault.Unwritten name) = file ≡ Some (string_bytes name)
+IsUnwrittenFile file (fault.Deck name why) = ⊥
+IsUnwrittenFile file (fault.Stopped ending) = ⊥
+IsUnwrittenFile file (fault.Source why) = ⊥
+IsUnwrittenFile file (fault.Image why) = ⊥
+IsUnwrittenFile file fault.Memory = ⊤
+
+-- what isn't written: one of these files, or standard output
+abbrev pub IsUnwritten : WrittenNames → RunFault → Type 0
+IsUnwritten names fault.Output = ⊤
+IsUnwritten names fault.Size = ⊥
+IsUnwritten names (fault.File name why) = ⊥
+IsUnwritten names (fault.Unwritten name) = IsWrittenName names (string_bytes name)
+IsUnwritten names (fault.Deck name why) = ⊥
+IsUnwritten names (fault.Stopped ending) = ⊥
+IsUnwritten names (fault.Source why) = ⊥
+IsUnwritten names (fault.Image why) = ⊥
+IsUnwritten names fault.Memory = ⊤
 
 -- how a run fails that has begun: what isn't written, or a stop that is no halt
-abbrev pub IsOfRun : RunFault → Type 0
-IsOfRun fault.Output = ⊤
-IsOfRun fault.Size = ⊥
-IsOfRun (fault.File name why) = ⊥
-IsOfRun (fault.Unwritten name) = ⊤
-IsOfRun (fault.Deck name why) = ⊥
-IsOfRun (fault.Stopped ending) = ending.report.stop ≢ stop.Halt
-IsOfRun (fault.Source why) = ⊥
-IsOfRun (fault.Image why) = ⊥
-IsOfRun fault.Memory = ⊤
+abbrev pub IsOfRun : WrittenNames → RunFault → Type 0
+IsOfRun names fault.Output = ⊤
+IsOfRun names fault.Size = ⊥
+IsOfRun names (fault.File name why) = ⊥
+IsOfRun names (fault.Unwritten name) = IsWrittenName names (string_bytes name)
+IsOfRun names (fault.Deck name why) = ⊥
+IsOfRun names (fault.Stopped ending) = ending.report.stop ≢ stop.Halt
+IsOfRun names (fault.Source why) = ⊥
+IsOfRun names (fault.Image why) = ⊥
+IsOfRun names fault.Memory = ⊤
+
+-- the names of the files that a job reads, and of those that it writes
+abbrev pub inputs_of : Job → InputNames
+inputs_of job = input_names (string_bytes job.file) (option_map string_bytes job.cards)
+
+abbrev pub written_of : Job → WrittenNames
+written_of job = written_names (option_map string_bytes job.paper) (option_map string_bytes job.punch)
+    (option_map string_bytes job.trace)
 
 -- what a run of files fails by
-abbrev pub IsFaultOf : Start → ℕ → RunFault → Type 0
-IsFaultOf how size why = IsUnread how size why ⊎ IsOfRun why
+abbrev pub IsFaultOf : Job → RunFault → Type 0
+IsFaultOf job why = IsUnread job.start job.size (inputs_of job) why ⊎ IsOfRun (written_of job) why

@@ -49,7 +49,7 @@ struct Stretch {
     punched: u64,
 }
 
-/// Writes what was printed, behind the paper so far, and tells where the paper goes on.
+/// Writes what was printed, after the paper so far, and tells where the paper goes on.
 #[tactic(auto, using(crate::proofs::WrittenLemmas::nothing_yet))]
 fn write_paper<W: Sink>(
     alloc: Global,
@@ -76,7 +76,7 @@ fn write_paper<W: Sink>(
     }
 }
 
-/// Writes what was punched, behind the cards so far.
+/// Writes what was punched, after the cards so far.
 #[tactic(auto, using(crate::proofs::WrittenLemmas::nothing_yet))]
 fn write_cards<P: Sink>(alloc: Global, cards: &[Card], punch: &mut P) -> Result<(), Broken>
     ensures text { OnOk result (Appends (P.received punch.old) (P.received punch.new) (cards_text cards.now)) }
@@ -96,7 +96,7 @@ fn write_cards<P: Sink>(alloc: Global, cards: &[Card], punch: &mut P) -> Result<
     }
 }
 
-/// Why a job of so many steps ended, a part of which has this end; none where it goes on.
+/// Why a job of so many steps ended, a part of which has this end; none if it goes on.
 fn stop_of_job(stop: Stop, part: u32, steps: u32) -> Option<Stop>
     ensures none { result ≡ None → (stop ≡ Stop.Limit) × (part < steps) }
     ensures some { (why : Stop) → result ≡ Some why → (why ≡ stop) × ((stop ≢ Stop.Limit) ⊎ (steps ≤ part)) }
@@ -266,14 +266,14 @@ fn run_deck<'d, W: Sink, P: Sink, F: Sink, T: Watch>(
     }
 }
 
-/// How many cards are in the hopper, with those behind it.
+/// How many cards there are, in the hopper and after it.
 fn cards_held<'d>(machine: &Machine, deck: &Deck<'d>) -> u64
     ensures { result ≡ length (with_deck (⟦<Deck<'d> as Cards>⟧.left deck.now) machine.now).devices.hopper }
 {
     u64::from(machine.regs().hopper) + deck.left() as u64
 }
 
-/// Tells of a machine whose load key finds no card that it stands at its reader, and writes what lies on its paper and
+/// Reports a machine whose load key finds no card as stopped at its reader, and writes what lies on its paper and
 /// in its stacker.
 #[tactic(auto, unfolding(job_1401::specs::Unattended::unattended, trace_1401::specs::TraceText::trace_text))]
 fn run_no_card<'d, W: Sink, P: Sink, F: Sink, T: Watch>(
@@ -318,7 +318,7 @@ fn run_no_card<'d, W: Sink, P: Sink, F: Sink, T: Watch>(
     })
 }
 
-/// Runs a machine with these cards behind those in its hopper, from its entry or by the load key, until it stops or
+/// Runs a machine with these cards after those in its hopper, from its entry or by the load key, until it stops or
 /// until this many instructions were carried out. What it prints and punches is written every 500 steps at the latest,
 /// and the watch is told as often how far it is.
 ///

@@ -1,7 +1,7 @@
 //! The files that a run reads: its program, and its deck.
-ghost use Rattle.std.specs.Prelude.{◌≡◌, true, false, Err, IfErr};
+ghost use Rattle.std.specs.Prelude.{◌≡◌, true, false, None, Err, IfErr, option_map, string_bytes};
 ghost use Rattle.core_1401.specs.Storage.{is_core_size};
-ghost use Rattle.running_1401.specs.RunFile.{IsOfFile, IsUnread};
+ghost use Rattle.running_1401.specs.RunFile.{IsOfFile, IsUnread, IsUnreadFile, input_names};
 
 use crate::fault::RunFault;
 use crate::programs::{Program, loaded_machine, program_of};
@@ -20,7 +20,7 @@ use std::rt::Files;
 ///
 /// `File`, with the name as it was given; else `Memory`.
 fn read_file(rt: &(impl Files + AllocGlobal), name: String) -> Result<Vec<u8>, RunFault>
-    ensures { IfErr result IsOfFile }
+    ensures { IfErr result (IsUnreadFile (string_bytes name)) }
 {
     match read_whole(rt, name.as_str()) {
         Ok(bytes) => Ok(bytes),
@@ -40,7 +40,7 @@ pub fn tell_small_letters(rt: &impl Eprint, name: &str) {
 ///
 /// `File` if the file can't be read, `Deck` if a line is no card, or `Memory`.
 fn read_cards(rt: &(impl Files + Eprint + AllocGlobal), name: String) -> Result<Vec<Card>, RunFault>
-    ensures { IfErr result IsOfFile }
+    ensures { IfErr result (IsOfFile (string_bytes name)) }
 {
     let Ok(label) = name.clone() else {
         return Err(RunFault::Memory);
@@ -63,7 +63,7 @@ fn read_cards(rt: &(impl Files + Eprint + AllocGlobal), name: String) -> Result<
 pub(crate) struct Inputs {
     /// A machine with the program.
     pub machine: Machine,
-    /// The cards that are behind those in its hopper.
+    /// The cards that follow those in its hopper.
     pub cards: Vec<Card>,
     /// The listing of the program's source, if it has one.
     pub listing: Option<Listing>,
@@ -76,7 +76,7 @@ fn read_program(
     size: u16,
 ) -> Result<Inputs, RunFault>
     requires { is_core_size size ≡ true }
-    ensures { IfErr result (IsUnread Start.Entry size) }
+    ensures { IfErr result (IsUnread Start.Entry size (input_names (string_bytes file) None)) }
 {
     let text = read_file(rt, file)?;
     let program = program_of(rt.alloc(), text.as_slice(), size)?;
@@ -96,7 +96,7 @@ fn read_loader(
     size: u16,
 ) -> Result<Inputs, RunFault>
     requires { is_core_size size ≡ true }
-    ensures { IfErr result (IsUnread Start.LoadKey size) }
+    ensures { IfErr result (IsUnread Start.LoadKey size (input_names (string_bytes file) None)) }
 {
     let cards = read_cards(rt, file)?;
     match Machine::power_on(rt.alloc(), size) {
@@ -114,7 +114,7 @@ fn read_loader(
 ///
 /// # Errors
 ///
-/// `Size` if there is no core storage of this size; `File` where a file can't be read; `Source`, `Image` or `Deck` where
+/// `Size` if there is no core storage of this size; `File` if a file can't be read; `Source`, `Image` or `Deck` if
 /// it has no program or is no deck; or `Memory`.
 pub(crate) fn read_inputs(
     rt: &(impl Files + Eprint + AllocGlobal),
@@ -124,7 +124,8 @@ pub(crate) fn read_inputs(
     cards: Option<String>,
 ) -> Result<Inputs, RunFault>
     ensures size { is_core_size size ≡ false → result ≡ Err RunFault.Size }
-    ensures fault { IfErr result (IsUnread start size) }
+    ensures fault { IfErr result
+        (IsUnread start size (input_names (string_bytes file) (option_map string_bytes cards))) }
 {
     if !Core::is_size(size) {
         return Err(RunFault::Size);

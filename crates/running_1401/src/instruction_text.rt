@@ -8,7 +8,7 @@ use disassembly_1401::put_instruction;
 use std::alloc::{AllocError, Global};
 use stop_reasons_1401::instruction_len;
 
-/// How many bytes of a line of a listing are the address, the characters that are placed there, and the blanks behind
+/// How many bytes of a line of a listing are the address, the characters that are placed there, and the blanks after
 /// both.
 const ADDRESS_BYTES: usize = 5;
 
@@ -17,7 +17,7 @@ const CHARACTER_BYTES: usize = 8;
 const SOURCE_FROM: usize = ADDRESS_BYTES + 1 + CHARACTER_BYTES + 1;
 
 /// The columns of a source line, from 0 on, at which the label, the operation and the operands begin, and the one
-/// behind the operands.
+/// after the operands.
 const LABEL_FROM: usize = 5;
 
 const OPERATION_FROM: usize = 15;
@@ -107,7 +107,7 @@ fn number_of(digits: &[u8]) -> u32 {
     number
 }
 
-/// Whether these characters are those of the cells, with blanks behind them.
+/// Whether these characters are those of the cells, with blanks after them.
 fn are_characters(characters: &[u8], cells: &[Cell]) -> bool {
     if characters.len() < cells.len() {
         return false;

@@ -1,6 +1,6 @@
 //! The files that a run writes: its paper, its punched cards, and its trace.
-ghost use Rattle.std.specs.Prelude.{IfErr};
-ghost use Rattle.running_1401.specs.RunFile.{IsUnwritten};
+ghost use Rattle.std.specs.Prelude.{Some, IfErr, option_map, string_bytes};
+ghost use Rattle.running_1401.specs.RunFile.{IsUnwritten, IsUnwrittenFile, written_names};
 
 use crate::deck_running::Broken;
 use crate::fault::RunFault;
@@ -24,7 +24,8 @@ pub(crate) struct OutputNames {
 impl OutputNames {
     /// The fault of a run that broke off.
     pub fn fault_of(self, broken: Broken) -> RunFault
-        ensures { IsUnwritten result }
+        ensures { IsUnwritten (written_names (option_map string_bytes self.paper) (option_map string_bytes self.punch)
+            (option_map string_bytes self.trace)) result }
     {
         let Self {
             paper,
@@ -40,9 +41,9 @@ impl OutputNames {
     }
 }
 
-/// The fault of a file of this name that isn't written, or of standard output where there is no name.
+/// The fault of a file of this name that isn't written, or of standard output if there is no name.
 fn unwritten(name: Option<String>) -> RunFault
-    ensures { IsUnwritten result }
+    ensures { IsUnwrittenFile (option_map string_bytes name) result }
 {
     match name {
         Some(name) => RunFault::Unwritten(name),
@@ -65,12 +66,13 @@ pub(crate) struct Outputs<F> {
 ///
 /// # Errors
 ///
-/// `Unwritten` where one can't be made, or `Memory`.
+/// `Unwritten` if one can't be made, or `Memory`.
 pub(crate) fn create_outputs<R: Files + AllocGlobal>(
     rt: &R,
     names: &OutputNames,
 ) -> Result<Outputs<ToWriter<R::File>>, RunFault>
-    ensures { IfErr result IsUnwritten }
+    ensures { IfErr result (IsUnwritten (written_names (option_map string_bytes names.now.paper)
+        (option_map string_bytes names.now.punch) (option_map string_bytes names.now.trace))) }
 {
     let paper = match create_if_named(rt, &names.paper) {
         Ok(paper) => paper,
@@ -96,7 +98,7 @@ fn create_if_named<R: Files + AllocGlobal>(
     rt: &R,
     name: &Option<String>,
 ) -> Result<Option<ToWriter<R::File>>, RunFault>
-    ensures { IfErr result IsUnwritten }
+    ensures { IfErr result (IsUnwrittenFile (option_map string_bytes name.now)) }
 {
     match name {
         Some(name) => match create_named(rt, name.as_str()) {
@@ -109,7 +111,7 @@ fn create_if_named<R: Files + AllocGlobal>(
 
 /// A new file, in place of one of the name.
 fn create_named<R: Files + AllocGlobal>(rt: &R, name: &str) -> Result<ToWriter<R::File>, RunFault>
-    ensures { IfErr result IsUnwritten }
+    ensures { IfErr result (IsUnwrittenFile (Some name.now)) }
 {
     match create(rt, name) {
         Ok(file) => Ok(file),

@@ -35,7 +35,7 @@ pub struct Program {
 ///
 /// # Errors
 ///
-/// `Image` or `Source` where it is none, or where memory is refused.
+/// `Image` or `Source` if it is none, or if memory is refused.
 pub fn program_of(alloc: Global, text: &[u8], size: u16) -> Result<Program, RunFault>
     requires { is_core_size size ≡ true }
     ensures image { is_meant_as_image text.now ≡ true → IsImageOf text.now result }
@@ -63,7 +63,7 @@ pub fn program_of(alloc: Global, text: &[u8], size: u16) -> Result<Program, RunF
     }
 }
 
-/// Puts the cells of a segment where they go.
+/// Puts the cells of a segment at their places.
 #[tactic(auto, unfolding(command_1401::specs::CarryOut::carry_out))]
 fn put_segment(machine: &mut Machine, segment: &Segment)
     requires { is_inside (length machine.old.storage) segment.now ≡ true }
@@ -77,7 +77,7 @@ fn put_segment(machine: &mut Machine, segment: &Segment)
     let _ = carry_out(machine, &command);
 }
 
-/// Puts the cells of segments where they go, in order.
+/// Puts the cells of segments at their places, in order.
 fn put_segments(machine: &mut Machine, segments: &[Segment])
     requires { list_all (is_inside (length machine.old.storage)) segments.now ≡ true }
     ensures state { machine.new ≡ with_segments machine.old segments.now }
@@ -92,7 +92,7 @@ fn put_segments(machine: &mut Machine, segments: &[Segment])
 ///
 /// # Errors
 ///
-/// `Memory` where there is no room for core storage.
+/// `Memory` if there is no room for core storage.
 pub fn loaded_machine(alloc: Global, image: &Image) -> Result<Machine, RunFault>
     requires { IsInCore image.now }
     ensures ok { IfOk result (λ machine. machine ≡ with_image image.now) }

@@ -1,8 +1,8 @@
 //! What the subcommand `run` does.
-ghost use Rattle.std.specs.Prelude.{◌≡◌, false, Err, IfErr};
+ghost use Rattle.std.specs.Prelude.{◌≡◌, false, Err, IfErr, option_map, string_bytes};
 ghost use Rattle.core_1401.specs.Storage.{is_core_size};
 ghost use Rattle.running_1401.specs.Run.{job_outcome};
-ghost use Rattle.running_1401.specs.RunFile.{IsFaultOf, IsOfRun, IsUnwritten};
+ghost use Rattle.running_1401.specs.RunFile.{IsFaultOf, IsOfRun, IsUnwritten, written_names};
 
 use crate::deck_running::{Broken, run_started};
 use crate::ending::Ending;
@@ -36,7 +36,7 @@ fn set_switches(machine: &mut Machine, switches: &[bool; 7]) {
     }
 }
 
-/// Runs a machine with its cards, and shows how far it is where standard error is a terminal.
+/// Runs a machine with its cards, and shows how far it is if standard error is a terminal.
 fn run_shown<R: Eprint + Clock + AllocGlobal, W: Sink, P: Sink, F: Sink>(
     rt: &R,
     error_output: ErrorOutput,
@@ -125,7 +125,8 @@ fn run_inputs<R: Files + Print + Eprint + Clock + AllocGlobal>(
     limit: u32,
     names: OutputNames,
 ) -> Result<JobReport, RunFault>
-    ensures { IfErr result IsUnwritten }
+    ensures { IfErr result (IsUnwritten (written_names (option_map string_bytes names.paper)
+        (option_map string_bytes names.punch) (option_map string_bytes names.trace))) }
 {
     let outputs = match create_outputs(rt, &names) {
         Ok(outputs) => outputs,
@@ -137,7 +138,7 @@ fn run_inputs<R: Files + Print + Eprint + Clock + AllocGlobal>(
     }
 }
 
-/// Runs a program with its deck, and tells on standard error how it ended where it halted.
+/// Runs a program with its deck, and tells on standard error how it ended, if it halted.
 ///
 /// # Errors
 ///
@@ -151,8 +152,9 @@ pub fn run_file<R: Files + Print + Eprint + Clock + AllocGlobal>(
 ) -> Result<(), RunFault>
     ensures size { is_core_size job.size ≡ false → result ≡ Err RunFault.Size }
 
-    // No halt is told as a fault, and no size that there is; a deck that loads itself is neither source nor image.
-    ensures fault { IfErr result (IsFaultOf job.start job.size) }
+    // No halt is told as a fault, and no size that there is; a deck that loads itself is neither source nor image; and
+    // a fault of a file names one of the job's.
+    ensures fault { IfErr result (IsFaultOf job) }
 {
     let Job {
         file,
@@ -188,7 +190,8 @@ fn run_and_tell<R: Files + Print + Eprint + Clock + AllocGlobal>(
     switches: &[bool; 7],
     names: OutputNames,
 ) -> Result<(), RunFault>
-    ensures { IfErr result IsOfRun }
+    ensures { IfErr result (IsOfRun (written_names (option_map string_bytes names.paper)
+        (option_map string_bytes names.punch) (option_map string_bytes names.trace))) }
 {
     let Inputs {
         mut machine,

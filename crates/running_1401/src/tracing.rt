@@ -12,6 +12,9 @@ use std::alloc::Global;
 use streams_1401::{Sink, put_all};
 use trace_1401::{Snapshot, Work};
 
+/// Room for most lines, in bytes; a longer one takes more.
+const USUAL_LINE: usize = 128;
+
 /// The trace of a run, if there is one.
 #[derive(Drop)]
 pub struct Trace<F> {
@@ -83,7 +86,9 @@ impl<F: Sink> Trace<F> {
         let Some(file) = &mut self.file else {
             return Ok(());
         };
-        let mut text = Vec::new(alloc);
+        let Ok(mut text) = Vec::with_capacity(alloc, USUAL_LINE) else {
+            return Err(Broken::Memory);
+        };
         if before.put_line(&mut text, machine, work, stop).is_err() {
             return Err(Broken::Memory);
         }

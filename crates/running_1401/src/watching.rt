@@ -34,7 +34,7 @@ const BETWEEN_LOOKS: u32 = 16;
 /// How many seconds a run goes on before it is told how far it is, and again each time.
 const BETWEEN_LINES: u64 = 1;
 
-/// Tells a terminal behind standard error each second how far the run is, on one line.
+/// Shows how far the run is each second, on one line of the terminal that standard error is.
 #[derive(Drop)]
 pub struct Shown<'a, R> {
     rt: &'a R,

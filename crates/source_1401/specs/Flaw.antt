@@ -49,13 +49,13 @@ foreign_column columns =
 abbrev pub flaw_after : ℕ → ℕ → OperandFlaw → Flaw
 flaw_after skipped length kind = record { columns = stretch (21 + skipped) length; kind = kind }
 
--- what is wrong behind the operands that an operation has
+-- what is wrong after the operands that an operation has
 abbrev pub flaw_behind : ℕ → List ℕ → Flaw
 flaw_behind skipped rest =
     if is_ended rest then flaw_after skipped 0 flaws.CharacterMissing
     else flaw_after skipped (position_or_len is_blank rest) flaws.TooMuch
 
--- what is wrong with the operands of this form: the first that is no address, or one that is missing, or what is behind
+-- what is wrong with the operands of this form: the first that is no address, or one that is missing, or what follows
 -- them
 abbrev pub operands_flaw : Form → List ℕ → Flaw
 operands_flaw form columns =
@@ -69,7 +69,7 @@ operands_flaw form columns =
     then flaw_after (length columns - length second.1) 0 flaws.AddressMissing
     else flaw_behind (length columns - length second.1) second.1
 
--- what is wrong with one operand, this many columns after the first of them, or with what is behind it
+-- what is wrong with one operand, this many columns after the first of them, or with what follows it
 abbrev pub lone_flaw : OperandFlaw → ℕ → List ℕ → Flaw
 lone_flaw kind skipped columns =
     if is_ended (behind_operand columns) then flaw_after skipped (operand_len false columns) kind
@@ -88,7 +88,7 @@ value_flaw columns =
     if has_malformed (operands_of one_address columns) then operands_flaw one_address columns
     else flaw_after 0 (operand_len false columns) flaws.NoValue
 
--- what is wrong with the operands of an operation, where something is
+-- what is wrong with the operands of an operation, if something is
 abbrev pub flaw_with : Operation → List ℕ → Flaw
 flaw_with (operations.Instruction instruction) columns = operands_flaw instruction.form columns
 flaw_with operations.MarkedConstant columns = lone_flaw flaws.NoConstant 0 columns

@@ -22,8 +22,8 @@ use Rattle.source_1401.specs.declared.statement.Areas.{Areas}
 use Rattle.source_1401.specs.declared.statement.Span.{Span}
 use Rattle.source_1401.specs.declared.statement.Body.{Body}
 use Rattle.source_1401.specs.declared.statement.Body.TheVariants as bodies
-use Rattle.source_1401.specs.declared.statement.Bytes.{Bytes}
-use Rattle.source_1401.specs.declared.statement.Bytes.TheVariants as bytes
+use Rattle.source_1401.specs.declared.statement.LineCheck.{LineCheck}
+use Rattle.source_1401.specs.declared.statement.LineCheck.TheVariants as bytes
 use Rattle.source_1401.specs.declared.statement.Statement.{Statement}
 use Rattle.source_1401.specs.declared.statement.Line.{Line}
 
@@ -87,7 +87,7 @@ statement_of columns =
     }
 
 -- whether a line of this length with these columns can be a line
-abbrev pub bytes_with : ℕ → List ℕ → Bytes
+abbrev pub bytes_with : ℕ → List ℕ → LineCheck
 bytes_with len columns =
     if nat_lt 80 len then bytes.Long else if has_foreign_bytes columns then bytes.Foreign else bytes.Good
 

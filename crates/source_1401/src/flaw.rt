@@ -21,7 +21,7 @@ use bcd_1401::Char;
 pub struct Stretch {
     /// The first, counted from 1.
     pub column: u8,
-    /// How many there are; none where something is missing there.
+    /// How many there are; none if something is missing there.
     pub length: u8,
 }
 
@@ -122,7 +122,7 @@ pub fn statement_stretch(line: &[u8]) -> Stretch
     filled(6, columns_in(&columns_of(line), 6, 72))
 }
 
-/// What is wrong with the columns of a line for an operation, where they hold none.
+/// What is wrong with the columns of a line for an operation, if they hold none.
 pub fn operation_flaw(line: &[u8]) -> OperationFlaw
     ensures { result ≡ operation_flaw (columns_in 16 20 (columns_of line.now)) }
 {
@@ -205,7 +205,7 @@ fn foreign_column_in(columns: &[u8; COLUMNS]) -> Option<u8>
 pub fn foreign_column(line: &[u8]) -> Option<u8>
     ensures value { result ≡ foreign_column (columns_of line.now) }
 
-    // There is one exactly where the line has such a byte.
+    // There is one exactly if the line has such a byte.
     ensures foreign { is_some result ≡ has_foreign_bytes (columns_of line.now) }
 {
     let column = foreign_column_in(&columns_of(line));
@@ -227,7 +227,7 @@ fn flaw_after(skipped: usize, length: usize, kind: OperandFlaw) -> Flaw
     }
 }
 
-/// What is wrong behind the operands that an operation has.
+/// What is wrong after the operands that an operation has.
 fn flaw_behind(skipped: usize, rest: &[u8]) -> Flaw
     requires start { skipped ≤ 54 }
     requires few { length rest.now ≤ 54 }
@@ -273,7 +273,7 @@ fn operands_flaw(form: Form, columns: &[u8]) -> Flaw
     flaw_behind(skipped, rest)
 }
 
-/// What is wrong with one operand, this many columns after the first of them, or with what is behind it.
+/// What is wrong with one operand, this many columns after the first of them, or with what follows it.
 fn lone_flaw(kind: OperandFlaw, skipped: usize, columns: &[u8]) -> Flaw
     requires { skipped + length columns.now ≤ 54 }
     ensures { result ≡ lone_flaw kind skipped columns.now }
@@ -338,7 +338,7 @@ fn flaw_with(operation: Operation, columns: &[u8]) -> Flaw
     }
 }
 
-/// What is wrong with the operands of a line, if something is; none where its operation isn't known.
+/// What is wrong with the operands of a line, if something is; none if its operation isn't known.
 pub fn operand_flaw(line: &[u8]) -> Option<Flaw>
     ensures { result ≡ operand_flaw (columns_of line.now) }
 {

@@ -37,4 +37,4 @@ pub use lines::split_line;
 pub use mnemonic::{DCharacter, Form, Instruction, Operation};
 pub use nearness::{is_near, nearest_mnemonic, word_in};
 pub use operands::{Operand, OperandField, Operands};
-pub use statement::{Areas, Body, Bytes, Line, Span, Statement};
+pub use statement::{Areas, Body, Line, LineCheck, Span, Statement};

@@ -71,7 +71,7 @@ pub struct Statement {
 
 /// Whether a line's bytes can be those of a line.
 #[derive(Clone, Copy, Debug, PartialEq, Eq)]
-pub enum Bytes {
+pub enum LineCheck {
     /// They can.
     Good,
     /// There are more than 80.
@@ -84,7 +84,7 @@ pub enum Bytes {
 #[derive(Clone, Copy, Debug, PartialEq, Eq)]
 pub struct Line {
     /// Whether its bytes can be those of a line.
-    pub bytes: Bytes,
+    pub bytes: LineCheck,
     /// What it says; nothing if it is a comment.
     pub statement: Option<Statement>,
 }
@@ -219,7 +219,7 @@ impl Line {
     {
         let columns = columns_of(line);
         Line {
-            bytes: Bytes::of(line.len(), &columns),
+            bytes: LineCheck::of(line.len(), &columns),
             statement: if is_comment(&columns) {
                 None
             } else {
@@ -254,17 +254,17 @@ impl Line {
     }
 }
 
-impl Bytes {
+impl LineCheck {
     /// Whether a line of this length with these columns can be a line.
-    fn of(len: usize, columns: &[u8; COLUMNS]) -> Bytes
+    fn of(len: usize, columns: &[u8; COLUMNS]) -> LineCheck
         ensures { result ≡ bytes_with len columns.now }
     {
         if len > COLUMNS {
-            Bytes::Long
+            LineCheck::Long
         } else if has_foreign_bytes(columns) {
-            Bytes::Foreign
+            LineCheck::Foreign
         } else {
-            Bytes::Good
+            LineCheck::Good
         }
     }
 }

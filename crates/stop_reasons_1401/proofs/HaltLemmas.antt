@@ -27,7 +27,7 @@ use Rattle.fields_1401.specs.Parts.{digit_moved_at, zone_moved_at}
 use Rattle.fields_1401.specs.Suppress.{suppress_at}
 use Rattle.devices_1401.specs.Carriage.{controlled}
 use Rattle.fields_1401.specs.Outcome.{Outcome, below_by}
-use Rattle.cpu_1401.specs.declared.asked.Asked.{Asked}
+use Rattle.cpu_1401.specs.declared.io_request.IoRequest.{IoRequest}
 use Rattle.cpu_1401.specs.declared.instruction.Instruction.{Instruction}
 use Rattle.cpu_1401.specs.declared.operation.Operation.{Operation}
 use Rattle.cpu_1401.specs.declared.operation.Operation.TheVariants as op
@@ -36,7 +36,7 @@ use Rattle.cpu_1401.specs.declared.stop.Stop.TheVariants as stop
 use Rattle.cpu_1401.specs.Branch.{after_branch, branch_on_cell, go_on, has_char, passes}
 use Rattle.cpu_1401.specs.CardsAndPrinter.{after_cards, after_control, after_line, all_three, asks, behind_last, behind_print_area, has_d, line_alone}
 use Rattle.cpu_1401.specs.CardsAndPrinter.{lozenge}
-use Rattle.cpu_1401.specs.CardsAndPrinter.{hindrance, move_on, punching, reading, reading_and_punching, with_all}
+use Rattle.cpu_1401.specs.CardsAndPrinter.{first_io_stop, move_on, punching, reading, reading_and_punching, with_all}
 use Rattle.cpu_1401.specs.CardsAndPrinter.{writing_and_punching, writing_and_reading}
 use Rattle.cpu_1401.specs.FieldStep.{after_clear, after_comparison, after_field}
 use Rattle.cpu_1401.specs.Instruction.{begins_at, instruction_of, length_at}
@@ -111,15 +111,15 @@ branch_goes this s =
 store_goes : (address : ℕ) (this : Instruction) (s : State) → GoesOn (after_store address this s)
 store_goes address this s = either (has_places s.storage this.a 3) _ (stopped stop.Address s) (record { no = refl }) (record { no = refl })
 
-cards_go : (asked : Asked) (b : ℕ) (this : Instruction) (s : State) → GoesOn (after_cards asked b this s)
-cards_go asked b this s =
-    let after = move_on (nat_le 4 this.len) b this (with_all asked s) in
-    let free : NoHalt (hindrance asked s.devices) =
-    either_stop (is_some asked.line && is_full s.devices.paper) (Some stop.Forms) _ (record { no = refl })
-    (either_stop (asked.reads && (length s.devices.hopper == 0)) (Some stop.Reader) _ (record { no = refl })
-    (either_stop (asked.punches && is_full s.devices.stacker) (Some stop.Stacker) None (record { no = refl })
+cards_go : (request : IoRequest) (b : ℕ) (this : Instruction) (s : State) → GoesOn (after_cards request b this s)
+cards_go request b this s =
+    let after = move_on (nat_le 4 this.len) b this (with_all request s) in
+    let free : NoHalt (first_io_stop request s.devices) =
+    either_stop (is_some request.line && is_full s.devices.paper) (Some stop.Forms) _ (record { no = refl })
+    (either_stop (request.reads && (length s.devices.hopper == 0)) (Some stop.Reader) _ (record { no = refl })
+    (either_stop (request.punches && is_full s.devices.stacker) (Some stop.Stacker) None (record { no = refl })
     (record { no = refl }))) in
-    record { no = ap is_halt (card_stops (hindrance asked s.devices) s after) ∙ free.no }
+    record { no = ap is_halt (card_stops (first_io_stop request s.devices) s after) ∙ free.no }
 
 line_goes : (this : Instruction) (s : State) → GoesOn (after_line this s)
 line_goes this s =

@@ -9,7 +9,7 @@ use crate::operations::longest;
 use bcd_1401::Char;
 use core_1401::Core;
 use cpu_1401::{Machine, Stop};
-use fields_1401::below;
+use fields_1401::step_down;
 
 /// How many characters a halt with an address has.
 const HALT_AND_BRANCH_LENGTH: u16 = 4;
@@ -40,11 +40,11 @@ fn address_by_registers(machine: &Machine) -> u16
     ensures { result ≡ halted_at machine.now }
 {
     let regs = machine.regs();
-    let at = below(regs.b, HALT_AND_BRANCH_LENGTH);
+    let at = step_down(regs.b, HALT_AND_BRANCH_LENGTH);
     if regs.a == regs.i && is_halt_to(machine.core(), at, regs.i) {
         at
     } else {
-        below(regs.i, 1)
+        step_down(regs.i, 1)
     }
 }
 

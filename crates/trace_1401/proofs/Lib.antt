@@ -1,3 +1,5 @@
+pub mod BlockLemmas
 pub mod ChangeLemmas
 pub mod PlaceLemmas
+mod TraceExamples
 pub mod WalkLemmas

@@ -25,7 +25,7 @@ small s at codes marks are i =
       | inr past ↦ omega (arith, get_or_past (codes_at s at) i 0 past)
     ]
 
-same_cell : (a b : Cell) → a.char ≡ b.char → a.mark ≡ b.mark → a ≡ b
+pub same_cell : (a b : Cell) → a.char ≡ b.char → a.mark ≡ b.mark → a ≡ b
 same_cell a b chars marks =
     ap (λ (c : ℕ). let made : Cell = record { char = c; mark = a.mark } in made) chars
     ∙ ap (λ (m : Bool). let made : Cell = record { char = b.char; mark = m } in made) marks

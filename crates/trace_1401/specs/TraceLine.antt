@@ -1,5 +1,5 @@
 -- The line of a step (own).
-use Rattle.std.specs.Prelude.{ℕ, ◌+◌, ◌-◌, ◌==◌, ◌&&◌, nat_lt, min, Bool, if◌then◌else◌, List, [], ◌++◌, length}
+use Rattle.std.specs.Prelude.{ℕ, ◌+◌, ◌-◌, ◌==◌, ◌&&◌, nat_lt, min, Bool, false, if◌then◌else◌, List, [], ◌++◌, length}
 use Rattle.std.specs.Prelude.{Option, None, Some, codes, drop, replicate, take}
 use Rattle.bcd_1401.specs.declared.cell.Cell.{Cell}
 use Rattle.core_1401.specs.Field.{next_mark_from}
@@ -11,18 +11,21 @@ use Rattle.cpu_1401.specs.State.{State}
 use Rattle.cpu_1401.specs.Stepped.{Stepped}
 use Rattle.cpu_1401.specs.Stop.{stop_name}
 use Rattle.devices_1401.specs.Carriage.{form_of as form_at, line_of as line_at}
+use Rattle.devices_1401.specs.Control.{Control, Space, Skip}
 use Rattle.disassembly_1401.specs.InstructionText.{instruction_text}
 use Rattle.notation_1401.specs.Cells.{cells_text}
 use Rattle.notation_1401.specs.Digits.{digits_in}
 use Rattle.trace_1401.specs.declared.work.Work.{Work}
 use Rattle.trace_1401.specs.Changes.{changes_of, changes_text}
 
--- what a line compares the machine with: core storage, the I register, and the position of the carriage
+-- what a line compares the machine with: core storage, the I register, the position of the carriage, and the movement
+-- that waits for the next print
 pub record Seen : Type 0 where
   pub storage : Storage
   pub i : ℕ
   pub form : ℕ
   pub line : ℕ
+  pub pending : Option Control
 
 abbrev pub seen_of : State → Seen
 seen_of s = record {
@@ -30,6 +33,7 @@ seen_of s = record {
   i = s.i;
   form = form_at s.devices.carriage;
   line = line_at s.devices.carriage;
+  pending = s.devices.carriage.pending;
 }
 
 -- how many characters of an instruction are looked at, by its fifth; eight of what is no operation
@@ -88,9 +92,31 @@ unfoldable pub carriage_text : Seen → ℕ → ℕ → List ℕ
 carriage_text before form line =
     if (before.form == form) && (before.line == line) then [] else moved_text form line
 
+-- a movement, by the number of lines or by the line of the form
+unfoldable pub movement_text : Control → List ℕ
+movement_text (Space lines) = codes "SPACE " ++ digits_in 1 lines
+movement_text (Skip line) = codes "SKIP " ++ digits_in 2 line
+
+-- a movement that waits for the next print
+unfoldable pub waiting_text : Control → List ℕ
+waiting_text movement = codes "\tPENDING " ++ movement_text movement
+
+abbrev pub is_same_movement : Control → Control → Bool
+is_same_movement (Space lines) (Space others) = lines == others
+is_same_movement (Space lines) (Skip other) = false
+is_same_movement (Skip line) (Space others) = false
+is_same_movement (Skip line) (Skip other) = line == other
+
+-- the movement that waits, if it didn't before
+abbrev pub pending_text : Option Control → Option Control → List ℕ
+pending_text before None = []
+pending_text None (Some movement) = waiting_text movement
+pending_text (Some old) (Some movement) = if is_same_movement old movement then [] else waiting_text movement
+
 -- what the devices did
-unfoldable pub devices_text : Seen → ℕ → ℕ → Work → List ℕ
-devices_text before form line work = work_text before work ++ carriage_text before form line
+unfoldable pub devices_text : Seen → Seen → Work → List ℕ
+devices_text before after work =
+    work_text before work ++ carriage_text before after.form after.line ++ pending_text before.pending after.pending
 
 -- the name of a stop, if there is one
 abbrev pub stop_text : Option Stop → List ℕ
@@ -101,7 +127,7 @@ stop_text (Some why) = codes "\t" ++ stop_name why
 unfoldable pub line_of : Seen → Work → Option Stop → State → List ℕ
 line_of before work why after =
     fetched_text before.storage before.i ++ registers_text after.a after.b
-    ++ devices_text before (seen_of after).form (seen_of after).line work
+    ++ devices_text before (seen_of after) work
     ++ changes_text (changes_of before.storage after.storage) ++ stop_text why ++ codes "\n"
 
 -- what a step did at the devices: there is a line more, a card less, a punched card more

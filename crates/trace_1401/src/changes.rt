@@ -1,10 +1,11 @@
 //! What a step changed in core storage.
-ghost use Rattle.std.specs.Prelude.{◌≡◌, ℕ, ◌+◌, ◌-◌, ◌<◌, ◌≤◌, ◌++◌, length, take, drop, true, false, IfOk, OnOk};
+ghost use Rattle.std.specs.Prelude.{◌≡◌, ℕ, ◌+◌, ◌-◌, ◌<◌, ◌≤◌, ◌++◌, length, take, drop, true, false, IfErr, IfOk, OnOk};
 ghost use Rattle.core_1401.specs.Storage.{cell_at};
 ghost use Rattle.notation_1401.specs.Cells.{cells_text};
 ghost use Rattle.trace_1401.specs.Changes.{IsEndOfChange, IsNextChange, change_at, change_text, changes_of};
 ghost use Rattle.trace_1401.specs.Changes.{changes_text, is_changed};
 
+use crate::blocks::past_blocks;
 use bcd_1401::Cell;
 use core_1401::{Core, CoreFault};
 use notation_1401::{put_cell, put_digits};
@@ -17,7 +18,7 @@ fn is_changed(before: Cell, after: Cell) -> bool
     before.char != after.char || before.mark != after.mark
 }
 
-/// Goes on from a place as long as eight are equal.
+/// Goes on from a place as long as 64 are equal, and then as long as eight are.
 fn past_eights(before: &Core, after: &Core, from: u16) -> u16
     requires size { length before.now ≡ length after.now }
     requires from { from ≤ length after.now }
@@ -26,14 +27,14 @@ fn past_eights(before: &Core, after: &Core, from: u16) -> u16
     ensures same { (i : ℕ) → from ≤ i → i < result → is_changed (cell_at before.now i) (cell_at after.now i) ≡ false }
 {
     let size = after.size();
-    let mut at = from;
+    let mut at = past_blocks(before, after, from);
     while at + 8 <= size && before.eight_cells(at) == after.eight_cells(at) {
         at += 8;
     }
     at
 }
 
-/// The first place from one on that changed, or the end of core. Places are compared eight at once.
+/// The first place from one on that changed, or the end of core.
 fn next_change(before: &Core, after: &Core, from: u16) -> u16
     requires size { length before.now ≡ length after.now }
     requires from { from ≤ length after.now }
@@ -141,11 +142,16 @@ pub(crate) fn put_changes(
 ///
 /// # Errors
 ///
-/// If there is no room for it.
+/// `Memory` if there is no room for it.
 pub(crate) fn copy_of(alloc: Global, core: &Core) -> Result<Core, CoreFault>
-    ensures { IfOk result (λ copy. copy ≡ core.now) }
+    ensures ok { IfOk result (λ copy. copy ≡ core.now) }
+    ensures err { IfErr result (λ why. why ≡ CoreFault.Memory) }
 {
-    let mut copy = Core::power_on(alloc, core.size())?;
+    let mut copy = match Core::power_on(alloc, core.size()) {
+        Ok(copy) => copy,
+        Err(CoreFault::Memory) => return Err(CoreFault::Memory),
+        Err(CoreFault::Size) => unreachable!(),
+    };
     copy_cells(&mut copy, core, 0, core.size());
     Ok(copy)
 }

@@ -12,6 +12,7 @@
 mod fetched;
 
 // what changed in core
+mod blocks;
 mod changes;
 
 // a line of the trace

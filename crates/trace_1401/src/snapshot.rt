@@ -1,33 +1,43 @@
 //! The machine as it was before a step.
-ghost use Rattle.std.specs.Prelude.{◌≡◌, ◌++◌, length, IfOk, OnOk};
+ghost use Rattle.std.specs.Prelude.{◌≡◌, ◌++◌, length, IfErr, IfOk, OnOk};
 ghost use Rattle.cpu_1401.specs.State.{regs_of};
-ghost use Rattle.trace_1401.specs.TraceLine.{carriage_text, devices_text, line_of, seen_of, work_text};
+ghost use Rattle.devices_1401.specs.Movement.{pending_of};
+ghost use Rattle.trace_1401.specs.TraceLine.{carriage_text, devices_text, line_of, pending_text, seen_of, work_text};
 
 use crate::changes::{copy_of, put_changes};
 use crate::fetched::put_fetched;
-use crate::line::{put_moved, put_print, put_registers, put_stop};
+use crate::line::{is_same_movement, put_moved, put_print, put_registers, put_stop, put_waiting};
 use crate::work::Work;
 use core_1401::{Core, CoreFault};
 use cpu_1401::{Machine, Stop};
+use devices_1401::Movement;
 use std::alloc::{AllocError, Global};
 use std::marker::Model;
 
-/// What a line of the trace compares the machine with: core storage, the I register, and the position of the carriage,
-/// all as they were before the step.
+/// What a line of the trace compares the machine with: core storage, the I register, the position of the carriage, and
+/// the movement that waits for the next print, all as they were before the step.
 #[derive(Drop)]
 pub struct Snapshot {
     core: Core,
     i: u16,
     form: u16,
     line: u8,
+    pending: Option<Movement>,
 }
 
 impl Model for Snapshot {
+    ghost use Rattle.devices_1401.specs.Movement.{pending_of};
     ghost use Rattle.trace_1401.specs.TraceLine.{Seen};
 
     ghost Value = { Seen };
 
-    ghost view = { λ s. record { storage = s.core; i = s.i; form = s.form; line = s.line } };
+    ghost view = { λ s. record {
+      storage = s.core;
+      i = s.i;
+      form = s.form;
+      line = s.line;
+      pending = pending_of s.pending;
+    } };
 }
 
 impl Snapshot {
@@ -37,7 +47,8 @@ impl Snapshot {
     ///
     /// `Memory` if there is no room for core storage.
     pub fn of(alloc: Global, machine: &Machine) -> Result<Snapshot, CoreFault>
-        ensures { IfOk result (λ snapshot. snapshot ≡ seen_of machine.now) }
+        ensures ok { IfOk result (λ snapshot. snapshot ≡ seen_of machine.now) }
+        ensures err { IfErr result (λ why. why ≡ CoreFault.Memory) }
     {
         let regs = machine.regs();
         Ok(Snapshot {
@@ -45,6 +56,7 @@ impl Snapshot {
             i: regs.i,
             form: regs.form,
             line: regs.line,
+            pending: machine.pending_movement(),
         })
     }
 
@@ -69,29 +81,31 @@ impl Snapshot {
         let regs = machine.regs();
         put_fetched(text, &self.core, self.i)?;
         put_registers(text, regs.a, regs.b)?;
-        self.put_devices(text, regs.form, regs.line, work)?;
+        self.put_devices(text, machine, work)?;
         put_changes(text, &mut self.core, machine.core())?;
         put_stop(text, stop)?;
         text.push(b'\n')?;
         self.i = regs.i;
         self.form = regs.form;
         self.line = regs.line;
+        self.pending = machine.pending_movement();
         Ok(())
     }
 
-    /// Adds what the devices did, and where the carriage then is, if it moved.
+    /// Adds what the devices did, and where the carriage then is and what waits, if that is another than before.
     #[tactic(auto, unfolding(crate::specs::TraceLine::devices_text))]
     fn put_devices(
         &self,
         text: &mut Vec<u8>,
-        form: u16,
-        line: u8,
+        machine: &Machine,
         work: Work,
     ) -> Result<(), AllocError>
-        ensures { OnOk result (text.new.items ≡ text.old.items ++ devices_text self.now form line work) }
+        ensures { OnOk result (text.new.items ≡ text.old.items ++ devices_text self.now (seen_of machine.now) work) }
     {
+        let regs = machine.regs();
         self.put_work(text, work)?;
-        self.put_carriage(text, form, line)
+        self.put_carriage(text, regs.form, regs.line)?;
+        self.put_pending(text, machine.pending_movement())
     }
 
     /// Adds where the carriage is, if it moved.
@@ -103,6 +117,23 @@ impl Snapshot {
             return Ok(());
         }
         put_moved(text, form, line)
+    }
+
+    /// Adds the movement that waits for the next print, if it didn't before.
+    fn put_pending(&self, text: &mut Vec<u8>, pending: Option<Movement>) -> Result<(), AllocError>
+        ensures { OnOk result
+            (text.new.items ≡ text.old.items ++ pending_text self.now.pending (pending_of pending)) }
+    {
+        match (self.pending, pending) {
+            (_, None) => Ok(()),
+            (None, Some(movement)) => put_waiting(text, movement),
+            (Some(old), Some(movement)) => {
+                if is_same_movement(old, movement) {
+                    return Ok(());
+                }
+                put_waiting(text, movement)
+            }
+        }
     }
 
     /// Adds what the devices did.

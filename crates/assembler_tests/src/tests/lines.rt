@@ -1,12 +1,12 @@
 //! Source lines, and what they say.
 
 use source_1401::{
-    Address, Addressing, Base, Body, Bytes, Constant, Label, LabelField, LabelRule, Line, Next,
+    Address, Addressing, Base, Body, Constant, Label, LabelField, LabelRule, Line, LineCheck, Next,
     Operand, OperandField, Point, Statement, split_line,
 };
 
 /// What a line says, and whether it has a bad label, an unknown operation, bad operands.
-fn faults(line: &[u8]) -> (Bytes, bool, bool, bool) {
+fn faults(line: &[u8]) -> (LineCheck, bool, bool, bool) {
     let line = Line::from_bytes(line);
     match line.statement {
         Some(statement) => (
@@ -120,27 +120,39 @@ fn each_mnemonic_has_its_operation_character(rt: HostRuntime) {
 #[test]
 fn a_line_has_the_faults_of_its_own(rt: HostRuntime) {
     let long = [b' '; 81];
-    assert_eq!(rt; faults(&long), (Bytes::Long, false, false, false));
-    assert_eq!(rt; faults(&long[..80]), (Bytes::Good, false, false, false));
+    assert_eq!(rt; faults(&long), (LineCheck::Long, false, false, false));
+    assert_eq!(rt; faults(&long[..80]), (LineCheck::Good, false, false, false));
     for (line, found) in [
         (
             b"               a    ".as_slice(),
-            (Bytes::Foreign, false, true, false),
+            (LineCheck::Foreign, false, true, false),
         ),
-        (b"     X1        DCW  #1", (Bytes::Good, true, false, false)),
-        (b"     A         MU   5", (Bytes::Good, false, true, false)),
-        (b"               DS   0", (Bytes::Good, false, false, true)),
-        (b"               EQU  *", (Bytes::Good, true, false, true)),
+        (
+            b"     X1        DCW  #1",
+            (LineCheck::Good, true, false, false),
+        ),
+        (
+            b"     A         MU   5",
+            (LineCheck::Good, false, true, false),
+        ),
+        (
+            b"               DS   0",
+            (LineCheck::Good, false, false, true),
+        ),
+        (
+            b"               EQU  *",
+            (LineCheck::Good, true, false, true),
+        ),
         (
             b"               BCE  1,2,,X",
-            (Bytes::Good, false, false, true),
+            (LineCheck::Good, false, false, true),
         ),
         (
             b"               BCE  1,2,, X",
-            (Bytes::Good, false, false, false),
+            (LineCheck::Good, false, false, false),
         ),
-        (b"     * a comment", (Bytes::Good, false, false, false)),
-        (b"12345", (Bytes::Good, false, false, true)),
+        (b"     * a comment", (LineCheck::Good, false, false, false)),
+        (b"12345", (LineCheck::Good, false, false, true)),
     ] {
         assert_eq!(rt; faults(line), found);
     }

@@ -2,7 +2,7 @@
 ghost use Rattle.std.specs.Prelude.{◌≡◌};
 
 use console_1401::{Door, FromReader, OpenDoor, SessionEnd, ToWriter, attend};
-use room_1401::{Command, Naming, Opened, Seat, SharedRoom};
+use room_1401::{Command, Opened, RoomId, Seat, SharedRoom};
 use std::alloc::Global;
 use std::cell::RefCell;
 use std::marker::Brand;
@@ -38,7 +38,7 @@ impl Door for Watch<'_> {
 }
 
 /// Has these lines answered at the seat, and compares the replies and how the console ends.
-fn expect_replies<J: Naming, R: Wait + Abort, D: Door>(
+fn expect_replies<J: RoomId, R: Wait + Abort, D: Door>(
     rt: &R,
     alloc: Global,
     room: &SharedRoom<J, &R>,
@@ -58,7 +58,7 @@ fn expect_replies<J: Naming, R: Wait + Abort, D: Door>(
     seat
 }
 
-fn one_operator<J: Naming, R: Wait + Abort>(
+fn one_operator<J: RoomId, R: Wait + Abort>(
     rt: &R,
     alloc: Global,
     opened: Opened,
@@ -89,7 +89,7 @@ fn an_operator_sees_what_he_deposits(rt: HostRuntime) -> Result<(), Fail> {
     one_operator::<Brand, _>(&rt, rt.alloc(), Opened::new(1))
 }
 
-fn two_operators<J: Naming, R: Wait + Abort>(
+fn two_operators<J: RoomId, R: Wait + Abort>(
     rt: &R,
     alloc: Global,
     opened: Opened,
@@ -130,13 +130,13 @@ fn the_door_is_told_of_each_line(rt: HostRuntime) -> Result<(), Fail> {
 
 /// Gives commands of a seat of its own: it asks for the registers before each line, and for place 0 after its reply.
 #[derive(Drop)]
-struct Interjects<'a, 'b, J: Naming, R: Wait> {
+struct Interjects<'a, 'b, J: RoomId, R: Wait> {
     rt: &'b R,
     room: &'a SharedRoom<J, &'b R>,
     seat: RefCell<Seat<J>>,
 }
 
-impl<J: Naming, R: Wait> Interjects<'_, '_, J, R> {
+impl<J: RoomId, R: Wait> Interjects<'_, '_, J, R> {
     /// Gives a command.
     fn give(&self, command: Command) {
         if let Ok(mut seat) = self.seat.try_borrow_mut() {
@@ -145,7 +145,7 @@ impl<J: Naming, R: Wait> Interjects<'_, '_, J, R> {
     }
 }
 
-impl<J: Naming, R: Wait> Door for Interjects<'_, '_, J, R> {
+impl<J: RoomId, R: Wait> Door for Interjects<'_, '_, J, R> {
     fn before(&self, _seat: u8, _line: u64) {
         self.give(Command::Registers);
     }
@@ -159,7 +159,7 @@ impl<J: Naming, R: Wait> Door for Interjects<'_, '_, J, R> {
 }
 
 /// Has two lines of seat 1 answered, with such a door.
-fn start_twice<'b, J: Naming, R: Wait + Abort>(
+fn start_twice<'b, J: RoomId, R: Wait + Abort>(
     rt: &'b R,
     alloc: Global,
     room: &SharedRoom<J, &'b R>,
@@ -179,7 +179,7 @@ fn start_twice<'b, J: Naming, R: Wait + Abort>(
     let _one = expect_replies(rt, alloc, room, one, &door, console);
 }
 
-fn interrupted<J: Naming, R: Wait + Abort>(
+fn interrupted<J: RoomId, R: Wait + Abort>(
     rt: &R,
     alloc: Global,
     opened: Opened,

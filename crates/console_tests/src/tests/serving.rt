@@ -2,7 +2,7 @@
 ghost use Rattle.std.specs.Prelude.{◌≡◌};
 
 use console_1401::{Door, OpenDoor, ServeFault, serve};
-use room_1401::{Command, Naming, Opened, SharedRoom};
+use room_1401::{Command, Opened, RoomId, SharedRoom};
 use std::alloc::Global;
 use std::io;
 use std::io::{Read, Write};
@@ -77,7 +77,7 @@ fn replies(alloc: Global, stream: &mut TcpStream) -> io::Result<Vec<u8>> {
 
 /// Serves two consoles that have sent these lines, and compares their replies and how long the journal is.
 fn two_consoles<
-    J: Naming + Send + Sync,
+    J: RoomId + Send + Sync,
     R: Threads + Wait + Abort + Sync + Net<Listener = TcpListener, Stream = TcpStream>,
     D: Door + Sync,
 >(
@@ -138,7 +138,7 @@ fn a_console_that_closes_one_half_is_answered(rt: HostRuntime) -> Result<(), Fai
 }
 
 fn no_connection<
-    J: Naming + Send + Sync,
+    J: RoomId + Send + Sync,
     R: Threads + Wait + Abort + Sync + Net<Listener = TcpListener, Stream = TcpStream>,
 >(rt: &R, alloc: Global, opened: Opened) -> Result<(), Fail>
     requires history { opened.book ≡ J.book }
@@ -180,7 +180,7 @@ const EIGHT_PLACES: [&str; 8] = [
 
 /// Serves these eight connections, and compares each seat's command with the place of its own number.
 fn in_turn<
-    J: Naming + Send + Sync,
+    J: RoomId + Send + Sync,
     R: Threads + Wait + Abort + Sync + Net<Listener = TcpListener, Stream = TcpStream>,
 >(rt: &R, alloc: Global, opened: Opened) -> Result<(), Fail>
     requires history { opened.book ≡ J.book }

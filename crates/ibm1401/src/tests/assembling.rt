@@ -3,7 +3,7 @@
 use crate::assembling::{check_size, write_assembly};
 use crate::fault::Fault;
 use crate::source_faults::fault_lines;
-use arguments_1401::{Assembling, Call, Product, Told, read_call};
+use arguments_1401::{Assembling, Call, Product, Tables, Told, read_call};
 use autocoder_1401::{AsmFault, AsmKind, assemble};
 use console_1401::{FromReader, SessionEnd, ToWriter, put_image, session};
 use core_1401::Core;
@@ -74,6 +74,36 @@ fn an_image_or_a_listing_is_written(rt: HostRuntime) {
     let entry = b"               END  9999\n";
     let image = b"IMAGE2 12000\nEND 09999\n";
     expect_written(&rt, entry, 12_000, Product::Image, image);
+}
+
+#[test]
+fn tables_follow_each_other_after_an_empty_line(rt: HostRuntime) {
+    let symbols = b"START  00400 00007 0002\nTOTAL  00420 00003 0005\nNAME   00422 00002 0006\n";
+    let both = b"\
+START  00400 00007 0002
+TOTAL  00420 00003 0005
+NAME   00422 00002 0006
+
+START  0002 0008
+TOTAL  0005 0002 0003
+NAME   0006
+";
+    for (references, text) in [(false, symbols.as_slice()), (true, both.as_slice())] {
+        let asked = Tables {
+            listing: false,
+            symbols: true,
+            references,
+        };
+        expect_written(&rt, FIVE_AND_FIVE, 4_000, Product::Tables(asked), text);
+    }
+    let listed = Tables {
+        listing: true,
+        symbols: true,
+        references: true,
+    };
+    let alone = b"               END  0\n";
+    let listing = b"0001 00000                         END  0\n";
+    expect_written(&rt, alone, 4_000, Product::Tables(listed), listing);
 }
 
 #[test]
@@ -166,11 +196,30 @@ fn a_source_is_named_with_its_size_and_what_is_written(rt: HostRuntime) -> Resul
             1_400,
             Product::Image,
         ),
+        (
+            ["ibm1401", "assemble", "a source", "--symbols"].as_slice(),
+            4_000,
+            Product::Tables(Tables {
+                listing: false,
+                symbols: true,
+                references: false,
+            }),
+        ),
+        (
+            ["ibm1401", "assemble", "--xref", "a source", "--list"].as_slice(),
+            4_000,
+            Product::Tables(Tables {
+                listing: true,
+                symbols: false,
+                references: true,
+            }),
+        ),
     ] {
         let asked = asked_by(rt.alloc(), words)?;
         assert_eq!(rt; asked.file.as_str(), "a source");
         assert_eq!(rt; (asked.size, asked.product), (size, product));
         assert_eq!(rt; (asked.out.is_none(), asked.told), (true, Told::First));
+        assert!(rt; asked.deck.is_none());
     }
     Ok(())
 }
@@ -196,6 +245,21 @@ fn an_output_is_named_and_all_faults_are_asked_for(rt: HostRuntime) -> Result<()
         );
         assert_eq!(rt; asked.told, Told::All);
     }
+    Ok(())
+}
+
+#[test]
+fn a_deck_is_named(rt: HostRuntime) -> Result<(), Fail> {
+    let words = ["ibm1401", "assemble", "--deck", "a deck", "a source"];
+    let asked = asked_by(rt.alloc(), words.as_slice())?;
+    assert_eq!(rt;
+        asked.deck.as_ref().map(|name| name.as_str()),
+        Some("a deck")
+    );
+    assert_eq!(rt;
+        (asked.out.is_none(), asked.product),
+        (true, Product::Image)
+    );
     Ok(())
 }
 

@@ -111,3 +111,39 @@ fn each_kind_of_step_has_its_line(rt: HostRuntime) -> Result<(), Fail> {
     }
     Ok(())
 }
+
+#[test]
+fn a_movement_that_waits_is_told_once(rt: HostRuntime) -> Result<(), Fail> {
+    // Two skips to channel 1 after the next print, then three spaces in their place, two spaces at once, and a print.
+    let mut machine = machine_with(&rt, 600, b"~FA~FA~FT~FK~2~.");
+    let mut before = Snapshot::of(rt.alloc(), &machine)?;
+    for (printed, line) in [
+        (
+            false,
+            b"00600\t~FA      \tCC   A              \t00000\t00000\tPENDING SKIP 04\n".as_slice(),
+        ),
+        (
+            false,
+            b"00602\t~FA      \tCC   A              \t00000\t00000\n",
+        ),
+        (
+            false,
+            b"00604\t~FT      \tCC   T              \t00000\t00000\tPENDING SPACE 3\n",
+        ),
+        (
+            false,
+            b"00606\t~FK      \tCC   K              \t00000\t00000\tCARRIAGE 0001/03\n",
+        ),
+        (
+            true,
+            b"00608\t~2       \tW                   \t00000\t00333\tPRINT 0001/03\tCARRIAGE 0001/06\n",
+        ),
+    ] {
+        let stop = machine.step();
+        let work = Work { printed, ..NOTHING };
+        let mut text = Vec::new(rt.alloc());
+        before.put_line(&mut text, &machine, work, stop)?;
+        assert_eq!(rt; text.as_slice(), line);
+    }
+    Ok(())
+}

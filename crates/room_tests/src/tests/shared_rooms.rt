@@ -4,7 +4,7 @@ ghost use Rattle.std.specs.Prelude.{◌≡◌};
 use bcd_1401::{Cell, Char};
 use core_1401::{Cells, CoreFault};
 use room_1401::{
-    Answer, CloseFault, Command, Entry, Glance, GlanceFault, Naming, Opened, Room, RoomFault, Seat,
+    Answer, CloseFault, Command, Entry, Glance, GlanceFault, Opened, Room, RoomFault, RoomId, Seat,
     SharedRoom, StartFault, Told,
 };
 use std::alloc::Global;
@@ -30,7 +30,7 @@ fn shown(glance: Glance) -> (u64, u8) {
     (glance.after, glance.cell.char.graphic())
 }
 
-fn start<J: Naming, R: Wait>(
+fn start<J: RoomId, R: Wait>(
     rt: &R,
     alloc: Global,
     size: u16,
@@ -58,7 +58,7 @@ fn the_size_is_looked_at_before_the_seats(rt: HostRuntime) {
     }
 }
 
-fn two_operators<J: Naming, R: Wait + Abort>(
+fn two_operators<J: RoomId, R: Wait + Abort>(
     rt: &R,
     alloc: Global,
     opened: Opened,
@@ -140,7 +140,7 @@ fn an_abandoned_room_has_all_three_commands(rt: HostRuntime) -> Result<(), Fail>
     two_operators::<Brand, _>(&rt, rt.alloc(), Opened::new(2), false)
 }
 
-fn kept_back<J: Naming, R: Wait + Abort>(rt: &R, alloc: Global, opened: Opened) -> Result<(), Fail>
+fn kept_back<J: RoomId, R: Wait + Abort>(rt: &R, alloc: Global, opened: Opened) -> Result<(), Fail>
     requires history { opened.book ≡ J.book }
     requires ledger { (opened.ledger ≡ J.name) × (opened.parts ≡ J.parts) × (J.parts ≡ J.seats) }
     requires named { (4000 ≡ J.size) × (1 ≡ J.seats) }
@@ -164,7 +164,7 @@ fn a_seat_outlives_its_room(rt: HostRuntime) -> Result<(), Fail> {
     kept_back::<Brand, _>(&rt, rt.alloc(), Opened::new(1))
 }
 
-fn full_journal<J: Naming, R: Wait + Abort>(
+fn full_journal<J: RoomId, R: Wait + Abort>(
     rt: &R,
     alloc: Global,
     opened: Opened,
@@ -211,7 +211,7 @@ fn nth_command(seat: u8, k: u16) -> Option<Command> {
 }
 
 /// Leaves a note of what the seat has seen, and learns from the one that lay there.
-fn exchange_notes<J: Naming, R: Wait>(
+fn exchange_notes<J: RoomId, R: Wait>(
     rt: &R,
     room: &SharedRoom<J, &R>,
     notes: &Mutex<Option<Told<J>>>,
@@ -226,7 +226,7 @@ fn exchange_notes<J: Naming, R: Wait>(
 }
 
 /// Gives 10,000 commands, with glances and notes between them, up to the first that goes wrong.
-fn operate<J: Naming, R: Wait>(
+fn operate<J: RoomId, R: Wait>(
     rt: &R,
     room: &SharedRoom<J, &R>,
     notes: &Mutex<Option<Told<J>>>,
@@ -262,7 +262,7 @@ fn gives_each_answer(alloc: Global, size: u16, journal: &[Entry]) -> Result<bool
     Ok(true)
 }
 
-fn eight_operators<J: Naming + Send + Sync, R: Threads + Wait + Abort + Sync>(
+fn eight_operators<J: RoomId + Send + Sync, R: Threads + Wait + Abort + Sync>(
     rt: &R,
     alloc: Global,
     opened: Opened,

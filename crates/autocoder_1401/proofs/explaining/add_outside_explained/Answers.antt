@@ -1,4 +1,4 @@
--- What the assembler tells where no fault of a line is told isn't in core.
+-- What the assembler tells if no fault of a line is told isn't in core.
 use Rattle.std.proofs.Common.{◌∙◌, sym}
 use Rattle.std.proofs.lemmas.Bool.{eqb-true}
 use Rattle.std.proofs.lemmas.List.{nil_from_length}

@@ -1,4 +1,4 @@
--- Where no line is left, what is explained is all but that there is no END.
+-- If no line is left, what is explained is all but that there is no END.
 use Rattle.std.proofs.Common.{◌++◌, ap, sym, ◌∙◌, arith}
 use Rattle.indexmap.specs.IndexMap.{get}
 use Rattle.source_1401.specs.SourceLine.{lines_of}

@@ -1,6 +1,6 @@
 -- Line by line the seat's commands stand in its list.
 use Rattle.std.proofs.Common.{◌≡◌, ℕ, List, Option, sym, subst}
-use Rattle.room_1401.specs.Seen.{Knows}
+use Rattle.room_1401.specs.Seen.{SeatView}
 use Rattle.console_1401.specs.declared.session_end.SessionEnd.{SessionEnd}
 use Rattle.console_1401.specs.Answering.{AnsweredAll}
 use Rattle.console_1401.specs.Attended.{Attended}
@@ -10,19 +10,19 @@ use Rattle.console_1401.proofs.AttendedLemmas.{attended_at_seat, number_stays}
 use Rattle.console_1401.proofs.SessionLemmas.{session_as}
 use Rattle.console_1401.proofs.attending.attend.Goals as goal
 
-at_seat : (size : ℕ) (last : SessionEnd) (l0 l1 t0 t1 : Option (List ℕ)) (before after back : Knows) → back ≡ after
+at_seat : (size : ℕ) (last : SessionEnd) (l0 l1 t0 t1 : Option (List ℕ)) (before after back : SeatView) → back ≡ after
     → SessionDid (AnsweredAll (SeatResponds size)) last l0 l1 t0 t1 before after
     → SessionDid (Attended size) last l0 l1 t0 t1 before back
 at_seat size last l0 l1 t0 t1 before after back is did =
-    subst (λ (seat : Knows). SessionDid (Attended size) last l0 l1 t0 t1 before seat) (sym is)
+    subst (λ (seat : SeatView). SessionDid (Attended size) last l0 l1 t0 t1 before seat) (sym is)
     (session_as (AnsweredAll (SeatResponds size)) (Attended size) (attended_at_seat size) last l0 l1 t0 t1 before
     after did)
 
 pub returns-clause-session : goal.returns-clause-session
 returns-clause-session g c =
-    at_seat g.J.Naming.size _ _ _ _ _ _ _ _ c.into_seat.ensures c.answer_lines-end.ensures.session
+    at_seat g.J.RoomId.size _ _ _ _ _ _ _ _ c.into_seat.ensures c.answer_lines-end.ensures.session
 
 pub returns-clause-number : goal.returns-clause-number
 returns-clause-number g c =
-    number_stays g.J.Naming.size _ _ _ _ _ _ _
-    (at_seat g.J.Naming.size _ _ _ _ _ _ _ _ c.into_seat.ensures c.answer_lines-end.ensures.session)
+    number_stays g.J.RoomId.size _ _ _ _ _ _ _
+    (at_seat g.J.RoomId.size _ _ _ _ _ _ _ _ c.into_seat.ensures c.answer_lines-end.ensures.session)

@@ -20,7 +20,7 @@ returns-then-near-ne0 c =
           (or_lt 64 v w c.window_down-near_a.type_inv c.window_down-near_b.type_inv));
     }
 
--- where neither window has a mark
+-- if neither window has a mark
 pub first_pair_by_words-requires-clause-near_a : goal.first_pair_by_words-requires-clause-near_a
 first_pair_by_words-requires-clause-near_a c = λ j lt le.
     omega (

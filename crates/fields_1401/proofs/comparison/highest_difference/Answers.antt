@@ -1,4 +1,4 @@
--- Where no pair differs there is no highest.
+-- If no pair differs there is no highest.
 use Rattle.std.proofs.Common.{◌∙◌, sym}
 use Rattle.fields_1401.proofs.CompareLemmas.{none_differs}
 use Rattle.fields_1401.proofs.comparison.highest_difference.Goals as goal

@@ -6,11 +6,16 @@ use Rattle.fields_1401.specs.Across.{chars_across, units_unzoned}
 use Rattle.fields_1401.specs.Edit.{is_replaceable, is_significant, kept_char, shown, taken_down}
 use Rattle.fields_1401.proofs.AcrossLemmas.{length-across}
 use Rattle.fields_1401.proofs.EditLemmas.{before_significant_is}
-use Rattle.fields_1401.proofs.EditPassLemmas.{ArePut, put_none, put_more, takes_replaceable, significant_is, taken_plain}
+use Rattle.fields_1401.specs.Across.{unzoned_down}
+use Rattle.fields_1401.specs.Suppress.{blank_char}
+use Rattle.fields_1401.proofs.EditPassLemmas.{ArePut, put_none, put_more, one_taken, none_left, none_taken, blank_left}
+use Rattle.fields_1401.proofs.EditPassLemmas.{significant_is, taken_plain}
 use Rattle.fields_1401.proofs.LendingLemmas.{length-with_all_chars}
 use Rattle.fields_1401.proofs.editing.put_unsuppressed.Goals as goal
-use Rattle.fields_1401.proofs.editing.put_unsuppressed.Goals.{in-Some, then-not-is_replaceable, else-not-is_replaceable}
-use Rattle.fields_1401.proofs.editing.put_unsuppressed.Goals.{in-None+then-is_replaceable, in-None+else-is_replaceable}
+use Rattle.fields_1401.proofs.editing.put_unsuppressed.Goals.{then-not-is_replaceable}
+use Rattle.fields_1401.proofs.editing.put_unsuppressed.Goals.{else-not-is_replaceable+then-behind-rules}
+use Rattle.fields_1401.proofs.editing.put_unsuppressed.Goals.{else-not-is_replaceable+else-behind-rules}
+use Rattle.fields_1401.proofs.editing.put_unsuppressed.Goals.{then-not-is_replaceable-2, else-not-is_replaceable-2}
 
 pub loop-i-init : goal.loop-i-init
 loop-i-init c =
@@ -41,35 +46,48 @@ loop-i-preserved c =
     c.args.rules.replaceable c.args.rules.sign taken c.requires.a o.a_above c.requires.b o.b_above o.apart (omega arith)
     (omega (arith, c.from-units.ensures)) c.requires.sign c.requires.replaceable c.char_at-own.ensures takes shows made
     counts tells c.loop-i.invariant in
-    elim c.match-takes_of.branch [
-      | in-Some w ↦ more c.match-takes_of.chars c.match-takes_of.behind c.match-takes_of.significant w.in-Some.char
-          (Some w.in-Some.char) w.in-Some.ensures (sym (taken_plain w.in-Some.char)) (w.chars-is ∙ w.put_char.ensures)
-          (inl (
-            takes_replaceable c.loop-i.chars o.a o.taken own c.loop-i.behind w.in-Some.char w.in-Some.ensures,
-            w.behind-is,
-          ))
-          (elim w.if-not-is_replaceable.branch [
-            | then-not-is_replaceable v ↦ inl (
-              significant_is w.in-Some.char
-                  ∙ ap not (sym w.is_replaceable.ensures ∙ v.if-not-is_replaceable.true),
+    elim c.if-not-is_replaceable.branch [
+      | then-not-is_replaceable w ↦
+          let no : is_replaceable own ≡ false = sym c.is_replaceable.ensures ∙ w.if-not-is_replaceable.true in
+          more c.if-not-is_replaceable.chars c.if-not-is_replaceable.behind c.if-not-is_replaceable.significant
+          w.kept_char.result None (none_taken c.loop-i.chars o.a o.taken own c.loop-i.behind no)
+          (w.kept_char.ensures ∙ ap (λ (t : ℕ). kept_char t c.args.rules.replaceable c.args.rules.sign c.loop-i.behind
+          false own) c.requires.taken) (w.chars-is ∙ w.put_char.ensures)
+          (inr (no, w.behind-is)) (inr (refl, w.significant-is))
+      | else-not-is_replaceable+then-behind-rules w ↦
+          let yes : is_replaceable own ≡ true = sym c.is_replaceable.ensures ∙ w.if-not-is_replaceable.false in
+          let char = w.unzoned_down-char.result in
+          let here : char ≡ unzoned_down c.loop-i.chars o.a c.loop-i.behind =
+          w.unzoned_down-char.ensures
+          ∙ ap (λ (a : ℕ). unzoned_down c.loop-i.chars a c.loop-i.behind) w.from.ensures in
+          more c.if-not-is_replaceable.chars c.if-not-is_replaceable.behind c.if-not-is_replaceable.significant
+          char (Some char)
+          (ap (λ (n : ℕ). Some n) here
+          ∙ one_taken c.loop-i.chars o.a o.taken own c.loop-i.behind yes
+          (omega (arith, w.if-behind-rules.true, c.requires.taken)))
+          (sym (taken_plain char)) (w.chars-is ∙ w.put_char-then-behind-rules.ensures)
+          (inl (yes, w.behind-is))
+          (elim w.if-not-is_replaceable-2.branch [
+            | then-not-is_replaceable-2 v ↦ inl (
+              significant_is char
+                  ∙ ap not (sym w.is_replaceable-then-behind-rules.ensures ∙ v.if-not-is_replaceable-2.true),
               w.significant-is ∙ v.significant-is ∙ omega (arith, c.from-len.ensures),
             )
-            | else-not-is_replaceable v ↦ inr (
-              significant_is w.in-Some.char
-                  ∙ ap not (sym w.is_replaceable.ensures ∙ v.if-not-is_replaceable.false),
+            | else-not-is_replaceable-2 v ↦ inr (
+              significant_is char
+                  ∙ ap not (sym w.is_replaceable-then-behind-rules.ensures ∙ v.if-not-is_replaceable-2.false),
               w.significant-is ∙ v.significant-is,
             )
           ])
-      | in-None+then-is_replaceable w ↦ more c.match-takes_of.chars c.match-takes_of.behind
-          c.match-takes_of.significant w.kept_char.result None w.in-None.ensures
-          (w.kept_char.ensures ∙ ap (λ (t : ℕ). kept_char t c.args.rules.replaceable c.args.rules.sign c.loop-i.behind
-          false own) c.requires.taken) (w.chars-is ∙ w.put_char-in-None.ensures)
-          (inl (sym w.is_replaceable-in-None.ensures ∙ w.if-is_replaceable.true, w.behind-is)) (inr (refl, w.significant-is))
-      | in-None+else-is_replaceable w ↦ more c.match-takes_of.chars c.match-takes_of.behind
-          c.match-takes_of.significant w.kept_char.result None w.in-None.ensures
-          (w.kept_char.ensures ∙ ap (λ (t : ℕ). kept_char t c.args.rules.replaceable c.args.rules.sign c.loop-i.behind
-          false own) c.requires.taken) (w.chars-is ∙ w.put_char-in-None.ensures)
-          (inr (sym w.is_replaceable-in-None.ensures ∙ w.if-is_replaceable.false, w.behind-is)) (inr (refl, w.significant-is))
+      | else-not-is_replaceable+else-behind-rules w ↦
+          let yes : is_replaceable own ≡ true = sym c.is_replaceable.ensures ∙ w.if-not-is_replaceable.false in
+          more c.if-not-is_replaceable.chars c.if-not-is_replaceable.behind c.if-not-is_replaceable.significant
+          blank_char None
+          (none_left c.loop-i.chars o.a o.taken own c.loop-i.behind yes
+          (omega (arith, w.if-behind-rules.false, c.requires.taken)))
+          (blank_left o.taken c.args.rules.replaceable c.loop-i.behind own c.args.rules.sign yes)
+          (w.chars-is ∙ w.put_char-else-behind-rules.ensures)
+          (inl (yes, w.behind-is)) (inr (refl, w.significant-is))
     ]
 
 pub returns-clause-significant : goal.returns-clause-significant

@@ -1,4 +1,4 @@
--- The cells that were loaded are the field that stands at b then.
+-- The cells that were loaded are the field at b then.
 use Rattle.std.proofs.Common.{rules, ◌∙◌, ap}
 use Rattle.core_1401.specs.Field.{field_at}
 use Rattle.fields_1401.proofs.LoadLemmas.{load_brings_the_field}

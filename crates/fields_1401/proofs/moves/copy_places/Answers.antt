@@ -1,4 +1,4 @@
--- Where nothing is written over before it is read, a copy moves the characters.
+-- If nothing is written over before it is read, a copy moves the characters.
 use Rattle.std.proofs.Common.{ℕ, ◌-◌, length, ap, ◌∙◌}
 use Rattle.core_1401.specs.Storage.{cell_at}
 use Rattle.fields_1401.specs.Places.{marks_of}

@@ -4,5 +4,5 @@ use Rattle.growth_trial.proofs.attended.attend.Given as goal
 abbrev pub ghosts-operate-J-Ledger : goal.ghosts-operate-J-Ledger
 ghosts-operate-J-Ledger g a = record { name = a.opened.ledger; parts = a.opened.parts }
 
-abbrev pub ghosts-operate-J-Naming : goal.ghosts-operate-J-Naming
-ghosts-operate-J-Naming g a = record { book = a.opened.book; size = 4000; seats = 2 }
+abbrev pub ghosts-operate-J-RoomId : goal.ghosts-operate-J-RoomId
+ghosts-operate-J-RoomId g a = record { book = a.opened.book; size = 4000; seats = 2 }

@@ -4,5 +4,5 @@ use Rattle.ibm1401.proofs.serving.open_room.Given as goal
 abbrev pub ghosts-serve_room-J-Ledger : goal.ghosts-serve_room-J-Ledger
 ghosts-serve_room-J-Ledger g a = record { name = a.opened.ledger; parts = a.opened.parts }
 
-abbrev pub ghosts-serve_room-J-Naming : goal.ghosts-serve_room-J-Naming
-ghosts-serve_room-J-Naming g a = record { book = a.opened.book; size = a.service.size; seats = a.service.seats }
+abbrev pub ghosts-serve_room-J-RoomId : goal.ghosts-serve_room-J-RoomId
+ghosts-serve_room-J-RoomId g a = record { book = a.opened.book; size = a.service.size; seats = a.service.seats }

@@ -1,6 +1,6 @@
 -- One entry more, which is chosen or isn't.
 use Rattle.std.proofs.Common.{◌+◌, List, ◌++◌, ap, sym, ◌∙◌, arith}
-use Rattle.room_1401.specs.declared.entry.Pair.{Pair}
+use Rattle.room_1401.specs.declared.entry.SeatedCommand.{SeatedCommand}
 use Rattle.journal_1401.specs.Choice.{chosen_of}
 use Rattle.journal_1401.proofs.TextLemmas.{lines_by-take}
 use Rattle.journal_1401.proofs.choosing.carry_chosen.Goals as goal
@@ -13,7 +13,7 @@ loop-i-preserved c =
     let i = c.loop-i.i in
     let entry = c.index-journal-i.result in (
       c.in_ok-carry_if_chosen.ensures.commands
-          ∙ ap (λ (pairs : List Pair). pairs ++ chosen_of until without (i + 1) entry) c.loop-i.invariant.0
+          ∙ ap (λ (pairs : List SeatedCommand). pairs ++ chosen_of until without (i + 1) entry) c.loop-i.invariant.0
           ∙ sym (lines_by-take (chosen_of until without) journal i entry (omega arith) c.index-journal-i.is),
       c.in_ok-carry_if_chosen.ensures.size ∙ c.loop-i.invariant.1,
     )

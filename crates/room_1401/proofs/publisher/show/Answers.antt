@@ -7,4 +7,4 @@ pub publish_as-writer-requires : goal.publish_as-writer-requires
 publish_as-writer-requires g c next is =
     let writer = c.args.writer in
     let pending = drop writer.behind writer.log.items in
-    shows g.J.Naming.book g.J.Naming.size _ _ writer.desk.shown.value next pending c.requires is
+    shows g.J.RoomId.book g.J.RoomId.size _ _ writer.desk.shown.value next pending c.requires is

@@ -4,5 +4,5 @@ use Rattle.console_tests.proofs.tests.attending.the_door_is_told_before_a_line_i
 abbrev pub ghosts-interrupted-J-Ledger : goal.ghosts-interrupted-J-Ledger
 ghosts-interrupted-J-Ledger g a = record { name = a.opened.ledger; parts = a.opened.parts }
 
-abbrev pub ghosts-interrupted-J-Naming : goal.ghosts-interrupted-J-Naming
-ghosts-interrupted-J-Naming g a = record { book = a.opened.book; size = 1400; seats = 2 }
+abbrev pub ghosts-interrupted-J-RoomId : goal.ghosts-interrupted-J-RoomId
+ghosts-interrupted-J-RoomId g a = record { book = a.opened.book; size = 1400; seats = 2 }

@@ -4,5 +4,5 @@ use Rattle.console_tests.proofs.tests.serving.connections_have_the_seats_in_thei
 abbrev pub ghosts-in_turn-J-Ledger : goal.ghosts-in_turn-J-Ledger
 ghosts-in_turn-J-Ledger g a = record { name = a.opened.ledger; parts = a.opened.parts }
 
-abbrev pub ghosts-in_turn-J-Naming : goal.ghosts-in_turn-J-Naming
-ghosts-in_turn-J-Naming g a = record { book = a.opened.book; size = 1400; seats = 8 }
+abbrev pub ghosts-in_turn-J-RoomId : goal.ghosts-in_turn-J-RoomId
+ghosts-in_turn-J-RoomId g a = record { book = a.opened.book; size = 1400; seats = 8 }

@@ -1,4 +1,4 @@
--- The words that are lent are those behind the first.
+-- The words that are lent are those after the first.
 use Rattle.std.proofs.Common.{◌≡◌, ℕ, ◌+◌, ◌/◌, List, length, take, drop, subst, arith, sym}
 use Rattle.core_1401.specs.MarkWords.{held, AreMarkWords}
 use Rattle.core_1401.specs.Storage.{Storage}

@@ -10,4 +10,4 @@ returns-in-Ok c =
     ap (λ (devices : Devices). with_devices devices (the_view c.self.inside))
     (c.in-Ok.ensures.devices ∙ ap (punched c.self.inside.devices) c.card_of-card.ensures)
     ∙ ap (with_punch true) c.self.view_is
-    ∙ ap (λ punches. with_punch punches c.args.self.now) (sym c.if-asked.true)
+    ∙ ap (λ punches. with_punch punches c.args.self.now) (sym c.if-request.true)

@@ -8,7 +8,7 @@ use Rattle.room_1401.specs.Replay.{pair}
 use Rattle.room_1401.specs.Rule.{Publishes}
 use Rattle.room_1401.specs.Seen.{own}
 use Rattle.room_1401.specs.declared.entry.Entry.{Entry}
-use Rattle.room_1401.specs.declared.entry.Pair.{Pair}
+use Rattle.room_1401.specs.declared.entry.SeatedCommand.{SeatedCommand}
 use Rattle.room_1401.specs.declared.published.Change.{Change}
 use Rattle.room_1401.proofs.KeptLemmas.{OneMore, kept_before, kept_or_broken}
 use Rattle.room_1401.proofs.PublishLemmas.{IsNext, follows, seat_follows, storage_of}
@@ -18,13 +18,13 @@ use Rattle.room_1401.proofs.locked.LockedRoom.carry.Goals as goal
 
 pub show_kept-requires : goal.show_kept-requires
 show_kept-requires g c =
-    let pairs : List Pair = pairs_of c.self.inside.room.journal in
+    let pairs : List SeatedCommand = pairs_of c.self.inside.room.journal in
     let k = c.number-number.result in
-    let more : List Pair = pairs ++ pair k c.args.command ∷ [] in
+    let more : List SeatedCommand = pairs ++ pair k c.args.command ∷ [] in
     let grown : c.extend.new.self ≡ more =
     c.if-not-extend.ensures
-    ∙ ap (λ (list : List Pair). list ++ c.new-pair.result ∷ []) (c.again-front.ensures ∙ c.self.invariant.1)
-    ∙ ap (λ (last : Pair). pairs ++ last ∷ []) c.new-pair.ensures in
+    ∙ ap (λ (list : List SeatedCommand). list ++ c.new-pair.result ∷ []) (c.again-front.ensures ∙ c.self.invariant.1)
+    ∙ ap (λ (last : SeatedCommand). pairs ++ last ∷ []) c.new-pair.ensures in
     let size = c.in-Ok-carry.ensures.size ∙ c.reserve.ensures.size ∙ c.self.invariant.0 in
     let one : Entry = entry k c.args.command c.in-Ok-carry.answer in
     let journal : c.carry.new.self.journal ≡ c.self.inside.room.journal ++ one ∷ [] =
@@ -37,30 +37,30 @@ show_kept-requires g c =
     let change : Change = c.change_to.result in
     let pending : List Change = drop old.behind old.log.items in
     let then : List Change = drop new.behind new.log.items in
-    let next : IsNext g.J.Naming.book g.J.Naming.size change pairs k c.args.command = record {
+    let next : IsNext g.J.RoomId.book g.J.RoomId.size change pairs k c.args.command = record {
       of_command = c.change_to.ensures.command;
       count = c.change_to.ensures.count ∙ ap length (sym c.change_to.ensures.list);
       bound = c.change_to.ensures.bound;
       list = c.change_to.ensures.list ∙ grown;
       of_book = c.change_to.ensures.book;
-      storage = storage_of g.J.Naming.size c.carry.new.self.size c.machine-replayed.result.now
+      storage = storage_of g.J.RoomId.size c.carry.new.self.size c.machine-replayed.result.now
           (pairs_of c.carry.new.self.journal) more
           c.machine-replayed.ensures.state c.machine-replayed.ensures.size size recorded;
     } in
-    let shows : Publishes g.J.Naming.book g.J.Naming.size new.desk.shown.value then more =
-    follows g.J.Naming.book g.J.Naming.size old.desk.shown.value new.desk.shown.value change pending then pairs k
+    let shows : Publishes g.J.RoomId.book g.J.RoomId.size new.desk.shown.value then more =
+    follows g.J.RoomId.book g.J.RoomId.size old.desk.shown.value new.desk.shown.value change pending then pairs k
     c.args.command c.self.invariant.3 next c.append.ensures.shown c.in-Ok.ensures.ok in
     shows.follows
 
 pub credit-requires : goal.credit-requires
 credit-requires g c =
-    let pairs : List Pair = pairs_of c.self.inside.room.journal in
+    let pairs : List SeatedCommand = pairs_of c.self.inside.room.journal in
     let k = c.number-number.result in
-    let more : List Pair = pairs ++ pair k c.args.command ∷ [] in
+    let more : List SeatedCommand = pairs ++ pair k c.args.command ∷ [] in
     let grown : c.extend.new.self ≡ more =
     c.if-not-extend.ensures
-    ∙ ap (λ (list : List Pair). list ++ c.new-pair.result ∷ []) (c.again-front.ensures ∙ c.self.invariant.1)
-    ∙ ap (λ (last : Pair). pairs ++ last ∷ []) c.new-pair.ensures in
+    ∙ ap (λ (list : List SeatedCommand). list ++ c.new-pair.result ∷ []) (c.again-front.ensures ∙ c.self.invariant.1)
+    ∙ ap (λ (last : SeatedCommand). pairs ++ last ∷ []) c.new-pair.ensures in
     let seen = c.brief.new.seat in
     let seat = c.see.new.self in
     let same : seen.list ≡ pairs =
@@ -71,22 +71,22 @@ credit-requires g c =
     let number : seat.number ≡ k = c.see.ensures.same.0 ∙ sym c.number-number.ensures in
     let few : seen.made ≤ own k pairs =
     subst (λ n. seen.made ≤ own n pairs) (sym c.number-number.ensures)
-    (subst (λ (l : List Pair). seen.made ≤ own seen.number l) same c.if-not-brief.ensures.own) in
+    (subst (λ (l : List SeatedCommand). seen.made ≤ own seen.number l) same c.if-not-brief.ensures.own) in
     let one_more : own seat.number seat.list ≡ own k pairs + 1 =
     ap (λ n. own n seat.list) number
-    ∙ ap (λ (l : List Pair). own k l) list
+    ∙ ap (λ (l : List SeatedCommand). own k l) list
     ∙ own_pushed k c.args.command pairs in
     omega (arith, c.see.ensures.same.1, few, one_more)
 
 pub invariant_of-self-2 : goal.invariant_of-self-2
 invariant_of-self-2 g c =
-    let pairs : List Pair = pairs_of c.self.inside.room.journal in
+    let pairs : List SeatedCommand = pairs_of c.self.inside.room.journal in
     let k = c.number-number.result in
-    let more : List Pair = pairs ++ pair k c.args.command ∷ [] in
+    let more : List SeatedCommand = pairs ++ pair k c.args.command ∷ [] in
     let grown : c.extend.new.self ≡ more =
     c.if-not-extend.ensures
-    ∙ ap (λ (list : List Pair). list ++ c.new-pair.result ∷ []) (c.again-front.ensures ∙ c.self.invariant.1)
-    ∙ ap (λ (last : Pair). pairs ++ last ∷ []) c.new-pair.ensures in
+    ∙ ap (λ (list : List SeatedCommand). list ++ c.new-pair.result ∷ []) (c.again-front.ensures ∙ c.self.invariant.1)
+    ∙ ap (λ (last : SeatedCommand). pairs ++ last ∷ []) c.new-pair.ensures in
     let size = c.in-Ok-carry.ensures.size ∙ c.reserve.ensures.size ∙ c.self.invariant.0 in
     let one : Entry = entry k c.args.command c.in-Ok-carry.answer in
     let journal : c.carry.new.self.journal ≡ c.self.inside.room.journal ++ one ∷ [] =
@@ -99,18 +99,18 @@ invariant_of-self-2 g c =
     let change : Change = c.change_to.result in
     let pending : List Change = drop old.behind old.log.items in
     let then : List Change = drop new.behind new.log.items in
-    let next : IsNext g.J.Naming.book g.J.Naming.size change pairs k c.args.command = record {
+    let next : IsNext g.J.RoomId.book g.J.RoomId.size change pairs k c.args.command = record {
       of_command = c.change_to.ensures.command;
       count = c.change_to.ensures.count ∙ ap length (sym c.change_to.ensures.list);
       bound = c.change_to.ensures.bound;
       list = c.change_to.ensures.list ∙ grown;
       of_book = c.change_to.ensures.book;
-      storage = storage_of g.J.Naming.size c.carry.new.self.size c.machine-replayed.result.now
+      storage = storage_of g.J.RoomId.size c.carry.new.self.size c.machine-replayed.result.now
           (pairs_of c.carry.new.self.journal) more
           c.machine-replayed.ensures.state c.machine-replayed.ensures.size size recorded;
     } in
-    let shows : Publishes g.J.Naming.book g.J.Naming.size new.desk.shown.value then more =
-    follows g.J.Naming.book g.J.Naming.size old.desk.shown.value new.desk.shown.value change pending then pairs k
+    let shows : Publishes g.J.RoomId.book g.J.RoomId.size new.desk.shown.value then more =
+    follows g.J.RoomId.book g.J.RoomId.size old.desk.shown.value new.desk.shown.value change pending then pairs k
     c.args.command c.self.invariant.3 next c.append.ensures.shown c.in-Ok.ensures.ok in
     let form = g.K.Keeper.form in
     let first = g.K.Keeper.first in
@@ -133,13 +133,13 @@ invariant_of-self-2 g c =
     c.keep.ensures.line c.keep.ensures.part c.keep.ensures.good c.keep.ensures.failed) in
     let shown = c.show_kept.new.self.writer in
     let left : List Change = drop shown.behind shown.log.items in
-    let now : Publishes g.J.Naming.book g.J.Naming.size shown.desk.shown.value left more =
+    let now : Publishes g.J.RoomId.book g.J.RoomId.size shown.desk.shown.value left more =
     c.show_kept.ensures more shows in (
       size,
       grown ∙ sym recorded,
       c.credit.ensures.total
           ∙ omega (arith, c.self.invariant.2, ap length journal, length-append c.self.inside.room.journal (one ∷ [])),
-      subst (λ (l : List Pair). Publishes g.J.Naming.book g.J.Naming.size shown.desk.shown.value left l)
+      subst (λ (l : List SeatedCommand). Publishes g.J.RoomId.book g.J.RoomId.size shown.desk.shown.value left l)
           (sym recorded) now,
       c.self.invariant.4,
       c.self.invariant.5,

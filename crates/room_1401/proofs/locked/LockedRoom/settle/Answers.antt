@@ -8,7 +8,7 @@ use Rattle.room_1401.proofs.locked.LockedRoom.settle.Goals as goal
 pub returns-clause-settled : goal.returns-clause-settled
 returns-clause-settled g c =
     let seats = c.args.seats.items in
-    let n = g.J.Naming.seats in
+    let n = g.J.RoomId.seats in
     let merged = c.merge_all-all.ensures in
     let few : length seats ≤ n = omega (arith, merged.parts.0, merged.parts.1, c.requires.parts) in
     let parts = merged.parts.0 ∙ (all_once n seats c.requires.back few ∙ sym c.requires.parts) in

@@ -3,4 +3,4 @@ use Rattle.room_1401.proofs.RuleLemmas.{admits}
 use Rattle.room_1401.proofs.publisher.Publisher.reader.Goals as goal
 
 pub reader-requires : goal.reader-requires
-reader-requires g c = admits g.J.Naming.book g.J.Naming.size
+reader-requires g c = admits g.J.RoomId.book g.J.RoomId.size

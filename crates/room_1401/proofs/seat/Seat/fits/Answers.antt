@@ -1,7 +1,7 @@
 -- Both lists are beginnings of one, and the seat's is no longer.
 use Rattle.std.proofs.Common.{◌≤◌, arith, length, subst}
 use mathlib.Core.List.{IsPrefix}
-use Rattle.room_1401.specs.Seen.{Knows, own}
+use Rattle.room_1401.specs.Seen.{SeatView, own}
 use Rattle.room_1401.proofs.SeenLemmas.{fit_list}
 use Rattle.room_1401.proofs.seat.Seat.fits.Goals as goal
 
@@ -14,4 +14,4 @@ returns g c _ =
     omega (arith, c.len.ensures.value, c.len-2.ensures.value, c.if-len.false) in
     let fits = fit_list seat.number seat.made seat.front front c.longer-both.result c.self.invariant.3 le both.this
     both.that in
-    subst (λ (k : Knows). IsPrefix k.list front × (k.made ≤ own k.number front)) c.self.view_is fits
+    subst (λ (k : SeatView). IsPrefix k.list front × (k.made ≤ own k.number front)) c.self.view_is fits

@@ -4,5 +4,5 @@ use Rattle.room_tests.proofs.tests.shared_rooms.a_full_journal_is_seen_by_both_s
 abbrev pub ghosts-full_journal-J-Ledger : goal.ghosts-full_journal-J-Ledger
 ghosts-full_journal-J-Ledger g a = record { name = a.opened.ledger; parts = a.opened.parts }
 
-abbrev pub ghosts-full_journal-J-Naming : goal.ghosts-full_journal-J-Naming
-ghosts-full_journal-J-Naming g a = record { book = a.opened.book; size = 1400; seats = 2 }
+abbrev pub ghosts-full_journal-J-RoomId : goal.ghosts-full_journal-J-RoomId
+ghosts-full_journal-J-RoomId g a = record { book = a.opened.book; size = 1400; seats = 2 }

@@ -4,5 +4,5 @@ use Rattle.room_tests.proofs.tests.shared_rooms.an_abandoned_room_has_all_three_
 abbrev pub ghosts-two_operators-J-Ledger : goal.ghosts-two_operators-J-Ledger
 ghosts-two_operators-J-Ledger g a = record { name = a.opened.ledger; parts = a.opened.parts }
 
-abbrev pub ghosts-two_operators-J-Naming : goal.ghosts-two_operators-J-Naming
-ghosts-two_operators-J-Naming g a = record { book = a.opened.book; size = 4000; seats = 2 }
+abbrev pub ghosts-two_operators-J-RoomId : goal.ghosts-two_operators-J-RoomId
+ghosts-two_operators-J-RoomId g a = record { book = a.opened.book; size = 4000; seats = 2 }

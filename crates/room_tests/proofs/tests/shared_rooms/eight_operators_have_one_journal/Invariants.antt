@@ -4,5 +4,5 @@ use Rattle.room_tests.proofs.tests.shared_rooms.eight_operators_have_one_journal
 abbrev pub ghosts-eight_operators-J-Ledger : goal.ghosts-eight_operators-J-Ledger
 ghosts-eight_operators-J-Ledger g a = record { name = a.opened.ledger; parts = a.opened.parts }
 
-abbrev pub ghosts-eight_operators-J-Naming : goal.ghosts-eight_operators-J-Naming
-ghosts-eight_operators-J-Naming g a = record { book = a.opened.book; size = 4000; seats = 8 }
+abbrev pub ghosts-eight_operators-J-RoomId : goal.ghosts-eight_operators-J-RoomId
+ghosts-eight_operators-J-RoomId g a = record { book = a.opened.book; size = 4000; seats = 8 }

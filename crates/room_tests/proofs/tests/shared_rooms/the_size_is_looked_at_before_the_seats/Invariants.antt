@@ -4,5 +4,5 @@ use Rattle.room_tests.proofs.tests.shared_rooms.the_size_is_looked_at_before_the
 abbrev pub ghosts-start-J-Ledger : goal.ghosts-start-J-Ledger
 ghosts-start-J-Ledger g a = record { name = a.opened.ledger; parts = a.opened.parts }
 
-abbrev pub ghosts-start-J-Naming : goal.ghosts-start-J-Naming
-ghosts-start-J-Naming g a = record { book = a.opened.book; size = a.size; seats = a.seats }
+abbrev pub ghosts-start-J-RoomId : goal.ghosts-start-J-RoomId
+ghosts-start-J-RoomId g a = record { book = a.opened.book; size = a.size; seats = a.seats }

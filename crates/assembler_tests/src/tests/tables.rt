@@ -1,0 +1,140 @@
+//! Symbol tables and cross-references.
+
+use autocoder_1401::AsmKind::{OutOfCore, Undefined};
+use autocoder_1401::{AssemblyTables, assemble, assemble_with_tables};
+use std::process::Abort;
+use std::test::Fail;
+
+/// Compares the tables of a source in 4,000 places.
+fn expect_tables(
+    rt: &(impl Abort + AllocGlobal),
+    source: &[u8],
+    symbols: &[u8],
+    references: &[u8],
+) -> Result<(), Fail> {
+    let made = assemble_with_tables(rt.alloc(), source, 4_000)?;
+    assert_eq!(rt; made.symbols.as_slice(), symbols);
+    assert_eq!(rt; made.references.as_slice(), references);
+    Ok(())
+}
+
+#[test]
+fn labels_are_in_the_order_of_their_lines(rt: HostRuntime) -> Result<(), Fail> {
+    let source = b"               ORG  400
+     START     ZA   +5,TOTAL
+     LOOP      A    +5,TOTAL
+               B    LOOP
+     TOTAL     DCW  #3
+     HIGH      EQU  TOTAL-2
+     NAME      DC   @HI@
+     * TOTAL IS NO USE HERE
+               END  START
+";
+    expect_tables(
+        &rt,
+        source,
+        b"\
+START  00400 00007 0002
+LOOP   00407 00007 0003
+TOTAL  00420 00003 0005
+HIGH   00418       0006
+NAME   00422 00002 0007
+",
+        b"\
+START  0002 0009
+LOOP   0003 0004
+TOTAL  0005 0002 0003 0006
+HIGH   0006
+NAME   0007
+",
+    )
+}
+
+#[test]
+fn a_field_is_that_of_the_first_area(rt: HostRuntime) -> Result<(), Fail> {
+    let source = b"               ORG  500
+     REC       DA   2X4
+     KEY            3,4
+     ROOM      DS   100
+               MLC  KEY,ROOM
+               MLC  KEY,KEY
+               END  0
+";
+    expect_tables(
+        &rt,
+        source,
+        b"\
+REC    00500 00008 0002
+KEY    00503 00002 0003
+ROOM   00607 00100 0004
+",
+        b"\
+REC    0002
+KEY    0003 0005 0006
+ROOM   0004 0005
+",
+    )
+}
+
+#[test]
+fn a_label_can_name_itself_with_an_index_register(rt: HostRuntime) -> Result<(), Fail> {
+    let source = b"     A         B    A+X1
+               MLC  B-1+X2,@A@
+     B         DCW  #2
+               EX   B
+               END  A
+";
+    expect_tables(
+        &rt,
+        source,
+        b"A      00333 00004 0001\nB      00345 00002 0003\n",
+        b"A      0001 0001 0005\nB      0003 0002 0004\n",
+    )
+}
+
+#[test]
+fn a_source_without_labels_has_empty_tables(rt: HostRuntime) -> Result<(), Fail> {
+    expect_tables(
+        &rt,
+        b"               MLC  @A@,+5\n               END  0\n",
+        b"",
+        b"",
+    )
+}
+
+#[test]
+fn the_assembly_beside_them_is_that_of_the_source(rt: HostRuntime) -> Result<(), Fail> {
+    let source = b"     A         MLC  +5,A\n               END  A\n";
+    let alone = assemble(rt.alloc(), source, 4_000)?;
+    let AssemblyTables { assembly, .. } = assemble_with_tables(rt.alloc(), source, 4_000)?;
+    assert_eq!(rt; assembly.image.start, alone.image.start);
+    assert_eq!(rt; assembly.image.segments.as_slice().len(), 1);
+    assert_eq!(rt;
+        assembly.listing.as_slice().len(),
+        alone.listing.as_slice().len()
+    );
+    Ok(())
+}
+
+#[test]
+fn a_source_with_a_fault_has_none(rt: HostRuntime) {
+    for (source, line, kind) in [
+        (
+            b"     A         B    Q\n               END  A\n".as_slice(),
+            1,
+            Undefined,
+        ),
+        (
+            b"               ORG  3999\n     A         B    A\n               END  A\n".as_slice(),
+            2,
+            OutOfCore,
+        ),
+    ] {
+        let told = match assemble_with_tables(rt.alloc(), source, 4_000) {
+            Ok(_) => None,
+            Err(fault) => Some((fault.line, fault.kind)),
+        };
+        assert_eq!(rt; told, Some((line, kind)));
+    }
+    assert!(rt; assemble_with_tables(rt.alloc(), b"", 4_000).is_err());
+}

@@ -1,0 +1,91 @@
+-- The symbol table of a source (own).
+use Rattle.std.specs.Prelude.{ℕ, ◌+◌, ◌-◌, List, [], ◌∷◌, ◌++◌, pos, Option, None, Some, codes, unwrap_or}
+use Rattle.std.specs.Option.{option_map}
+use Rattle.std.specs.List.{flat_map}
+use Rattle.std.specs.Map.{lookup}
+use Rattle.notation_1401.specs.Digits.{digits_in}
+use Rattle.source_1401.specs.Description.{describe}
+use Rattle.source_1401.specs.Statement.{well_formed}
+use Rattle.source_1401.specs.declared.description.AreaRole.{AreaRole}
+use Rattle.source_1401.specs.declared.description.AreaRole.TheVariants as areas
+use Rattle.source_1401.specs.declared.description.Description.{Description}
+use Rattle.source_1401.specs.declared.description.Point.{Point}
+use Rattle.source_1401.specs.declared.description.Point.TheVariants as point
+use Rattle.source_1401.specs.declared.label.Label.{Label}
+use Rattle.source_1401.specs.declared.statement.Body.{Body}
+use Rattle.source_1401.specs.declared.statement.Line.{Line}
+use Rattle.source_1401.specs.declared.statement.Span.{Span}
+use Rattle.source_1401.specs.declared.statement.Statement.{Statement}
+use Rattle.autocoder_1401.specs.Listing.{address_text}
+use Rattle.autocoder_1401.specs.Placement.{Placement, contents_length, placed}
+use Rattle.autocoder_1401.specs.Symbols.{same_label}
+use Rattle.autocoder_1401.specs.declared.symbol_table.Symbol.{Symbol}
+
+-- how many places a field of an area has
+abbrev pub span_length : Span → ℕ
+span_length span = span.last + 1 - span.first
+
+abbrev pub field_length : AreaRole → Option ℕ
+field_length areas.Ends = None
+field_length (areas.Makes made) = None
+field_length (areas.Divides span) = option_map span_length span
+
+-- how many places a label names: those of an instruction, a constant, DS or all areas of DA, or of the field of one
+-- area; EQU names a value alone
+abbrev pub length_by : Description → Point → Option ℕ
+length_by row point.First = Some (contents_length row.contents)
+length_by row point.Last = Some (contents_length row.contents)
+length_by row (point.InArea place) = field_length row.areas
+length_by row point.Value = None
+
+abbrev pub length_named : Description → Option ℕ
+length_named row = length_by row row.names
+
+-- a label with the value that operands take for it
+abbrev pub symbol_of : Placement → ℕ → Body → Label → Symbol
+symbol_of all number body label =
+    record {
+      label = label;
+      value = unwrap_or (lookup (same_label label) all.values) (pos 0);
+      length = length_named (describe body);
+      line = number;
+    }
+
+abbrev pub symbol_with : Placement → ℕ → Statement → Option Symbol
+symbol_with all number statement = option_map (symbol_of all number statement.body) (well_formed statement.label)
+
+-- the symbol that a line of this number declares
+abbrev pub symbol_at : Placement → ℕ → Option Statement → Option Symbol
+symbol_at all number None = None
+symbol_at all number (Some statement) = symbol_with all number statement
+
+abbrev pub listed : Option Symbol → List Symbol
+listed None = []
+listed (Some symbol) = symbol ∷ []
+
+-- the symbols that lines declare, in their order, counting lines from this number
+abbrev pub symbols_from : Placement → ℕ → List Line → List Symbol
+symbols_from all number [] = []
+symbols_from all number (line ∷ lines) =
+    listed (symbol_at all number line.statement) ++ symbols_from all (number + 1) lines
+
+-- the symbols of a source, in the order of the lines that declare them
+abbrev pub symbols_in : List Line → List Symbol
+symbols_in lines = symbols_from (placed lines) 1 lines
+
+-- a length in five digits; five blanks if there is none
+unfoldable pub length_text : Option ℕ → List ℕ
+length_text None = codes "     "
+length_text (Some length) = digits_in 5 length
+
+-- the line of a symbol: its label in six columns, its address, its length, and the number of the line that declares it
+unfoldable pub symbol_line : Symbol → List ℕ
+symbol_line symbol =
+    symbol.label.text ++ codes " " ++ address_text (Some symbol.value) ++ codes " " ++ length_text symbol.length
+    ++ codes " "
+    ++ digits_in 4 symbol.line
+    ++ codes "\n"
+
+-- the symbol table of lines: a line for each label
+abbrev pub symbols_text : List Line → List ℕ
+symbols_text lines = flat_map symbol_line (symbols_in lines)

@@ -1,0 +1,156 @@
+//! The symbol table of a source: each label with its address, the length of what it names, and its line.
+ghost use Rattle.std.specs.Prelude.{◌≡◌, ◌<◌, ◌^◌, ◌++◌, length, IfOk, IfErr, OnOk};
+ghost use Rattle.std.specs.List.{flat_map};
+ghost use Rattle.autocoder_1401.specs.Fault.{IsMemory};
+ghost use Rattle.autocoder_1401.specs.SymbolTable.{span_length, length_named, symbol_with, symbol_at, listed};
+ghost use Rattle.autocoder_1401.specs.SymbolTable.{symbols_from, length_text, symbol_line};
+ghost use Rattle.autocoder_1401.specs.View.{places_of};
+
+use crate::fault::AsmFault;
+use crate::kept_line::KeptLine;
+use crate::placing::{Placing, contents_length};
+use crate::printing::put_address;
+use notation_1401::put_digits;
+use source_1401::{AreaRole, Base, Description, Label, LabelField, Point, Span, Statement};
+use std::alloc::Global;
+
+/// How many digits a length has.
+const LENGTH_DIGITS: u8 = 5;
+
+/// How many digits the number of a line has at least.
+pub(crate) const LINE_DIGITS: u8 = 4;
+
+/// A label that a line declares.
+#[derive(Clone, Copy, Debug, PartialEq, Eq)]
+pub(crate) struct Symbol {
+    /// The label.
+    pub label: Label,
+    /// The value that operands take for it.
+    pub value: i64,
+    /// How many places it names; none for EQU, which names a value.
+    pub length: Option<u32>,
+    /// The number of the line that declares it.
+    pub line: u64,
+}
+
+/// How many places a field of an area has.
+fn span_length(span: Span) -> u32
+    ensures { result ≡ span_length span }
+{
+    (u32::from(span.last) + 1).saturating_sub(u32::from(span.first))
+}
+
+/// How many places the label of a statement names.
+fn length_named(row: Description) -> Option<u32>
+    ensures { result ≡ length_named row }
+{
+    match row.names {
+        Point::First | Point::Last => Some(contents_length(row.contents)),
+        Point::InArea(_) => match row.areas {
+            AreaRole::Divides(Some(span)) => Some(span_length(span)),
+            AreaRole::Divides(None) | AreaRole::Ends | AreaRole::Makes(_) => None,
+        },
+        Point::Value => None,
+    }
+}
+
+/// The symbol that a statement on the line of this number declares, once all is placed.
+fn symbol_with(all: &Placing, number: u64, statement: Statement) -> Option<Symbol>
+    ensures { result ≡ symbol_with (places_of all.now) number statement }
+{
+    match statement.label {
+        LabelField::Label(label) => Some(Symbol {
+            label,
+            value: all.base_so_far(Base::Symbol(label)),
+            length: length_named(statement.body.describe()),
+            line: number,
+        }),
+        LabelField::Absent | LabelField::Malformed => None,
+    }
+}
+
+/// The symbol that the line of this number declares, once all is placed.
+fn symbol_at(all: &Placing, number: u64, line: &KeptLine) -> Option<Symbol>
+    ensures { result ≡ symbol_at (places_of all.now) number line.now.statement }
+{
+    let statement = line.line().statement?;
+    symbol_with(all, number, statement)
+}
+
+/// Adds a symbol, if there is one.
+fn put_symbol(symbols: &mut Vec<Symbol>, symbol: Option<Symbol>) -> Result<(), AsmFault>
+    ensures ok { OnOk result (symbols.new.items ≡ symbols.old.items ++ listed symbol) }
+    ensures err { IfErr result IsMemory }
+{
+    if let Some(symbol) = symbol {
+        symbols.push(symbol)?;
+    }
+    Ok(())
+}
+
+/// The symbols that lines declare, in their order, once all is placed.
+///
+/// # Errors
+///
+/// `Memory` if there is no room for them.
+pub(crate) fn symbols_of(
+    alloc: Global,
+    all: &Placing,
+    lines: &[KeptLine],
+) -> Result<Vec<Symbol>, AsmFault>
+    requires { length lines.now < 2 ^ 32 }
+    ensures ok { IfOk result (λ symbols. symbols.items ≡ symbols_from (places_of all.now) 1 lines.now) }
+    ensures err { IfErr result IsMemory }
+{
+    let mut symbols = Vec::new(alloc);
+    for (i, line) in lines.iter().enumerate() {
+        put_symbol(&mut symbols, symbol_at(all, i as u64 + 1, line))?;
+    }
+    Ok(symbols)
+}
+
+/// Adds a length, or blanks if there is none.
+#[tactic(auto, unfolding(crate::specs::SymbolTable::length_text))]
+fn put_length(text: &mut Vec<u8>, length: Option<u32>) -> Result<(), AsmFault>
+    ensures ok { OnOk result (text.new.items ≡ text.old.items ++ length_text length) }
+    ensures err { IfErr result IsMemory }
+{
+    match length {
+        Some(length) => put_digits(text, LENGTH_DIGITS, u64::from(length))?,
+        None => text.extend_from_slice(b"     ")?,
+    }
+    Ok(())
+}
+
+/// Adds the line of a symbol.
+#[tactic(auto, unfolding(crate::specs::SymbolTable::symbol_line))]
+fn put_symbol_line(text: &mut Vec<u8>, symbol: Symbol) -> Result<(), AsmFault>
+    ensures ok { OnOk result (text.new.items ≡ text.old.items ++ symbol_line symbol) }
+    ensures err { IfErr result IsMemory }
+{
+    text.extend_from_slice(symbol.label.text.as_slice())?;
+    text.push(b' ')?;
+    put_address(text, Some(symbol.value))?;
+    text.push(b' ')?;
+    put_length(text, symbol.length)?;
+    text.push(b' ')?;
+    put_digits(text, LINE_DIGITS, symbol.line)?;
+    text.push(b'\n')?;
+    Ok(())
+}
+
+/// The symbol table: the lines of these symbols.
+///
+/// # Errors
+///
+/// `Memory` if there is no room for the text.
+pub(crate) fn symbols_text(alloc: Global, symbols: &[Symbol]) -> Result<Vec<u8>, AsmFault>
+    ensures ok { IfOk result (λ text. text.items ≡ flat_map symbol_line symbols.now) }
+    ensures err { IfErr result IsMemory }
+{
+    let mut text = Vec::new(alloc);
+    for symbol in symbols {
+        put_symbol_line(&mut text, *symbol)?;
+    }
+    Ok(text)
+}

@@ -1,0 +1,84 @@
+//! An assembly with the tables that its listing may end with.
+ghost use Rattle.std.specs.Prelude.{◌≡◌, ◌<◌, ◌^◌, length, IfOk, IfErr};
+ghost use Rattle.autocoder_1401.specs.Assembly.{lines_in, assembly_in};
+ghost use Rattle.autocoder_1401.specs.CrossReference.{references_text};
+ghost use Rattle.autocoder_1401.specs.Fault.{IsMemory, Gives};
+ghost use Rattle.autocoder_1401.specs.Placement.{placed};
+ghost use Rattle.autocoder_1401.specs.SymbolTable.{symbols_text};
+ghost use Rattle.autocoder_1401.specs.View.{places_of};
+ghost use Rattle.autocoder_1401.specs.declared.tables.AssemblyTables.{AssemblyTables as Made};
+
+use crate::assembly::{Assembly, make_assembly, place_lines};
+use crate::cross_reference::{references_text, uses_of};
+use crate::fault::AsmFault;
+use crate::hashing::SourceHashing;
+use crate::kept_line::KeptLine;
+use crate::placing::Placing;
+use crate::reading::read_lines;
+use crate::symbol_table::{symbols_of, symbols_text};
+use std::alloc::Global;
+
+/// An assembly, with its symbol table and its cross-reference as texts.
+#[derive(Debug, Drop)]
+pub struct AssemblyTables {
+    /// The image and the listing.
+    pub assembly: Assembly,
+    /// The symbol table: a line for each label.
+    pub symbols: Vec<u8>,
+    /// The cross-reference: a line for each label.
+    pub references: Vec<u8>,
+}
+
+/// The symbol table and the cross-reference of lines, once all is placed.
+fn make_tables(
+    alloc: Global,
+    hashing: SourceHashing,
+    all: &Placing,
+    lines: &[KeptLine],
+    assembly: Assembly,
+) -> Result<AssemblyTables, AsmFault>
+    requires few { length lines.now < 2 ^ 32 }
+    requires placed { places_of all.now ≡ placed lines.now }
+    ensures assembly { IfOk result (λ made. made.assembly ≡ assembly) }
+    ensures symbols { IfOk result (λ made. made.symbols.items ≡ symbols_text lines.now) }
+    ensures references { IfOk result (λ made. made.references.items ≡ references_text lines.now) }
+    ensures err { IfErr result IsMemory }
+{
+    let symbols = symbols_of(alloc, all, lines)?;
+    let uses = uses_of(alloc, hashing, lines)?;
+    let references = references_text(alloc, &uses, &symbols)?;
+    let symbols = symbols_text(alloc, &symbols)?;
+    Ok(AssemblyTables {
+        assembly,
+        symbols,
+        references,
+    })
+}
+
+/// The core image and the listing of a source, as `assemble` answers them, with its symbol table and its
+/// cross-reference. Each has a line for each label, in the order of the lines that declare them: the symbol table with
+/// its address, how many places it names, and the number of its line; the cross-reference with the number of its line
+/// and of each line that names it.
+///
+/// # Errors
+///
+/// `Memory` if memory is refused or the source has too many lines; otherwise the fault that `assemble` tells.
+pub fn assemble_with_tables(
+    alloc: Global,
+    source: &[u8],
+    size: u16,
+) -> Result<AssemblyTables, AsmFault>
+    // The image and the listing of the lines, or their first fault, unless memory is refused.
+    ensures exact { Gives (λ (made : Made). made.assembly) result (assembly_in size source.now) }
+
+    // The tables of the lines.
+    ensures symbols { IfOk result (λ made. made.symbols.items ≡ symbols_text (lines_in source.now)) }
+    ensures references { IfOk result (λ made. made.references.items ≡ references_text (lines_in source.now)) }
+{
+    let lines = read_lines(alloc, source)?;
+    let hashing = SourceHashing::from_source(source);
+    let all = place_lines(alloc, hashing, &lines)?;
+    let assembly = make_assembly(alloc, &all, source, &lines, size)?;
+    let tables = make_tables(alloc, hashing, &all, &lines, assembly)?;
+    Ok(tables)
+}

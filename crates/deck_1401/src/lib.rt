@@ -1,0 +1,21 @@
+//! Decks that load themselves: what the load key takes to bring a core image into a machine's storage, and to start it.
+//!
+//! ```text
+//! write_deck(alloc, &image)?    // the text of the deck, a card a line
+//! ```
+//!
+//! The first card clears storage from its end down to place 100. The second clears the rest above the card, and sets
+//! the word marks of the loader, which is on each card that follows: it moves the card's columns to their places, sets
+//! their word marks, and reads the next card. The last card clears the places of the card and branches to the entry.
+#![tactic(auto)]
+
+// the cells that an image has, and why it has no deck
+pub mod contents;
+pub mod fault;
+
+// a card of cells, and all cards
+mod cards;
+pub mod deck;
+
+pub use deck::write_deck;
+pub use fault::DeckFault;

@@ -1,0 +1,55 @@
+//! Sixteen characters at once.
+ghost use Rattle.std.specs.Prelude.{◌≡◌, ◌==◌, ◌+◌, ◌-◌, ◌<◌, ◌≤◌, length, map};
+ghost use Rattle.std.specs.Simd.Lanes.{Each1, chunk, mask_l};
+
+use bcd_1401::Char;
+use std::simd::prelude::*;
+
+/// The codes of the sixteen characters that end at a place, from left to right.
+#[inline(always)]
+pub(crate) fn codes_across(chars: &[Char], at: usize) -> u8x16
+    requires least { 15 ≤ at }
+    requires inside { at < length chars.now }
+    ensures codes { result ≡ chunk (at - 15) 16 chars.now }
+    ensures count { length result ≡ 16 }
+{
+    codes_up(chars, at - 15)
+}
+
+/// The codes of the sixteen characters from a place up.
+#[inline(always)]
+pub(crate) fn codes_up(chars: &[Char], low: usize) -> u8x16
+    requires { low + 16 ≤ length chars.now }
+    ensures codes { result ≡ chunk low 16 chars.now }
+    ensures count { length result ≡ 16 }
+    ensures range { Each1 (λ code. code < 64) result }
+{
+    u8x16::from_array([
+        chars[low].code(),
+        chars[low + 1].code(),
+        chars[low + 2].code(),
+        chars[low + 3].code(),
+        chars[low + 4].code(),
+        chars[low + 5].code(),
+        chars[low + 6].code(),
+        chars[low + 7].code(),
+        chars[low + 8].code(),
+        chars[low + 9].code(),
+        chars[low + 10].code(),
+        chars[low + 11].code(),
+        chars[low + 12].code(),
+        chars[low + 13].code(),
+        chars[low + 14].code(),
+        chars[low + 15].code(),
+    ])
+}
+
+/// The lanes that hold a code, a bit each: the first has the lowest.
+#[inline(always)]
+pub(crate) fn bits_of(codes: u8x16, code: u8) -> u64
+    requires { length codes ≡ 16 }
+    ensures bits { result ≡ mask_l (map (λ char. char == code) codes) }
+    ensures range { result < 65536 }
+{
+    codes.simd_eq(u8x16::splat(code)).to_bitmask()
+}
