@@ -1,6 +1,6 @@
 //! Sources, and the images or the faults that they stand for.
 
-use autocoder_1401::{AsmFault, AsmKind, Assembly, assemble};
+use autocoder_1401::{AsmFault, AsmKind, Assembly, assemble, assemble_image};
 use image_1401::Segment;
 use std::test::Fail;
 
@@ -24,6 +24,9 @@ fn one_literal_is_placed_for_two_uses(rt: HostRuntime) -> Result<(), Fail> {
                END  START
 ";
     let Assembly { image, .. } = assemble(rt.alloc(), source, 4_000)?;
+    let alone = assemble_image(rt.alloc(), source, 4_000)?;
+    assert_eq!(rt; (alone.size, alone.start), (4_000, 400));
+    assert_eq!(rt; alone.segments.as_slice(), image.segments.as_slice());
     assert_eq!(rt; (image.size, image.start), (4_000, 400));
     let [Segment { address, cells }] = image.segments.as_slice() else {
         panic!(rt; "not one segment");
@@ -188,6 +191,24 @@ fn the_first_line_with_a_fault_is_named(rt: HostRuntime) {
     assert_eq!(rt; fault(&rt, literal, 2_000), None);
     let core = b"               ORG  4000\n               END  0\n     * A COMMENT";
     assert_eq!(rt; fault(&rt, core, 4_000), None);
+}
+
+/// The fault of a source of which the image alone is asked for.
+fn fault_of_image(rt: &HostRuntime, source: &[u8], size: u16) -> Option<(u64, AsmKind)> {
+    match assemble_image(rt.alloc(), source, size) {
+        Ok(_) => None,
+        Err(AsmFault { line, kind }) => Some((line, kind)),
+    }
+}
+
+#[test]
+fn an_image_alone_is_refused_by_line_and_kind(rt: HostRuntime) {
+    let undefined = b"               ORG  400\n               B    NONE\n               END  400\n";
+    assert_eq!(rt; fault_of_image(&rt, undefined, 4_000), Some((2, AsmKind::Undefined)));
+    let far = b"               END  3999\n";
+    assert_eq!(rt; fault_of_image(&rt, far, 4_000), None);
+    assert_eq!(rt; fault_of_image(&rt, far, 2_000), Some((1, AsmKind::OutOfCore)));
+    assert_eq!(rt; fault_of_image(&rt, b"", 4_000), Some((1, AsmKind::NoEnd)));
 }
 
 #[test]
