@@ -39,7 +39,7 @@ AGAIN = [
 CONSOLES = [
     ("session", SESSION, {"Memory", "at the journal", "at a reply"}, 42),
     ("session", QUESTION, {"Memory", "at the journal", "at a reply"}, 16),
-    ("program", PROGRAM_RUN, {"Memory", "at a reply"}, 108),
+    ("program", PROGRAM_RUN, {"Memory", "at a reply"}, 61),
     ("attend", SESSION, {"Memory", "at the journal", "at a reply"}, 65),
 ]
 BEFORE = "before the call"
