@@ -2,7 +2,7 @@
 ghost use Rattle.std.specs.Prelude.{◌≡◌, ◌<◌, ◌≤◌, ◌^◌, [], ◌∷◌, IfOk, IfSome, OnErr, vec_len, vec_capacity, length};
 ghost use Rattle.std.specs.List.{Contains};
 ghost use Rattle.console_1401.specs.Served.{AreAllSeats, numbers_of};
-ghost use Rattle.serving_1401.specs.Places.{first_free as free_from, free_in};
+ghost use Rattle.serving_1401.specs.Places.{first_free as free_from, free_in, numbers_in};
 
 use crate::fault::SeatsFault;
 use crate::place::Place;
@@ -60,8 +60,9 @@ impl<J: RoomId> Desk<J> {
         if at == self.places.len() {
             return Err(stream);
         }
+        let number = self.places[at].number();
         self.places[at].give(stream);
-        Ok(self.places[at].number())
+        Ok(number)
     }
 
     /// Takes the seat of a number from its place, if it is there.
@@ -108,21 +109,30 @@ impl<J: RoomId> Desk<J> {
         ensures { IfSome result.0 (λ seats. AreAllSeats J.seats seats.items) }
     {
         let Desk { places, fault } = self;
-        let mut back = back;
-        for place in places {
-            let Some(seat) = place.into_seat() else {
-                return (None, fault);
-            };
-            back.push_reserved(seat);
-        }
-        (Some(back), fault)
+        (collect(places, back), fault)
     }
+}
+
+/// The seats of these places, if all of them are back.
+fn collect<J: RoomId>(places: Vec<Place<J>>, back: Vec<Seat<J>>) -> Option<Vec<Seat<J>>>
+    requires { (back.items ≡ []) × (vec_len places ≤ vec_capacity back) }
+    ensures { IfSome result (λ seats. numbers_of seats.items ≡ numbers_in places.items) }
+{
+    let mut back = back;
+    for place in places {
+        let Some(seat) = place.into_seat() else {
+            return None;
+        };
+        back.push_reserved(seat);
+    }
+    Some(back)
 }
 
 /// How many places stand before the first that is free.
 fn first_free<J: RoomId>(places: &[Place<J>]) -> usize
     requires { length places.now < 2 ^ 8 }
-    ensures { result ≡ free_from places.now }
+    ensures first { result ≡ free_from places.now }
+    ensures bound { result ≤ length places.now }
 {
     match places {
         [] => 0,

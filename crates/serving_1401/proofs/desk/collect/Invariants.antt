@@ -2,7 +2,7 @@
 use Rattle.std.proofs.Common.{◌≡◌, ◌≤◌, length, vec_capacity, vec_len}
 use Rattle.console_1401.specs.Served.{numbers_of}
 use Rattle.serving_1401.specs.Places.{numbers_in}
-use Rattle.serving_1401.proofs.desk.Desk.into_seats.Given as goal
+use Rattle.serving_1401.proofs.desk.collect.Given as goal
 
 abbrev pub invariant-loop-place : goal.invariant-loop-place
 invariant-loop-place g l = record {
