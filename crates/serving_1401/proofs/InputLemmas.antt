@@ -1,5 +1,5 @@
 -- What was read of the input, and how much of QUIT its last line is.
-use Rattle.std.proofs.Common.{◌≡◌, ℕ, ◌+◌, ◌≤◌, List, [], ◌∷◌, ◌++◌, take, Option, Some, None, inl, inr}
+use Rattle.std.proofs.Common.{◌≡◌, ℕ, ◌≤◌, List, [], ◌∷◌, ◌++◌, take, Option, Some, None, inr}
 use Rattle.std.proofs.Common.{refl, sym, ap, subst, ◌∙◌, append_assoc, append-nil}
 use Rattle.std.proofs.Common.{IfSome, arith}
 use Rattle.std.specs.Option.{option_to_list}
@@ -32,7 +32,7 @@ line_ended matched old mid new given so_far is came =
       between = inr (all, refl);
       is = (omega arith, refl);
       read = subst (Consumes old new) (sym (append-nil (all ++ 10 ∷ [])))
-      (Consumes-trans old mid new all (10 ∷ []) so_far.read byte);
+          (Consumes-trans old mid new all (10 ∷ []) so_far.read byte);
     }
 
 grown : (matched now : Option ℕ) (line : List ℕ) (byte : ℕ) → IsMatched matched line
@@ -54,5 +54,5 @@ line_grown matched now old mid new given byte so_far is came more =
       between = so_far.between;
       is = grown matched now so_far.line byte so_far.is more;
       read = subst (Consumes old new) (append_assoc so_far.front so_far.line (byte ∷ []))
-      (Consumes-trans old mid new (so_far.front ++ so_far.line) (byte ∷ []) so_far.read read);
+          (Consumes-trans old mid new (so_far.front ++ so_far.line) (byte ∷ []) so_far.read read);
     }

@@ -1,5 +1,5 @@
 -- The places of a served room's seats, and that it is closed with all of them (own).
-use Rattle.std.specs.Prelude.{◌≡◌, ℕ, suc, ◌<◌, ◌≤◌, Bool, cond, List, [], ◌∷◌, map}
+use Rattle.std.specs.Prelude.{ℕ, suc, ◌<◌, ◌≤◌, Bool, cond, List, [], ◌∷◌, map}
 use Rattle.room_1401.specs.declared.entry.Entry.{Entry}
 use Rattle.room_1401.specs.Closing.{IsSettled}
 use Rattle.room_1401.specs.Seen.{SeatView}

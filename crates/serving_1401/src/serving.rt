@@ -143,7 +143,8 @@ fn attend_connections<J, H, K, R, S, D>(
     listener: &TcpListener,
     input: S,
     door: &D,
-) where
+)
+where
     J: RoomId + Send + Sync,
     H: Wait + Drop + Send + Sync,
     K: Keeper + Drop + Send + Sync,
@@ -152,13 +153,35 @@ fn attend_connections<J, H, K, R, S, D>(
     D: Door + Sync,
 {
     thread::scope(thread::scope_env(), rt, move |scope| {
-        let closing = scope.spawn(move || close_by_input(rt, service, listener, input));
-        if closing.is_err() {
-            service.desk.lock(rt).note(SeatsFault::Thread);
-            return;
-        }
-        accept_each(scope, alloc, rt, room, service, listener, door);
+        listen(scope, alloc, rt, room, service, listener, input, door)
     });
+}
+
+/// Starts the thread that waits for the input's end, and accepts connections until then.
+fn listen<'s, E: 's, J, H, K, R, S, D>(
+    scope: &Scope<'s, E>,
+    alloc: Global,
+    rt: &'s R,
+    room: &'s SharedRoom<J, H, K>,
+    service: &'s Service<J>,
+    listener: &'s TcpListener,
+    input: S,
+    door: &'s D,
+)
+where
+    J: RoomId + Send + Sync + 's,
+    H: Wait + Drop + Send + Sync + 's,
+    K: Keeper + Drop + Send + Sync + 's,
+    R: Threads + Wait + Sync + Net<Listener = TcpListener, Stream = TcpStream> + 's,
+    S: Source + Drop + Send + 's,
+    D: Door + Sync + 's,
+{
+    let closing = scope.spawn(move || close_by_input(rt, service, listener, input));
+    if closing.is_err() {
+        service.desk.lock(rt).note(SeatsFault::Thread);
+        return;
+    }
+    accept_each(scope, alloc, rt, room, service, listener, door);
 }
 
 /// Accepts connections until the room is being closed, or one couldn't be accepted.
@@ -170,7 +193,8 @@ fn accept_each<'s, E: 's, J, H, K, R, D>(
     service: &'s Service<J>,
     listener: &TcpListener,
     door: &'s D,
-) where
+)
+where
     J: RoomId + Send + Sync + 's,
     H: Wait + Drop + Send + Sync + 's,
     K: Keeper + Drop + Send + Sync + 's,
@@ -273,7 +297,8 @@ fn start_console<'s, E: 's, J, H, K, R, D>(
     stream: TcpStream,
     number: u8,
     door: &'s D,
-) where
+)
+where
     J: RoomId + Send + Sync + 's,
     H: Wait + Drop + Send + Sync + 's,
     K: Keeper + Drop + Send + Sync + 's,
@@ -281,11 +306,11 @@ fn start_console<'s, E: 's, J, H, K, R, D>(
     D: Door + Sync + 's,
     requires { (0 < number) × (number ≤ J.seats) }
 {
-    let started = scope.spawn(move ||
-        requires { (0 < number) × (number ≤ J.seats) }
-    {
-        attend_connection(alloc, rt, room, service, stream, number, door)
-    });
+    let started = scope.spawn(
+        move ||
+            requires { (0 < number) × (number ≤ J.seats) }
+        { attend_connection(alloc, rt, room, service, stream, number, door) },
+    );
     if started.is_err() {
         let mut desk = service.desk.lock(rt);
         desk.take_back(number);

@@ -11,7 +11,7 @@ loop-preserved-in-Ok-Some-eq10 g c =
     record {
       good = byte.ensures.good;
       read = line_ended c.loop.matched (left c.args.input.now) (left c.loop.input) (left c.next_byte.new.self) byte.field-0
-      c.loop.invariant.read (byte.field-0-is ∙ ap Some byte.field-0-0-test) byte.ensures.byte;
+          c.loop.invariant.read (byte.field-0-is ∙ ap Some byte.field-0-0-test) byte.ensures.byte;
     }
 
 pub loop-preserved : goal.loop-preserved
@@ -23,5 +23,5 @@ loop-preserved g c =
     record {
       good = some.ensures.good;
       read = line_grown c.loop.matched now (left c.args.input.now) (left c.loop.input) (left c.next_byte.new.self)
-      some.field-0 some.byte c.loop.invariant.read some.field-0-is some.ensures.byte more;
+          some.field-0 some.byte c.loop.invariant.read some.field-0-is some.ensures.byte more;
     }

@@ -30,13 +30,12 @@ index_mut-requires g c =
     omega (arith, c.first_free-at.ensures.bound, c.as_slice.ensures.len, c.if-at-len.false, c.len.ensures)
 
 pub invariant_of-self : goal.invariant_of-self
-invariant_of-self g c =
-    (
-      numbers_stay c.self.inside.places.items c.first_free-at.result c.give.new.self c.index_mut.result.now
+invariant_of-self g c = (
+  numbers_stay c.self.inside.places.items c.first_free-at.result c.give.new.self c.index_mut.result.now
       (c.give.ensures.number ∙ ap (λ (place : PlaceView). place.number) c.index_mut.ensures.value)
       ∙ c.self.invariant.0,
-      c.self.invariant.1,
-    )
+  c.self.invariant.1,
+)
 
 pub returns-clause-given : goal.returns-clause-given
 returns-clause-given g c =

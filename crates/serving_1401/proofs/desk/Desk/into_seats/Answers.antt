@@ -1,5 +1,5 @@
 -- There is room for the seat of each place.
-use Rattle.std.proofs.Common.{arith, sym, ◌∙◌}
+use Rattle.std.proofs.Common.{arith}
 use Rattle.serving_1401.proofs.PlacesLemmas.{length_places}
 use Rattle.serving_1401.proofs.desk.Desk.into_seats.Goals as goal
 

@@ -1,5 +1,5 @@
 -- The place of a number is one less from the first, and keeps its number.
-use Rattle.std.proofs.Common.{◌≡◌, ℕ, slice_set, ◌-◌, ◌<◌, arith, sym, ap, subst, length, ◌∙◌}
+use Rattle.std.proofs.Common.{◌≡◌, ℕ, slice_set, ◌-◌, ◌<◌, arith, ap, subst, length, ◌∙◌}
 use Rattle.std.specs.List.{Contains}
 use Rattle.serving_1401.specs.Places.{PlaceView, free_in}
 use Rattle.serving_1401.proofs.PlacesLemmas.{free_now, indexed_number, length_places, numbers_stay}
@@ -10,18 +10,19 @@ index_mut-requires g c =
     omega (
       arith,
       c.requires,
-      c.from-at.ensures, c.number.ensures, c.self.invariant.1,
+      c.from-at.ensures,
+      c.number.ensures,
+      c.self.invariant.1,
       length_places g.J.RoomId.seats c.self.inside.places.items c.self.invariant.0,
     )
 
 pub invariant_of-self : goal.invariant_of-self
-invariant_of-self g c =
-    (
-      numbers_stay c.self.inside.places.items (c.from-at.result - 1) c.put_back.new.self c.index_mut.result.now
+invariant_of-self g c = (
+  numbers_stay c.self.inside.places.items (c.from-at.result - 1) c.put_back.new.self c.index_mut.result.now
       (c.put_back.ensures.number ∙ ap (λ (place : PlaceView). place.number) c.index_mut.ensures.value)
       ∙ c.self.invariant.0,
-      c.self.invariant.1,
-    )
+  c.self.invariant.1,
+)
 
 pub put_back-requires : goal.put_back-requires
 put_back-requires g c =

@@ -1,7 +1,6 @@
 -- The place of a number is one less from the first, and keeps its number.
-use Rattle.std.proofs.Common.{◌≡◌, IfSome, ℕ, ◌-◌, ◌<◌, arith, sym, ap, subst, length, ◌∙◌}
-use Rattle.std.specs.List.{Contains}
-use Rattle.serving_1401.specs.Places.{PlaceView, free_in}
+use Rattle.std.proofs.Common.{◌≡◌, IfSome, ℕ, ◌-◌, ◌<◌, arith, ap, subst, ◌∙◌}
+use Rattle.serving_1401.specs.Places.{PlaceView}
 use Rattle.serving_1401.proofs.PlacesLemmas.{indexed_number, length_places, numbers_stay}
 use Rattle.serving_1401.proofs.desk.Desk.take_seat.Goals as goal
 
@@ -10,18 +9,18 @@ index_mut-requires g c =
     omega (
       arith,
       c.requires,
-      c.from.ensures, c.self.invariant.1,
+      c.from.ensures,
+      c.self.invariant.1,
       length_places g.J.RoomId.seats c.self.inside.places.items c.self.invariant.0,
     )
 
 pub invariant_of-self : goal.invariant_of-self
-invariant_of-self g c =
-    (
-      numbers_stay c.self.inside.places.items (c.from.result - 1) c.take_seat.new.self c.index_mut.result.now
+invariant_of-self g c = (
+  numbers_stay c.self.inside.places.items (c.from.result - 1) c.take_seat.new.self c.index_mut.result.now
       (c.take_seat.ensures.number ∙ ap (λ (place : PlaceView). place.number) c.index_mut.ensures.value)
       ∙ c.self.invariant.0,
-      c.self.invariant.1,
-    )
+  c.self.invariant.1,
+)
 
 pub returns : goal.returns
 returns g c =
