@@ -1,0 +1,40 @@
+-- The places of a served room's seats, and that it is closed with all of them (own).
+use Rattle.std.specs.Prelude.{ℕ, suc, ◌<◌, ◌≤◌, Bool, cond, List, [], ◌∷◌, map}
+use Rattle.room_1401.specs.declared.entry.Entry.{Entry}
+use Rattle.room_1401.specs.Closing.{IsSettled}
+use Rattle.room_1401.specs.Seen.{SeatView}
+use Rattle.console_1401.specs.Served.{AreAllSeats}
+use Rattle.serving_1401.specs.declared.serving.Admission.{Admission}
+use Rattle.serving_1401.specs.declared.serving.Admission.TheVariants as admission
+
+-- what contracts see of a place: its seat's number, and whether the seat is there and no connection has it
+pub record PlaceView : Type 0 where
+  pub number : ℕ
+  pub is_free : Bool
+
+-- the numbers of these places
+abbrev pub numbers_in : List PlaceView → List ℕ
+numbers_in places = map (λ (place : PlaceView). place.number) places
+
+-- the numbers of those that are free
+abbrev pub free_in : List PlaceView → List ℕ
+free_in [] = []
+free_in (place ∷ places) = cond place.is_free (place.number ∷ free_in places) (free_in places)
+
+-- how many places stand before the first that is free
+abbrev pub first_free : List PlaceView → ℕ
+first_free [] = 0
+first_free (place ∷ places) = cond place.is_free 0 (suc (first_free places))
+
+-- a connection is given a seat of this many
+abbrev pub IsAdmission : ℕ → Admission → Type 0
+IsAdmission seats (admission.Given number) = (0 < number) × (number ≤ seats)
+IsAdmission seats admission.Full = Unit {0}
+IsAdmission seats admission.Fault = Unit {0}
+IsAdmission seats admission.Closing = Unit {0}
+
+-- The journal is settled with all seats of a room that has this number of them.
+pub record IsAccounted (n : ℕ) (journal : List Entry) : Type 0 where
+  pub seats : List SeatView
+  pub all : AreAllSeats n seats
+  pub settled : IsSettled journal seats

@@ -1,0 +1,147 @@
+//! What the lock of a service keeps.
+ghost use Rattle.std.specs.Prelude.{◌≡◌, ◌<◌, ◌≤◌, ◌^◌, [], ◌∷◌, IfOk, IfSome, OnErr, vec_len, vec_capacity, length};
+ghost use Rattle.std.specs.List.{Contains};
+ghost use Rattle.console_1401.specs.Served.{AreAllSeats, numbers_of};
+ghost use Rattle.serving_1401.specs.Places.{first_free as free_from, free_in, numbers_in};
+
+use crate::fault::SeatsFault;
+use crate::place::Place;
+use room_1401::{RoomId, Seat};
+use std::marker::Model;
+use std::net::TcpStream;
+
+/// The places of all seats of a room, in the order of their numbers, and what went wrong first.
+#[derive(Drop)]
+pub(crate) struct Desk<J: RoomId> {
+    places: Vec<Place<J>>,
+    fault: Option<SeatsFault>,
+}
+
+impl<J: RoomId> Model for Desk<J> {
+    ghost use Rattle.std.specs.Prelude.{◌≡◌, ◌<◌, ◌^◌, List};
+    ghost use Rattle.room_1401.specs.Seen.{newcomers};
+    ghost use Rattle.console_1401.specs.Served.{numbers_of};
+    ghost use Rattle.serving_1401.specs.Places.{PlaceView, numbers_in};
+
+    ghost Value = { List PlaceView };
+
+    ghost view = { λ desk. desk.places.items };
+
+    ghost invariant = { λ desk.
+        (numbers_in desk.places.items ≡ numbers_of (newcomers J.seats)) × (J.seats < 2 ^ 8) };
+}
+
+impl<J: RoomId> Desk<J> {
+    /// All seats of a room, at places that are free.
+    pub(crate) fn new(seats: Vec<Seat<J>>, places: Vec<Place<J>>) -> Desk<J>
+        requires seats { AreAllSeats J.seats seats.items }
+        requires count { J.seats < 2 ^ 8 }
+        requires places { (places.items ≡ []) × (vec_len seats ≤ vec_capacity places) }
+        ensures { free_in result ≡ numbers_of seats.items }
+    {
+        let mut places = places;
+        for seat in seats {
+            places.push_reserved(Place::new(seat));
+        }
+        Desk {
+            places,
+            fault: None,
+        }
+    }
+
+    /// Gives the lowest free seat to a connection, and tells its number; or hands the connection back if no seat is free.
+    pub(crate) fn give(&mut self, stream: TcpStream) -> Result<u8, TcpStream>
+        ensures given { IfOk result (λ number. free_in self.old ≡ number ∷ free_in self.new) }
+        ensures number { IfOk result (λ number. (0 < number) × (number ≤ J.seats)) }
+        ensures full { OnErr result (free_in self.old ≡ []) }
+        ensures err { OnErr result (self.new ≡ self.old) }
+    {
+        let at = first_free(self.places.as_slice());
+        if at == self.places.len() {
+            return Err(stream);
+        }
+        let number = self.places[at].number();
+        self.places[at].give(stream);
+        Ok(number)
+    }
+
+    /// Takes the seat of a number from its place, if it is there.
+    pub(crate) fn take_seat(&mut self, number: u8) -> Option<Seat<J>>
+        requires { (0 < number) × (number ≤ J.seats) }
+        ensures { IfSome result (λ seat. seat.number ≡ number) }
+    {
+        self.places[usize::from(number) - 1].take_seat()
+    }
+
+    /// Puts a seat back at its place, which is free then.
+    pub(crate) fn put_back(&mut self, seat: Seat<J>)
+        requires { (0 < seat.number) × (seat.number ≤ J.seats) }
+        ensures { Contains (free_in self.new) seat.number }
+    {
+        let at = usize::from(seat.number()) - 1;
+        self.places[at].put_back(seat);
+    }
+
+    /// Takes the place of a number back from a connection that has no thread.
+    pub(crate) fn take_back(&mut self, number: u8)
+        requires { (0 < number) × (number ≤ J.seats) }
+    {
+        self.places[usize::from(number) - 1].take_back();
+    }
+
+    /// Ends the input of each connection.
+    pub(crate) fn end_inputs(&self) {
+        for place in &self.places {
+            place.end_input();
+        }
+    }
+
+    /// Notes what went wrong, if nothing did before.
+    pub(crate) fn note(&mut self, fault: SeatsFault) {
+        if self.fault.is_none() {
+            self.fault = Some(fault);
+        }
+    }
+
+    /// All seats, if they are back, and what went wrong first.
+    pub(crate) fn into_seats(self, back: Vec<Seat<J>>) -> (Option<Vec<Seat<J>>>, Option<SeatsFault>)
+        requires { (back.items ≡ []) × (J.seats ≤ vec_capacity back) }
+        ensures { IfSome result.0 (λ seats. AreAllSeats J.seats seats.items) }
+    {
+        let Desk { places, fault } = self;
+        (collect(places, back), fault)
+    }
+}
+
+/// The seats of these places, if all of them are back.
+fn collect<J: RoomId>(places: Vec<Place<J>>, back: Vec<Seat<J>>) -> Option<Vec<Seat<J>>>
+    requires { (back.items ≡ []) × (vec_len places ≤ vec_capacity back) }
+    ensures { IfSome result (λ seats. numbers_of seats.items ≡ numbers_in places.items) }
+{
+    let mut back = back;
+    for place in places {
+        let Some(seat) = place.into_seat() else {
+            return None;
+        };
+        back.push_reserved(seat);
+    }
+    Some(back)
+}
+
+/// How many places stand before the first that is free.
+fn first_free<J: RoomId>(places: &[Place<J>]) -> usize
+    requires { length places.now < 2 ^ 8 }
+    ensures first { result ≡ free_from places.now }
+    ensures bound { result ≤ length places.now }
+{
+    match places {
+        [] => 0,
+        [first, rest @ ..] => {
+            if first.is_free() {
+                0
+            } else {
+                first_free(rest) + 1
+            }
+        }
+    }
+}

@@ -1,0 +1,24 @@
+//! What went wrong while a room was served.
+
+use thiserror::Error;
+
+/// What went wrong first while a room was served.
+#[derive(Clone, Copy, Debug, PartialEq, Eq, Error)]
+pub enum SeatsFault {
+    /// 1: there was no memory for the places of the seats, and nobody was served.
+    #[error("memory refused")]
+    Memory,
+    /// 2: a connection couldn't be accepted, and none was accepted after it.
+    #[error("accept failed")]
+    Accept,
+    /// 3: a thread was refused, or a second handle of a connection; the connection was closed, and its seat is free.
+    #[error("thread refused")]
+    Thread,
+    /// 4: the input that closes the room couldn't be read, which closed it.
+    #[error("input failed")]
+    Input,
+    /// 5: a seat wasn't back, or what the seats have seen couldn't be compared. This doesn't happen while seats and
+    /// room are of one `power_on`.
+    #[error("a seat isn't back")]
+    Unreturned,
+}

@@ -1,0 +1,25 @@
+//! A shared room that is served until it is closed: a connection has the lowest free seat, and its end frees the seat.
+//!
+//! ```text
+//! let served = serve_seats(alloc, rt, room, seats, &listener, &mut input, &OpenDoor); // until the input says QUIT
+//! served.room.journal()       // all that the consoles did
+//! served.fault                // None: nothing was refused, and the room was closed with all of its seats
+//! ```
+#![tactic(auto)]
+
+// why not everybody was served
+pub mod fault;
+
+// the input that closes the room, and what a console reads until then
+mod input;
+mod until_closing;
+
+// the places of the seats, and what the lock of a service keeps
+mod desk;
+mod place;
+
+// the service
+pub mod serving;
+
+pub use fault::SeatsFault;
+pub use serving::{SeatsServed, serve_seats};

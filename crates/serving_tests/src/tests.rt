@@ -1,0 +1,8 @@
+//! A served room and its operators.
+
+mod button;
+mod closing;
+mod lines;
+mod operators;
+mod seats;
+mod service;

@@ -1,0 +1,179 @@
+//! A service with its operators.
+ghost use Rattle.std.specs.Prelude.{◌≡◌, ◌<◌, ◌≤◌, ◌^◌};
+ghost use Rattle.console_1401.specs.Served.{AreAllSeats};
+
+use crate::tests::button::{Button, Pressed};
+use crate::tests::lines::Lines;
+use crate::tests::operators::Operators;
+use console_1401::Door;
+use room_1401::{Opened, RoomId, Seat, SharedRoom};
+use serving_1401::{SeatsFault, SeatsServed, serve_seats};
+use std::alloc::Global;
+use std::marker::Brand;
+use std::net::{Ipv4Addr, Net, SocketAddr, TcpListener, TcpStream};
+use std::process::Abort;
+use std::sync::Wait;
+use std::sync::atomic::Ordering::SeqCst;
+use std::test::Fail;
+use std::thread;
+use std::thread::{Scope, Threads};
+
+/// What a service left, and what its operators were told; `None` if a connection of theirs failed.
+#[derive(Drop)]
+pub struct Evening {
+    pub served: SeatsServed<Lines>,
+    pub told: Option<Vec<u8>>,
+}
+
+impl Evening {
+    /// Compares what the operators were told, what was kept, and what went wrong.
+    pub fn expect(&self, rt: &impl Abort, told: &str, kept: &str, fault: Option<SeatsFault>) {
+        let heard = self.told.as_ref().map(|text| text.as_slice());
+        assert_eq!(rt; heard, Some(told.as_bytes()));
+        assert_eq!(rt; self.served.keeper.text.as_slice(), kept.as_bytes());
+        assert_eq!(rt; self.served.fault, fault);
+    }
+}
+
+/// A listener on a port of the loopback that is free.
+pub fn listen<R: Net<Listener = TcpListener, Stream = TcpStream>>(
+    rt: &R,
+) -> Result<TcpListener, Fail> {
+    Ok(TcpListener::bind(rt, (Ipv4Addr::LOCALHOST, 0))?)
+}
+
+/// Serves the operators of a new room, until they have gone and the input has closed it.
+pub fn hold<
+    R: Threads + Wait + Sync + Net<Listener = TcpListener, Stream = TcpStream>,
+    O: Operators + Sync,
+    D: Door + Sync,
+>(
+    rt: &R,
+    alloc: Global,
+    seats: u8,
+    keeper: Lines,
+    listener: &TcpListener,
+    input: Pressed<'_>,
+    button: &Button,
+    operators: &O,
+    door: &D,
+) -> Result<Evening, Fail>
+    requires { (0 < seats) × (seats ≤ 8) }
+{
+    let opened = Opened::new(seats);
+    open::<Brand, R, O, D>(
+        rt, alloc, seats, opened, keeper, listener, input, button, operators, door,
+    )
+}
+
+/// The same for a room of this name.
+fn open<
+    J: RoomId + Send + Sync,
+    R: Threads + Wait + Sync + Net<Listener = TcpListener, Stream = TcpStream>,
+    O: Operators + Sync,
+    D: Door + Sync,
+>(
+    rt: &R,
+    alloc: Global,
+    seats: u8,
+    opened: Opened,
+    keeper: Lines,
+    listener: &TcpListener,
+    input: Pressed<'_>,
+    button: &Button,
+    operators: &O,
+    door: &D,
+) -> Result<Evening, Fail>
+    requires history { opened.book ≡ J.book }
+    requires ledger { (opened.ledger ≡ J.name) × (opened.parts ≡ J.parts) × (J.parts ≡ J.seats) }
+    requires named { (4000 ≡ J.size) × (seats ≡ J.seats) }
+    requires count { (0 < seats) × (seats ≤ 8) }
+{
+    let (room, seats) = SharedRoom::<J, &R, Lines>::power_on_kept(
+        rt, alloc, 4_000, seats, opened, keeper,
+    )?;
+    let address = listener.local_addr()?;
+    Ok(spend(
+        rt, alloc, room, seats, listener, address, input, button, operators, door,
+    ))
+}
+
+/// Serves the operators, each of both in a thread of its own.
+fn spend<J, R, O, D>(
+    rt: &R,
+    alloc: Global,
+    room: SharedRoom<J, &R, Lines>,
+    seats: Vec<Seat<J>>,
+    listener: &TcpListener,
+    address: SocketAddr,
+    input: Pressed<'_>,
+    button: &Button,
+    operators: &O,
+    door: &D,
+) -> Evening
+where
+    J: RoomId + Send + Sync,
+    R: Threads + Wait + Sync + Net<Listener = TcpListener, Stream = TcpStream>,
+    O: Operators + Sync,
+    D: Door + Sync,
+    requires ledger { J.parts ≡ J.seats }
+    requires seats { AreAllSeats J.seats seats.items }
+    requires count { (0 < J.seats) × (J.seats < 2 ^ 8) }
+{
+    thread::scope(
+        thread::scope_env(),
+        rt,
+        move |scope| -> Evening
+            requires { (J.parts ≡ J.seats) × AreAllSeats J.seats seats.items × (0 < J.seats) × (J.seats < 2 ^ 8) }
+        {
+            attend_both(
+                scope, rt, alloc, room, seats, listener, address, input, button, operators, door,
+            )
+        },
+    )
+}
+
+/// Serves here, and operates in a thread.
+fn attend_both<'s, E: 's, J, R, O, D>(
+    scope: &Scope<'s, E>,
+    rt: &'s R,
+    alloc: Global,
+    room: SharedRoom<J, &R, Lines>,
+    seats: Vec<Seat<J>>,
+    listener: &TcpListener,
+    address: SocketAddr,
+    input: Pressed<'_>,
+    button: &'s Button,
+    operators: &'s O,
+    door: &D,
+) -> Evening
+where
+    J: RoomId + Send + Sync,
+    R: Threads + Wait + Sync + Net<Listener = TcpListener, Stream = TcpStream> + 's,
+    O: Operators + Sync + 's,
+    D: Door + Sync,
+    requires ledger { J.parts ≡ J.seats }
+    requires seats { AreAllSeats J.seats seats.items }
+    requires count { (0 < J.seats) × (J.seats < 2 ^ 8) }
+{
+    let operating = scope.spawn(move || operate(rt, alloc, address, button, operators));
+    let served = serve_seats(alloc, rt, room, seats, listener, input, door);
+    let told = match operating {
+        Ok(thread) => thread.join(rt),
+        Err(_) => None,
+    };
+    Evening { served, told }
+}
+
+/// Operates, and presses the button.
+fn operate<R: Net<Stream = TcpStream>, O: Operators>(
+    rt: &R,
+    alloc: Global,
+    address: SocketAddr,
+    button: &Button,
+    operators: &O,
+) -> Option<Vec<u8>> {
+    let told = operators.operate(rt, alloc, address, button);
+    button.pressed.store(true, SeqCst);
+    told.ok()
+}
