@@ -59,6 +59,35 @@ pub struct Service {
     pub port: u16,
 }
 
+/// How many operators share a room, and the port at which they come.
+#[derive(Clone, Copy, Debug, PartialEq, Eq)]
+pub struct Operators {
+    /// How many seats there are, from 1 to 8.
+    pub seats: u8,
+    /// The port on 127.0.0.1.
+    pub port: u16,
+}
+
+/// What a room begins with.
+#[derive(Debug, Drop, PartialEq, Eq)]
+pub enum Opening {
+    /// A machine at power-on, with so many places of core storage.
+    PowerOn(u16),
+    /// A machine of an image's size, on which the image of the file of this name is loaded.
+    Image(String),
+}
+
+/// A room that operators share, and whose seats are taken again.
+#[derive(Debug, Drop, PartialEq, Eq)]
+pub struct Seating {
+    /// What the room begins with.
+    pub opening: Opening,
+    /// Who comes.
+    pub operators: Operators,
+    /// The journal that is kept; without one none is.
+    pub journal: Option<NewJournal>,
+}
+
 /// How a program is started.
 #[derive(Clone, Copy, Debug, PartialEq, Eq)]
 pub enum Start {
@@ -150,8 +179,10 @@ pub enum Call {
     },
     /// A program run to its end.
     Run(Job),
-    /// A room that operators share.
+    /// A room that operators share, each with one connection.
     Serve(Service),
+    /// A room that operators share, and whose seats are taken again.
+    ServeSeats(Seating),
     /// A session of standard input and output whose journal is kept.
     KeptConsole {
         /// How many places core storage has.

@@ -9,9 +9,11 @@ mod assembling;
 pub mod call;
 mod journals;
 pub mod reading;
+mod serving;
 mod sizes;
 
 pub use call::{
-    Assembling, Call, Job, NewJournal, Product, Resuming, Service, Showing, Start, Tables, Told,
+    Assembling, Call, Job, NewJournal, Opening, Operators, Product, Resuming, Seating, Service,
+    Showing, Start, Tables, Told,
 };
 pub use reading::read_call;

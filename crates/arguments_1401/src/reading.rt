@@ -1,11 +1,12 @@
 //! The words of the command line, read by `clap`.
 
 use crate::assembling::{assemble_call, assemble_command};
-use crate::call::{Call, Job, Service, Start};
+use crate::call::{Call, Job, Start};
 use crate::journals::{
     journal_arg, journal_call, journal_command, new_journal_in, new_sync_arg, resume_call,
     resume_command,
 };
+use crate::serving::{operators_in, serve_call, serve_command};
 use crate::sizes::{DEFAULT_SIZE, SizeTexts};
 use clap::error::ErrorKind;
 use clap::{Arg, ArgAction, ArgMatches, Command, Error, value_parser};
@@ -73,28 +74,6 @@ fn console_command<'a>(alloc: Global, sizes: &'a SizeTexts) -> Result<Command<'a
         .after_help(LINES)
         .arg(journal_arg(alloc))?
         .arg(new_sync_arg(alloc)?)?
-        .arg(size_arg(alloc, sizes))
-}
-
-/// The subcommand `serve`.
-fn serve_command<'a>(alloc: Global, sizes: &'a SizeTexts) -> Result<Command<'a>, AllocError> {
-    let port = Arg::new(alloc, "port")
-        .long("port")
-        .value_name("P")
-        .help("The port on 127.0.0.1, 1 to 65535")
-        .required(true)
-        .value_parser(value_parser!(u16).range(1..));
-    let seats = Arg::new(alloc, "seats")
-        .long("seats")
-        .value_name("K")
-        .help("How many operators there are, 1 to 8")
-        .required(true)
-        .value_parser(value_parser!(u8).range(1..=8));
-    Command::new(alloc, "serve")
-        .about("Opens a machine to operators, each with a connection of his own")
-        .after_help(LINES)
-        .arg(port)?
-        .arg(seats)?
         .arg(size_arg(alloc, sizes))
 }
 
@@ -253,9 +232,8 @@ fn call_with<'a, S: AsStr>(
         }
     }
     if let Some(serve) = matches.subcommand_matches("serve") {
-        if let (Some(port), Some(seats)) = (serve.get_one("port"), serve.get_one("seats")) {
-            let size = size_in(serve);
-            return Ok(Call::Serve(Service { size, seats, port }));
+        if let Some(operators) = operators_in(serve) {
+            return serve_call(alloc, serve, operators);
         }
     }
     if let Some(journal) = matches.subcommand_matches("journal") {

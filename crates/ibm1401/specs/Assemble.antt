@@ -76,6 +76,7 @@ IsWhyNotAssembled size source fault.NoReader = ⊥
 IsWhyNotAssembled size source fault.Port = ⊥
 IsWhyNotAssembled size source fault.Accept = ⊥
 IsWhyNotAssembled size source fault.Thread = ⊥
+IsWhyNotAssembled size source (fault.Seats why) = ⊥
 
 -- the text is that of the deck of what the source stands for
 pub record IsDeckOf (size : ℕ) (source text : List ℕ) : Type 0 where

@@ -40,6 +40,7 @@ IsWhyNotListed text fault.NoReader = ⊥
 IsWhyNotListed text fault.Port = ⊥
 IsWhyNotListed text fault.Accept = ⊥
 IsWhyNotListed text fault.Thread = ⊥
+IsWhyNotListed text (fault.Seats why) = ⊥
 
 -- Nothing was written.
 pub record NotListed (text : List ℕ) (old new : Option (List ℕ)) (outcome : Result ⊤ Fault) : Type 0 where

@@ -53,6 +53,7 @@ IsWhyNotLoaded text fault.NoReader = ⊥
 IsWhyNotLoaded text fault.Port = ⊥
 IsWhyNotLoaded text fault.Accept = ⊥
 IsWhyNotLoaded text fault.Thread = ⊥
+IsWhyNotLoaded text (fault.Seats why) = ⊥
 
 -- No image was loaded: nothing was read, and nothing written.
 pub record NotLoaded (text : List ℕ) (old new : Streams) (outcome : Result ⊤ Fault) : Type 0 where

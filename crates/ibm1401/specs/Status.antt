@@ -1,11 +1,12 @@
 -- How a run of the program ends (own).
-use Rattle.std.specs.Prelude.{ℕ, ⊤, Option, None, Some, Result, Ok, Err}
+use Rattle.std.specs.Prelude.{ℕ, ⊤, Bool, true, false, Option, None, Some, Result, Ok, Err}
 use Rattle.room_1401.specs.declared.fault.StartFault.{StartFault}
 use Rattle.room_1401.specs.declared.fault.StartFault.TheVariants as start
 use Rattle.console_1401.specs.declared.serving.ServeFault.{ServeFault}
 use Rattle.console_1401.specs.declared.serving.ServeFault.TheVariants as serve
 use Rattle.console_1401.specs.declared.session_end.SessionEnd.{SessionEnd}
 use Rattle.console_1401.specs.declared.session_end.SessionEnd.TheVariants as end
+use Rattle.serving_1401.specs.declared.fault.SeatsFault.{SeatsFault}
 use Rattle.ibm1401.specs.declared.fault.Fault.{Fault}
 use Rattle.ibm1401.specs.declared.fault.Fault.TheVariants as fault
 
@@ -35,6 +36,7 @@ status_of fault.NoReader = 1
 status_of fault.Port = 1
 status_of fault.Accept = 1
 status_of fault.Thread = 1
+status_of (fault.Seats why) = 1
 
 -- the status that a run ends with
 abbrev pub run_status : Result ⊤ Fault → ℕ
@@ -63,3 +65,9 @@ abbrev pub service_outcome : Option ServeFault → Result ⊤ Fault
 service_outcome None = Ok tt
 service_outcome (Some serve.Accept) = Err fault.Accept
 service_outcome (Some serve.Thread) = Err fault.Thread
+
+-- what became of a room whose seats are taken again is for the program: a journal that wasn't kept comes first
+abbrev pub seats_outcome : Bool → Option SeatsFault → Result ⊤ Fault
+seats_outcome true why = Err fault.Unkept
+seats_outcome false None = Ok tt
+seats_outcome false (Some why) = Err (fault.Seats why)

@@ -10,6 +10,7 @@ use files_1401::FileFault;
 use image_1401::ImageFault;
 use keeping_1401::KeepFault;
 use running_1401::RunFault;
+use serving_1401::SeatsFault;
 use thiserror::Error;
 
 /// The status of a command line that can't be read.
@@ -94,6 +95,9 @@ pub enum Fault {
     /// A thread was refused, and not each seat had its console.
     #[error("thread refused")]
     Thread,
+    /// This went wrong in a room whose seats are taken again.
+    #[error("{0}")]
+    Seats(SeatsFault),
 }
 
 impl Fault {
@@ -110,6 +114,7 @@ impl Fault {
             Fault::Read | Fault::Write | Fault::Bound | Fault::Reply => FAILED,
             Fault::Unkept | Fault::Kept(_) => FAILED,
             Fault::NoReader | Fault::Port | Fault::Accept | Fault::Thread => FAILED,
+            Fault::Seats(_) => FAILED,
         }
     }
 }

@@ -113,7 +113,7 @@ pub fn keep_loaded<R: Files<File = File> + Input + Print + AllocGlobal>(
 }
 
 /// What an entry outlasts, with `--sync` or without.
-fn durability_of(sync: bool) -> Durability {
+pub(crate) fn durability_of(sync: bool) -> Durability {
     if sync {
         Durability::Disk
     } else {

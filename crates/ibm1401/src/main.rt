@@ -6,6 +6,7 @@ mod disassembling;
 mod fault;
 mod journals;
 mod loading;
+mod seating;
 mod serving;
 mod source_faults;
 mod source_file;
@@ -17,13 +18,14 @@ use crate::disassembling::write_disassembly;
 use crate::fault::{Fault, report};
 use crate::journals::{journal_file, keep_console, keep_loaded, resume_file};
 use crate::loading::{load, read_file, read_named_file};
+use crate::seating::open_seats;
 use crate::serving::open_room;
 use crate::source_file::assemble_file;
 use crate::subcommands::{console, tell};
 use arguments_1401::{Call, read_call};
 use running_1401::{ErrorOutput, run_file};
 use std::fs::File;
-use std::io::IsTerminal;
+use std::io::{IsTerminal, StdinLock};
 use std::net::{Net, TcpListener, TcpStream};
 use std::process::ExitCode;
 use std::rt::{Clock, Env, Files};
@@ -51,7 +53,7 @@ fn run<
     R: Env
         + Files<File = File>
         + Clock
-        + Input
+        + Input<Reader = StdinLock<'static>>
         + Print
         + Eprint
         + AllocGlobal
@@ -81,6 +83,7 @@ fn run<
         }
         Ok(Call::Run(job)) => run_file(rt, error_output, job).map_err(Fault::Run),
         Ok(Call::Serve(service)) => open_room(rt, service),
+        Ok(Call::ServeSeats(asked)) => open_seats(rt, asked),
         Ok(Call::KeptConsole { size, journal }) => keep_console(rt, size, journal),
         Ok(Call::KeptLoad { file, journal }) => keep_loaded(rt, file, journal),
         Ok(Call::Journal(asked)) => journal_file(rt, asked),

@@ -14,7 +14,7 @@ use std::thread::Threads;
 
 /// What a room that couldn't be opened means for the program. The command line asks for no other seats than 1 to 8, so
 /// that there are places for their readers, or there are none.
-fn start_fault(fault: StartFault) -> Fault
+pub(crate) fn start_fault(fault: StartFault) -> Fault
     ensures { result ≡ start_fault fault }
 {
     match fault {

@@ -3,6 +3,7 @@ ghost use Rattle.std.specs.Prelude.{◌≡◌, false, IfOk};
 
 use crate::fault::{FileFault, KeepFault};
 use crate::journal_file::{Durability, JournalFile};
+use crate::keeping::begin_text;
 use console_1401::Sink;
 use journal_1401::{JournalFault, Wrong, recover_journal};
 use room_1401::Room;
@@ -98,6 +99,33 @@ pub fn create_journal(
         Ok(file) => Ok(JournalFile::new(file, durability)),
         Err(fault) => Err(KeepFault::File(name, fault)),
     }
+}
+
+/// A new file of this name, locked, that has the first line of the journal of a machine of this size. A file that is
+/// there stays as it is.
+///
+/// # Errors
+///
+/// `File`, with the name as it was given; then no new file is left.
+pub fn begin_journal(
+    rt: &(impl Files<File = File> + AllocGlobal),
+    name: String,
+    size: u16,
+    durability: Durability,
+) -> Result<JournalFile, KeepFault>
+    ensures good { IfOk result (λ file. ⟦<JournalFile as Sink>⟧.has_failed file ≡ false) }
+{
+    let file = match create(rt, name.as_str(), durability) {
+        Ok(file) => file,
+        Err(fault) => return Err(KeepFault::File(name, fault)),
+    };
+    let mut sink = JournalFile::new(file, durability);
+    if begin_text(rt.alloc(), size, &mut sink).is_err() {
+        // The file has no journal, and is this call's own.
+        let _ = fs::remove_file(rt, name.as_str());
+        return Err(KeepFault::File(name, FileFault::Unwritten));
+    }
+    Ok(sink)
 }
 
 /// All bytes of a file, if there are no more than a journal may have.

@@ -1,13 +1,44 @@
 //! A room whose journal is kept as a text.
-ghost use Rattle.std.specs.Prelude.{◌≡◌, false, IfOk};
+ghost use Rattle.std.specs.Prelude.{◌≡◌, [], false, IfOk, OnOk};
 ghost use Rattle.std.specs.Io.KnownBytes.{Appends};
 ghost use Rattle.journal_1401.specs.JournalText.{journal_text};
 
 use crate::text_keeper::{Beginning, TextKeeper};
 use console_1401::{Sink, put_all};
 use journal_1401::write_journal;
-use room_1401::{KeptRoom, Room, Unkept};
+use room_1401::{Entry, KeptRoom, Room, Unkept};
 use std::alloc::Global;
+
+/// Writes the first line of the journal of a machine of this size.
+///
+/// # Errors
+///
+/// If memory is refused, or the line isn't written, or only a part of it.
+pub fn begin_text<S: Sink>(alloc: Global, size: u16, sink: &mut S) -> Result<(), Unkept>
+    ensures text { OnOk result (Appends (S.received sink.old) (S.received sink.new) (journal_text size [])) }
+    ensures good { OnOk result (S.has_failed sink.new ≡ false) }
+{
+    write_so_far(alloc, size, &[], sink)
+}
+
+/// Writes the text of a journal so far.
+fn write_so_far<S: Sink>(
+    alloc: Global,
+    size: u16,
+    journal: &[Entry],
+    sink: &mut S,
+) -> Result<(), Unkept>
+    ensures text { OnOk result (Appends (S.received sink.old) (S.received sink.new) (journal_text size journal.now)) }
+    ensures good { OnOk result (S.has_failed sink.new ≡ false) }
+{
+    let Ok(text) = write_journal(alloc, size, journal) else {
+        return Err(Unkept);
+    };
+    if put_all(sink, text.as_slice()).is_err() || sink.has_failed() {
+        return Err(Unkept);
+    }
+    Ok(())
+}
 
 /// A room that is kept from here on, after the text of what its journal has so far is written.
 ///
@@ -25,13 +56,8 @@ pub fn keep_room<J: Beginning, S: Sink + Drop>(
     ensures good { IfOk result (λ kept. kept.failed ≡ false) }
 {
     let size = room.machine().core().size();
-    let Ok(text) = write_journal(alloc, size, room.journal()) else {
-        return Err(Unkept);
-    };
     let mut sink = sink;
-    if put_all(&mut sink, text.as_slice()).is_err() || sink.has_failed() {
-        return Err(Unkept);
-    }
+    write_so_far(alloc, size, room.journal(), &mut sink)?;
     Ok(take_up_room(alloc, room, sink))
 }
 

@@ -22,9 +22,11 @@ pub mod journal_file;
 pub mod showing;
 
 pub use fault::{FileFault, KeepFault};
-pub use files::{TakenUp, create_journal, read_journal_file, read_room, take_up_journal};
+pub use files::{
+    TakenUp, begin_journal, create_journal, read_journal_file, read_room, take_up_journal,
+};
 pub use journal_file::{Durability, JournalFile};
-pub use keeping::{keep_room, take_up_room};
+pub use keeping::{begin_text, keep_room, take_up_room};
 pub use sessions::{keep_session, resume_session};
 pub use showing::{ShowFault, check_journal, show_journal};
 pub use text_keeper::{Beginning, TextKeeper};
