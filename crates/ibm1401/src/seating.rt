@@ -148,9 +148,9 @@ fn serve_room<
     if println!(rt; "READY").is_err() {
         return Err(Fault::Output);
     }
-    let mut input = FromReader::new(rt.reader());
+    let input = FromReader::new(rt.reader());
     let SeatsServed { room, keeper, fault } =
-        serve_seats(alloc, rt, room, seats, listener, &mut input, &OpenDoor);
+        serve_seats(alloc, rt, room, seats, listener, input, &OpenDoor);
     let told = println!(rt; "JOURNAL {}", room.journal().len());
     seats_outcome(keeper.has_failed(), fault)?;
     told.map_err(|_| Fault::Output)

@@ -1,0 +1,230 @@
+"""Served rooms whose seats are taken again: free seats, FULL, the end in order, an image, a journal, and kills."""
+import os
+import random
+import resource
+import select
+import signal
+import socket
+import subprocess
+import tempfile
+import threading
+import time
+from pathlib import Path
+
+from checks.report import PROGRAM, REPLY_SECONDS, SECONDS, TOP, difference, expect, run, tell
+from checks.service import answer, hear, say
+
+# How many served rooms are killed, and how many operators each of them has.
+KILLS = 200
+OPERATORS = 8
+# How many commands an operator has ready: more than are answered before a kill.
+READY_LINES = 2_000
+
+
+class Room:
+    """The program serving a room at a free port, with its standard input held open."""
+
+    def __init__(self, *words, **how):
+        with socket.socket() as free:
+            free.bind(("127.0.0.1", 0))
+            self.port = free.getsockname()[1]
+        words = [word if word != "PORT" else str(self.port) for word in words]
+        pipes = {"stdin": subprocess.PIPE, "stdout": subprocess.PIPE, "stderr": subprocess.PIPE}
+        self.process = subprocess.Popen([PROGRAM, *map(str, words)], **pipes, **how)
+        ready = select.select([self.process.stdout], [], [], SECONDS)[0]
+        self.first = os.read(self.process.stdout.fileno(), 100) if ready else b""
+
+    def console(self):
+        """A connection, which has the lowest free seat."""
+        return socket.create_connection(("127.0.0.1", self.port), timeout=REPLY_SECONDS)
+
+    def ended(self, name, journal, typed=b"QUIT\n", status=0, error=""):
+        """Tells whether the program ends as it should, with this number of commands, once this is typed."""
+        try:
+            output, told = self.process.communicate(typed, timeout=SECONDS)
+        except subprocess.TimeoutExpired:
+            self.process.kill()
+            output, told = self.process.communicate()
+        ran = subprocess.CompletedProcess(name, self.process.returncode, self.first + output, told)
+        expect(name, ran, status, f"READY\nJOURNAL {journal}\n", error)
+
+
+def taken_again(_):
+    """A seat goes to the next connection; a connection beyond the seats is told FULL; a probe costs nothing."""
+    room = Room("serve", "--port", "PORT", "--seats", "2", "--keep-seats")
+    for _ in range(5):
+        room.console().close()
+    time.sleep(0.2)
+    with room.console() as first, room.console() as second:
+        answer("the first seat", say(first, b"DEPOSIT 0700 A\n"), b"OK\n")
+        answer("the second seat", say(second, b"EXAMINE 0700\n"), b"A\n")
+        with room.console() as third:
+            answer("a console beyond the seats", hear(third), b"FULL\n")
+        answer("an operator leaves", say(first, b"QUIT\n"), b"BYE\n")
+        answer("the connection ends", hear(first), b"")
+        time.sleep(0.2)
+        with room.console() as again:
+            answer("the seat is taken again, and has seen what it had seen", say(again, b"GLANCE 0700\n"), b"AFTER 2 A\n")
+            answer("a command is carried out there", say(again, b"DEPOSIT 0700 B\n"), b"OK\n")
+            room.process.stdin.write(b"\nSTART 1\nquit\n")
+            room.process.stdin.flush()
+            answer("other lines don't end it", say(second, b"EXAMINE 0700\n"), b"B\n")
+            room.process.stdin.write(b"QUIT\n")
+            room.process.stdin.flush()
+            answer("QUIT ends an open console", hear(again), b"")
+            answer("and each other", hear(second), b"")
+    room.ended("a room is ended by QUIT", 4, b"")
+    room = Room("serve", "--port", "PORT", "--seats", "1", "--keep-seats", "--size", "1400")
+    with room.console() as only:
+        answer("a room of 1400 places", say(only, b"START 1400\n"), b"REFUSED 1 ADDRESS\n")
+        room.process.stdin.close()
+        answer("the end of standard input ends a console", hear(only), b"")
+        room.process.stdin = None
+    room.ended("a room is ended by the end of its input", 1, None)
+    ended = run([PROGRAM, "serve", "--port", str(room.port), "--seats", "1", "--keep-seats"], b"")
+    expect("a room whose input is at its end", ended, 0, "READY\nJOURNAL 0\n")
+
+
+def begun(folder):
+    """A room begins with an image, or is refused before it listens."""
+    image = TOP / "examples/five_and_five.image"
+    room = Room("serve", "--port", "PORT", "--seats", "2", "--image", image)
+    with room.console() as console:
+        replies = say(console, b"RUN 100\nEXAMINE 0420\n")
+        answer("the image of a served room is run", replies.split(b"\n")[0][:12], b"STOP 02 HALT")
+    room.process.stdin.close()
+    room.process.stdin = None
+    output = room.process.communicate(timeout=SECONDS)[0]
+    tell("the commands that load the image count", "" if output.startswith(b"JOURNAL ") else f"{output}")
+    bad = folder / "bad.image"
+    bad.write_bytes(b"IMAGE2 04000\n")
+    call = [PROGRAM, "serve", "--port", "1", "--seats", "1", "--image"]
+    expect("a faulty image", run([*call, bad]), 1, "", "ibm1401: image refused: ...")
+    expect("no image", run([*call, folder / "none"]), 1, "", f"ibm1401: cannot read {folder / 'none'}\n")
+
+
+def misused(folder):
+    """Options that don't go together, and a room that doesn't come about."""
+    new = folder / "new.journal"
+    call = [PROGRAM, "serve", "--port", "1", "--seats", "1"]
+    together = run([*call, "--image", "a", "--size", "1400"])
+    expect("an image has its own size", together, 2, "", "error: the argument '--image <FILE>' cannot be used with...")
+    alone = run([*call, "--sync"])
+    expect("--sync is of a journal", alone, 2, "", "error: the following required arguments were not provided:...")
+    expect("no such size", run([*call, "--keep-seats", "--size", "1401"]), 1, "", "ibm1401: size refused\n")
+    with socket.socket() as taken:
+        taken.bind(("127.0.0.1", 0))
+        taken.listen()
+        call = [PROGRAM, "serve", "--port", str(taken.getsockname()[1]), "--seats", "1", "--journal", new]
+        expect("a port that is taken", run(call), 1, "", "ibm1401: port refused\n")
+    tell("and no file is made", "it is there" if new.exists() else "")
+
+
+def kept(folder):
+    """A served room's journal is kept, in use, and taken up."""
+    path = folder / "class.journal"
+    room = Room("serve", "--port", "PORT", "--seats", "2", "--journal", path)
+    with room.console() as first, room.console() as second:
+        say(first, b"DEPOSIT 0700 ~999\n")
+        say(second, b"DEPOSIT 0710 A\n")
+        expect("a served journal is in use", run([PROGRAM, "resume", path]), 1, "", f"ibm1401: {path}: is in use\n")
+    room.ended("a kept room ends", 2)
+    text = b"JOURNAL1 4000\n1\t1\tDEPOSIT 0700 ~999\tOK\n2\t2\tDEPOSIT 0710 A\tOK\n"
+    tell("each command is a line with its seat", "; ".join(difference("the file", path.read_bytes(), text)))
+    call = [PROGRAM, "serve", "--port", "1", "--seats", "1", "--journal", path]
+    expect("a journal isn't overwritten", run(call), 1, "", f"ibm1401: {path}: is there already\n")
+    ran = run([PROGRAM, "resume", path], b"GLANCE 0710\nEXAMINE 0700 3\n")
+    expect("a console goes on where the room ended", ran, 0, "AFTER 2 A\n~999\n")
+    text += b"3\t0\tEXAMINE 0700 3\t~999\n"
+    tell("it goes on in the same file", "; ".join(difference("the file", path.read_bytes(), text)))
+    expect("one seat's commands", run([PROGRAM, "journal", "--seat", "2", path]), 0,
+           "2 seat 2  DEPOSIT 0710 A                 OK\n")
+
+
+def unkept(folder):
+    """An entry that can't be written: no reply, the console's end, and every later command refused."""
+    path = folder / "full.journal"
+
+    def limited():
+        signal.signal(signal.SIGXFSZ, signal.SIG_IGN)
+        resource.setrlimit(resource.RLIMIT_FSIZE, (50, 50))
+
+    room = Room("serve", "--port", "PORT", "--seats", "2", "--journal", path, preexec_fn=limited)
+    with room.console() as first, room.console() as second:
+        answer("a command that is kept", say(first, b"DEPOSIT 0700 A\n"), b"OK\n")
+        answer("one that isn't has no reply", say(first, b"DEPOSIT 0700 B\n"), b"")
+        answer("its console has ended", hear(first), b"")
+        answer("a glance doesn't show it", say(second, b"GLANCE 0700\n"), b"AFTER 1 A\n")
+        answer("every later command is refused", say(second, b"EXAMINE 0700\n"), b"FAULT 4 UNKEPT\n")
+    room.ended("an unkept room ends", 2)
+
+
+class Operator(threading.Thread):
+    """An operator who sends each command when the one before it is answered, until the connection breaks."""
+
+    def __init__(self, room, number):
+        super().__init__()
+        self.lines = [b"START %d\n" % (400 * number + i % 400) for i in range(READY_LINES)]
+        self.console = room.console()
+        self.answered = 0
+
+    def run(self):
+        try:
+            for line in self.lines:
+                self.console.sendall(line)
+                if self.console.recv(100) != b"OK\n":
+                    return
+                self.answered += 1
+        except OSError:
+            return
+
+
+def what_is_wrong(entries, operators):
+    """What is wrong with the entries that a killed room has kept: each operator's commands are those of one seat, in
+    order: all that were answered, and at most one more."""
+    for operator in operators:
+        own = {line[:-1].replace(b"START ", b"") for line in operator.lines}
+        own = {b"START %04d" % int(number) for number in own}
+        found = [entry for entry in entries if entry[2] in own]
+        if len({entry[1] for entry in found}) > 1:
+            return f"the commands of one operator have {len({entry[1] for entry in found})} seats"
+        if not operator.answered <= len(found) <= operator.answered + 1:
+            return f"{operator.answered} answered, {len(found)} kept"
+        wanted = [b"START %04d" % int(line[6:]) for line in operator.lines[:len(found)]]
+        if [entry[2] for entry in found] != wanted:
+            return "other commands, or another order"
+    return ""
+
+
+def killed(folder):
+    """Rooms killed at moments of chance while eight operators work: what was answered is there, and the room that is
+    taken up has the machine of the last command."""
+    chance = random.Random(1401)
+    for turn in range(KILLS):
+        path = folder / f"{turn}.journal"
+        room = Room("serve", "--port", "PORT", "--seats", str(OPERATORS), "--journal", path)
+        operators = [Operator(room, number) for number in range(OPERATORS)]
+        for operator in operators:
+            operator.start()
+        time.sleep(chance.random() * 0.1)
+        room.process.kill()
+        room.process.communicate()
+        for operator in operators:
+            operator.join()
+            operator.console.close()
+        entries = [line.split(b"\t") for line in path.read_bytes().splitlines(True)[1:] if line.endswith(b"\n")]
+        wrong = what_is_wrong(entries, operators)
+        ran = run([PROGRAM, "resume", path], b"REGS\n")
+        at = b"I=%05d" % int(entries[-1][2].split()[1]) if entries else b"I=00000"
+        if not wrong and (ran.returncode != 0 or at not in ran.stdout):
+            wrong = f"the machine has {ran.stdout}, not {at}: {ran.stderr}"
+        answered = sum(operator.answered for operator in operators)
+        tell(f"a room killed after {answered} replies, turn {turn}", wrong)
+        path.unlink()
+
+
+def seats():
+    """All of these."""
+    with tempfile.TemporaryDirectory() as folder:
+        for part in taken_again, begun, misused, kept, unkept, killed:
+            part(Path(folder))
