@@ -1,13 +1,15 @@
 """Journals that are kept: written before each reply, shown, checked, taken up again, and taken up after a kill."""
 import os
 import random
+import shutil
 import signal
 import subprocess
 import tempfile
 import time
+from functools import cache
 from pathlib import Path
 
-from checks.report import PROGRAM, REPLY_SECONDS, difference, expect, run, tell
+from checks.report import PROGRAM, REPLY_SECONDS, TOP, difference, expect, run, tell
 
 LINES = b"DEPOSIT 0700 ~999\nEXAMINE 0700 3\nSTART 4000\nQUIT\n"
 REPLIES = b"OK\n~999\nREFUSED 1 ADDRESS\nBYE\n"
@@ -109,6 +111,89 @@ def unkept(room):
     holds("its line breaks off", path, before + b"5\t0\tSTART 0002\tOK\n"[:10])
 
 
+@cache
+def sync_library(room):
+    """A library that notes the order of writes and syncs, and refuses one sync."""
+    library = room / "refuse_sync.so"
+    subprocess.run(["cc", "-shared", "-fPIC", "-O2", "-o", library, TOP / "checks/refuse_sync.c"], check=True)
+    return library
+
+
+def noted(room, words, lines, refused=0):
+    """A run in which the sync of this number is refused, and the order of its writes and syncs: w a write of a journal,
+    s a sync of it, f one of its folder, x a sync that is refused, r a reply."""
+    events = room / "events"
+    events.unlink(missing_ok=True)
+    asked = {"LD_PRELOAD": sync_library(room), "EVENTS_FILE": events, "REFUSED_SYNC": refused}
+    environment = {**os.environ, **{name: str(value) for name, value in asked.items()}}
+    ran = run([PROGRAM, *words], lines, env=environment)
+    return ran, events.read_bytes() if events.exists() else b""
+
+
+def synced(room):
+    """With --sync each entry is written once and synced once before its reply, and without it none is."""
+    image, path = room / "an image", room / "g.journal"
+    image.write_bytes(b"IMAGE1 4000\n0400 02 ~HI\nEND 0400\n")
+    path.write_bytes(TEXT)
+    for words, order, replies in [
+        (["console", "--journal", room / "h.journal"], b"w" + 3 * b"wr" + b"r", REPLIES),
+        (["console", "--sync", "--journal", room / "i.journal"], b"fws" + 3 * b"wsr" + b"r", REPLIES),
+        (["load", "--journal", room / "j.journal", image], b"w" + 3 * b"wr" + b"r", REPLIES),
+        (["load", "--sync", "--journal", room / "k.journal", image], b"fws" + 3 * b"wsr" + b"r", REPLIES),
+        (["resume", path], 3 * b"wr" + b"r", REPLIES),
+        (["resume", "--sync", path], b"f" + 3 * b"wsr" + b"r", REPLIES),
+        (["resume", "--until", "1", "--journal", room / "l.journal", path], b"w" + 3 * b"wr" + b"r", REPLIES),
+        (["resume", "--sync", "--until", "1", "--journal", room / "m.journal", path],
+         b"fws" + 3 * b"wsr" + b"r", REPLIES),
+    ]:
+        name = " ".join(word for word in words if isinstance(word, str))
+        ran, events = noted(room, words, LINES)
+        expect(f"{name}: its replies", ran, 0, replies)
+        tell(f"{name}: its writes and syncs", "; ".join(difference("the order", events, order)))
+    holds("a synced journal is the same text", room / "i.journal", TEXT)
+
+
+def unsynced(room):
+    """A sync that is refused: its command has no reply, and the session ends; its line stands, and is taken up."""
+    path, cut = room / "n.journal", room / "o.journal"
+    entries = TEXT.splitlines(keepends=True)
+    ran, events = noted(room, ["console", "--sync", "--journal", path], LINES, 4)
+    expect("a command that isn't synced has no reply", ran, 1, b"OK\n", "ibm1401: session ended: UNKEPT\n")
+    tell("after it nothing is written", "; ".join(difference("the order", events, b"fwswsrwx")))
+    holds("its line stands", path, b"".join(entries[:3]))
+    expect("it is taken up", run([PROGRAM, "resume", "--sync", path], b"START 4000\n"), 0, b"REFUSED 1 ADDRESS\n")
+    holds("it goes on after that line", path, TEXT)
+    ran, events = noted(room, ["resume", "--sync", path], b"START 1\nSTART 2\n", 2)
+    expect("no reply after a resume either", ran, 1, b"", "ibm1401: session ended: UNKEPT\n")
+    holds("its line stands too", path, TEXT + b"4\t0\tSTART 0001\tOK\n")
+    for number, order in (1, b"x"), (2, b"fwx"):
+        ran, events = noted(room, ["console", "--sync", "--journal", cut], LINES, number)
+        expect(f"a new journal whose sync {number} is refused", ran, 1, b"", f"ibm1401: {cut}: cannot be written\n")
+        tell("nothing else is written then", "; ".join(difference("the order", events, order)))
+        tell("no file is left", "it is there" if cut.exists() else "")
+    before = path.read_bytes()
+    cut.write_bytes(before + b"5\t0\tSTA")
+    ran, events = noted(room, ["resume", "--sync", cut], LINES, 1)
+    expect("a folder that isn't synced", ran, 1, b"", f"ibm1401: {cut}: cannot be written\n")
+    holds("the journal there is as it was", cut, before + b"5\t0\tSTA")
+
+
+def missync(room):
+    """--sync where no journal is kept is refused before anything is read or made."""
+    missing = "error: the following required arguments were not provided:\n  --journal <NEW>\n..."
+    nothing = "error: --until keeps nothing without --journal, so --sync has nothing to write\n..."
+    path = room / "p.journal"
+    path.write_bytes(TEXT)
+    for words, told in [
+        (["console", "--sync"], missing),
+        (["load", "--sync", room / "none"], missing),
+        (["resume", "--sync", "--until", "1", path], nothing),
+    ]:
+        name = " ".join(word for word in words if isinstance(word, str))
+        expect(f"{name}: nothing is kept", run([PROGRAM, *words], LINES), 2, b"", told)
+    holds("such a journal stays as it is", path, TEXT)
+
+
 def killed(room):
     """Sessions killed at moments of chance under load: each command that was answered is there, in order."""
     chance = random.Random(1401)
@@ -139,5 +224,10 @@ def killed(room):
 def journals():
     """All of these."""
     with tempfile.TemporaryDirectory() as room:
-        for part in kept, chosen, refused, unkept, killed:
+        for part in kept, chosen, refused, unkept, missync, killed:
+            part(Path(room))
+        if shutil.which("cc") is None:
+            print("LEFT OUT  there is no C compiler cc: no sync of a journal is counted or refused")
+            return
+        for part in synced, unsynced:
             part(Path(room))

@@ -104,6 +104,15 @@ pub struct Showing {
     pub check: bool,
 }
 
+/// A new journal that is kept.
+#[derive(Debug, Drop, PartialEq, Eq)]
+pub struct NewJournal {
+    /// The name of its file.
+    pub file: String,
+    /// Whether each entry is forced onto the disk before its reply.
+    pub sync: bool,
+}
+
 /// A journal that is taken up.
 #[derive(Debug, Drop, PartialEq, Eq)]
 pub struct Resuming {
@@ -115,6 +124,8 @@ pub struct Resuming {
     pub until: Option<u64>,
     /// The numbers of commands that aren't carried out again.
     pub without: Vec<u64>,
+    /// Whether each entry that is kept from there on is forced onto the disk before its reply.
+    pub sync: bool,
 }
 
 /// What the command line asks for.
@@ -145,15 +156,15 @@ pub enum Call {
     KeptConsole {
         /// How many places core storage has.
         size: u16,
-        /// The name of the journal's file.
-        journal: String,
+        /// The journal.
+        journal: NewJournal,
     },
     /// A session on a room that has an image loaded, and whose journal is kept.
     KeptLoad {
         /// The name of the image's file.
         file: String,
-        /// The name of the journal's file.
-        journal: String,
+        /// The journal.
+        journal: NewJournal,
     },
     /// A journal, shown or checked.
     Journal(Showing),

@@ -1,6 +1,6 @@
 //! The options of journals, read by `clap`.
 
-use crate::call::{Call, Resuming, Showing};
+use crate::call::{Call, NewJournal, Resuming, Showing};
 use crate::reading::{LINES, name_in};
 use clap::error::ErrorKind;
 use clap::{Arg, ArgAction, ArgMatches, Command, Error, value_parser};
@@ -12,6 +12,19 @@ pub(crate) fn journal_arg<'a>(alloc: Global) -> Arg<'a> {
         .long("journal")
         .value_name("NEW")
         .help("A new file for the journal: each command is in it before its reply is written")
+}
+
+/// Whether entries are forced onto the disk, as an option.
+fn sync_arg<'a>(alloc: Global) -> Arg<'a> {
+    Arg::new(alloc, "sync")
+        .long("sync")
+        .help("Forces each entry of the journal onto the disk before its reply is written")
+        .action(ArgAction::SetTrue)
+}
+
+/// The same where a journal is kept in a new file or not at all.
+pub(crate) fn new_sync_arg<'a>(alloc: Global) -> Result<Arg<'a>, AllocError> {
+    sync_arg(alloc).requires_arg("journal")
 }
 
 /// The file of a journal, as an argument.
@@ -68,7 +81,20 @@ pub(crate) fn resume_command<'a>(alloc: Global) -> Result<Command<'a>, AllocErro
         .arg(journal)?
         .arg(until)?
         .arg(without)?
+        .arg(sync_arg(alloc))?
         .arg(file_arg(alloc))
+}
+
+/// The new journal that the options name, if they name one.
+pub(crate) fn new_journal_in(
+    alloc: Global,
+    matches: &ArgMatches<'_>,
+) -> Result<Option<NewJournal>, AllocError> {
+    let sync = matches.get_flag("sync");
+    Ok(match name_in(alloc, matches, "journal")? {
+        Some(file) => Some(NewJournal { file, sync }),
+        None => None,
+    })
 }
 
 /// What the options of `journal` ask for.
@@ -105,11 +131,19 @@ pub(crate) fn resume_call(
         Some(until) => Some(u64::from(until)),
         None => None,
     };
+    let sync = matches.get_flag("sync");
+    if sync && until.is_some() && journal.is_none() {
+        return Err(refusal(
+            alloc,
+            "--until keeps nothing without --journal, so --sync has nothing to write",
+        )?);
+    }
     Ok(Call::Resume(Resuming {
         file: String::from_str(alloc, file)?,
         journal,
         until,
         without,
+        sync,
     }))
 }
 

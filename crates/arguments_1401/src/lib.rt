@@ -11,5 +11,7 @@ mod journals;
 pub mod reading;
 mod sizes;
 
-pub use call::{Assembling, Call, Job, Product, Resuming, Service, Showing, Start, Tables, Told};
+pub use call::{
+    Assembling, Call, Job, NewJournal, Product, Resuming, Service, Showing, Start, Tables, Told,
+};
 pub use reading::read_call;

@@ -2,7 +2,10 @@
 
 use crate::assembling::{assemble_call, assemble_command};
 use crate::call::{Call, Job, Service, Start};
-use crate::journals::{journal_arg, journal_call, journal_command, resume_call, resume_command};
+use crate::journals::{
+    journal_arg, journal_call, journal_command, new_journal_in, new_sync_arg, resume_call,
+    resume_command,
+};
 use crate::sizes::{DEFAULT_SIZE, SizeTexts};
 use clap::error::ErrorKind;
 use clap::{Arg, ArgAction, ArgMatches, Command, Error, value_parser};
@@ -48,6 +51,7 @@ fn load_command<'a>(alloc: Global) -> Result<Command<'a>, AllocError> {
         .about("Loads a core image, and then does as console does")
         .after_help(LINES)
         .arg(journal_arg(alloc))?
+        .arg(new_sync_arg(alloc)?)?
         .arg(file)
 }
 
@@ -68,6 +72,7 @@ fn console_command<'a>(alloc: Global, sizes: &'a SizeTexts) -> Result<Command<'a
         .about("Carries out the lines of standard input, and writes their replies")
         .after_help(LINES)
         .arg(journal_arg(alloc))?
+        .arg(new_sync_arg(alloc)?)?
         .arg(size_arg(alloc, sizes))
 }
 
@@ -272,7 +277,7 @@ fn call_with<'a, S: AsStr>(
 /// What the options of `console` ask for.
 fn console_call(alloc: Global, matches: &ArgMatches<'_>) -> Result<Call, Error> {
     let size = size_in(matches);
-    Ok(match name_in(alloc, matches, "journal")? {
+    Ok(match new_journal_in(alloc, matches)? {
         Some(journal) => Call::KeptConsole { size, journal },
         None => Call::Console { size },
     })
@@ -281,7 +286,7 @@ fn console_call(alloc: Global, matches: &ArgMatches<'_>) -> Result<Call, Error> 
 /// What the options of `load` ask for.
 fn load_call(alloc: Global, matches: &ArgMatches<'_>, file: &str) -> Result<Call, Error> {
     let file = String::from_str(alloc, file)?;
-    Ok(match name_in(alloc, matches, "journal")? {
+    Ok(match new_journal_in(alloc, matches)? {
         Some(journal) => Call::KeptLoad { file, journal },
         None => Call::Load { file },
     })

@@ -1,14 +1,16 @@
 //! What the subcommands `journal` and `resume` do, and sessions whose journal is kept.
+ghost use Rattle.std.specs.Prelude.{◌≡◌, false};
 
 use crate::fault::{Fault, ended};
 use crate::loading::{loaded_room, read_file};
-use arguments_1401::{Resuming, Showing};
+use arguments_1401::{NewJournal, Resuming, Showing};
 use console_1401::{FromReader, SessionEnd, Sink, Source, ToWriter, session};
 use core_1401::CoreFault;
 use journal_1401::{JournalFault, View, carry_chosen};
 use keeping_1401::{
-    FileFault, KeepFault, ShowFault, TakenUp, check_journal, create_journal, keep_session,
-    read_journal_file, read_room, resume_session, show_journal, take_up_journal,
+    Durability, FileFault, JournalFile, KeepFault, ShowFault, TakenUp, check_journal,
+    create_journal, keep_session, read_journal_file, read_room, resume_session, show_journal,
+    take_up_journal,
 };
 use room_1401::{Room, Unkept};
 use std::alloc::Global;
@@ -89,7 +91,7 @@ fn new_room(alloc: Global, size: u16) -> Result<Room, Fault> {
 pub fn keep_console<R: Files<File = File> + Input + Print + AllocGlobal>(
     rt: &R,
     size: u16,
-    journal: String,
+    journal: NewJournal,
 ) -> Result<(), Fault> {
     let room = new_room(rt.alloc(), size)?;
     keep_in_new(rt, room, journal)
@@ -103,27 +105,33 @@ pub fn keep_console<R: Files<File = File> + Input + Print + AllocGlobal>(
 pub fn keep_loaded<R: Files<File = File> + Input + Print + AllocGlobal>(
     rt: &R,
     file: String,
-    journal: String,
+    journal: NewJournal,
 ) -> Result<(), Fault> {
     let text = read_file(rt, file)?;
     let room = loaded_room(rt.alloc(), text.as_slice())?;
     keep_in_new(rt, room, journal)
 }
 
+/// What an entry outlasts, with `--sync` or without.
+fn durability_of(sync: bool) -> Durability {
+    if sync {
+        Durability::Disk
+    } else {
+        Durability::System
+    }
+}
+
 /// Keeps a room in a new file, and holds a session of standard input and output at its console.
 fn keep_in_new<R: Files<File = File> + Input + Print + AllocGlobal>(
     rt: &R,
     room: Room,
-    journal: String,
+    journal: NewJournal,
 ) -> Result<(), Fault> {
-    let name = String::from_str(rt.alloc(), journal.as_str()).map_err(|_| Fault::Memory)?;
-    let file = match create_journal(rt, journal) {
-        Ok(file) => file,
-        Err(fault) => return Err(Fault::Kept(fault)),
-    };
+    let NewJournal { file, sync } = journal;
+    let name = String::from_str(rt.alloc(), file.as_str()).map_err(|_| Fault::Memory)?;
+    let sink = create_journal(rt, file, durability_of(sync)).map_err(Fault::Kept)?;
     let mut reader = FromReader::new(rt.reader());
     let mut writer = ToWriter::new(io::writer(rt));
-    let sink = ToWriter::new(file);
     match keep_by(rt.alloc(), room, sink, &mut reader, &mut writer) {
         Ok(end) => ended(end),
         Err(_) => {
@@ -161,14 +169,15 @@ pub fn resume_file<R: Files<File = File> + Input + Print + Eprint + AllocGlobal>
         journal,
         until,
         without,
+        sync,
     } = asked;
     if journal.is_none() && until.is_none() {
-        return go_on(rt, file);
+        return go_on(rt, file, durability_of(sync));
     }
     let room = read_room(rt, file).map_err(Fault::Kept)?;
     let room = chosen_room(rt.alloc(), &room, until, without.as_slice())?;
     match journal {
-        Some(journal) => keep_in_new(rt, room, journal),
+        Some(file) => keep_in_new(rt, room, NewJournal { file, sync }),
         None => look_at(rt, room),
     }
 }
@@ -206,28 +215,30 @@ fn look_at<R: Input + Print + AllocGlobal>(rt: &R, room: Room) -> Result<(), Fau
 fn go_on<R: Files<File = File> + Input + Print + Eprint + AllocGlobal>(
     rt: &R,
     file: String,
+    durability: Durability,
 ) -> Result<(), Fault> {
-    let TakenUp { room, file, cut } = take_up_journal(rt, file).map_err(Fault::Kept)?;
+    let TakenUp { room, file, cut } = match take_up_journal(rt, file, durability) {
+        Ok(taken) => taken,
+        Err(fault) => return Err(Fault::Kept(fault)),
+    };
     if let Some(line) = cut {
         let _ = eprintln!(rt; "ibm1401: line {line} was unfinished and is cut off");
     }
-    let sink = ToWriter::new(file);
     let mut reader = FromReader::new(rt.reader());
     let mut writer = ToWriter::new(io::writer(rt));
-    ended(resume_by(rt.alloc(), room, sink, &mut reader, &mut writer))
+    ended(resume_by(rt.alloc(), room, file, &mut reader, &mut writer))
 }
 
 /// Holds a session at the console of a room by the file that has its journal.
 fn resume_by<R: Source, W: Sink>(
     alloc: Global,
     room: Room,
-    sink: ToWriter<File>,
+    sink: JournalFile,
     reader: &mut R,
     writer: &mut W,
-) -> SessionEnd {
+) -> SessionEnd
+    requires good { ⟦<JournalFile as Sink>⟧.has_failed sink ≡ false }
+{
     // What the file had before is unknown, and so is what it has.
-    if sink.has_failed() {
-        return SessionEnd::Unkept;
-    }
-    resume_session::<Brand, ToWriter<File>, R, W>(alloc, room, sink, reader, writer)
+    resume_session::<Brand, JournalFile, R, W>(alloc, room, sink, reader, writer)
 }

@@ -1,13 +1,17 @@
 //! The files of journals.
+ghost use Rattle.std.specs.Prelude.{◌≡◌, false, IfOk};
 
 use crate::fault::{FileFault, KeepFault};
+use crate::journal_file::{Durability, JournalFile};
+use console_1401::Sink;
 use journal_1401::{JournalFault, Wrong, recover_journal};
 use room_1401::Room;
 use std::alloc::Global;
 use std::fs::{File, OpenFile, OpenOptions};
-use std::io;
 use std::io::{ErrorKind, Read};
+use std::path::Path;
 use std::rt::Files;
+use std::{fs, io};
 
 /// How many bytes of a file are read at most, which is more than the text of a full journal has.
 const MOST_BYTES: u64 = 67_108_864;
@@ -31,8 +35,36 @@ fn lock(file: &File) -> Result<(), FileFault> {
     }
 }
 
+/// The folder that a file of this name is in.
+fn folder_of(name: &str) -> &str {
+    match Path::new(name).parent() {
+        Some(folder) if !folder.as_str().is_empty() => folder.as_str(),
+        _ => ".",
+    }
+}
+
+/// Forces the name of a file onto the disk where that is asked for: the file's own bytes may be there without it.
+fn keep_name(
+    rt: &impl Files<File = File>,
+    name: &str,
+    durability: Durability,
+) -> Result<(), FileFault> {
+    let synced = match durability {
+        Durability::System => Ok(()),
+        Durability::Disk => match File::open(rt, folder_of(name)) {
+            Ok(folder) => folder.sync_all(),
+            Err(error) => Err(error),
+        },
+    };
+    synced.map_err(|error| file_fault(error.kind(), FileFault::Unwritten))
+}
+
 /// A new file of this name, locked, to which lines are added.
-fn create(rt: &impl Files<File = File>, name: &str) -> Result<File, FileFault> {
+fn create(
+    rt: &impl Files<File = File>,
+    name: &str,
+    durability: Durability,
+) -> Result<File, FileFault> {
     let file = match OpenOptions::new()
         .append(true)
         .create_new(true)
@@ -42,6 +74,11 @@ fn create(rt: &impl Files<File = File>, name: &str) -> Result<File, FileFault> {
         Err(error) => return Err(file_fault(error.kind(), FileFault::Unwritten)),
     };
     lock(&file)?;
+    if let Err(fault) = keep_name(rt, name, durability) {
+        // The file is empty, and this call's own.
+        let _ = fs::remove_file(rt, name);
+        return Err(fault);
+    }
     Ok(file)
 }
 
@@ -50,9 +87,15 @@ fn create(rt: &impl Files<File = File>, name: &str) -> Result<File, FileFault> {
 /// # Errors
 ///
 /// `File`, with the name as it was given.
-pub fn create_journal(rt: &impl Files<File = File>, name: String) -> Result<File, KeepFault> {
-    match create(rt, name.as_str()) {
-        Ok(file) => Ok(file),
+pub fn create_journal(
+    rt: &impl Files<File = File>,
+    name: String,
+    durability: Durability,
+) -> Result<JournalFile, KeepFault>
+    ensures good { IfOk result (λ file. ⟦<JournalFile as Sink>⟧.has_failed file ≡ false) }
+{
+    match create(rt, name.as_str(), durability) {
+        Ok(file) => Ok(JournalFile::new(file, durability)),
         Err(fault) => Err(KeepFault::File(name, fault)),
     }
 }
@@ -118,7 +161,7 @@ pub struct TakenUp {
     /// The room that the journal explains.
     pub room: Room,
     /// Its file, locked, to which lines are added.
-    pub file: File,
+    pub file: JournalFile,
     /// The line that was unfinished, if one was: it is cut off.
     pub cut: Option<u32>,
 }
@@ -127,12 +170,14 @@ pub struct TakenUp {
 fn open(
     rt: &(impl Files<File = File> + AllocGlobal),
     name: &str,
+    durability: Durability,
 ) -> Result<(File, Vec<u8>), FileFault> {
     let file = match OpenOptions::new().read(true).append(true).open(rt, name) {
         Ok(file) => file,
         Err(error) => return Err(file_fault(error.kind(), FileFault::Unreadable)),
     };
     lock(&file)?;
+    keep_name(rt, name, durability)?;
     let text = bytes_of(rt.alloc(), &file)?;
     Ok((file, text))
 }
@@ -146,8 +191,11 @@ fn open(
 pub fn take_up_journal(
     rt: &(impl Files<File = File> + AllocGlobal),
     name: String,
-) -> Result<TakenUp, KeepFault> {
-    let (file, text) = match open(rt, name.as_str()) {
+    durability: Durability,
+) -> Result<TakenUp, KeepFault>
+    ensures good { IfOk result (λ taken. ⟦<JournalFile as Sink>⟧.has_failed taken.file ≡ false) }
+{
+    let (file, text) = match open(rt, name.as_str(), durability) {
         Ok(opened) => opened,
         Err(fault) => return Err(KeepFault::File(name, fault)),
     };
@@ -163,6 +211,7 @@ pub fn take_up_journal(
         }
         Some(room.journal().len() as u32 + 2)
     };
+    let file = JournalFile::new(file, durability);
     Ok(TakenUp { room, file, cut })
 }
 

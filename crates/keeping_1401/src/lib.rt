@@ -1,8 +1,7 @@
 //! Journals of the IBM 1401 that are kept in files: each entry is a line, written before its command's reply.
 //!
 //! ```text
-//! let file = create_journal(rt, alloc, "friday.journal")?;            // new, and locked
-//! let sink = ToWriter::new(file);
+//! let sink = create_journal(rt, name, Durability::Disk)?;                 // new, and locked
 //! keep_session::<J, _, _, _>(alloc, room, sink, &mut reader, &mut writer) // each command is kept, then answered
 //! ```
 #![tactic(auto)]
@@ -17,12 +16,14 @@ pub mod text_keeper;
 
 // the files of journals
 pub mod files;
+pub mod journal_file;
 
 // a journal shown or checked
 pub mod showing;
 
 pub use fault::{FileFault, KeepFault};
 pub use files::{TakenUp, create_journal, read_journal_file, read_room, take_up_journal};
+pub use journal_file::{Durability, JournalFile};
 pub use keeping::{keep_room, take_up_room};
 pub use sessions::{keep_session, resume_session};
 pub use showing::{ShowFault, check_journal, show_journal};

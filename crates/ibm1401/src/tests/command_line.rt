@@ -1,8 +1,9 @@
 //! The command line, and what it is refused for.
 
-use arguments_1401::{Call, read_call};
+use arguments_1401::{Call, NewJournal, Resuming, read_call};
 use clap::error::ErrorKind;
 use core_1401::SIZES;
+use std::alloc::Global;
 use std::test::Fail;
 
 #[test]
@@ -69,6 +70,18 @@ fn a_bad_command_line_is_refused(rt: HostRuntime) {
             ["ibm1401", "console", "extra"].as_slice(),
             ErrorKind::UnknownArgument,
         ),
+        (
+            ["ibm1401", "console", "--sync"].as_slice(),
+            ErrorKind::MissingRequiredArgument,
+        ),
+        (
+            ["ibm1401", "load", "--sync", "an image"].as_slice(),
+            ErrorKind::MissingRequiredArgument,
+        ),
+        (
+            ["ibm1401", "resume", "--sync", "--until", "1", "a journal"].as_slice(),
+            ErrorKind::ValueValidation,
+        ),
         (["ibm1401"].as_slice(), ErrorKind::MissingSubcommand),
         (["ibm1401", "--help"].as_slice(), ErrorKind::DisplayHelp),
     ] {
@@ -77,4 +90,77 @@ fn a_bad_command_line_is_refused(rt: HostRuntime) {
             .err();
         assert_eq!(rt; refused, Some(kind));
     }
+}
+
+/// A new journal in the file `new`.
+fn new_journal(alloc: Global, sync: bool) -> Result<NewJournal, Fail> {
+    let file = String::from_str(alloc, "new")?;
+    Ok(NewJournal { file, sync })
+}
+
+#[test]
+fn a_journal_may_be_forced_onto_the_disk(rt: HostRuntime) -> Result<(), Fail> {
+    let alloc = rt.alloc();
+    for (last, sync) in [(4, false), (5, true)] {
+        let words = ["ibm1401", "console", "--journal", "new", "--sync"];
+        let journal = new_journal(alloc, sync)?;
+        let size = 4_000;
+        let call = read_call(alloc, &words[..last])?;
+        assert_eq!(rt; call, Call::KeptConsole { size, journal });
+        let words = ["ibm1401", "load", "image", "--journal=new", "--sync"];
+        let journal = new_journal(alloc, sync)?;
+        let file = String::from_str(alloc, "image")?;
+        let call = read_call(alloc, &words[..last])?;
+        assert_eq!(rt; call, Call::KeptLoad { file, journal });
+    }
+    Ok(())
+}
+
+#[test]
+fn a_journal_that_goes_on_may_be_forced_onto_the_disk(rt: HostRuntime) -> Result<(), Fail> {
+    let alloc = rt.alloc();
+    for (words, has_journal, until, sync) in [
+        (["ibm1401", "resume", "old"].as_slice(), false, None, false),
+        (
+            ["ibm1401", "resume", "old", "--sync"].as_slice(),
+            false,
+            None,
+            true,
+        ),
+        (
+            ["ibm1401", "resume", "old", "--until", "7"].as_slice(),
+            false,
+            Some(7),
+            false,
+        ),
+        (
+            [
+                "ibm1401",
+                "resume",
+                "old",
+                "--sync",
+                "--until=7",
+                "--journal=new",
+            ]
+            .as_slice(),
+            true,
+            Some(7),
+            true,
+        ),
+    ] {
+        let journal = if has_journal {
+            Some(String::from_str(alloc, "new")?)
+        } else {
+            None
+        };
+        let resuming = Resuming {
+            file: String::from_str(alloc, "old")?,
+            journal,
+            until,
+            without: Vec::new(alloc),
+            sync,
+        };
+        assert_eq!(rt; read_call(alloc, words)?, Call::Resume(resuming));
+    }
+    Ok(())
 }
