@@ -1,7 +1,6 @@
 //! How the input closes a room.
 
 use crate::tests::button::{Button, Pressed};
-use crate::tests::lines::Lines;
 use crate::tests::operators::{Operators, hear_end, hear_line, send, visit};
 use crate::tests::service::{hold, listen};
 use console_1401::{Door, OpenDoor};
@@ -69,7 +68,7 @@ fn quit_closes_the_room_after_the_last_reply(rt: HostRuntime) -> Result<(), Fail
             &rt,
             rt.alloc(),
             2,
-            Lines::new(rt.alloc(), 99),
+            99,
             &listen(&rt)?,
             Pressed::new(&button, input, fails),
             &button,
@@ -126,7 +125,7 @@ fn consoles_go_on_after_a_refused_connection(rt: HostRuntime) -> Result<(), Fail
         &rt,
         rt.alloc(),
         2,
-        Lines::new(rt.alloc(), 99),
+        99,
         &listener,
         Pressed::new(&button, b"QUIT\n", false),
         &button,
@@ -167,7 +166,7 @@ fn a_command_that_is_not_kept_has_no_reply(rt: HostRuntime) -> Result<(), Fail> 
         &rt,
         rt.alloc(),
         2,
-        Lines::new(rt.alloc(), 1),
+        1,
         &listen(&rt)?,
         Pressed::new(&button, b"QUIT\n", false),
         &button,

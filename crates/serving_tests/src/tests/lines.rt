@@ -1,5 +1,7 @@
 //! A keeper whose lines a test can read.
 
+ghost use Rattle.std.specs.Prelude.{◌≡◌, false};
+
 use journal_1401::put_entry;
 use room_1401::{Entry, Keeper, Unkept};
 use std::alloc::Global;
@@ -15,7 +17,9 @@ pub struct Lines {
 
 impl Lines {
     /// No line, and room for as many.
-    pub fn new(alloc: Global, room_for: u64) -> Lines {
+    pub fn new(alloc: Global, room_for: u64) -> Lines
+        ensures { result.failed ≡ false }
+    {
         Lines {
             alloc,
             text: Vec::new(alloc),

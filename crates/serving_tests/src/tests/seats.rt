@@ -1,7 +1,6 @@
 //! Seats that are given, and given again.
 
 use crate::tests::button::{Button, Pressed};
-use crate::tests::lines::Lines;
 use crate::tests::operators::{Operators, hear_end, hear_line, send, visit};
 use crate::tests::service::{hold, listen};
 use console_1401::OpenDoor;
@@ -44,7 +43,7 @@ fn the_lowest_free_seat_is_given(rt: HostRuntime) -> Result<(), Fail> {
         &rt,
         rt.alloc(),
         3,
-        Lines::new(rt.alloc(), 99),
+        99,
         &listen(&rt)?,
         Pressed::new(&button, b"QUIT\n", false),
         &button,
@@ -93,7 +92,7 @@ fn a_connection_without_a_seat_is_told_full(rt: HostRuntime) -> Result<(), Fail>
         &rt,
         rt.alloc(),
         1,
-        Lines::new(rt.alloc(), 99),
+        99,
         &listen(&rt)?,
         Pressed::new(&button, b"", false),
         &button,
@@ -136,7 +135,7 @@ fn a_probe_of_the_port_costs_no_seat(rt: HostRuntime) -> Result<(), Fail> {
         &rt,
         rt.alloc(),
         1,
-        Lines::new(rt.alloc(), 99),
+        99,
         &listen(&rt)?,
         Pressed::new(&button, b"QUIT", false),
         &button,

@@ -51,7 +51,7 @@ pub fn hold<
     rt: &R,
     alloc: Global,
     seats: u8,
-    keeper: Lines,
+    room_for: u64,
     listener: &TcpListener,
     input: Pressed<'_>,
     button: &Button,
@@ -62,7 +62,7 @@ pub fn hold<
 {
     let opened = Opened::new(seats);
     open::<Brand, R, O, D>(
-        rt, alloc, seats, opened, keeper, listener, input, button, operators, door,
+        rt, alloc, seats, opened, room_for, listener, input, button, operators, door,
     )
 }
 
@@ -77,7 +77,7 @@ fn open<
     alloc: Global,
     seats: u8,
     opened: Opened,
-    keeper: Lines,
+    room_for: u64,
     listener: &TcpListener,
     input: Pressed<'_>,
     button: &Button,
@@ -89,6 +89,7 @@ fn open<
     requires named { (4000 ≡ J.size) × (seats ≡ J.seats) }
     requires count { (0 < seats) × (seats ≤ 8) }
 {
+    let keeper = Lines::new(alloc, room_for);
     let (room, seats) = SharedRoom::<J, &R, Lines>::power_on_kept(
         rt, alloc, 4_000, seats, opened, keeper,
     )?;
