@@ -37,7 +37,9 @@ pub(crate) fn serve_command<'a>(
         .conflicts_with("size")?;
     let keep_seats = Arg::new(alloc, "keep-seats")
         .long("keep-seats")
-        .help("Gives the seat of a console that has ended to the next operator, as --journal and --image do")
+        .help(
+            "Gives the seat of a console that has ended to the next operator, as --journal and --image do",
+        )
         .action(ArgAction::SetTrue);
     Command::new(alloc, "serve")
         .about("Opens a machine to operators, each with a connection of his own")

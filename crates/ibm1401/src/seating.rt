@@ -14,9 +14,7 @@ use console_1401::OpenDoor;
 use core_1401::Core;
 use image_1401::{Image, read_image};
 use keeping_1401::{JournalFile, TextKeeper, begin_journal};
-use room_1401::{
-    Carried, Command, Keeper, NoKeeper, Opened, RoomFault, RoomId, Seat, SharedRoom,
-};
+use room_1401::{Carried, Command, Keeper, NoKeeper, Opened, RoomFault, RoomId, Seat, SharedRoom};
 use serving_1401::{SeatsFault, SeatsServed, serve_seats};
 use std::fs;
 use std::fs::File;
@@ -98,7 +96,14 @@ pub fn open_seats<
     let sink = begin_journal(rt, file, size, durability_of(sync)).map_err(Fault::Kept)?;
     let keeper = TextKeeper::<Brand, JournalFile>::new(rt.alloc(), sink);
     serve_room::<Brand, R, TextKeeper<Brand, JournalFile>>(
-        rt, size, operators, image, opened, keeper, &listener, Some(made),
+        rt,
+        size,
+        operators,
+        image,
+        opened,
+        keeper,
+        &listener,
+        Some(made),
     )
 }
 
@@ -131,7 +136,14 @@ fn serve_room<
     requires kept { Appends K.first (K.kept keeper) (kept_text K.form size []) }
 {
     let alloc = rt.alloc();
-    let begun = SharedRoom::<J, &R, K>::power_on_kept(rt, alloc, size, operators.seats, opened, keeper);
+    let begun = SharedRoom::<J, &R, K>::power_on_kept(
+        rt,
+        alloc,
+        size,
+        operators.seats,
+        opened,
+        keeper,
+    );
     let (room, mut seats) = match begun {
         Ok(begun) => begun,
         Err(fault) => {
@@ -149,8 +161,11 @@ fn serve_room<
         return Err(Fault::Output);
     }
     let input = FromReader::new(rt.reader());
-    let SeatsServed { room, keeper, fault } =
-        serve_seats(alloc, rt, room, seats, listener, input, &OpenDoor);
+    let SeatsServed {
+        room,
+        keeper,
+        fault,
+    } = serve_seats(alloc, rt, room, seats, listener, input, &OpenDoor);
     let told = println!(rt; "JOURNAL {}", room.journal().len());
     seats_outcome(keeper.has_failed(), fault)?;
     told.map_err(|_| Fault::Output)

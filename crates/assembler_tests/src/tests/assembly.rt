@@ -204,10 +204,16 @@ fn fault_of_image(rt: &HostRuntime, source: &[u8], size: u16) -> Option<(u64, As
 #[test]
 fn an_image_alone_is_refused_by_line_and_kind(rt: HostRuntime) {
     let undefined = b"               ORG  400\n               B    NONE\n               END  400\n";
-    assert_eq!(rt; fault_of_image(&rt, undefined, 4_000), Some((2, AsmKind::Undefined)));
+    assert_eq!(rt;
+        fault_of_image(&rt, undefined, 4_000),
+        Some((2, AsmKind::Undefined))
+    );
     let far = b"               END  3999\n";
     assert_eq!(rt; fault_of_image(&rt, far, 4_000), None);
-    assert_eq!(rt; fault_of_image(&rt, far, 2_000), Some((1, AsmKind::OutOfCore)));
+    assert_eq!(rt;
+        fault_of_image(&rt, far, 2_000),
+        Some((1, AsmKind::OutOfCore))
+    );
     assert_eq!(rt; fault_of_image(&rt, b"", 4_000), Some((1, AsmKind::NoEnd)));
 }
 
