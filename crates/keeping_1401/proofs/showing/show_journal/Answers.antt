@@ -1,5 +1,5 @@
 -- What is left is an unfinished line.
-use Rattle.std.proofs.Common.{ℕ, ◌+◌, ◌<◌, List, arith, length, rules, subst, sym}
+use Rattle.std.proofs.Common.{◌+◌, ◌<◌, List, arith, length, rules, subst, sym}
 use Rattle.std.proofs.lemmas.Bool.Decides.{nat_tests}
 use Rattle.room_1401.specs.declared.entry.Entry.{Entry}
 use Rattle.journal_1401.specs.Reading.{IsCut}
