@@ -138,7 +138,7 @@ def kept(folder):
     text += b"3\t0\tEXAMINE 0700 3\t~999\n"
     tell("it goes on in the same file", "; ".join(difference("the file", path.read_bytes(), text)))
     expect("one seat's commands", run([PROGRAM, "journal", "--seat", "2", path]), 0,
-           "2 seat 2  DEPOSIT 0710 A                 OK\n")
+           "2 seat 2  DEPOSIT 0710 A               OK\n")
 
 
 def unkept(folder):
@@ -156,7 +156,7 @@ def unkept(folder):
         answer("its console has ended", hear(first), b"")
         answer("a glance doesn't show it", say(second, b"GLANCE 0700\n"), b"AFTER 1 A\n")
         answer("every later command is refused", say(second, b"EXAMINE 0700\n"), b"FAULT 4 UNKEPT\n")
-    room.ended("an unkept room ends", 2)
+    room.ended("an unkept room ends", 2, status=1, error="ibm1401: session ended: UNKEPT\n")
 
 
 class Operator(threading.Thread):
