@@ -8,6 +8,7 @@ use clap::Error;
 use console_1401::SessionEnd;
 use files_1401::FileFault;
 use running_1401::RunFault;
+use serving_1401::SeatsFault;
 use std::alloc::Global;
 use std::test::Fail;
 
@@ -35,6 +36,31 @@ fn each_fault_is_one_line(rt: HostRuntime) -> Result<(), Fail> {
         (Fault::Bound, 1, "ibm1401: session ended: BOUND\n"),
         (Fault::Reply, 1, "ibm1401: session ended: MEMORY\n"),
         (Fault::Unkept, 1, "ibm1401: session ended: UNKEPT\n"),
+        (
+            Fault::Seats(SeatsFault::Memory),
+            1,
+            "ibm1401: memory refused\n",
+        ),
+        (
+            Fault::Seats(SeatsFault::Accept),
+            1,
+            "ibm1401: accept failed\n",
+        ),
+        (
+            Fault::Seats(SeatsFault::Thread),
+            1,
+            "ibm1401: thread refused\n",
+        ),
+        (
+            Fault::Seats(SeatsFault::Input),
+            1,
+            "ibm1401: input failed\n",
+        ),
+        (
+            Fault::Seats(SeatsFault::Unreturned),
+            1,
+            "ibm1401: a seat isn't back\n",
+        ),
     ] {
         let told = Recorder::new(rt.alloc());
         assert_eq!(rt; report(&told, Err(fault)), status, "{line}");
