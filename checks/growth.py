@@ -11,10 +11,12 @@ from functools import cache
 from pathlib import Path
 
 from checks.report import PROGRAM, SECONDS, TOP, difference, run, tell
+from checks.seats import Room
 from checks.service import Service, say
 
 MEMORY = b"ibm1401: memory refused\n"
 THREAD = b"ibm1401: thread refused\n"
+UNKEPT = b"ibm1401: session ended: UNKEPT\n"
 MOST_GROWTHS = 10_000
 LINES = [
     b"DEPOSIT 0500 ~K\n", b"EXAMINE 0500\n", b"HELLO\n", b"DEPOSIT 0600 ~A500500~.\n", b"START 0600\n", b"GLANCE 0500\n",
@@ -233,6 +235,58 @@ def served_outcome(told, status, output, error):
     return end, "; ".join(wrong)
 
 
+def seats_end(how):
+    """How a room ended whose seat is taken again and whose journal is kept, in which one growth was refused."""
+    with tempfile.TemporaryDirectory() as folder:
+        path, told = Path(folder) / "new.journal", []
+        room = Room("serve", "--port", "PORT", "--seats", "1", "--journal", path, **how)
+        try:
+            console = room.console() if room.first.startswith(b"READY\n") else None
+        except OSError:
+            console = None
+        for line in (*LINES, b"QUIT\n") if console else ():
+            said = say(console, line)
+            told.append((line, said if said.endswith(b"\n") else b""))
+            if told[-1][1] in (b"", b"BYE\n"):
+                break
+        output, error = room.process.communicate(b"QUIT\n", timeout=SECONDS)
+        if console:
+            console.close()
+        text = path.read_bytes() if path.exists() else None
+    status, output = room.process.returncode, room.first + output
+    if not output:
+        is_so = (status, output, text) == (1, b"", None)
+        is_so &= error in (MEMORY, b"ibm1401: no reader\n", b"ibm1401: %s: cannot be written\n" % bytes(path))
+        return "before READY", "" if is_so else f"{status} {output} {error} {text}"
+    if error == MEMORY:
+        is_so = (status, output, text) == (1, b"READY\nJOURNAL 0\n", b"JOURNAL1 4000\n")
+        return "before a console", "" if is_so else f"{status} {output} {text}"
+    return kept_outcome(told, status, output, error, text)
+
+
+def kept_outcome(told, status, output, error, text):
+    """What became of a kept room that was opened. Its console is told what one is told that gives the commands which were
+    carried out; the file has all of them, but for a last one that wasn't kept and has no reply."""
+    is_unserved, is_unkept = error == THREAD, error == UNKEPT
+    kept = [] if is_unserved else [each for each in told if each[1] != b"FAULT 1 MEMORY\n" and each[0] != b"QUIT\n"]
+    wanted = replies(tuple(line for line, _ in kept))
+    wrong = [f"{line}: {reply}, not {want}" for (line, reply), want in zip(kept, wanted, strict=True) if reply not in (want, b"")]
+    lost = [line for line, reply in told if not reply]
+    refused = [line for line, reply in told if reply == b"FAULT 1 MEMORY\n"]
+    wrong += [f"no reply to {lost}, and {refused} refused"] if len(lost) + len(refused) > 1 else []
+    wrong += ["a command that isn't kept is answered"] if is_unkept and not lost else []
+    commands = [line for line, _ in kept if line.split()[0] not in (b"HELLO", b"GLANCE")]
+    wrong += difference("standard output", output, f"READY\nJOURNAL {len(commands)}\n")
+    wrong += [f"{status}, {error}"] if (status, error) not in ((0, b""), (1, THREAD), (1, UNKEPT)) else []
+    found = [line.split(b"\t")[2].split()[0] for line in text.splitlines()[1:]]
+    there = commands[:-1] if is_unkept else commands
+    wrong += difference("the journal", b" ".join(found), b" ".join(line.split()[0] for line in there))
+    if is_unkept:
+        return "unkept", "; ".join(wrong)
+    end = "at the journal" if refused else "at a thread" if is_unserved else "at a reply" if lost else "without an effect"
+    return end, "; ".join(wrong)
+
+
 def growth():
     """Every call of the program, with each growth that it asks for refused in turn."""
     if shutil.which("cc") is None:
@@ -242,4 +296,6 @@ def growth():
         refusing = Refusing(Path(folder))
         number = sessions(refusing) + texts(refusing) + disassemblies(refusing) + jobs(refusing)
         number += refusing.each("serve", served_end, ["before READY", "at the journal", "at a reply"])
+        ends = ["before READY", "before a console", "at the journal", "unkept", "at a reply"]
+        number += refusing.each("serve --journal", seats_end, ends)
     tell(f"{number} runs with a growth refused", "" if number > 300 else "these are few")
