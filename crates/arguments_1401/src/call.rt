@@ -201,4 +201,11 @@ pub enum Call {
     Journal(Showing),
     /// A session that goes on where a journal ends.
     Resume(Resuming),
+    /// A room that operators share, which goes on where a journal ends.
+    ResumeSeats {
+        /// The journal.
+        resuming: Resuming,
+        /// Who comes.
+        operators: Operators,
+    },
 }

@@ -2,6 +2,7 @@
 
 use crate::call::{Call, NewJournal, Resuming, Showing};
 use crate::reading::{LINES, name_in};
+use crate::serving::{operators_in, port_arg, seats_arg};
 use clap::error::ErrorKind;
 use clap::{Arg, ArgAction, ArgMatches, Command, Error, value_parser};
 use std::alloc::{AllocError, Global};
@@ -76,12 +77,16 @@ pub(crate) fn resume_command<'a>(alloc: Global) -> Result<Command<'a>, AllocErro
         .value_name("N,..")
         .help("Leaves these commands out; --journal names the file of what is left");
     Command::new(alloc, "resume")
-        .about("Carries out the commands of a journal again, and goes on as console does")
+        .about(
+            "Carries out the commands of a journal again, and goes on as console does, or with --port as serve does",
+        )
         .after_help(LINES)
         .arg(journal)?
         .arg(until)?
         .arg(without)?
         .arg(sync_arg(alloc))?
+        .arg(port_arg(alloc).requires_arg("seats")?)?
+        .arg(seats_arg(alloc).requires_arg("port")?)?
         .arg(file_arg(alloc))
 }
 
@@ -138,13 +143,20 @@ pub(crate) fn resume_call(
             "--until keeps nothing without --journal, so --sync has nothing to write",
         )?);
     }
-    Ok(Call::Resume(Resuming {
+    let resuming = Resuming {
         file: String::from_str(alloc, file)?,
         journal,
         until,
         without,
         sync,
-    }))
+    };
+    Ok(match operators_in(matches) {
+        Some(operators) => Call::ResumeSeats {
+            resuming,
+            operators,
+        },
+        None => Call::Resume(resuming),
+    })
 }
 
 /// A refusal of what `resume` is asked for.

@@ -6,7 +6,12 @@ use Rattle.console_1401.specs.declared.serving.ServeFault.{ServeFault}
 use Rattle.console_1401.specs.declared.serving.ServeFault.TheVariants as serve
 use Rattle.console_1401.specs.declared.session_end.SessionEnd.{SessionEnd}
 use Rattle.console_1401.specs.declared.session_end.SessionEnd.TheVariants as end
+use Rattle.room_1401.specs.declared.fault.RoomFault.{RoomFault}
+use Rattle.room_1401.specs.declared.fault.RoomFault.TheVariants as room
 use Rattle.serving_1401.specs.declared.fault.SeatsFault.{SeatsFault}
+use Rattle.serving_1401.specs.declared.fault.SeatsFault.TheVariants as seats
+use Rattle.serving_1401.specs.declared.giving.GiveFault.{GiveFault}
+use Rattle.serving_1401.specs.declared.giving.GiveFault.TheVariants as give
 use Rattle.ibm1401.specs.declared.fault.Fault.{Fault}
 use Rattle.ibm1401.specs.declared.fault.Fault.TheVariants as fault
 
@@ -33,6 +38,7 @@ status_of fault.Reply = 1
 status_of fault.Unkept = 1
 status_of (fault.Kept why) = 1
 status_of fault.NoReader = 1
+status_of (fault.NoSeat seat) = 1
 status_of fault.Port = 1
 status_of fault.Accept = 1
 status_of fault.Thread = 1
@@ -71,3 +77,15 @@ abbrev pub seats_outcome : Bool → Option SeatsFault → Result ⊤ Fault
 seats_outcome true why = Err fault.Unkept
 seats_outcome false None = Ok tt
 seats_outcome false (Some why) = Err (fault.Seats why)
+
+-- what a command that is refused before operators come is for the program
+abbrev pub room_fault : RoomFault → Fault
+room_fault room.Memory = fault.Memory
+room_fault room.JournalFull = fault.JournalFull
+room_fault room.NoReading = fault.Seats seats.Unreturned
+room_fault room.Unkept = fault.Unkept
+
+-- what it is for the program that the commands of a journal aren't all given again
+abbrev pub give_fault : GiveFault → Fault
+give_fault (give.NoSeat seat) = fault.NoSeat seat
+give_fault (give.Refused why) = room_fault why

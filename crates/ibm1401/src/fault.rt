@@ -86,6 +86,9 @@ pub enum Fault {
     /// A journal isn't kept, or isn't taken up.
     #[error("{0}")]
     Kept(KeepFault),
+    /// The journal has entries of this seat, and the room that goes on hasn't got it.
+    #[error("there is no seat {0}, whose commands the journal has")]
+    NoSeat(u8),
     /// The port can't be had.
     #[error("port refused")]
     Port,
@@ -114,7 +117,7 @@ impl Fault {
             Fault::Read | Fault::Write | Fault::Bound | Fault::Reply => FAILED,
             Fault::Unkept | Fault::Kept(_) => FAILED,
             Fault::NoReader | Fault::Port | Fault::Accept | Fault::Thread => FAILED,
-            Fault::Seats(_) => FAILED,
+            Fault::NoSeat(_) | Fault::Seats(_) => FAILED,
         }
     }
 }

@@ -183,7 +183,11 @@ pub fn resume_file<R: Files<File = File> + Input + Print + Eprint + AllocGlobal>
 }
 
 /// A room that has carried out some of a room's commands again.
-fn chosen_room(
+///
+/// # Errors
+///
+/// `Kept` if the journal has no entry of a number that is named, or `Memory`.
+pub(crate) fn chosen_room(
     alloc: Global,
     room: &Room,
     until: Option<u64>,
@@ -211,19 +215,26 @@ fn look_at<R: Input + Print + AllocGlobal>(rt: &R, room: Room) -> Result<(), Fau
     ended(session(rt.alloc(), &mut room, &mut reader, &mut writer))
 }
 
+/// Tells on standard error which line was cut off, if one was.
+pub(crate) fn tell_cut(rt: &impl Eprint, cut: Option<u32>) {
+    if let Some(line) = cut {
+        let _ = eprintln!(rt; "ibm1401: line {line} was unfinished and is cut off");
+    }
+}
+
 /// Goes on in the file of a journal.
 fn go_on<R: Files<File = File> + Input + Print + Eprint + AllocGlobal>(
     rt: &R,
     file: String,
     durability: Durability,
 ) -> Result<(), Fault> {
-    let TakenUp { room, file, cut } = match take_up_journal(rt, file, durability) {
+    let TakenUp {
+        room, file, cut, ..
+    } = match take_up_journal(rt, file, durability) {
         Ok(taken) => taken,
         Err(fault) => return Err(Fault::Kept(fault)),
     };
-    if let Some(line) = cut {
-        let _ = eprintln!(rt; "ibm1401: line {line} was unfinished and is cut off");
-    }
+    tell_cut(rt, cut);
     let mut reader = FromReader::new(rt.reader());
     let mut writer = ToWriter::new(io::writer(rt));
     ended(resume_by(rt.alloc(), room, file, &mut reader, &mut writer))

@@ -6,6 +6,7 @@ mod disassembling;
 mod fault;
 mod journals;
 mod loading;
+mod resuming;
 mod seating;
 mod serving;
 mod source_faults;
@@ -18,6 +19,7 @@ use crate::disassembling::write_disassembly;
 use crate::fault::{Fault, report};
 use crate::journals::{journal_file, keep_console, keep_loaded, resume_file};
 use crate::loading::{load, read_file, read_named_file};
+use crate::resuming::resume_seats;
 use crate::seating::open_seats;
 use crate::serving::open_room;
 use crate::source_file::assemble_file;
@@ -88,6 +90,10 @@ fn run<
         Ok(Call::KeptLoad { file, journal }) => keep_loaded(rt, file, journal),
         Ok(Call::Journal(asked)) => journal_file(rt, asked),
         Ok(Call::Resume(asked)) => resume_file(rt, asked),
+        Ok(Call::ResumeSeats {
+            resuming,
+            operators,
+        }) => resume_seats(rt, resuming, operators),
         Err(error) => tell(rt, error),
     }
 }

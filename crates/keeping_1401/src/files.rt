@@ -1,18 +1,19 @@
 //! The files of journals.
 ghost use Rattle.std.specs.Prelude.{◌≡◌, false, IfOk};
+ghost use Rattle.journal_1401.specs.JournalText.{journal_text};
 
 use crate::fault::{FileFault, KeepFault};
 use crate::journal_file::{Durability, JournalFile};
 use crate::keeping::begin_text;
 use console_1401::Sink;
 use journal_1401::{JournalFault, Wrong, recover_journal};
-use room_1401::Room;
+use room_1401::{Entry, Room};
 use std::alloc::Global;
 use std::fs::{File, OpenFile, OpenOptions};
 use std::io::{ErrorKind, Read};
 use std::path::Path;
+use std::fs;
 use std::rt::Files;
-use std::{fs, io};
 
 /// How many bytes of a file are read at most, which is more than the text of a full journal has.
 const MOST_BYTES: u64 = 67_108_864;
@@ -183,6 +184,19 @@ pub fn read_room(
     }
 }
 
+/// A journal that can be taken up: its file is open and locked, and as it was found.
+#[derive(Drop)]
+pub struct FoundJournal {
+    name: String,
+    file: File,
+    durability: Durability,
+    // The lines of the file, and how many bytes of an unfinished line follow them.
+    text: Vec<u8>,
+    rest: usize,
+    room: Room,
+    ghost text_is: { text.items ≡ journal_text room.size room.journal };
+}
+
 /// A journal that is taken up.
 #[derive(Drop)]
 pub struct TakenUp {
@@ -190,6 +204,8 @@ pub struct TakenUp {
     pub room: Room,
     /// Its file, locked, to which lines are added.
     pub file: JournalFile,
+    /// The text that the file has.
+    pub text: Vec<u8>,
     /// The line that was unfinished, if one was: it is cut off.
     pub cut: Option<u32>,
 }
@@ -210,20 +226,18 @@ fn open(
     Ok((file, text))
 }
 
-/// Takes up the journal of a file: its commands are carried out again, and their answers compared. An unfinished last
-/// line is cut off.
+/// Opens the file of a journal, and locks it: its commands are carried out again, and their answers compared. The file
+/// stays as it is.
 ///
 /// # Errors
 ///
-/// `File` if the file can't be read or written, or is in use; `Journal` if it has no journal. The file is as it was.
-pub fn take_up_journal(
+/// `File` if the file can't be read or written, or is in use; `Journal` if it has no journal; or `Memory`.
+pub fn find_journal(
     rt: &(impl Files<File = File> + AllocGlobal),
     name: String,
     durability: Durability,
-) -> Result<TakenUp, KeepFault>
-    ensures good { IfOk result (λ taken. ⟦<JournalFile as Sink>⟧.has_failed taken.file ≡ false) }
-{
-    let (file, text) = match open(rt, name.as_str(), durability) {
+) -> Result<FoundJournal, KeepFault> {
+    let (file, mut text) = match open(rt, name.as_str(), durability) {
         Ok(opened) => opened,
         Err(fault) => return Err(KeepFault::File(name, fault)),
     };
@@ -231,19 +245,73 @@ pub fn take_up_journal(
         Ok((room, rest)) => (room, rest.len()),
         Err(fault) => return Err(no_journal(name, fault)),
     };
-    let cut = if rest == 0 {
-        None
-    } else {
-        if cut_off(&file, text.len(), rest).is_err() {
-            return Err(KeepFault::File(name, FileFault::Unwritten));
-        }
-        Some(room.journal().len() as u32 + 2)
-    };
-    let file = JournalFile::new(file, durability);
-    Ok(TakenUp { room, file, cut })
+    text.truncate(text.len() - rest);
+    Ok(FoundJournal {
+        name,
+        file,
+        durability,
+        text,
+        rest,
+        room,
+    })
 }
 
-/// Cuts the last bytes off a file of this length.
-fn cut_off(file: &File, len: usize, rest: usize) -> io::Result<()> {
-    file.set_len((len.saturating_sub(rest)) as u64)
+impl FoundJournal {
+    /// The entries of the journal.
+    pub fn entries(&self) -> &[Entry] {
+        self.room.journal()
+    }
+
+    /// Takes the journal up: an unfinished last line is cut off.
+    ///
+    /// # Errors
+    ///
+    /// `File` if the line can't be cut off; the file is as it was.
+    pub fn take_up(self) -> Result<TakenUp, KeepFault>
+        ensures good { IfOk result (λ taken. ⟦<JournalFile as Sink>⟧.has_failed taken.file ≡ false) }
+        ensures text { IfOk result (λ taken. taken.text.items ≡ journal_text taken.room.size taken.room.journal) }
+    {
+        let FoundJournal {
+            name,
+            file,
+            durability,
+            text,
+            rest,
+            room,
+        } = self;
+        let cut = if rest == 0 {
+            None
+        } else {
+            if file.set_len(text.len() as u64).is_err() {
+                return Err(KeepFault::File(name, FileFault::Unwritten));
+            }
+            Some(room.journal().len() as u32 + 2)
+        };
+        let file = JournalFile::new(file, durability);
+        Ok(TakenUp {
+            room,
+            file,
+            text,
+            cut,
+        })
+    }
+}
+
+/// Takes up the journal of a file: its commands are carried out again, and their answers compared. An unfinished last
+/// line is cut off.
+///
+/// # Errors
+///
+/// Those of `find_journal`, and `File` if the line can't be cut off. The file is as it was.
+pub fn take_up_journal(
+    rt: &(impl Files<File = File> + AllocGlobal),
+    name: String,
+    durability: Durability,
+) -> Result<TakenUp, KeepFault>
+    ensures good { IfOk result (λ taken. ⟦<JournalFile as Sink>⟧.has_failed taken.file ≡ false) }
+{
+    match find_journal(rt, name, durability) {
+        Ok(found) => found.take_up(),
+        Err(fault) => Err(fault),
+    }
 }

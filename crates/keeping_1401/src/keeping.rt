@@ -1,13 +1,17 @@
 //! A room whose journal is kept as a text.
-ghost use Rattle.std.specs.Prelude.{◌≡◌, [], false, IfOk, OnOk};
+ghost use Rattle.std.specs.Prelude.{◌≡◌, [], false, length, IfOk, OnOk};
 ghost use Rattle.std.specs.Io.KnownBytes.{Appends};
+ghost use Rattle.std.specs.Option.{ForSome};
 ghost use Rattle.journal_1401.specs.JournalText.{journal_text};
+ghost use Rattle.room_1401.specs.Kept.{BeginsWith};
+ghost use Rattle.keeping_1401.specs.Verifying.{emptied, verified};
 
 use crate::text_keeper::{Beginning, TextKeeper};
+use crate::verifier::Verifier;
 use console_1401::{Sink, put_all};
 use journal_1401::write_journal;
-use room_1401::{Entry, KeptRoom, Room, Unkept};
-use std::alloc::Global;
+use room_1401::{Entry, Keeper, KeptRoom, Room, Unkept};
+use std::alloc::{AllocError, Global};
 
 /// Writes the first line of the journal of a machine of this size.
 ///
@@ -74,4 +78,33 @@ pub fn take_up_room<J: Beginning, S: Sink + Drop>(
     ensures kept { result.kept ≡ S.received sink }
 {
     KeptRoom::new(room, TextKeeper::new(alloc, sink))
+}
+
+/// A keeper for a machine at power-on whose seats give the commands of a journal again, by a sink that has the
+/// journal's text: each line is compared with that text, and the lines behind it are added. Where a line differs, its
+/// entry isn't kept.
+///
+/// # Errors
+///
+/// If memory is refused.
+pub fn verify_journal<J: Beginning, S: Sink + Drop>(
+    alloc: Global,
+    sink: S,
+    text: Vec<u8>,
+    size: u16,
+) -> Result<TextKeeper<J, Verifier<S>>, AllocError>
+    requires text { ForSome (S.received sink) (λ held. held ≡ text.items) }
+    requires head { BeginsWith text.items (journal_text size []) }
+    // The call picks `J`: what comes back from the sink is the text alone.
+    requires { J.first ≡ emptied (S.received sink) }
+    ensures good { IfOk result (λ keeper. ⟦<TextKeeper<J, Verifier<S>> as Keeper>⟧.has_failed keeper
+        ≡ S.has_failed sink) }
+    ensures kept { IfOk result (λ keeper. Appends J.first (⟦<TextKeeper<J, Verifier<S>> as Keeper>⟧.kept keeper)
+        (journal_text size [])) }
+    ensures due { IfOk result (λ keeper. ⟦<TextKeeper<J, Verifier<S>> as Keeper>⟧.kept keeper
+        ≡ verified text.items (length (journal_text size [])) (S.received sink)) }
+{
+    let head = write_journal(alloc, size, &[])?;
+    let at = head.len();
+    Ok(TextKeeper::new(alloc, Verifier::new(sink, text, at)))
 }

@@ -14,6 +14,9 @@ pub mod keeping;
 pub mod sessions;
 pub mod text_keeper;
 
+// a sink for the text of a journal whose commands are carried out again
+pub mod verifier;
+
 // the files of journals
 pub mod files;
 pub mod journal_file;
@@ -23,10 +26,12 @@ pub mod showing;
 
 pub use fault::{FileFault, KeepFault};
 pub use files::{
-    TakenUp, begin_journal, create_journal, read_journal_file, read_room, take_up_journal,
+    FoundJournal, TakenUp, begin_journal, create_journal, find_journal, read_journal_file, read_room,
+    take_up_journal,
 };
 pub use journal_file::{Durability, JournalFile};
-pub use keeping::{begin_text, keep_room, take_up_room};
+pub use keeping::{begin_text, keep_room, take_up_room, verify_journal};
 pub use sessions::{keep_session, resume_session};
 pub use showing::{ShowFault, check_journal, show_journal};
 pub use text_keeper::{Beginning, TextKeeper};
+pub use verifier::Verifier;

@@ -21,5 +21,9 @@ mod place;
 // the service
 pub mod serving;
 
+// what the seats of a room do before its operators come
+pub mod giving;
+
 pub use fault::SeatsFault;
+pub use giving::{GiveFault, foreign_seat, give, give_entries};
 pub use serving::{SeatsServed, serve_seats};

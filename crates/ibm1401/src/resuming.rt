@@ -1,0 +1,139 @@
+//! What the subcommand `resume` does where operators share the room.
+ghost use Rattle.std.specs.Prelude.{◌≡◌, false};
+ghost use Rattle.journal_1401.specs.JournalText.{journal_text};
+
+use crate::fault::Fault;
+use crate::journals::{chosen_room, durability_of, tell_cut};
+use crate::seating::{Before, listener_at, open_new, serve_room};
+use arguments_1401::{NewJournal, Operators, Resuming};
+use keeping_1401::{
+    Durability, JournalFile, KeepFault, TakenUp, TextKeeper, Verifier, find_journal, read_room,
+    verify_journal,
+};
+use room_1401::{Entry, Opened, Room};
+use serving_1401::foreign_seat;
+use std::fs::File;
+use std::io::StdinLock;
+use std::marker::Brand;
+use std::net::{Net, TcpListener, TcpStream};
+use std::rt::Files;
+use std::sync::Wait;
+use std::thread::Threads;
+
+/// Refuses a journal with entries of a seat that a room hasn't.
+fn expect_seats(entries: &[Entry], least: u8, most: u8) -> Result<(), Fault> {
+    match foreign_seat(entries, least, most) {
+        None => Ok(()),
+        Some(seat) => Err(Fault::NoSeat(seat)),
+    }
+}
+
+/// Opens a room to operators whose seats give the commands of a journal again first; it goes on as `serve` does. It is
+/// kept in the same file, or in a new one; or, if only the first of the commands are asked for, it isn't kept.
+///
+/// # Errors
+///
+/// `Port` where the port is refused; `Kept` where a file can't be had or has no journal; `NoSeat` where an entry is of a
+/// seat that the room hasn't: in the same file seat 0 is such a one, in a new file seat 1 gives its commands. Else as
+/// `serve`.
+pub fn resume_seats<
+    R: Threads
+        + Wait
+        + Sync
+        + Input<Reader = StdinLock<'static>>
+        + Print
+        + Eprint
+        + AllocGlobal
+        + Files<File = File>
+        + Net<Listener = TcpListener, Stream = TcpStream>,
+>(rt: &R, asked: Resuming, operators: Operators) -> Result<(), Fault> {
+    let Resuming {
+        file,
+        journal,
+        until,
+        without,
+        sync,
+    } = asked;
+    let Operators { seats, port } = operators;
+    let listener = listener_at(rt, port)?;
+    if journal.is_none() && until.is_none() {
+        return go_on(rt, file, durability_of(sync), seats, &listener);
+    }
+    let room = read_room(rt, file).map_err(Fault::Kept)?;
+    let room = chosen_room(rt.alloc(), &room, until, without.as_slice())?;
+    expect_seats(room.journal(), 0, seats)?;
+    let size = room.machine().core().size();
+    let journal = match journal {
+        Some(file) => Some(NewJournal { file, sync }),
+        None => None,
+    };
+    open_new(rt, size, seats, Before::Journal(room), journal, &listener)
+}
+
+/// Goes on in the file of a journal.
+fn go_on<
+    R: Threads
+        + Wait
+        + Sync
+        + Input<Reader = StdinLock<'static>>
+        + Print
+        + Eprint
+        + AllocGlobal
+        + Files<File = File>
+        + Net<Listener = TcpListener, Stream = TcpStream>,
+>(
+    rt: &R,
+    file: String,
+    durability: Durability,
+    seats: u8,
+    listener: &TcpListener,
+) -> Result<(), Fault> {
+    let found = find_journal(rt, file, durability).map_err(Fault::Kept)?;
+    expect_seats(found.entries(), 1, seats)?;
+    let TakenUp {
+        room,
+        file,
+        text,
+        cut,
+    } = found.take_up().map_err(Fault::Kept)?;
+    tell_cut(rt, cut);
+    verify_room(rt, room, file, text, seats, listener)
+}
+
+/// Goes on by the file of a room's journal, which has its text.
+fn verify_room<
+    R: Threads
+        + Wait
+        + Sync
+        + Input<Reader = StdinLock<'static>>
+        + Print
+        + AllocGlobal
+        + Files
+        + Net<Listener = TcpListener, Stream = TcpStream>,
+>(
+    rt: &R,
+    room: Room,
+    file: JournalFile,
+    text: Vec<u8>,
+    seats: u8,
+    listener: &TcpListener,
+) -> Result<(), Fault>
+    requires good { ⟦<JournalFile as Sink>⟧.has_failed file ≡ false }
+    requires text { text.items ≡ journal_text room.size room.journal }
+{
+    let size = room.machine().core().size();
+    let verifier = verify_journal::<Brand, JournalFile>(rt.alloc(), file, text, size);
+    let Ok(keeper) = verifier else {
+        return Err(Fault::Memory);
+    };
+    serve_room::<Brand, R, TextKeeper<Brand, Verifier<JournalFile>>>(
+        rt,
+        size,
+        seats,
+        Before::Journal(room),
+        Opened::new(seats),
+        keeper,
+        listener,
+        None,
+    )
+}
