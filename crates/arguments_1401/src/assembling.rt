@@ -1,7 +1,7 @@
 //! The words of the subcommand `assemble`.
 
 use crate::call::{Assembling, Call, Product, Tables, Told};
-use crate::reading::{name_in, size_arg, size_in};
+use crate::reading::{name_in, refusal, size_arg, size_in};
 use crate::sizes::SizeTexts;
 use clap::{Arg, ArgAction, ArgMatches, Command, Error};
 use std::alloc::{AllocError, Global};
@@ -81,12 +81,19 @@ pub(crate) fn assemble_call(
     } else {
         Told::First
     };
+    let out = name_in(alloc, matches, "output")?;
+    let deck = name_in(alloc, matches, "deck")?;
+    if deck.is_some() && out == deck {
+        let sizes = SizeTexts::new(alloc)?;
+        let assemble = assemble_command(alloc, &sizes)?.bin_name("ibm1401 assemble")?;
+        return Err(refusal(assemble, "-o and --deck name the same file")?);
+    }
     Ok(Call::Assemble(Assembling {
         file,
         size: size_in(matches),
         product: product_in(matches),
-        out: name_in(alloc, matches, "output")?,
-        deck: name_in(alloc, matches, "deck")?,
+        out,
+        deck,
         told,
     }))
 }

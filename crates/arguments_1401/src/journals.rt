@@ -1,9 +1,8 @@
 //! The options of journals, read by `clap`.
 
 use crate::call::{Call, NewJournal, Resuming, Showing};
-use crate::reading::{LINES, name_in};
+use crate::reading::{LINES, name_in, refusal};
 use crate::serving::{operators_in, port_arg, seats_arg};
-use clap::error::ErrorKind;
 use clap::{Arg, ArgAction, ArgMatches, Command, Error, value_parser};
 use std::alloc::{AllocError, Global};
 
@@ -124,10 +123,10 @@ pub(crate) fn resume_call(
 ) -> Result<Call, Error> {
     let journal = name_in(alloc, matches, "journal")?;
     let Some(without) = numbers_of(alloc, matches.get_str("without").unwrap_or(""))? else {
-        return Err(refusal(alloc, "--without takes numbers parted by commas")?);
+        return Err(resume_refusal(alloc, "--without takes numbers parted by commas")?);
     };
     if !without.is_empty() && journal.is_none() {
-        return Err(refusal(
+        return Err(resume_refusal(
             alloc,
             "--without makes another journal: --journal names its file",
         )?);
@@ -138,7 +137,7 @@ pub(crate) fn resume_call(
     };
     let sync = matches.get_flag("sync");
     if sync && until.is_some() && journal.is_none() {
-        return Err(refusal(
+        return Err(resume_refusal(
             alloc,
             "--until keeps nothing without --journal, so --sync has nothing to write",
         )?);
@@ -160,8 +159,8 @@ pub(crate) fn resume_call(
 }
 
 /// A refusal of what `resume` is asked for.
-fn refusal(alloc: Global, text: &str) -> Result<Error, AllocError> {
-    resume_command(alloc)?.error(ErrorKind::ValueValidation, text)
+fn resume_refusal(alloc: Global, text: &str) -> Result<Error, AllocError> {
+    refusal(resume_command(alloc)?.bin_name("ibm1401 resume")?, text)
 }
 
 /// The numbers of a list that is parted by commas, none of an empty text; nothing if one isn't a number.

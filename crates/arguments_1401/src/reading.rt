@@ -90,7 +90,9 @@ fn run_command<'a>(alloc: Global, sizes: &'a SizeTexts) -> Result<Command<'a>, A
     let cards = Arg::new(alloc, "cards")
         .long("cards")
         .value_name("DECK")
-        .help("The file of the deck, a card a line; behind the cards of FILE, if FILE is a deck");
+        .help(
+            "The file of the deck, a card a line; it follows the cards of FILE if FILE is a deck",
+        );
     let punch = Arg::new(alloc, "punch")
         .long("punch")
         .value_name("OUT")
@@ -126,6 +128,12 @@ fn run_command<'a>(alloc: Global, sizes: &'a SizeTexts) -> Result<Command<'a>, A
         .arg(file)
 }
 
+/// A refusal of what this subcommand is asked for.
+pub(crate) fn refusal(subcommand: Command<'_>, text: &str) -> Result<Error, AllocError> {
+    let mut subcommand = subcommand;
+    subcommand.error(ErrorKind::ValueValidation, text)
+}
+
 /// The size that the options of a subcommand name.
 pub(crate) fn size_in(matches: &ArgMatches<'_>) -> u16 {
     matches.get_one::<u16>("size").unwrap_or(DEFAULT_SIZE)
@@ -158,10 +166,9 @@ fn switches_of(letters: &str) -> Option<[bool; 7]> {
 /// What the options of `run` ask for.
 fn run_call(alloc: Global, matches: &ArgMatches<'_>, file: &str) -> Result<Call, Error> {
     let Some(switches) = switches_of(matches.get_str("switches").unwrap_or("")) else {
-        let text = "the switches are letters from A to G";
         let sizes = SizeTexts::new(alloc)?;
-        let refusal = run_command(alloc, &sizes)?.error(ErrorKind::ValueValidation, text)?;
-        return Err(refusal);
+        let run = run_command(alloc, &sizes)?.bin_name("ibm1401 run")?;
+        return Err(refusal(run, "the switches are letters from A to G")?);
     };
     let start = if matches.get_flag("load") {
         Start::LoadKey

@@ -2,6 +2,7 @@
 
 mod button;
 mod closing;
+mod giving;
 mod lines;
 mod operators;
 mod seats;
