@@ -26,7 +26,7 @@ number_by n k (inr last) less more =
     get_or_push (numbers_of (newcomers n)) (suc n) 0 k (omega (arith, length_numbers n)) ∙ omega arith
 
 -- the seat at a place has the next number
-number_at : (n k : ℕ) → k < n → get_or (numbers_of (newcomers n)) k 0 ≡ k + 1
+pub number_at : (n k : ℕ) → k < n → get_or (numbers_of (newcomers n)) k 0 ≡ k + 1
 number_at zero k less = absurd (omega arith)
 number_at (suc n) k less =
     ap (λ numbers. get_or numbers k 0) (numbers_more n) ∙ number_by n k (cases_lt k n) less (number_at n k)

@@ -1,14 +1,21 @@
 -- The commands of a journal, given again by the seats of a room (own).
-use Rattle.std.specs.Prelude.{◌≡◌, ℕ, ◌+◌, nat_le, ◌&&◌, max, if◌then◌else◌, List, [], ◌∷◌, ◌++◌, Option, None, Some}
+use Rattle.std.specs.Prelude.{◌≡◌, ℕ, ◌+◌, nat_lt, ◌||◌, max, if◌then◌else◌, List, [], ◌∷◌, ◌++◌, Option, None, Some}
 use Rattle.command_1401.specs.declared.answer.Answer.{Answer}
 use Rattle.room_1401.specs.declared.entry.Entry.{Entry}
 use Rattle.room_1401.specs.Seen.{SeatView, Carries}
+use Rattle.serving_1401.specs.declared.giving.GiveFault.{GiveFault}
+use Rattle.serving_1401.specs.declared.giving.GiveFault.TheVariants as fault
 
 -- the seat of the first of these entries that is of no seat from the least to the most
 abbrev pub foreign_in : ℕ → ℕ → List Entry → Option ℕ
 foreign_in least most [] = None
 foreign_in least most (entry ∷ entries) =
-    if nat_le least entry.seat && nat_le entry.seat most then foreign_in least most entries else Some entry.seat
+    if nat_lt entry.seat least || nat_lt most entry.seat then Some entry.seat else foreign_in least most entries
+
+-- why commands aren't given again, where this seat is the first that the room hasn't
+abbrev pub IsWhyNotGiven : Option ℕ → GiveFault → Type 0
+IsWhyNotGiven foreign (fault.NoSeat seat) = foreign ≡ Some seat
+IsWhyNotGiven foreign (fault.Refused why) = foreign ≡ None
 
 -- the seat that gives an entry's command: a console's, which is seat 0, is given by the first
 abbrev pub giver : Entry → ℕ

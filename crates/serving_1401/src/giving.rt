@@ -1,9 +1,9 @@
 //! The commands of a journal, given again by the seats of a room before its operators come.
-ghost use Rattle.std.specs.Prelude.{◌≡◌, ◌+◌, ◌<◌, ◌^◌, ◌↔◌, Some, Err, OnOk, OnErr};
+ghost use Rattle.std.specs.Prelude.{◌≡◌, ℕ, ◌+◌, ◌<◌, ◌^◌, Some, OnOk, IfErr};
 ghost use Rattle.command_1401.specs.declared.answer.Answer.{Answer};
 ghost use Rattle.room_1401.specs.Seen.{Carries};
 ghost use Rattle.console_1401.specs.Served.{AreAllSeats};
-ghost use Rattle.serving_1401.specs.Giving.{GiveAll, foreign_in};
+ghost use Rattle.serving_1401.specs.Giving.{GiveAll, IsWhyNotGiven, foreign_in};
 
 use room_1401::{Carried, Command, Entry, Keeper, RoomFault, RoomId, Seat, SharedRoom};
 use std::sync::Wait;
@@ -73,9 +73,8 @@ pub fn give_entries<J: RoomId, H: Wait + Drop, K: Keeper + Drop, W: Wait>(
     requires count { (0 < J.seats) × (J.seats < 2 ^ 8) }
     ensures seats { AreAllSeats J.seats seats.new.items }
     ensures given { OnOk result (GiveAll J.size entries.now seats.old.items seats.new.items) }
-    ensures no_seat { (number : ℕ) → (result ≡ Err (GiveFault.NoSeat number))
-        ↔ (foreign_in 0 J.seats entries.now ≡ Some number) }
-    ensures kept_back { (number : ℕ) → result ≡ Err (GiveFault.NoSeat number) → seats.new ≡ seats.old }
+    ensures fault { IfErr result (IsWhyNotGiven (foreign_in 0 J.seats entries.now)) }
+    ensures none { (seat : ℕ) → foreign_in 0 J.seats entries.now ≡ Some seat → seats.new ≡ seats.old }
 {
     if let Some(seat) = foreign_seat(entries, 0, seats.len() as u8) {
         return Err(GiveFault::NoSeat(seat));
