@@ -26,8 +26,8 @@ pub mod showing;
 
 pub use fault::{FileFault, KeepFault};
 pub use files::{
-    FoundJournal, TakenUp, begin_journal, create_journal, find_journal, read_journal_file, read_room,
-    take_up_journal,
+    FoundJournal, TakenUp, begin_journal, create_journal, find_journal, read_journal_file,
+    read_room, take_up_journal,
 };
 pub use journal_file::{Durability, JournalFile};
 pub use keeping::{begin_text, keep_room, take_up_room, verify_journal};

@@ -1,15 +1,16 @@
 -- Entries by their seats, and seats that gave the commands of entries.
 use Rattle.std.proofs.Common.{◌≡◌, ℕ, zero, suc, ◌+◌, ◌<◌, ◌≤◌, ◌⊎◌, inl, inr, Bool, true, false, nat_lt, ◌||◌}
-use Rattle.std.proofs.Common.{if◌then◌else◌, List, [], ◌∷◌, ◌++◌, take, drop, length, get_or, slice_set, Option, None, Some}
+use Rattle.std.proofs.Common.{if◌then◌else◌, List, [], ◌∷◌, ◌++◌, take, drop, length, get_or, slice_set, None, Some}
 use Rattle.std.proofs.Common.{refl, sym, ap, subst, ◌∙◌, arith}
 use Rattle.std.proofs.lemmas.Bool.{cases_lt}
 use Rattle.std.proofs.lemmas.Bool.Decides.{nat_tests}
+use Rattle.std.proofs.lemmas.Option.{none-some}
 use Rattle.std.proofs.lemmas.List.{drop_more, get_or-map, length-take-le, take-append-drop}
 use Rattle.std.proofs.Math.Seq.{map-set_same, set-append_seam}
 use Rattle.command_1401.specs.declared.answer.Answer.{Answer}
 use Rattle.room_1401.specs.declared.entry.Entry.{Entry}
 use Rattle.room_1401.specs.Seen.{SeatView, Carries}
-use Rattle.console_1401.specs.Served.{AreAllSeats, numbers_of}
+use Rattle.console_1401.specs.Served.{AreAllSeats}
 use Rattle.serving_1401.specs.Giving.{Gives, GiveAll, foreign_in, giver}
 use Rattle.serving_1401.proofs.PlacesLemmas.{length_seats, number_at}
 
@@ -44,16 +45,13 @@ pub above_first : (least most : ℕ) (entry : Entry) (entries : List Entry) → 
 above_first least most entry entries high =
     by_first (nat_lt entry.seat least) least most entry entries refl (grind (arith, nat_tests))
 
-some_no_none : {seat : ℕ} → Some seat ≡ None → ⊥
-some_no_none same = subst (λ it. IfSome it (λ seat. Unit {0}) → ⊥) same (λ given. absurd cc) tt
-
 seated_by : (most : ℕ) (entry : Entry) (entries : List Entry) (i : ℕ) (d : Entry)
     → (most < entry.seat) ⊎ (entry.seat ≤ most)
     → ((k : ℕ) → foreign_in 0 most entries ≡ None → k < length entries → (get_or entries k d).seat ≤ most)
     → foreign_in 0 most (entry ∷ entries) ≡ None → i < suc (length entries)
     → (get_or (entry ∷ entries) i d).seat ≤ most
 seated_by most entry entries i d (inl high) more none less =
-    absurd (some_no_none (sym (above_first 0 most entry entries high) ∙ none))
+    absurd (none-some entry.seat (sym none ∙ above_first 0 most entry entries high))
 seated_by most entry entries zero d (inr high) more none less = high
 seated_by most entry entries (suc i) d (inr high) more none less =
     more i (sym (own_first 0 most entry entries (omega arith) high) ∙ none) (omega arith)

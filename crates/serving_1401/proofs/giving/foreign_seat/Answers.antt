@@ -1,5 +1,5 @@
 -- What is left begins with an entry of one of these seats, or of another.
-use Rattle.std.proofs.Common.{◌≡◌, ◌+◌, ◌∷◌, ◌∙◌, drop, length, None, Some, refl, sym, ap, arith, omega}
+use Rattle.std.proofs.Common.{◌≡◌, ◌+◌, ◌∷◌, ◌∙◌, drop, refl, sym, ap}
 use Rattle.std.proofs.lemmas.List.{drop_all, drop_more}
 use Rattle.room_1401.specs.declared.entry.Entry.{Entry}
 use Rattle.serving_1401.specs.Giving.{foreign_in}
@@ -22,9 +22,9 @@ returns-then-entry-least c =
     ∙ sym (ap (foreign_in least most) (drop_more entries c.loop-entry.entry-index entry c.loop-entry-test.true))
     ∙ c.loop-entry.invariant in
     elim c.then-entry-least.branch [
-      then-entry-least-via-then-entry-least w ↦ sym (below_first least most entry rest w.if-entry-least) ∙ here
+      | then-entry-least-via-then-entry-least w ↦ sym (below_first least most entry rest w.if-entry-least.true) ∙ here
       | then-entry-least-via-else-entry-least+then-entry-most w ↦
-        sym (above_first least most entry rest w.if-entry-most) ∙ here
+          sym (above_first least most entry rest w.if-entry-most.true) ∙ here
     ]
 
 pub loop-entry-preserved : goal.loop-entry-preserved
