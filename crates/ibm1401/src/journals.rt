@@ -229,7 +229,10 @@ fn go_on<R: Files<File = File> + Input + Print + Eprint + AllocGlobal>(
     durability: Durability,
 ) -> Result<(), Fault> {
     let TakenUp {
-        room, file, cut, ..
+        room,
+        file,
+        cut,
+        ..
     } = match take_up_journal(rt, file, durability) {
         Ok(taken) => taken,
         Err(fault) => return Err(Fault::Kept(fault)),

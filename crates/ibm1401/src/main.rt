@@ -90,10 +90,12 @@ fn run<
         Ok(Call::KeptLoad { file, journal }) => keep_loaded(rt, file, journal),
         Ok(Call::Journal(asked)) => journal_file(rt, asked),
         Ok(Call::Resume(asked)) => resume_file(rt, asked),
-        Ok(Call::ResumeSeats {
-            resuming,
-            operators,
-        }) => resume_seats(rt, resuming, operators),
+        Ok(
+            Call::ResumeSeats {
+                resuming,
+                operators,
+            },
+        ) => resume_seats(rt, resuming, operators),
         Err(error) => tell(rt, error),
     }
 }

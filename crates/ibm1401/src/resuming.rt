@@ -6,9 +6,9 @@ use crate::fault::Fault;
 use crate::journals::{chosen_room, durability_of, tell_cut};
 use crate::seating::{Before, listener_at, open_new, serve_room};
 use arguments_1401::{NewJournal, Operators, Resuming};
+use console_1401::Sink;
 use keeping_1401::{
-    Durability, JournalFile, KeepFault, TakenUp, TextKeeper, Verifier, find_journal, read_room,
-    verify_journal,
+    Durability, JournalFile, TakenUp, TextKeeper, Verifier, find_journal, read_room, verify_journal,
 };
 use room_1401::{Entry, Opened, Room};
 use serving_1401::foreign_seat;
@@ -126,12 +126,13 @@ fn verify_room<
     let Ok(keeper) = verifier else {
         return Err(Fault::Memory);
     };
+    let opened = Opened::new(seats);
     serve_room::<Brand, R, TextKeeper<Brand, Verifier<JournalFile>>>(
         rt,
         size,
         seats,
         Before::Journal(room),
-        Opened::new(seats),
+        opened,
         keeper,
         listener,
         None,

@@ -9,10 +9,10 @@ use console_1401::Sink;
 use journal_1401::{JournalFault, Wrong, recover_journal};
 use room_1401::{Entry, Room};
 use std::alloc::Global;
+use std::fs;
 use std::fs::{File, OpenFile, OpenOptions};
 use std::io::{ErrorKind, Read};
 use std::path::Path;
-use std::fs;
 use std::rt::Files;
 
 /// How many bytes of a file are read at most, which is more than the text of a full journal has.
@@ -194,7 +194,7 @@ pub struct FoundJournal {
     text: Vec<u8>,
     rest: usize,
     room: Room,
-    ghost text_is: { text.items ≡ journal_text room.size room.journal };
+    ghost text_is: { text.items ≡ journal_text room.size room.journal },
 }
 
 /// A journal that is taken up.

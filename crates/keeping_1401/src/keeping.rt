@@ -96,7 +96,7 @@ pub fn verify_journal<J: Beginning, S: Sink + Drop>(
     requires text { ForSome (S.received sink) (λ held. held ≡ text.items) }
     requires head { BeginsWith text.items (journal_text size []) }
     // The call picks `J`: what comes back from the sink is the text alone.
-    requires { J.first ≡ emptied (S.received sink) }
+    requires first { J.first ≡ emptied (S.received sink) }
     ensures good { IfOk result (λ keeper. ⟦<TextKeeper<J, Verifier<S>> as Keeper>⟧.has_failed keeper
         ≡ S.has_failed sink) }
     ensures kept { IfOk result (λ keeper. Appends J.first (⟦<TextKeeper<J, Verifier<S>> as Keeper>⟧.kept keeper)
