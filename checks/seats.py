@@ -141,6 +141,62 @@ def kept(folder):
            "2 seat 2  DEPOSIT 0710 A               OK\n")
 
 
+def resumed(folder):
+    """A served journal goes on at its seats, in the same file or in a new one; what has no seat there is refused."""
+    path = folder / "friday.journal"
+    room = Room("serve", "--port", "PORT", "--seats", "3", "--journal", path)
+    with room.console() as first, room.console() as second:
+        say(first, b"DEPOSIT 0700 ~999\n")
+        say(second, b"DEPOSIT 0700 ~111\n")
+    room.ended("a room to be resumed ends", 2)
+    text = b"JOURNAL1 4000\n1\t1\tDEPOSIT 0700 ~999\tOK\n2\t2\tDEPOSIT 0700 ~111\tOK\n"
+    with path.open("ab") as file:
+        file.write(b"3\t1\tEXAM")
+    room = Room("resume", path, "--port", "PORT", "--seats", "2")
+    with room.console() as first, room.console() as second:
+        answer("a resumed room has what its journal did", say(first, b"EXAMINE 0700 3\n"), b"~111\n")
+        answer("its seats have seen it", say(second, b"GLANCE 0700\n"), b"AFTER 3 ~1\n")
+        expect("a resumed journal is in use", run([PROGRAM, "resume", path]), 1, "", f"ibm1401: {path}: is in use\n")
+    room.ended("a resumed room ends", 3, error="ibm1401: line 4 was unfinished and is cut off\n")
+    text += b"3\t1\tEXAMINE 0700 3\t~111\n"
+    tell("it went on in the same file", "; ".join(difference("the file", path.read_bytes(), text)))
+    new = folder / "monday.journal"
+    room = Room("resume", path, "--without", "2", "--journal", new, "--port", "PORT", "--seats", "2", "--sync")
+    with room.console() as first, room.console() as second:
+        answer("a command is undone", say(second, b"EXAMINE 0700 3\n"), b"~999\n")
+    room.ended("a room of a new journal ends", 3)
+    other = b"JOURNAL1 4000\n1\t1\tDEPOSIT 0700 ~999\tOK\n2\t1\tEXAMINE 0700 3\t~999\n3\t2\tEXAMINE 0700 3\t~999\n"
+    tell("a new journal has what is left", "; ".join(difference("the file", new.read_bytes(), other)))
+    room = Room("resume", path, "--until", "1", "--port", "PORT", "--seats", "1")
+    with room.console() as only:
+        answer("a room is looked at as it was", say(only, b"EXAMINE 0700 3\n"), b"~999\n")
+    room.ended("a room that is looked at ends", 2)
+    tell("nothing of that is kept", "; ".join(difference("the file", path.read_bytes(), text)))
+    call = [PROGRAM, "resume", path, "--port", "1", "--seats"]
+    expect("a seat too few", run([*call, "1"]), 1, "", "ibm1401: there is no seat 2, whose commands the journal has\n")
+    run([PROGRAM, "resume", path], b"EXAMINE 0700\n")
+    expect("the commands of a console have no seat in the same file", run([*call, "2"]), 1, "",
+           "ibm1401: there is no seat 0, whose commands the journal has\n")
+    text += b"4\t0\tEXAMINE 0700 1\t~1\n"
+    taken = folder / "taken.journal"
+    room = Room("resume", path, "--journal", taken, "--port", "PORT", "--seats", "2")
+    room.ended("in a new file seat 1 gives them", 4)
+    tell("each with its answer", "; ".join(difference("the file", taken.read_bytes(), text.replace(b"4\t0", b"4\t1"))))
+    expect("a new journal isn't overwritten", run([*call, "2", "--journal", taken]), 1, "",
+           f"ibm1401: {taken}: is there already\n")
+    expect("no such entry", run([*call, "2", "--until", "9"]), 1, "", "ibm1401: there is no entry 9\n")
+    alone = run([PROGRAM, "resume", path, "--port", "1"])
+    expect("a port needs seats", alone, 2, "", "error: the following required arguments were not provided:...")
+    alone = run([PROGRAM, "resume", path, "--seats", "1"])
+    expect("seats need a port", alone, 2, "", "error: the following required arguments were not provided:...")
+    with socket.socket() as busy:
+        busy.bind(("127.0.0.1", 0))
+        busy.listen()
+        call = [PROGRAM, "resume", path, "--port", str(busy.getsockname()[1]), "--seats", "2"]
+        expect("a resumed room's port is taken", run(call), 1, "", "ibm1401: port refused\n")
+    tell("a refused resume leaves the file", "; ".join(difference("the file", path.read_bytes(), text)))
+
+
 def unkept(folder):
     """An entry that can't be written: no reply, the console's end, and every later command refused."""
     path = folder / "full.journal"
@@ -226,5 +282,5 @@ def killed(folder):
 def seats():
     """All of these."""
     with tempfile.TemporaryDirectory() as folder:
-        for part in taken_again, begun, misused, kept, unkept, killed:
+        for part in taken_again, begun, misused, kept, resumed, unkept, killed:
             part(Path(folder))

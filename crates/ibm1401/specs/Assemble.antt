@@ -73,6 +73,7 @@ IsWhyNotAssembled size source fault.Reply = ⊥
 IsWhyNotAssembled size source fault.Unkept = ⊥
 IsWhyNotAssembled size source (fault.Kept why) = ⊥
 IsWhyNotAssembled size source fault.NoReader = ⊥
+IsWhyNotAssembled size source (fault.NoSeat seat) = ⊥
 IsWhyNotAssembled size source fault.Port = ⊥
 IsWhyNotAssembled size source fault.Accept = ⊥
 IsWhyNotAssembled size source fault.Thread = ⊥

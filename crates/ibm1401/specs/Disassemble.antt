@@ -37,6 +37,7 @@ IsWhyNotListed text fault.Reply = ⊥
 IsWhyNotListed text fault.Unkept = ⊥
 IsWhyNotListed text (fault.Kept why) = ⊥
 IsWhyNotListed text fault.NoReader = ⊥
+IsWhyNotListed text (fault.NoSeat seat) = ⊥
 IsWhyNotListed text fault.Port = ⊥
 IsWhyNotListed text fault.Accept = ⊥
 IsWhyNotListed text fault.Thread = ⊥

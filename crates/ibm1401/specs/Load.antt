@@ -50,6 +50,7 @@ IsWhyNotLoaded text fault.Reply = ⊥
 IsWhyNotLoaded text fault.Unkept = ⊥
 IsWhyNotLoaded text (fault.Kept why) = ⊥
 IsWhyNotLoaded text fault.NoReader = ⊥
+IsWhyNotLoaded text (fault.NoSeat seat) = ⊥
 IsWhyNotLoaded text fault.Port = ⊥
 IsWhyNotLoaded text fault.Accept = ⊥
 IsWhyNotLoaded text fault.Thread = ⊥

@@ -76,8 +76,7 @@ fn each_command_is_given_by_its_seat(rt: HostRuntime) -> Result<(), Fail> {
     let room = room_of(rt.alloc(), &[3, 1, 2, 2])?;
     let given = give(&rt, rt.alloc(), 3, 99, room.journal())?;
     assert_eq!(rt; given.result, Ok(()));
-    assert_eq!(
-        rt;
+    assert_eq!(rt;
         given.kept.as_slice(),
         b"1\t3\tSTART 0703\tOK\n2\t1\tSTART 0701\tOK\n3\t2\tSTART 0702\tOK\n4\t2\tSTART 0702\tOK\n".as_slice()
     );
@@ -90,8 +89,7 @@ fn the_commands_of_a_console_are_given_by_seat_1(rt: HostRuntime) -> Result<(), 
     let room = room_of(rt.alloc(), &[0, 2])?;
     let given = give(&rt, rt.alloc(), 2, 99, room.journal())?;
     assert_eq!(rt; given.result, Ok(()));
-    assert_eq!(
-        rt;
+    assert_eq!(rt;
         given.kept.as_slice(),
         b"1\t1\tSTART 0700\tOK\n2\t2\tSTART 0702\tOK\n".as_slice()
     );
