@@ -15,7 +15,7 @@ ghost use Rattle.fields_1401.specs.Places.{with_chars};
 use crate::across::unzoned_down;
 use crate::control_word::{ControlWord, is_replaceable, limit};
 use crate::done::{Done, FieldStop};
-use crate::registers::{registers, step_down};
+use crate::registers::{below_field, registers};
 use crate::sign::Sign;
 use crate::slices::{char_at, put_char};
 use crate::suppression::{COMMA, ZERO};
@@ -75,7 +75,7 @@ pub fn edit(core: &mut Core, a: u16, b: u16) -> Result<Done, FieldStop>
         sign: Sign::of_units(core.get(a).char),
     };
     put_edited(core, word, rules);
-    Ok(registers(step_down(a, word.taken), step_down(b, word.len)))
+    Ok(registers(below_field(a, word.taken), below_field(b, word.len)))
 }
 
 /// Puts what each place shows, without word marks.
