@@ -1,6 +1,6 @@
 -- Marks in a window over two words, and the first of them.
 use Rattle.std.proofs.Common.{◌≡◌, ◌≢◌, min, ℕ, ◌+◌, ◌-◌, ◌*◌, ◌/◌, ◌%◌, ◌^◌, ◌<◌, ◌≤◌, max, List, slice_index_or, inl}
-use Rattle.std.proofs.Common.{inr, arith, ◌∙◌, sym, ap, bit_and, bit_or}
+use Rattle.std.proofs.Common.{inr, arith, refl, ◌∙◌, sym, ap, bit_and, bit_or}
 use Rattle.std.specs.Int.{bit_at, bit_not, w64, leading_zeros, trailing_zeros}
 use Rattle.std.proofs.lemmas.Bool.{cases_lt}
 use Rattle.std.proofs.lemmas.Nat.{and_mask, and_le_l, or_lt}
@@ -62,6 +62,16 @@ no_more words at base w next none window empty e j h le =
       | inl before ↦ none j before le
       | inr from ↦ sym (lower_mark words at base w j window from (omega (arith, e, h)) le)
           ∙ ap (λ (n : ℕ). bit_at n (63 - (j - base))) empty ∙ bit_at-zero (63 - (j - base))
+    ]
+
+-- an empty word below those that were passed is passed too
+pub passed_word : (words : List ℕ) (at base k : ℕ) → NoneBelow words at base → base + 64 * k ≡ at + 1
+    → slice_index_or words k 0 ≡ 0 → NoneBelow words at (base + 64)
+passed_word words at base k none place empty =
+    elim (cases_lt k 1) [
+      | inl guard ↦ λ j h le. none j (omega (arith, le, place, guard)) le
+      | inr some ↦ no_more words at base (slice_index_or words k 0) (base + 64) none
+          (whole_word words (at - base) k (omega (arith, place, some)) (omega (arith, place, some))) empty refl
     ]
 
 -- the first mark is the highest bit of the first window that isn't empty

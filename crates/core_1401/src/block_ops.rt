@@ -104,11 +104,15 @@ fn any_differ(chars: &[Char], a: usize, b: usize, n: usize) -> bool
     ensures { result ≡ list_any (are_unequal chars.now a b) (range_with_len 0 n) }
 {
     let (from_a, from_b) = (a + 1 - n, b + 1 - n);
-    let mut differ = false;
+    // The greatest difference so far, modulo 256. It is kept as a number, and asked for once.
+    let mut greatest: u8 = 0;
     for i in 0..n {
-        differ |= chars[from_a + i] != chars[from_b + i];
+        let difference = chars[from_a + i]
+            .code()
+            .wrapping_sub(chars[from_b + i].code());
+        greatest = greatest.max(difference);
     }
-    differ
+    greatest != 0
 }
 
 /// Copies n characters from a down to those from b down, all of them read before one is written.

@@ -33,9 +33,9 @@ impl Core {
         ensures value { result ≡ pair_len_of self.now a b }
         ensures bounds { IfSome result (λ n. (0 < n) × (n ≤ a + 1) × (n ≤ b + 1)) }
     {
-        let behind = first_pair(&self.words, usize::from(a), usize::from(b));
-        let least = usize::from(a.min(b));
-        if behind <= least {
+        let (a, b) = (usize::from(a), usize::from(b));
+        let behind = first_pair(&self.words, a, b);
+        if behind <= a && behind <= b {
             Some((behind + 1) as u16)
         } else {
             None

@@ -1,5 +1,5 @@
 //! Word marks as bits, 64 to a word: the first below an address, the next above it, and marks set and cleared.
-ghost use Rattle.std.specs.Prelude.{◌≡◌, ◌==◌, ℕ, ◌+◌, ◌-◌, ◌*◌, ◌/◌, ◌^◌, ◌<◌, ◌≤◌, length, drop, replicate};
+ghost use Rattle.std.specs.Prelude.{◌≡◌, ◌==◌, ℕ, ◌+◌, ◌-◌, ◌*◌, ◌/◌, ◌%◌, ◌^◌, ◌<◌, ◌≤◌, length, drop, replicate};
 ghost use Rattle.std.specs.Prelude.{slice_index_or, take};
 ghost use Rattle.std.specs.Int.{bit_at};
 ghost use Rattle.core_1401.specs.MarkWords.{IsWindowDown, IsWindowUp, IsFirstMark, IsFirstPair, IsNextMark, IsWithBit};
@@ -101,13 +101,35 @@ fn first_mark_by_words(words: &[u64], at: usize) -> usize
     ensures first { IsFirstMark words.now at result }
     ensures range { result ≤ at + 64 }
 {
-    for turn in 0..at / 64 {
+    for turn in unmarked_by_fours(words, at)..at / 64 {
         let word = words[at / 64 - turn];
         if word != 0 {
             return at % 64 + 1 + 64 * turn + word.leading_zeros() as usize;
         }
     }
     at + 1
+}
+
+/// How many whole words below a place are passed by fours without a mark, before the first four with one.
+#[inline(always)]
+fn unmarked_by_fours(words: &[u64], at: usize) -> usize
+    requires within { at / 64 + 1 < length words.now }
+    requires near { NoneBelow words.now at 64 }
+    ensures none { NoneBelow words.now at (at % 64 + 1 + 64 * result) }
+    ensures most { result ≤ at / 64 }
+{
+    let count = at / 64;
+    for turn in 0..count / 4 {
+        let high = count - 4 * turn;
+        let is_unmarked = (words[high] == 0)
+            & (words[high - 1] == 0)
+            & (words[high - 2] == 0)
+            & (words[high - 3] == 0);
+        if !is_unmarked {
+            return 4 * turn;
+        }
+    }
+    count / 4 * 4
 }
 
 /// How far below two places the first mark below either is; more than there are places below one of them if

@@ -1,7 +1,7 @@
 -- What cells say, wherever they are.
-use Rattle.std.proofs.Common.{◌≡◌, ◌≢◌, ◌⊎◌, ℕ, ◌+◌, ◌-◌, ◌<◌, ◌≤◌, suc, zero, min, Bool, true, false, List, [], ◌∷◌}
-use Rattle.std.proofs.Common.{length, arith, refl, sym, ◌∙◌, ap, subst, drop, cond, get_or, inl, inr, not}
-use Rattle.std.proofs.lemmas.Bool.{cases_lt, lt-ltb, le-leb, lt-leb}
+use Rattle.std.proofs.Common.{◌≡◌, ◌⊎◌, ◌&&◌, ◌||◌, ℕ, ◌+◌, ◌-◌, ◌<◌, ◌≤◌, suc, zero, min, Bool, true, false, List, [], ◌∷◌}
+use Rattle.std.proofs.Common.{length, arith, refl, sym, ◌∙◌, ap, subst, drop, cond, get_or, inl, inr, nat_le, not}
+use Rattle.std.proofs.lemmas.Bool.{and_parts, cases_lt, false≢true, leb-true, lt-ltb, le-leb, lt-leb}
 use Rattle.std.proofs.lemmas.List.{get_or-drop, length-drop, get_or_past}
 use Rattle.std.proofs.lemmas.List.FromFn.{get_or-map-range_with_len}
 use Rattle.std.proofs.lemmas.Nat.{le_bytes_8}
@@ -13,12 +13,15 @@ use Rattle.core_1401.specs.EightCells.{AreEightCells, codes_at}
 use Rattle.core_1401.specs.Storage.{Storage, blank, cell_at}
 use Rattle.cpu_1401.specs.declared.decoded.Address.{Address}
 use Rattle.cpu_1401.specs.declared.decoded.Decoded.{Decoded}
-use Rattle.cpu_1401.specs.declared.decoded.Spelled.{Spelled}
-use Rattle.cpu_1401.specs.declared.decoded.Spelled.TheVariants.{Both, Only, NotAll}
+use Rattle.cpu_1401.specs.declared.decoded.Source.{Source}
+use Rattle.cpu_1401.specs.declared.decoded.Source.TheVariants.{Both, Target, Unasked, OnlyA, Registers}
+use Rattle.cpu_1401.specs.declared.instruction.Instruction.{Instruction}
 use Rattle.cpu_1401.specs.declared.operation.Operation.{Operation}
-use Rattle.cpu_1401.specs.Decoded.{AlwaysSay, IsAddress, Says}
+use Rattle.cpu_1401.specs.declared.operation.Operation.TheVariants as op
+use Rattle.cpu_1401.specs.Decoded.{AlwaysSay, IsAddress, Says, Serve}
 use Rattle.cpu_1401.specs.Instruction.{instruction_of, length_at, longest_at}
 use Rattle.cpu_1401.specs.Operation.{form_of, operation_of}
+use Rattle.cpu_1401.specs.Source.{has_b}
 use Rattle.cpu_1401.specs.State.{State}
 use Rattle.cpu_1401.specs.Step.{perform, step}
 
@@ -142,6 +145,7 @@ says_again s t at to this alike says =
       d = ap (λ (cell : Cell). cell.char) (sym last) ∙ says.d;
       a = λ h. same_address s t at to 1 this.a alike (omega arith) (says.a h);
       b = λ h. same_address s t at to 4 this.b alike (omega arith) (says.b h);
+      only = λ h less. same_address s t at to 1 this.b alike (omega arith) (says.only h less);
     }
 
 -- so what is kept says it always
@@ -149,12 +153,6 @@ pub always_say : (s : Storage) (at codes marks : ℕ) (this : Decoded) → at + 
     → AreEightCells s at codes marks → Says s at this → AlwaysSay codes marks this
 always_say s at codes marks this inside are says =
     λ t to t_inside t_are. says_again s t at to this (same_cells s t at to codes marks inside t_inside are t_are) says
-
--- a value of three
-cases_spelled : (spelled : Spelled) → (spelled ≡ Both) ⊎ ((spelled ≡ Only) ⊎ (spelled ≡ NotAll))
-cases_spelled Both = inl refl
-cases_spelled Only = inr (inl refl)
-cases_spelled NotAll = inr (inr refl)
 
 -- an address with its index register
 pub effective_is : (s : Storage) (at : ℕ) (address : Address) → IsAddress s at address
@@ -166,45 +164,94 @@ pub a_of_one : (s : State) (this : Decoded) → Says s.storage s.i this → 4 �
     → indexed_by s.storage this.a.value this.a.register ≡ (instruction_of this.operation this.len s).a
 a_of_one s this says h = rw (le-leb 4 this.len h) (effective_is s.storage (s.i + 1) this.a (says.a h))
 
--- the B address of an instruction with two, and of one whose only address is for both
-pub b_of_two : (s : State) (this : Decoded) → Says s.storage s.i this → 7 ≤ this.len
-    → indexed_by s.storage this.b.value this.b.register ≡ (instruction_of this.operation this.len s).b
-b_of_two s this says h = rw (le-leb 7 this.len h) (effective_is s.storage (s.i + 4) this.b (says.b h))
+-- an instruction has an address for the B register if it has two, or if its only one is for both
+has_only : (this : Decoded) → this.len < 7
+    → has_b this.operation this.len ≡ nat_le 4 this.len && (form_of this.operation).loads_both
+has_only this less =
+    ap (λ (c : Bool). c || (nat_le 4 this.len && (form_of this.operation).loads_both)) (lt-leb 7 this.len less)
 
--- an instruction that takes an address as it is spelled has it without an index register
-spelled_of : (this : Decoded) → this.spelled ≢ NotAll → (4 ≤ this.len) × (this.a.register ≡ 0)
-spelled_of this spelled =
-    elim (cases_spelled this.spelled) [
-      | inl both ↦ (omega (arith, this.both_len both), this.both_a both)
-      | inr (inl only) ↦ ((this.only_len only).0, this.only_a only)
-      | inr (inr not_all) ↦ absurd (spelled not_all)
+has_two : (this : Decoded) → 7 ≤ this.len → has_b this.operation this.len ≡ true
+has_two this h =
+    ap (λ (c : Bool). c || (nat_le 4 this.len && (form_of this.operation).loads_both)) (le-leb 7 this.len h)
+
+-- its own B address
+pub own_b : (s : State) (this : Decoded) → Says s.storage s.i this → has_b this.operation this.len ≡ true
+    → indexed_by s.storage this.b.value this.b.register ≡ (instruction_of this.operation this.len s).b
+own_b s this says has =
+    elim (cases_lt this.len 7) [
+      | inl less ↦
+          let only = and_parts (nat_le 4 this.len) (form_of this.operation).loads_both (sym (has_only this less) ∙ has) in
+          rw (lt-leb 7 this.len less, only.0, only.1)
+          (effective_is s.storage (s.i + 1) this.b (says.only (leb-true 4 this.len only.0) less))
+      | inr two ↦ rw (le-leb 7 this.len two) (effective_is s.storage (s.i + 4) this.b (says.b two))
     ]
 
-pub spelled_a_is : (s : State) (this : Decoded) → Says s.storage s.i this → this.spelled ≢ NotAll
-    → indexed_by s.storage this.a.value 0 ≡ (instruction_of this.operation this.len s).a
-spelled_a_is s this says spelled =
-    let of = spelled_of this spelled in
-    ap (λ (n : ℕ). indexed_by s.storage this.a.value n) (sym of.1) ∙ a_of_one s this says of.0
-
-pub spelled_b_is : (s : State) (this : Decoded) → Says s.storage s.i this → this.spelled ≡ Both
-    → indexed_by s.storage this.b.value 0 ≡ (instruction_of this.operation this.len s).b
-spelled_b_is s this says both =
-    ap (λ (n : ℕ). indexed_by s.storage this.b.value n) (sym (this.both_b both))
-    ∙ b_of_two s this says (this.both_len both)
-
--- beside an only address for the A register the B register stays
-pub only_b_is : (s : State) (this : Decoded) → Says s.storage s.i this → this.spelled ≡ Only
+-- or the B register as it stands
+pub no_own_b : (s : State) (this : Decoded) → has_b this.operation this.len ≡ false
     → s.b ≡ (instruction_of this.operation this.len s).b
-only_b_is s this says only =
-    let len = this.only_len only in
-    rw (lt-leb 7 this.len len.1, le-leb 4 this.len len.0, this.only_alone only) refl
+no_own_b s this none =
+    elim (cases_lt this.len 7) [
+      | inl less ↦ rw (lt-leb 7 this.len less, sym (has_only this less) ∙ none) refl
+      | inr two ↦ absurd (false≢true (sym none ∙ has_two this two))
+    ]
 
-pub b_of_one : (s : State) (this : Decoded) → Says s.storage s.i this → 4 ≤ this.len → this.len < 7
-    → (form_of this.operation).loads_both ≡ true
-    → indexed_by s.storage this.a.value this.a.register ≡ (instruction_of this.operation this.len s).b
-b_of_one s this says h less both =
-    rw (lt-leb 7 this.len less, le-leb 4 this.len h, both)
-    (effective_is s.storage (s.i + 1) this.a (says.a h))
+-- an address without an index register
+plain : (storage : Storage) (value register : ℕ) → register ≡ 0 → value ≡ indexed_by storage value register
+plain storage value register none = ap (λ (n : ℕ). indexed_by storage value n) (sym none)
+
+-- its own addresses serve
+pub own_serve : (s : State) (this : Decoded) (a b : ℕ) → a ≡ (instruction_of this.operation this.len s).a
+    → b ≡ (instruction_of this.operation this.len s).b → Serve s this a b
+own_serve s this a b is_a is_b =
+    let own : Instruction = instruction_of this.operation this.len s in
+    ap (λ (n : ℕ). perform this.operation (record own { a = n; b = b }) s) is_a
+    ∙ ap (λ (n : ℕ). perform this.operation (record own { b = n }) s) is_b
+
+-- a branch of four characters asks for no B address
+target_serves : (s : State) (this : Decoded) (a b : ℕ) → this.operation ≡ op.Branch → this.len ≡ 4
+    → a ≡ (instruction_of this.operation this.len s).a → Serve s this a b
+target_serves s this a b branch four is_a =
+    let own : Instruction = instruction_of this.operation this.len s in
+    ap (λ (n : ℕ). perform this.operation (record own { a = n; b = b }) s) is_a
+    ∙ rw (branch, four) refl
+
+-- no operation asks for none
+unasked_serve : (s : State) (this : Decoded) (a b : ℕ) → this.operation ≡ op.NoOperation → Serve s this a b
+unasked_serve s this a b none = rw none refl
+
+-- a value of five
+cases_source : (source : Source)
+    → (source ≡ Both) ⊎ ((source ≡ Target) ⊎ ((source ≡ Unasked) ⊎ ((source ≡ OnlyA) ⊎ (source ≡ Registers))))
+cases_source Both = inl refl
+cases_source Target = inr (inl refl)
+cases_source Unasked = inr (inr (inl refl))
+cases_source OnlyA = inr (inr (inr (inl refl)))
+cases_source Registers = inr (inr (inr (inr refl)))
+
+-- addresses that are ready serve
+pub ready_serve : (s : State) (this : Decoded) → Says s.storage s.i this → this.is_ready ≡ true
+    → Serve s this this.a.value this.b.value
+ready_serve s this says ready =
+    elim (cases_source this.source) [
+      | inl both ↦ own_serve s this this.a.value this.b.value
+          (plain s.storage this.a.value this.a.register (this.both_a both) ∙ a_of_one s this says (this.both_len both))
+          (plain s.storage this.b.value this.b.register (this.both_b both) ∙ own_b s this says (this.both_own both))
+      | inr (inl target) ↦ target_serves s this this.a.value this.b.value (this.target_branch target)
+          (this.target_len target)
+          (plain s.storage this.a.value this.a.register (this.target_a target)
+          ∙ a_of_one s this says (omega (arith, this.target_len target)))
+      | inr (inr (inl none)) ↦ unasked_serve s this this.a.value this.b.value (this.unasked none)
+      | inr (inr (inr (inl only))) ↦ absurd (this.ready ready only)
+      | inr (inr (inr (inr registers))) ↦ absurd (this.ready_alone ready registers)
+    ]
+
+-- and an only one for the A register beside the B register as it stands
+pub only_a_serves : (s : State) (this : Decoded) → Says s.storage s.i this → this.source ≡ OnlyA
+    → Serve s this this.a.value s.b
+only_a_serves s this says only =
+    own_serve s this this.a.value s.b
+    (plain s.storage this.a.value this.a.register (this.only_a only) ∙ a_of_one s this says (this.only_len only))
+    (no_own_b s this (this.only_alone only))
 
 -- the step does what the cells say
 pub says_step : (s : State) (this : Decoded) → Says s.storage s.i this

@@ -8,6 +8,7 @@ pub mod Operation
 pub mod RegisterStep
 pub mod Rows
 pub mod Run
+pub mod Source
 pub mod State
 pub mod Step
 pub mod Stepped

@@ -1,8 +1,9 @@
 //! What an instruction says by itself, whatever the registers hold.
-ghost use Rattle.std.specs.Prelude.{◌≡◌, ◌<◌, ◌≤◌, false};
+ghost use Rattle.std.specs.Prelude.{◌≡◌, ◌≢◌, ◌<◌, ◌≤◌, false, true};
 ghost use Rattle.core_1401.specs.Address.{addresses};
-ghost use Rattle.cpu_1401.specs.Operation.{form_of};
-ghost use Rattle.cpu_1401.specs.declared.decoded.Spelled.{Spelled};
+ghost use Rattle.cpu_1401.specs.Source.{has_b};
+ghost use Rattle.cpu_1401.specs.declared.decoded.Source.{Source};
+ghost use Rattle.cpu_1401.specs.declared.operation.Operation.{Operation};
 
 use crate::operation::Operation;
 use bcd_1401::Char;
@@ -18,15 +19,19 @@ pub(crate) struct Address {
     ghost register_range: { register < 4 },
 }
 
-/// Which addresses an instruction takes as they are spelled.
+/// How an instruction comes by its addresses.
 #[derive(Clone, Copy, PartialEq, Eq)]
-pub(crate) enum Spelled {
-    /// Both of its two.
+pub(crate) enum Source {
+    /// It spells both: two, or one for both registers.
     Both,
-    /// Its only one, which goes into the A register alone.
-    Only,
-    /// Not all: it has none, or one for both registers, or an index register.
-    NotAll,
+    /// It spells its A address, and asks for no other: a branch of four characters.
+    Target,
+    /// It asks for none: no operation.
+    Unasked,
+    /// It spells its A address; its B address is the B register as it stands.
+    OnlyA,
+    /// By the registers as they stand, or by index registers.
+    Registers,
 }
 
 /// What an instruction says by itself.
@@ -40,42 +45,76 @@ pub(crate) struct Decoded {
     pub(crate) d: Char,
     /// The A address, if it has one.
     pub(crate) a: Address,
-    /// The B address, if it has two.
+    /// The B address, if it has two, or its only one, if that is for both registers.
     pub(crate) b: Address,
-    /// Which addresses it takes as they are spelled.
-    pub(crate) spelled: Spelled,
+    /// How it comes by its addresses.
+    pub(crate) source: Source,
+    /// Whether the addresses are ready: as they are spelled, or not asked for.
+    pub(crate) is_ready: bool,
     ghost some: { 0 < len },
     ghost most: { len ≤ 8 },
-    ghost both_len: { spelled ≡ Spelled.Both → 7 ≤ len },
-    ghost both_a: { spelled ≡ Spelled.Both → a.register ≡ 0 },
-    ghost both_b: { spelled ≡ Spelled.Both → b.register ≡ 0 },
-    ghost only_len: { spelled ≡ Spelled.Only → (4 ≤ len) × (len < 7) },
-    ghost only_a: { spelled ≡ Spelled.Only → a.register ≡ 0 },
-    ghost only_alone: { spelled ≡ Spelled.Only → (form_of operation).loads_both ≡ false },
+    ghost both_len: { source ≡ Source.Both → 4 ≤ len },
+    ghost both_a: { source ≡ Source.Both → a.register ≡ 0 },
+    ghost both_own: { source ≡ Source.Both → has_b operation len ≡ true },
+    ghost both_b: { source ≡ Source.Both → b.register ≡ 0 },
+    ghost target_branch: { source ≡ Source.Target → operation ≡ Operation.Branch },
+    ghost target_len: { source ≡ Source.Target → len ≡ 4 },
+    ghost target_a: { source ≡ Source.Target → a.register ≡ 0 },
+    ghost unasked: { source ≡ Source.Unasked → operation ≡ Operation.NoOperation },
+    ghost only_len: { source ≡ Source.OnlyA → 4 ≤ len },
+    ghost only_a: { source ≡ Source.OnlyA → a.register ≡ 0 },
+    ghost only_alone: { source ≡ Source.OnlyA → has_b operation len ≡ false },
+    ghost ready: { is_ready ≡ true → source ≢ Source.OnlyA },
+    ghost ready_alone: { is_ready ≡ true → source ≢ Source.Registers },
 }
 
-/// Which addresses of an instruction of this length are taken as they are spelled.
-pub(crate) fn as_spelled(operation: Operation, len: u16, a: Address, b: Address) -> Spelled
-    ensures both_len { result ≡ Spelled.Both → 7 ≤ len }
-    ensures both_a { result ≡ Spelled.Both → a.register ≡ 0 }
-    ensures both_b { result ≡ Spelled.Both → b.register ≡ 0 }
-    ensures only_len { result ≡ Spelled.Only → (4 ≤ len) × (len < 7) }
-    ensures only_a { result ≡ Spelled.Only → a.register ≡ 0 }
-    ensures only_alone { result ≡ Spelled.Only → (form_of operation).loads_both ≡ false }
+/// Whether an instruction of this length has an address for the B register.
+pub(crate) fn has_b(operation: Operation, len: u16) -> bool
+    ensures { result ≡ has_b operation len }
 {
-    if len < 4 || a.register != 0 {
-        return Spelled::NotAll;
+    len >= 7 || (len >= 4 && operation.loads_both())
+}
+
+/// How an instruction of this length comes by its addresses.
+pub(crate) fn source_of(operation: Operation, len: u16, a: Address, b: Address) -> Source
+    ensures both_len { result ≡ Source.Both → 4 ≤ len }
+    ensures both_a { result ≡ Source.Both → a.register ≡ 0 }
+    ensures both_own { result ≡ Source.Both → has_b operation len ≡ true }
+    ensures both_b { result ≡ Source.Both → b.register ≡ 0 }
+    ensures target_branch { result ≡ Source.Target → operation ≡ Operation.Branch }
+    ensures target_len { result ≡ Source.Target → len ≡ 4 }
+    ensures target_a { result ≡ Source.Target → a.register ≡ 0 }
+    ensures unasked { result ≡ Source.Unasked → operation ≡ Operation.NoOperation }
+    ensures only_len { result ≡ Source.OnlyA → 4 ≤ len }
+    ensures only_a { result ≡ Source.OnlyA → a.register ≡ 0 }
+    ensures only_alone { result ≡ Source.OnlyA → has_b operation len ≡ false }
+{
+    if operation == Operation::NoOperation {
+        return Source::Unasked;
     }
-    if len < 7 {
-        return if operation.loads_both() {
-            Spelled::NotAll
-        } else {
-            Spelled::Only
-        };
+    if len < 4 || a.register != 0 {
+        return Source::Registers;
+    }
+    if len == 4 && operation == Operation::Branch {
+        return Source::Target;
+    }
+    if !has_b(operation, len) {
+        return Source::OnlyA;
     }
     if b.register == 0 {
-        Spelled::Both
+        Source::Both
     } else {
-        Spelled::NotAll
+        Source::Registers
+    }
+}
+
+/// Whether such addresses are ready before the registers are known.
+pub(crate) fn is_ready(source: Source) -> bool
+    ensures ready { result ≡ true → source ≢ Source.OnlyA }
+    ensures alone { result ≡ true → source ≢ Source.Registers }
+{
+    match source {
+        Source::Both | Source::Target | Source::Unasked => true,
+        Source::OnlyA | Source::Registers => false,
     }
 }

@@ -6,7 +6,7 @@ ghost use Rattle.cpu_1401.specs.Instruction.{begins_at, length_at, longest_at};
 ghost use Rattle.cpu_1401.specs.Step.{step};
 ghost use Rattle.cpu_1401.specs.Stepped.{stopped};
 
-use crate::decoded::{Address, Decoded, as_spelled};
+use crate::decoded::{Address, Decoded, is_ready, source_of};
 use crate::machine::Machine;
 use crate::operation::{Operation, is_unfitted};
 use crate::stop::Stop;
@@ -40,14 +40,20 @@ impl Machine {
             return Err(Stop::Length);
         }
         let a = self.address(self.i + 1, len >= 4);
-        let b = self.address(self.i + 4, len >= 7);
+        let b = if len >= 7 {
+            self.address(self.i + 4, true)
+        } else {
+            a
+        };
+        let source = source_of(operation, len, a, b);
         Ok(Decoded {
             operation,
             len,
             d: self.core.get(self.i + len - 1).char,
             a,
             b,
-            spelled: as_spelled(operation, len, a, b),
+            source,
+            is_ready: is_ready(source),
         })
     }
 

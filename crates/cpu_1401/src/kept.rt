@@ -3,7 +3,7 @@ ghost use Rattle.std.specs.Prelude.{◌≡◌, ◌+◌, ◌<◌, ◌≤◌, IfOk
 ghost use Rattle.core_1401.specs.Address.{addresses};
 ghost use Rattle.cpu_1401.specs.Decoded.{AlwaysSay, Says};
 
-use crate::decoded::{Address, Decoded, Spelled};
+use crate::decoded::{Address, Decoded, Source};
 use crate::operation::Operation;
 use bcd_1401::Char;
 use core_1401::{ADDRESSES, Core, EightCells};
@@ -102,7 +102,8 @@ fn no_entry() -> CacheEntry {
             d: Char::BLANK,
             a: none,
             b: none,
-            spelled: Spelled::NotAll,
+            source: Source::Unasked,
+            is_ready: true,
         },
     }
 }

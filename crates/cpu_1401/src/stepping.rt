@@ -1,12 +1,12 @@
 //! One step of the machine: the instruction, kept or decoded, then what the operation does.
-ghost use Rattle.std.specs.Prelude.{◌≡◌, ◌≢◌, ◌+◌, ◌%◌, ◌<◌, length, Some, IfSome, IfOk, IfErr};
+ghost use Rattle.std.specs.Prelude.{◌≡◌, ◌≢◌, ◌+◌, ◌%◌, ◌<◌, true, length, Some, IfSome, IfOk, IfErr};
 ghost use Rattle.core_1401.specs.Address.{addresses};
 ghost use Rattle.cpu_1401.specs.Instruction.{instruction_of};
 ghost use Rattle.cpu_1401.specs.Step.{perform, step};
-ghost use Rattle.cpu_1401.specs.Decoded.{Says};
+ghost use Rattle.cpu_1401.specs.Decoded.{Says, Serve};
 ghost use Rattle.cpu_1401.specs.Stepped.{stopped};
 
-use crate::decoded::{Decoded, Spelled};
+use crate::decoded::{Decoded, Source, has_b};
 use crate::instruction::Instruction;
 use crate::io_request::CardWork;
 use crate::machine::Machine;
@@ -85,22 +85,24 @@ impl Machine {
         Ok(said)
     }
 
-    /// The instruction at the I register, by what it says itself, by the registers and by index registers.
+    /// What is carried out for the instruction at the I register, by what it says itself, by the registers and by index
+    /// registers.
     #[inline(always)]
     fn instruction(&self, said: &Decoded, next: u16) -> Instruction
         requires says { Says self.now.storage self.now.i said.now }
         requires next { next ≡ (self.now.i + said.now.len) % addresses }
-        ensures value { result ≡ instruction_of said.now.operation said.now.len self.now }
+        ensures serves { perform said.now.operation result self.now ≡ perform said.now.operation
+            (instruction_of said.now.operation said.now.len self.now) self.now }
         ensures a { result.a < addresses }
         ensures b { result.b < addresses }
         ensures next { result.next < addresses }
     {
-        let (a, b) = if said.spelled == Spelled::Both {
-            (self.spelled_a(said), self.spelled_b(said))
-        } else if said.spelled == Spelled::Only {
-            (self.spelled_a(said), self.only_b(said))
+        let (a, b) = if said.is_ready {
+            self.ready_addresses(said)
+        } else if said.source == Source::OnlyA {
+            self.only_a_address(said)
         } else {
-            (self.a_address(said), self.b_address(said))
+            self.addresses(said)
         };
         Instruction {
             len: said.len,
@@ -111,40 +113,39 @@ impl Machine {
         }
     }
 
-    /// The A address of an instruction that takes it as it is spelled.
+    /// The addresses that are ready: both as they are spelled, or at least those that are asked for.
     #[inline(always)]
-    #[tactic(auto, using(crate::proofs::DecodedLemmas::spelled_a_is))]
-    fn spelled_a(&self, said: &Decoded) -> u16
+    #[tactic(auto, using(crate::proofs::DecodedLemmas::ready_serve))]
+    fn ready_addresses(&self, said: &Decoded) -> (u16, u16)
         requires says { Says self.now.storage self.now.i said.now }
-        requires spelled { said.now.spelled ≢ Spelled.NotAll }
-        ensures value { result ≡ (instruction_of said.now.operation said.now.len self.now).a }
-        ensures range { result < addresses }
+        requires ready { said.now.is_ready ≡ true }
+        ensures serve { Serve self.now said.now result.0 result.1 }
+        ensures range { (result.0 < addresses) × (result.1 < addresses) }
     {
-        self.core.indexed(said.a.value, 0)
+        (said.a.value, said.b.value)
     }
 
-    /// The B address of an instruction that takes both as they are spelled.
+    /// An only address for the A register, and the B register as it stands.
     #[inline(always)]
-    #[tactic(auto, using(crate::proofs::DecodedLemmas::spelled_b_is))]
-    fn spelled_b(&self, said: &Decoded) -> u16
+    #[tactic(auto, using(crate::proofs::DecodedLemmas::only_a_serves))]
+    fn only_a_address(&self, said: &Decoded) -> (u16, u16)
         requires says { Says self.now.storage self.now.i said.now }
-        requires both { said.now.spelled ≡ Spelled.Both }
-        ensures value { result ≡ (instruction_of said.now.operation said.now.len self.now).b }
-        ensures range { result < addresses }
+        requires only { said.now.source ≡ Source.OnlyA }
+        ensures serve { Serve self.now said.now result.0 result.1 }
+        ensures range { (result.0 < addresses) × (result.1 < addresses) }
     {
-        self.core.indexed(said.b.value, 0)
+        (said.a.value, self.b)
     }
 
-    /// The B address beside an only one that goes into the A register alone: the B register as it stands.
+    /// The addresses by index registers, and the registers as they stand where it has none.
     #[inline(always)]
-    #[tactic(auto, using(crate::proofs::DecodedLemmas::only_b_is))]
-    fn only_b(&self, said: &Decoded) -> u16
+    #[tactic(auto, using(crate::proofs::DecodedLemmas::own_serve))]
+    fn addresses(&self, said: &Decoded) -> (u16, u16)
         requires says { Says self.now.storage self.now.i said.now }
-        requires only { said.now.spelled ≡ Spelled.Only }
-        ensures value { result ≡ (instruction_of said.now.operation said.now.len self.now).b }
-        ensures range { result < addresses }
+        ensures serve { Serve self.now said.now result.0 result.1 }
+        ensures range { (result.0 < addresses) × (result.1 < addresses) }
     {
-        self.b
+        (self.a_address(said), self.b_address(said))
     }
 
     /// What the instruction has for its A address: its own, or the A register as it stands.
@@ -162,7 +163,8 @@ impl Machine {
         }
     }
 
-    /// What it has for its B address: its own, or its only address, or the B register as it stands.
+    /// What it has for its B address: its own, or its only one if that is for both registers, or the B register as it
+    /// stands.
     #[inline(always)]
     #[tactic(auto, using(crate::proofs::DecodedLemmas::effective_is))]
     fn b_address(&self, said: &Decoded) -> u16
@@ -170,10 +172,8 @@ impl Machine {
         ensures value { result ≡ (instruction_of said.now.operation said.now.len self.now).b }
         ensures range { result < addresses }
     {
-        if said.len >= 7 {
+        if has_b(said.operation, said.len) {
             self.core.indexed(said.b.value, said.b.register)
-        } else if said.len >= 4 && said.operation.loads_both() {
-            self.core.indexed(said.a.value, said.a.register)
         } else {
             self.b
         }

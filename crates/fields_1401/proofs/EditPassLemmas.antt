@@ -2,7 +2,7 @@
 use Rattle.std.proofs.Common.{◌≡◌, set, ℕ, ◌+◌, ◌-◌, ◌<◌, ◌≤◌, ◌⊎◌, true, false, List, Option, Some, None}
 use Rattle.std.proofs.Common.{length, get_or, drop, ap, sym, refl, ◌∙◌, inl, inr, arith}
 use Rattle.std.specs.List.{count_by}
-use Rattle.std.specs.Prelude.{not}
+use Rattle.std.specs.Prelude.{not, slice_index}
 use Rattle.std.proofs.lemmas.Bool.{cases_eq, lt-ltb, le-ltb}
 use Rattle.std.proofs.lemmas.Bool.Decides.{nat_tests}
 use Rattle.std.proofs.lemmas.List.{length-set, drop_all}
@@ -11,7 +11,7 @@ use Rattle.fields_1401.specs.declared.sign.Sign.{Sign}
 use Rattle.fields_1401.specs.Across.{chars_across, units_unzoned, char_to, unzoned_down}
 use Rattle.fields_1401.specs.Edit.{is_replaceable, is_significant, replaceable_in, replaceable_behind, taken_by}
 use Rattle.fields_1401.specs.Edit.{kept_char, taken_char, taken_down, unsuppressed, sign_at, shown, is_shared}
-use Rattle.fields_1401.specs.Places.{with_chars, with_all_chars, chars_of}
+use Rattle.fields_1401.specs.Places.{is_within, with_chars, with_all_chars, chars_of}
 use Rattle.fields_1401.specs.Suppress.{blank_char}
 use Rattle.fields_1401.proofs.AcrossLemmas.{length-across, char_across, length-unzoned_across}
 use Rattle.fields_1401.proofs.EditLemmas.{not_shared, length-unsuppressed, shown_place, replaceable_more}
@@ -77,6 +77,16 @@ significant_is char = grind (arith, nat_tests)
 -- a character that was taken shows itself if nothing is suppressed
 pub taken_plain : (char : ℕ) → taken_char false char ≡ char
 taken_plain char = grind (arith, nat_tests)
+
+-- the units of A, of which some are taken, are as they were
+pub units_kept : (s : Storage) (chars : List ℕ) (a t b m i behind significant : ℕ) → a < length s → t ≤ a + 1
+    → is_shared a t b m ≡ false → i ≤ m → behind < t → ArePut s chars a t b m i behind significant
+    → (cell_at s a).char ≡ slice_index chars a
+units_kept s chars a t b m i behind significant a_in a_above apart le some before =
+    let kept : ℕ → ℕ = char_to (unsuppressed (chars_across s b m) (units_unzoned (chars_across s a t)) (sign_at s a)) in
+    let here : a - 0 ≡ a = omega arith in
+    sym (still_lent s chars b i a kept before.size before.put a_in
+    (ap (λ (q : ℕ). is_within b i q) (sym here) ∙ not_shared a t b m i 0 apart a_above (omega (arith, some)) le))
 
 -- one more
 pub put_more : (s : Storage) (chars after : List ℕ) (a t b m i place behind from significant next own char : ℕ)

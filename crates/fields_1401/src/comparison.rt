@@ -10,7 +10,7 @@ ghost use Rattle.fields_1401.specs.Compare.{orders_across, IsOneOfThree, Tells};
 
 use crate::done::{Done, FieldStop};
 use crate::lengths::pair_len;
-use crate::registers::{registers, step_down};
+use crate::registers::{below_field, registers};
 use crate::slices::char_at;
 use core_1401::Core;
 
@@ -52,7 +52,7 @@ pub fn compare(core: &Core, a: u16, b: u16) -> Result<Done, FieldStop>
         unequal,
         low: unequal & !high,
         high,
-        ..registers(step_down(a, n), step_down(b, n))
+        ..registers(below_field(a, n), below_field(b, n))
     })
 }
 

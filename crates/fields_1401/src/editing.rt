@@ -1,10 +1,11 @@
 //! A field edited by the control word in the B field.
-ghost use Rattle.std.specs.Prelude.{◌≡◌, ℕ, ◌+◌, ◌<◌, ◌≤◌, false, length, IfSome, OnOk};
+ghost use Rattle.std.specs.Prelude.{◌≡◌, ℕ, ◌+◌, ◌<◌, ◌≤◌, false, length, slice_index, IfSome, OnOk};
 ghost use Rattle.core_1401.specs.Address.{addresses};
 ghost use Rattle.core_1401.specs.Field.{field_len_of};
 ghost use Rattle.core_1401.specs.Storage.{Storage};
-ghost use Rattle.fields_1401.specs.Across.{chars_across, units_unzoned, with_across, char_to, IsUnmarked};
-ghost use Rattle.fields_1401.specs.Across.{IsSameOutside};
+ghost use Rattle.bcd_1401.specs.Character.{with_zone_of};
+ghost use Rattle.fields_1401.specs.Across.{chars_across, units_unzoned, unzoned_down, with_across, char_to};
+ghost use Rattle.fields_1401.specs.Across.{IsSameOutside, IsUnmarked};
 ghost use Rattle.fields_1401.specs.Edit.{replaceable_in, before_significant, is_left_over, is_comma_blanked};
 ghost use Rattle.fields_1401.specs.Edit.{is_sign_char, is_sign_blanked, is_blanked, kept_char, unsuppressed};
 ghost use Rattle.fields_1401.specs.Edit.{edited, sign_at, taken_at, edit_at, suppressed_to, without_zero, IsPlain};
@@ -12,10 +13,9 @@ ghost use Rattle.fields_1401.specs.Edit.{ShowsWithBlanks};
 ghost use Rattle.fields_1401.specs.Outcome.{CarriesOut};
 ghost use Rattle.fields_1401.specs.Places.{with_chars};
 
-use crate::across::unzoned_down;
 use crate::control_word::{ControlWord, is_replaceable, limit};
 use crate::done::{Done, FieldStop};
-use crate::registers::{registers, step_down};
+use crate::registers::{below_field, registers};
 use crate::sign::Sign;
 use crate::slices::{char_at, put_char};
 use crate::suppression::{COMMA, ZERO};
@@ -75,7 +75,7 @@ pub fn edit(core: &mut Core, a: u16, b: u16) -> Result<Done, FieldStop>
         sign: Sign::of_units(core.get(a).char),
     };
     put_edited(core, word, rules);
-    Ok(registers(step_down(a, word.taken), step_down(b, word.len)))
+    Ok(registers(below_field(a, word.taken), below_field(b, word.len)))
 }
 
 /// Puts what each place shows, without word marks.
@@ -116,6 +116,7 @@ fn put_unsuppressed(core: &mut Core, word: ControlWord, rules: Rules) -> usize
     ensures size { length core.new ≡ length core.old }
 {
     let (units, len) = (usize::from(word.b), usize::from(word.len));
+    let units_of_a = core.get(word.a).char.with_zone(0);
     let chars = core.chars_mut();
     let mut behind = 0;
     let mut significant = len;
@@ -124,7 +125,7 @@ fn put_unsuppressed(core: &mut Core, word: ControlWord, rules: Rules) -> usize
         if !is_replaceable(own) {
             put_char(chars, units - i, rules.kept_char(behind, own));
         } else if behind < rules.taken {
-            let char = unzoned_down(chars, usize::from(word.a), behind);
+            let char = char_of_a(chars, usize::from(word.a), behind, units_of_a);
             if !is_replaceable(char) {
                 significant = len - 1 - i;
             }
@@ -136,6 +137,19 @@ fn put_unsuppressed(core: &mut Core, word: ControlWord, rules: Rules) -> usize
         }
     }
     significant
+}
+
+/// The character of A that is taken with this many behind it: the first is the units, which are given without their
+/// zone, so that none is removed for each.
+#[inline(always)]
+fn char_of_a(chars: &[Char], a: usize, behind: usize, units: Char) -> Char
+    requires a { a < length chars.now }
+    requires behind { behind ≤ a }
+    requires units { units ≡ with_zone_of (slice_index chars.now a) 0 }
+    ensures { result ≡ unzoned_down chars.now a behind }
+{
+    let char = char_at(chars, a - behind);
+    if behind == 0 { units } else { char }
 }
 
 /// Suppresses the zeros and commas of this many places of the control word, from the left.

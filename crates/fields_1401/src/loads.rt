@@ -8,7 +8,7 @@ ghost use Rattle.fields_1401.specs.Outcome.{CarriesOut};
 use crate::done::{Done, FieldStop};
 use crate::lengths::field_len;
 use crate::refusals::{has_places, is_overwritten};
-use crate::registers::{registers, step_down};
+use crate::registers::{below_field, registers};
 use core_1401::Core;
 
 /// Loads the A field with its word mark to b and the places below it, from right to left. The word marks that stood
@@ -32,7 +32,7 @@ pub fn load_chars(core: &mut Core, a: u16, b: u16) -> Result<Done, FieldStop>
         return Err(FieldStop::Address);
     }
     load_places(core, a, b, n);
-    Ok(registers(step_down(a, n), step_down(b, n)))
+    Ok(registers(below_field(a, n), below_field(b, n)))
 }
 
 /// Loads the n cells of the A field.

@@ -9,7 +9,7 @@ ghost use Rattle.fields_1401.specs.Places.{marks_of};
 use crate::done::{Done, FieldStop};
 use crate::lengths::pair_len;
 use crate::refusals::is_overwritten;
-use crate::registers::{registers, step_down};
+use crate::registers::{below_field, registers};
 use core_1401::Core;
 
 /// Moves the characters of the A field to the B field, from right to left and down to the first word mark in either.
@@ -30,7 +30,7 @@ pub fn move_chars(core: &mut Core, a: u16, b: u16) -> Result<Done, FieldStop>
         return Err(FieldStop::Address);
     };
     move_places(core, a, b, n);
-    Ok(registers(step_down(a, n), step_down(b, n)))
+    Ok(registers(below_field(a, n), below_field(b, n)))
 }
 
 /// Moves n characters, each after the one to its right: a copy, unless some of them repeat.

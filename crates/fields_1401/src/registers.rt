@@ -1,5 +1,5 @@
 //! Registers that step down.
-ghost use Rattle.std.specs.Prelude.{◌≡◌, ◌<◌, ◌≤◌};
+ghost use Rattle.std.specs.Prelude.{◌≡◌, ◌+◌, ◌<◌, ◌≤◌};
 ghost use Rattle.core_1401.specs.Address.{addresses};
 ghost use Rattle.fields_1401.specs.Outcome.{below_by, registers_of};
 
@@ -18,6 +18,16 @@ pub fn step_down(at: u16, by: u16) -> u16
     } else {
         at + ADDRESSES - by
     }
+}
+
+/// The address below a field of n places that end at one: 15,999 if the field ends with address 0.
+pub(crate) fn below_field(at: u16, n: u16) -> u16
+    requires at { at < addresses }
+    requires n { n ≤ at + 1 }
+    ensures value { result ≡ below_by at n }
+    ensures range { result < addresses }
+{
+    if n <= at { at - n } else { ADDRESSES - 1 }
 }
 
 /// The registers afterwards, and no indicator.

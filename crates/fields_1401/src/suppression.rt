@@ -13,7 +13,7 @@ use crate::across::{unzoned_char, unzoned_down};
 use crate::done::{Done, FieldStop};
 use crate::lengths::field_len;
 use crate::refusals::{has_places, is_overlap};
-use crate::registers::{registers, step_down};
+use crate::registers::{below_field, registers};
 use crate::slices::put_char;
 use bcd_1401::Char;
 use core_1401::{ADDRESSES, Core};
@@ -55,7 +55,7 @@ pub fn suppress(core: &mut Core, a: u16, b: u16) -> Result<Done, FieldStop>
     }
     let blanks = before_figures(core, a, n);
     put_suppressed(core, a, b, n, blanks);
-    Ok(registers(step_down(a, n), (b + 1) % ADDRESSES))
+    Ok(registers(below_field(a, n), (b + 1) % ADDRESSES))
 }
 
 /// Whether a character stops the suppression: it is none of zero, blank and comma.

@@ -4,7 +4,7 @@ use Rattle.core_1401.proofs.MarkWordLemmas.{first_found, no_more, whole_word}
 use Rattle.core_1401.proofs.mark_words.first_mark_by_words.Goals as goal
 
 pub loop-turn-init : goal.loop-turn-init
-loop-turn-init c = λ j lt le. c.requires.near j (omega (arith, lt)) le
+loop-turn-init c = c.unmarked_by_fours-turn.ensures.none
 
 pub returns-then-word-ne0-clause-first : goal.returns-then-word-ne0-clause-first
 returns-then-word-ne0-clause-first c =

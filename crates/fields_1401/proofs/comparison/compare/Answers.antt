@@ -10,11 +10,11 @@ returns-in_default c = search rules
 
 pub returns-clause-value : goal.returns-clause-value
 returns-clause-value c =
-    comparison_is c.args.core.now c.args.a c.args.b c.in-Some.n c.step_down.result c.step_down-2.result
+    comparison_is c.args.core.now c.args.a c.args.b c.in-Some.n c.below_field.result c.below_field-2.result
     c.highest_difference-difference.result c.ends_first-ends_first.result c.is_some.result c.is_higher.result
     c.registers.result c.in-Some.ensures.value c.highest_difference-difference.ensures.value
-    c.ends_first-ends_first.ensures c.is_some.ensures c.is_higher.ensures.value c.step_down.ensures.value
-    c.step_down-2.ensures.value c.registers.ensures
+    c.ends_first-ends_first.ensures c.is_some.ensures c.is_higher.ensures.value c.below_field.ensures.value
+    c.below_field-2.ensures.value c.registers.ensures
 
 pub returns-clause-one : goal.returns-clause-one
 returns-clause-one c = record {

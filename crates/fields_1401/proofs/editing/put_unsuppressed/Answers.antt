@@ -1,7 +1,9 @@
 -- Each step puts one place more.
 use Rattle.std.proofs.Common.{◌≡◌, ℕ, ◌+◌, ◌-◌, ◌⊎◌, List, Option, Some, None, true, false, set}
 use Rattle.std.proofs.Common.{ap, sym, subst, ◌∙◌, inl, inr, arith, refl}
-use Rattle.std.specs.Prelude.{not}
+use Rattle.std.specs.Prelude.{not, slice_index}
+use Rattle.bcd_1401.specs.Character.{with_zone_of}
+use Rattle.bcd_1401.specs.declared.cell.Cell.{Cell}
 use Rattle.fields_1401.specs.Across.{chars_across, units_unzoned}
 use Rattle.fields_1401.specs.Edit.{is_replaceable, is_significant, kept_char, shown, taken_down}
 use Rattle.fields_1401.proofs.AcrossLemmas.{length-across}
@@ -9,7 +11,7 @@ use Rattle.fields_1401.proofs.EditLemmas.{before_significant_is}
 use Rattle.fields_1401.specs.Across.{unzoned_down}
 use Rattle.fields_1401.specs.Suppress.{blank_char}
 use Rattle.fields_1401.proofs.EditPassLemmas.{ArePut, put_none, put_more, one_taken, none_left, none_taken, blank_left}
-use Rattle.fields_1401.proofs.EditPassLemmas.{significant_is, taken_plain}
+use Rattle.fields_1401.proofs.EditPassLemmas.{significant_is, taken_plain, units_kept}
 use Rattle.fields_1401.proofs.LendingLemmas.{length-with_all_chars}
 use Rattle.fields_1401.proofs.editing.put_unsuppressed.Goals as goal
 use Rattle.fields_1401.proofs.editing.put_unsuppressed.Goals.{then-not-is_replaceable}
@@ -24,6 +26,17 @@ loop-i-init c =
     subst (λ (n : ℕ). ArePut s c.chars_mut-chars.result.now o.a o.taken o.b o.len 0 0 n) (sym c.from-len.ensures)
     (put_none s c.chars_mut-chars.result.now o.a o.taken o.b o.len c.requires.b o.b_above
     c.chars_mut-chars.ensures.value)
+
+pub char_of_a-char-requires-clause-units : goal.char_of_a-char-requires-clause-units
+char_of_a-char-requires-clause-units c =
+    let s = c.args.core.now in
+    let o = c.args.word in
+    c.with_zone-units_of_a.ensures
+    ∙ ap (λ (char : ℕ). with_zone_of char 0)
+    (ap (λ (cell : Cell). cell.char) c.get.ensures
+    ∙ units_kept s c.loop-i.chars o.a o.taken o.b o.len c.loop-i.i c.loop-i.behind c.loop-i.significant c.requires.a
+    o.a_above o.apart (omega arith) (omega (arith, c.if-behind-rules.true, c.requires.taken)) c.loop-i.invariant
+    ∙ ap (λ (a : ℕ). slice_index c.loop-i.chars a) (sym c.from.ensures))
 
 pub loop-i-preserved : goal.loop-i-preserved
 loop-i-preserved c =
@@ -56,9 +69,9 @@ loop-i-preserved c =
           (inr (no, w.behind-is)) (inr (refl, w.significant-is))
       | else-not-is_replaceable+then-behind-rules w ↦
           let yes : is_replaceable own ≡ true = sym c.is_replaceable.ensures ∙ w.if-not-is_replaceable.false in
-          let char = w.unzoned_down-char.result in
+          let char = w.char_of_a-char.result in
           let here : char ≡ unzoned_down c.loop-i.chars o.a c.loop-i.behind =
-          w.unzoned_down-char.ensures
+          w.char_of_a-char.ensures
           ∙ ap (λ (a : ℕ). unzoned_down c.loop-i.chars a c.loop-i.behind) w.from.ensures in
           more c.if-not-is_replaceable.chars c.if-not-is_replaceable.behind c.if-not-is_replaceable.significant
           char (Some char)

@@ -14,4 +14,5 @@ returns-clause-ok c = record {
   d = search rules;
   a = search rules;
   b = search rules;
+  only = search rules;
 }
