@@ -300,3 +300,21 @@ next_mark_found chars words at most n in_core next =
             omega (arith, least, inside, all, next.near)
       ]
     ]
+
+-- the last pair has a word mark
+pub pair_last : (chars words : List ℕ) (storage : Storage) (a b p q n : ℕ) → held chars words ≡ storage
+    → ArePlaces storage a b p q → IsFirstPair words p q n → n ≤ min a b
+    → ((cell_at storage (a + 1 - (n + 1))).mark || (cell_at storage (b + 1 - (n + 1))).mark) ≡ true
+pair_last chars words storage a b p q n view at first le =
+    let size : length storage ≡ length chars = ap length (sym view) ∙ length_held chars words in
+    let mark : Cell → Bool = λ cell. cell.mark in
+    let at_place : (k place : ℕ) → k ≡ place → place < length chars
+    → (cell_at storage k).mark ≡ (mark_bit words place == 1) =
+    λ k place e lt. ap (λ (s : Storage). (cell_at s k).mark) (sym view)
+    ∙ ap (λ (i : ℕ). (cell_at (held chars words) i).mark) e ∙ ap mark (cell_at-held chars words place lt) in
+    let of_a = at_place (a + 1 - (n + 1)) (p - n) (omega (arith, at.is_a)) (omega (arith, size, at.is_a, at.a_in)) in
+    let of_b = at_place (b + 1 - (n + 1)) (q - n) (omega (arith, at.is_b)) (omega (arith, size, at.is_b, at.b_in)) in
+    ap (λ (m : Bool). m || (cell_at storage (b + 1 - (n + 1))).mark) of_a
+    ∙ ap (λ (m : Bool). (mark_bit words (p - n) == 1) || m) of_b
+    ∙ either_bit (mark_bit words (p - n)) (mark_bit words (q - n)) (omega arith) (omega arith)
+    ∙ ap (λ (m : ℕ). m == 1) (first.mark_there (omega (arith, le, at.is_a)) (omega (arith, le, at.is_b)))

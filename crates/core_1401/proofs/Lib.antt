@@ -12,3 +12,4 @@ mod MarkWordExamples
 pub mod MarkWordLemmas
 mod PlacesExamples
 pub mod PlacesLemmas
+pub mod PlaceSetLemmas

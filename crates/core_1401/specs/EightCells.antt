@@ -25,3 +25,8 @@ pub record AreEightCells (storage : Storage) (at codes marks : ℕ) : Type 0 whe
   pub are_bytes : codes ≡ from_le_bytes w64 (codes_at storage at)
   pub are_codes : (i : ℕ) → i < 8 → (cell_at storage (at + i)).char < 64
   pub are_bits : (i : ℕ) → i < 8 → (bit_at marks i == 1) ≡ (cell_at storage (at + i)).mark
+
+-- A number has the codes at eight places as its bytes, with the first as the lowest.
+pub record AreEightCodes (storage : Storage) (at codes : ℕ) : Type 0 where
+  pub are_bytes : codes ≡ from_le_bytes w64 (codes_at storage at)
+  pub are_codes : (i : ℕ) → i < 8 → (cell_at storage (at + i)).char < 64

@@ -6,4 +6,5 @@ pub mod Field
 pub mod Lending
 pub mod MarkWords
 pub mod Places
+pub mod PlaceSet
 pub mod Storage

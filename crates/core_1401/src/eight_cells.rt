@@ -1,7 +1,7 @@
 //! Eight cells in a row, as numbers that are compared at once.
 ghost use Rattle.std.specs.Prelude.{◌≡◌, ◌+◌, ◌≤◌, length};
 ghost use Rattle.std.specs.Int.{w64, from_le_bytes};
-ghost use Rattle.core_1401.specs.EightCells.{AreEightCells, AreCodes, codes_from};
+ghost use Rattle.core_1401.specs.EightCells.{AreEightCells, AreEightCodes, AreCodes, codes_from};
 
 use crate::mark_words::marks_up;
 use crate::storage::Core;
@@ -29,6 +29,16 @@ impl Core {
             codes: codes_up(&self.chars, place),
             marks: marks_up(&self.words, place),
         }
+    }
+
+    /// The codes of the characters at eight places from one up, a byte each, with the first in the lowest.
+    #[inline(always)]
+    #[tactic(auto, using(crate::proofs::HeldLemmas::length_held))]
+    pub fn eight_codes(&self, at: u16) -> u64
+        requires { at + 8 ≤ length self.now }
+        ensures { AreEightCodes self.now at result }
+    {
+        codes_up(&self.chars, usize::from(at))
     }
 }
 

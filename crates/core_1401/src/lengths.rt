@@ -1,6 +1,7 @@
 //! The lengths of fields, and the next word mark above a place.
-ghost use Rattle.std.specs.Prelude.{◌≡◌, ◌+◌, ◌≤◌, ◌<◌, min, IfSome, length};
+ghost use Rattle.std.specs.Prelude.{◌≡◌, ◌+◌, ◌-◌, ◌≤◌, ◌<◌, ◌||◌, true, min, IfSome, length};
 ghost use Rattle.core_1401.specs.Field.{field_len_of, pair_len_of, next_mark_from};
+ghost use Rattle.core_1401.specs.Storage.{cell_at};
 
 use crate::mark_words::{first_mark, first_pair, next_mark};
 use crate::storage::Core;
@@ -32,6 +33,10 @@ impl Core {
         requires b_in { b < length self.now }
         ensures value { result ≡ pair_len_of self.now a b }
         ensures bounds { IfSome result (λ n. (0 < n) × (n ≤ a + 1) × (n ≤ b + 1)) }
+
+        // The last pair has a word mark, in one of its cells or in both.
+        ensures marked { IfSome result (λ n.
+            ((cell_at self.now (a + 1 - n)).mark || (cell_at self.now (b + 1 - n)).mark) ≡ true) }
     {
         let (a, b) = (usize::from(a), usize::from(b));
         let behind = first_pair(&self.words, a, b);

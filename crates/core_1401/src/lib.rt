@@ -22,6 +22,7 @@ pub mod eight_cells;
 pub mod fault;
 pub mod lending;
 pub mod mark_words;
+pub mod place_set;
 mod short_copies;
 pub mod storage;
 
@@ -32,4 +33,5 @@ pub use address::{ADDRESSES, decode, encode};
 pub use cells::{Cells, MOST_CELLS};
 pub use eight_cells::EightCells;
 pub use fault::CoreFault;
+pub use place_set::PlaceSet;
 pub use storage::{Core, LEAST_SIZE, SIZES};

@@ -49,7 +49,7 @@ fn joined(high: u64, low: u64) -> u128
 
 /// The marks of the 64 places from one down: its own is the highest bit.
 #[inline(always)]
-fn window_down(words: &[u64], at: usize) -> u64
+pub(crate) fn window_down(words: &[u64], at: usize) -> u64
     requires { at / 64 + 1 < length words.now }
     ensures { IsWindowDown words.now at result }
 {

@@ -1,11 +1,11 @@
 -- What stands in an area of storage once characters were put there, and an address once it was stored.
-use Rattle.std.proofs.Common.{◌≡◌, ◌≢◌, ℕ, ◌+◌, ◌<◌, ◌≤◌, ◌==◌, suc, zero, Bool, true, false, List, [], ◌∷◌, length}
+use Rattle.std.proofs.Common.{◌≡◌, ◌≢◌, ◌⊎◌, ℕ, ◌+◌, ◌<◌, ◌≤◌, ◌==◌, suc, zero, Bool, true, false, List, [], ◌∷◌, length}
 use Rattle.std.proofs.Common.{drop, if◌then◌else◌}
 use Rattle.std.proofs.Common.{get_or, refl, sym, ◌∙◌, ap, inl, inr, arith}
-use Rattle.std.proofs.lemmas.Bool.{cases_eq}
+use Rattle.std.proofs.lemmas.Bool.{cases_eq, cases_lt}
 use Rattle.std.proofs.lemmas.Bool.Decides.{nat_tests}
-use Rattle.std.proofs.lemmas.List.{at_drop_all, get_or-set_other, get_or-set_same, length-set}
-use Rattle.std.proofs.lemmas.List.FromFn.{get_or-map-range_with_len}
+use Rattle.std.proofs.lemmas.List.{at_drop_all, get_or_past, get_or-set_other, get_or-set_same, length-set}
+use Rattle.std.proofs.lemmas.List.FromFn.{get_or-map-range_with_len, length-map-range_with_len}
 use Rattle.bcd_1401.specs.declared.cell.Cell.{Cell}
 use Rattle.core_1401.specs.Places.{is_within, with_cells, written_cell}
 use Rattle.core_1401.specs.Storage.{Storage, blank, cell_at, with_char, with_mark}
@@ -82,6 +82,38 @@ cleared_mark storage k size first last =
     (get_or-map-range_with_len (written_cell storage 80 80 (λ i. blank)) 0 (length storage) k k blank in_core
     (omega arith))
     ∙ ap (λ (inside : Bool). (if inside then blank else cell_at storage k).mark) within
+
+-- and each other place is as it was
+pub cleared_beside : (storage : Storage) (k : ℕ) → (k < 1) ⊎ (80 < k)
+    → cell_at (with_cells storage card_columns card_columns (λ i. blank)) k ≡ cell_at storage k
+unfolding with_cells
+cleared_beside storage k beside =
+    let outside : is_within 80 80 k ≡ false = elim beside [
+      | inl under ↦ grind (arith, nat_tests)
+      | inr over ↦ grind (arith, nat_tests)
+    ] in
+    let after : Storage = with_cells storage 80 80 (λ i. blank) in
+    let size : length after ≡ length storage =
+    length-map-range_with_len (written_cell storage 80 80 (λ i. blank)) 0 (length storage) in
+    elim (cases_lt k (length storage)) [
+      | inl in_core ↦ get_or-map-range_with_len (written_cell storage 80 80 (λ i. blank)) 0 (length storage) k k blank
+          in_core (omega arith) ∙ ap (λ (inside : Bool). if inside then blank else cell_at storage k) outside
+      | inr past ↦ get_or_past after k blank (omega (arith, size, past)) ∙ sym (get_or_past storage k blank past)
+    ]
+
+-- so is its word mark once characters were put and the first place was marked
+pub marks_beside : (storage cleared put : Storage) (k : ℕ)
+    → cleared ≡ with_cells storage card_columns card_columns (λ i. blank)
+    → ((q : ℕ) → (cell_at put q).mark ≡ (cell_at cleared q).mark) → (k < 1) ⊎ (80 < k)
+    → (cell_at (with_mark put 1 true) k).mark ≡ (cell_at storage k).mark
+marks_beside storage cleared put k e marks beside =
+    let other : k ≢ 1 = λ here. elim beside [
+      | inl under ↦ absurd (omega (arith, under, here))
+      | inr over ↦ absurd (omega (arith, over, here))
+    ] in
+    ap (λ (c : Cell). c.mark) (get_or-set_other put 1 k (record (cell_at put 1) { mark = true }) blank other)
+    ∙ marks k ∙ ap (λ (s : Storage). (cell_at s k).mark) e
+    ∙ ap (λ (c : Cell). c.mark) (cleared_beside storage k beside)
 
 no_zero : (i : ℕ) → (suc i == 0) ≡ false
 no_zero i = grind (arith, nat_tests)

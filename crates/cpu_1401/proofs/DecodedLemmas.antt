@@ -26,7 +26,7 @@ use Rattle.cpu_1401.specs.State.{State}
 use Rattle.cpu_1401.specs.Step.{perform, step}
 
 -- the i-th of eight codes
-code_at : (s : Storage) (at i : ℕ) → i < 8 → get_or (codes_at s at) i 0 ≡ (cell_at s (at + i)).char
+pub code_at : (s : Storage) (at i : ℕ) → i < 8 → get_or (codes_at s at) i 0 ≡ (cell_at s (at + i)).char
 code_at s at i lt = get_or-map-range_with_len (λ j. (cell_at s (at + j)).char) 0 8 i i 0 lt (omega arith)
 
 -- each takes a byte

@@ -5,8 +5,11 @@ mod CardsExamples
 pub mod CardsAndPrinterLemmas
 pub mod DecodedLemmas
 pub mod ExampleCells
+mod FetchedExamples
+pub mod FetchedLemmas
 mod FrameExamples
 pub mod FrameLemmas
+pub mod KeptLemmas
 mod RegisterExamples
 pub mod RunLemmas
 mod StepExamples

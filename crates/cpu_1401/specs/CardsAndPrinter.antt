@@ -93,6 +93,10 @@ abbrev pub with_read : Bool → State → State
 with_read false s = s
 with_read true s = with_card (slice_get s.devices.hopper 0) s
 
+-- the characters of an area of 80 places, on a card
+abbrev pub card_at : Storage → ℕ → Card
+card_at storage area = record { 0 = chars_from storage area card_columns }
+
 -- the characters of the punch area on a card
 abbrev pub card_of : Storage → Card
 card_of storage = record { 0 = chars_from storage punch_area card_columns }

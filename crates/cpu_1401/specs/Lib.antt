@@ -1,9 +1,11 @@
 pub mod Branch
 pub mod CardsAndPrinter
 pub mod Decoded
+pub mod Fetched
 pub mod FieldStep
 pub mod Frame
 pub mod Instruction
+pub mod Kept
 pub mod Operation
 pub mod RegisterStep
 pub mod Rows

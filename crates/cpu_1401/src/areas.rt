@@ -1,4 +1,12 @@
 //! The areas of core storage that cards and lines go through.
+ghost use Rattle.std.specs.Prelude.{◌≡◌, ◌+◌, ◌≤◌};
+ghost use Rattle.core_1401.specs.Storage.{least_core_size};
+ghost use Rattle.cpu_1401.specs.CardsAndPrinter.{card_at, card_columns, read_area};
+
+use crate::machine::Machine;
+use bcd_1401::Char;
+use core_1401::{Core, LEAST_SIZE};
+use devices_1401::Card;
 
 /// How many columns a card has.
 const COLUMNS: u16 = 80;
@@ -23,3 +31,26 @@ pub(crate) const BEHIND_PUNCH_AREA: u16 = PUNCH_AREA + COLUMNS;
 
 /// The place after the print area.
 pub(crate) const BEHIND_PRINT_AREA: u16 = PRINT_AREA + POSITIONS;
+
+/// The characters of an area of 80 places, on a card.
+pub(crate) fn card_at(core: &Core, area: u16) -> Card
+    requires { area + card_columns ≤ least_core_size }
+    ensures { result ≡ card_at core.now area }
+{
+    let mut columns = [Char::BLANK; 80];
+    let size = core.size();
+    for i in 0..80 {
+        prove!(size >= LEAST_SIZE);
+        columns[i] = core.get(area + i as u16).char;
+    }
+    Card(columns)
+}
+
+impl Machine {
+    /// The characters of the read area, places 001 to 080, where a card is put that is read.
+    pub fn read_area(&self) -> Card
+        ensures { result ≡ card_at self.now.storage read_area }
+    {
+        card_at(&self.core, READ_AREA)
+    }
+}

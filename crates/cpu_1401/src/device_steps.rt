@@ -6,6 +6,7 @@ ghost use Rattle.devices_1401.specs.Carriage.{controlled};
 ghost use Rattle.devices_1401.specs.Devices.{is_full};
 ghost use Rattle.cpu_1401.specs.CardsAndPrinter.{after_cards, after_control, after_line, after_work, has_d, first_io_stop};
 ghost use Rattle.cpu_1401.specs.CardsAndPrinter.{behind_print_area, line_alone};
+ghost use Rattle.fields_1401.specs.Places.{marks_of};
 ghost use Rattle.cpu_1401.specs.CardsAndPrinter.{with_chars_from, with_line, with_punch, with_read};
 
 use crate::areas::{BEHIND_PRINT_AREA, READ_AREA};
@@ -181,6 +182,7 @@ pub(crate) fn put_chars(core: &mut Core, at: u16, chars: &[Char])
     ensures each { (i : ℕ) → i < length chars.now → (cell_at core.new (at + i)).char ≡ slice_index_or chars.now i 0 }
     ensures below { (k : ℕ) → k < at → cell_at core.new k ≡ cell_at core.old k }
     ensures marks { (k : ℕ) → (cell_at core.new k).mark ≡ (cell_at core.old k).mark }
+    ensures all_marks { marks_of core.new ≡ marks_of core.old }
 {
     for (i, char) in chars.iter().enumerate() {
         core.put_char(at + i as u16, *char);

@@ -9,8 +9,9 @@ ghost use Rattle.fields_1401.specs.Marks.{clear_down_at};
 
 use crate::instruction::Instruction;
 use crate::machine::Machine;
+use crate::marking::clear_down_there;
 use crate::stop::Stop;
-use fields_1401::{Done, FieldStop, clear_down, compare};
+use fields_1401::{Done, FieldStop, compare};
 
 impl Machine {
     /// Takes the registers that an operation on fields left, turns the overflow indicator on if a sum was too large,
@@ -83,7 +84,7 @@ impl Machine {
         ensures state { self.new ≡ (after_clear this self.old (clear_down_at self.old.storage this.b)).state }
         ensures size { length self.new.storage ≡ length self.old.storage }
     {
-        let done = match clear_down(&mut self.core, this.b) {
+        let done = match clear_down_there(&mut self.core, &mut self.kept, this.b) {
             Ok(done) => done,
             Err(stop) => return Some(Stop::from(stop)),
         };

@@ -5,7 +5,7 @@ ghost use Rattle.cpu_1401.specs.CardsAndPrinter.{asks, behind_last, card_of, cha
 ghost use Rattle.cpu_1401.specs.CardsAndPrinter.{marks_line};
 
 use crate::areas::{
-    BEHIND_PRINT_AREA, BEHIND_PUNCH_AREA, BEHIND_READ_AREA, PRINT_AREA, PUNCH_AREA,
+    BEHIND_PRINT_AREA, BEHIND_PUNCH_AREA, BEHIND_READ_AREA, PRINT_AREA, PUNCH_AREA, card_at,
 };
 use bcd_1401::{Cell, Char};
 use core_1401::{Core, LEAST_SIZE};
@@ -166,11 +166,5 @@ fn mark_char(cell: Cell) -> Char
 pub(crate) fn card_of(core: &Core) -> Card
     ensures { result ≡ card_of core.now }
 {
-    let mut columns = [Char::BLANK; 80];
-    let size = core.size();
-    for i in 0..80 {
-        prove!(size >= LEAST_SIZE);
-        columns[i] = core.get(PUNCH_AREA + i as u16).char;
-    }
-    Card(columns)
+    card_at(core, PUNCH_AREA)
 }

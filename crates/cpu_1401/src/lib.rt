@@ -14,10 +14,12 @@ pub mod machine;
 pub mod regs;
 pub mod switch_name;
 
-// an instruction: its operation, the cells that it is decoded from, and the decoded ones that are kept
+// an instruction: its operation, its cells, those that it is decoded from, and the decoded ones that are kept
+mod cache_entry;
 mod condition;
 mod decoded;
 mod decoding;
+pub mod fetched;
 mod instruction;
 mod kept;
 mod operation;
@@ -33,8 +35,10 @@ mod branch_steps;
 mod device_steps;
 mod field_steps;
 mod io_request;
+mod marking;
 mod register_steps;
 
+pub use fetched::{InstructionCells, instruction_cells};
 pub use frame::step_law;
 pub use machine::Machine;
 pub use regs::Regs;

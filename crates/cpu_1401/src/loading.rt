@@ -5,7 +5,7 @@ ghost use Rattle.devices_1401.specs.Devices.{after_card, after_line, fed, is_ful
 ghost use Rattle.core_1401.specs.Storage.{cell_at};
 ghost use Rattle.cpu_1401.specs.CardsAndPrinter.{card_columns, load, read_area, with_devices};
 
-use crate::areas::READ_AREA;
+use crate::areas::{BEHIND_READ_AREA, READ_AREA};
 use crate::device_steps::put_chars;
 use crate::machine::Machine;
 use core_1401::LEAST_SIZE;
@@ -35,6 +35,7 @@ impl Machine {
         self.core.clear(80, 80);
         put_chars(&mut self.core, READ_AREA, &card.0);
         self.core.put_mark(READ_AREA, true);
+        self.kept.forget_down(BEHIND_READ_AREA - 1, READ_AREA - 1);
         self.i = READ_AREA;
         Ok(())
     }

@@ -33,7 +33,9 @@ pub struct Machine {
 impl Model for Machine {
     ghost use Rattle.std.specs.Prelude.{◌+◌, ◌<◌, ◌≤◌, length};
     ghost use Rattle.core_1401.specs.Address.{addresses};
+    ghost use Rattle.cpu_1401.specs.Kept.{IsCurrent};
     ghost use Rattle.cpu_1401.specs.State.{State};
+    ghost use Rattle.fields_1401.specs.Places.{marks_of};
 
     ghost Value = { State };
 
@@ -51,7 +53,8 @@ impl Model for Machine {
     } };
 
     ghost invariant = { λ m.
-        (m.i < addresses) × (m.a < addresses) × (m.b < addresses) × (m.kept + 8 ≤ length m.core) };
+        (m.i < addresses) × (m.a < addresses) × (m.b < addresses) × (length m.kept + 8 ≤ length m.core)
+        × IsCurrent m.kept (marks_of m.core) };
 }
 
 impl Machine {
@@ -91,6 +94,13 @@ impl Machine {
         ensures { result.now ≡ self.now.storage }
     {
         &self.core
+    }
+
+    /// The card reader, the punch and the printer.
+    pub fn devices(&self) -> &Devices
+        ensures { result.now ≡ self.now.devices }
+    {
+        &self.devices
     }
 
     /// The registers and indicators, and how full the devices are.
@@ -139,6 +149,8 @@ impl Machine {
         ensures value { self.new ≡ with_cell self.old at cell }
         ensures size { length self.new.storage ≡ length self.old.storage }
     {
+        prove!(at < self.core.size());
+        self.kept.forget_at(at);
         self.core.put_char(at, cell.char);
         self.core.put_mark(at, cell.mark);
     }

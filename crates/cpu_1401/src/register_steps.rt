@@ -2,6 +2,7 @@
 ghost use Rattle.std.specs.Prelude.{◌≡◌, ◌+◌, ◌-◌, ◌<◌, ◌≤◌, length};
 ghost use Rattle.core_1401.specs.Address.{addresses, value_at};
 ghost use Rattle.cpu_1401.specs.RegisterStep.{after_store, stored};
+ghost use Rattle.fields_1401.specs.Places.{marks_of};
 
 use crate::instruction::Instruction;
 use crate::machine::Machine;
@@ -32,11 +33,13 @@ impl Machine {
 }
 
 /// Puts the spelling of an address in the three places that end at one.
+#[tactic(auto, using(crate::proofs::StorageLemmas::char_stays))]
 fn put_address(core: &mut Core, at: u16, address: u16)
     requires inside { at < length core.old }
     requires three { 2 ≤ at }
     requires address { address < addresses }
     ensures value { core.new ≡ stored core.old at address }
+    ensures marks { marks_of core.new ≡ marks_of core.old }
     ensures size { length core.new ≡ length core.old }
 
     // What is stored is read again as this address.

@@ -10,13 +10,11 @@ use crate::decoded::{Decoded, Source, has_b};
 use crate::instruction::Instruction;
 use crate::io_request::CardWork;
 use crate::machine::Machine;
+use crate::marking::{clear_marks_there, edit_there, load_there, set_marks_there, suppress_there};
 use crate::operation::Operation;
 use crate::stop::Stop;
 use core_1401::ADDRESSES;
-use fields_1401::{
-    add, clear_marks, edit, load_chars, move_chars, move_digit, move_zone, set_marks, subtract,
-    suppress, zero_add, zero_subtract,
-};
+use fields_1401::{add, move_chars, move_digit, move_zone, subtract, zero_add, zero_subtract};
 
 impl Machine {
     /// Carries out the instruction at the I register, or says why it can't. A halt is carried out; any other stop
@@ -214,7 +212,7 @@ impl Machine {
                 self.after_field(this, outcome)
             }
             Operation::Load => {
-                let outcome = load_chars(&mut self.core, a, b);
+                let outcome = load_there(&mut self.core, &mut self.kept, a, b);
                 self.after_field(this, outcome)
             }
             Operation::MoveDigit => {
@@ -226,19 +224,19 @@ impl Machine {
                 self.after_field(this, outcome)
             }
             Operation::SetWordMark => {
-                let outcome = set_marks(&mut self.core, a, b);
+                let outcome = set_marks_there(&mut self.core, &mut self.kept, a, b);
                 self.after_field(this, outcome)
             }
             Operation::ClearWordMark => {
-                let outcome = clear_marks(&mut self.core, a, b);
+                let outcome = clear_marks_there(&mut self.core, &mut self.kept, a, b);
                 self.after_field(this, outcome)
             }
             Operation::ZeroSuppress => {
-                let outcome = suppress(&mut self.core, a, b);
+                let outcome = suppress_there(&mut self.core, &mut self.kept, a, b);
                 self.after_field(this, outcome)
             }
             Operation::Edit => {
-                let outcome = edit(&mut self.core, a, b);
+                let outcome = edit_there(&mut self.core, &mut self.kept, a, b);
                 self.after_field(this, outcome)
             }
             Operation::ClearStorage => self.clear_storage(this),

@@ -1,6 +1,6 @@
 -- The card reader, the punch and the printer as lists (A24-1403, "IBM 1402 Card Read-Punch", "IBM 1403 Printer"; how
 -- much they hold is own).
-use Rattle.std.specs.Prelude.{ℕ, List, [], ◌∷◌, ◌++◌, Bool, length, drop, nat_le}
+use Rattle.std.specs.Prelude.{ℕ, ◌-◌, List, [], ◌∷◌, ◌++◌, Bool, Option, length, drop, nat_le, slice_get}
 pub use Rattle.devices_1401.specs.Control.{Control, Space, Skip}
 pub use Rattle.devices_1401.specs.Carriage.{Carriage, first_line, form_of, line_of}
 use Rattle.devices_1401.specs.Carriage.{after_print}
@@ -56,3 +56,11 @@ after_card devices = record devices { stacker = drop 1 devices.stacker }
 -- without the first line of the paper
 abbrev pub after_line : Devices → Devices
 after_line devices = record devices { paper = drop 1 devices.paper }
+
+-- the first card of the hopper, which is read next
+abbrev pub next_card : Devices → Option Card
+next_card devices = slice_get devices.hopper 0
+
+-- the newest card of the stacker, which was punched last
+abbrev pub last_punched : Devices → Option Card
+last_punched devices = slice_get devices.stacker (length devices.stacker - 1)

@@ -5,6 +5,7 @@ ghost use Rattle.std.specs.Result.{result_ok};
 ghost use Rattle.devices_1401.specs.Carriage.{positions, form_of, line_of, controlled, is_at_channel, IsMovedOn};
 ghost use Rattle.devices_1401.specs.Devices.{no_cards, most_held, is_full, fed, punched, printed};
 ghost use Rattle.devices_1401.specs.Devices.{after_read, after_card, after_line};
+ghost use Rattle.devices_1401.specs.Devices.{next_card, last_punched};
 ghost use Rattle.devices_1401.specs.Movement.{pending_of};
 
 use crate::card::Card;
@@ -218,6 +219,27 @@ impl Devices {
         ensures bound { result ≤ most_held }
     {
         self.paper.len() as u16
+    }
+
+    /// The first card of the hopper, which is read next; `None` if the hopper is empty.
+    pub fn next_card(&self) -> Option<Card>
+        ensures { result ≡ next_card self.now }
+    {
+        self.hopper.front().copied()
+    }
+
+    /// The newest card of the stacker, which was punched last; `None` if the stacker is empty.
+    pub fn last_punched(&self) -> Option<Card>
+        ensures { result ≡ last_punched self.now }
+    {
+        self.stacker.back().copied()
+    }
+
+    /// A line of the paper by its index from the oldest, 0; `None` if there are no more lines than that.
+    pub fn printed_line(&self, at: usize) -> Option<PrintLine>
+        ensures { result ≡ slice_get self.now.paper at }
+    {
+        self.paper.get(at).copied()
     }
 
     /// The form at the carriage, 1 to 9,999, and 0 after that.

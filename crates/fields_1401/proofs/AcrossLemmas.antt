@@ -1,5 +1,5 @@
 -- Fields read and written from left to right.
-use Rattle.std.proofs.Common.{◌≡◌, ℕ, ◌+◌, ◌-◌, ◌==◌, ◌<◌, ◌≤◌, Bool, false, List, length, get_or, take, drop, ap}
+use Rattle.std.proofs.Common.{◌≡◌, ◌⊎◌, ℕ, ◌+◌, ◌-◌, ◌==◌, ◌<◌, ◌≤◌, Bool, false, List, length, get_or, take, drop, ap}
 use Rattle.std.proofs.Common.{sym, ◌∙◌, inl, inr, arith, if◌then◌else◌}
 use Rattle.std.proofs.lemmas.Bool.{cases_lt}
 use Rattle.std.proofs.lemmas.Bool.Decides.{nat_tests}
@@ -8,11 +8,13 @@ use Rattle.std.proofs.lemmas.List.{get_or-take, get_or-drop}
 use Rattle.std.proofs.lemmas.List.FromFn.{get_or-map-range_with_len, length-map-range_with_len}
 use Rattle.bcd_1401.specs.Character.{with_zone_of}
 use Rattle.bcd_1401.specs.declared.cell.Cell.{Cell}
+use Rattle.core_1401.specs.Address.{addresses}
 use Rattle.core_1401.specs.Storage.{Storage, blank, cell_at}
 use Rattle.fields_1401.specs.Across.{chars_across, unzoned_at, units_unzoned, unmarked_cell, with_across, IsUnmarked}
-use Rattle.fields_1401.specs.Across.{char_to, unzoned_down, IsSameOutside}
-use Rattle.fields_1401.specs.Places.{with_cells, with_chars, unmarked_place, rewritten_cell}
-use Rattle.fields_1401.proofs.PlacesLemmas.{cell_at-within, cell_at-outside, is_within-inside}
+use Rattle.fields_1401.specs.Across.{char_to, unzoned_down, IsSameOutside, IsSameBeside}
+use Rattle.fields_1401.specs.Outcome.{below_by}
+use Rattle.fields_1401.specs.Places.{is_within, with_cells, with_chars, unmarked_place, rewritten_cell}
+use Rattle.fields_1401.proofs.PlacesLemmas.{cell_at-within, cell_at-outside, is_within-inside, is_within-above, is_within-below}
 use Rattle.fields_1401.proofs.PlacesLemmas.{length-with_cells, with_cells_same, with_cells_again, cell_at-with_chars}
 
 -- there is a character for each place
@@ -82,6 +84,31 @@ across_outside s t at n chars e size place out =
           ∙ cell_at-outside s at (length chars) (unmarked_cell chars) place inside (rw size out)
       | inr past ↦ get_or_past t place blank (omega arith) ∙ sym (get_or_past s place blank past)
     ]
+
+-- cells written leave each other place, in core or not
+pub cells_outside : (s t : Storage) (at n : ℕ) (cell_of : ℕ → Cell) → t ≡ with_cells s at n cell_of
+    → IsSameOutside s t at n
+cells_outside s t at n cell_of e place out =
+    let same_size : length t ≡ length s = ap length e ∙ length-with_cells s at n cell_of in
+    elim (cases_lt place (length s)) [
+      | inl inside ↦ ap (λ (u : Storage). cell_at u place) e ∙ cell_at-outside s at n cell_of place inside out
+      | inr past ↦ get_or_past t place blank (omega arith) ∙ sym (get_or_past s place blank past)
+    ]
+
+-- a place above the n that end at an address, or from the register below them down, is none of them
+beside_none : (at n place : ℕ) → 0 < n → n ≤ at + 1 → at < addresses
+    → (at < place) ⊎ ((below_by at n < at) × (place ≤ below_by at n)) → is_within at n place ≡ false
+beside_none at n place some places range beside =
+    elim beside [
+      | inl above ↦ is_within-above at n place above
+      | inr (below, le) ↦ is_within-below at n place (omega arith)
+    ]
+
+-- so these are as they were
+pub same_beside : (s t : Storage) (at n : ℕ) → IsSameOutside s t at n → 0 < n → n ≤ at + 1 → at < addresses
+    → IsSameBeside s t at (below_by at n)
+same_beside s t at n outside some places range =
+    λ place beside. outside place (beside_none at n place some places range beside)
 
 -- what was written is read again
 pub across_again : (s t : Storage) (at n : ℕ) (chars : List ℕ) → t ≡ with_across s at chars → length chars ≡ n

@@ -4,6 +4,7 @@ use Rattle.std.proofs.Common.{Option, Some, None, Ok, IfSome, length, get_or, ma
 use Rattle.std.proofs.Common.{if◌then◌else◌, cond, take, drop, add-one, subst, drop-cons}
 use Rattle.std.proofs.Common.{Ordering, Less, Equal, Greater}
 use Rattle.std.proofs.Common.{inl, inr}
+use Rattle.std.proofs.lemmas.Bool.{false≢true}
 use Rattle.std.specs.Cmp.Lexicographic.{slice_cmp}
 use Rattle.std.specs.Cmp.{unsigned_tied, nat_cmp_is}
 use Rattle.std.specs.List.{list_any, range_with_len}
@@ -317,6 +318,12 @@ some_is n m e = cc
 
 pub no_end_first : (s : Storage) (a b n : ℕ) → (cell_at s (b + 1 - n)).mark ≡ true → ends_first s a b n ≡ false
 no_end_first s a b n e = rw e (and_false (cell_at s (a + 1 - n)).mark)
+
+-- where one of two is so, that the second isn't is enough
+pub asked_alone : (x y : Bool) → (x || y) ≡ true → not y ≡ x && not y
+asked_alone true y e = refl
+asked_alone false true e = refl
+asked_alone false false e = absurd (false≢true e)
 
 -- what is told by the order of two places that differ
 low_by : (less same : Bool) → same ≡ false → not less ≡ is_gt (cond less Less (cond same Equal Greater))

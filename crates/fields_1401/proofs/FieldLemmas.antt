@@ -5,12 +5,13 @@ use Rattle.std.proofs.lemmas.Bool.{lt-ltb}
 use Rattle.std.proofs.lemmas.List.{get_or-take, get_or-reverse, length-take-le, length-reverse, get_or_past}
 use Rattle.std.proofs.lemmas.List.Quantifiers.{position-Some}
 use Rattle.std.proofs.lemmas.List.Sums.{position_or_len_is}
-use Rattle.std.specs.Option.{option_map}
+use Rattle.std.specs.Option.{option_map, option_and_then}
 use Rattle.std.specs.List.{zip}
 use Rattle.bcd_1401.specs.declared.cell.Cell.{Cell}
 use Rattle.core_1401.specs.Field.{cells_down, field_len_of, pair_len_of}
 use Rattle.core_1401.specs.Storage.{Storage, blank, cell_at, is_in_core}
 use Rattle.fields_1401.specs.Number.{places_down, char_at}
+use Rattle.fields_1401.specs.Refusal.{needed_at, used_len_of}
 
 -- there is a cell for each place from an address down
 pub length-cells_down : (storage : Storage) (at : ℕ) → at < length storage → length (cells_down storage at) ≡ at + 1
@@ -102,3 +103,19 @@ no_pair_without_b storage a b e = rw (e, zip_none (cells_down storage a)) refl
 
 -- whichever it is
 pub ruleset no_pair = (no_pair_without_a, no_pair_without_b)
+
+-- an operation of arithmetic takes no places if one of its addresses isn't in core
+pub none_without_a : (storage : Storage) (a b : ℕ) → is_in_core storage a ≡ false → needed_at storage a b ≡ None
+none_without_a storage a b e = of_length (field_len_of storage b) where
+  used : ℕ → Option (ℕ × ℕ)
+  used m = option_map (λ u. (u, m)) (used_len_of storage a m)
+
+  of_length : (len : Option ℕ) → option_and_then used len ≡ None
+  of_length None = refl
+  of_length (Some m) = rw e refl
+
+pub none_without_b : (storage : Storage) (a b : ℕ) → is_in_core storage b ≡ false → needed_at storage a b ≡ None
+none_without_b storage a b e = rw e refl
+
+-- whichever it is
+pub ruleset none_needed = (none_without_a, none_without_b)

@@ -9,7 +9,9 @@ use Rattle.core_1401.specs.Storage.{Storage, cell_at, blank}
 use Rattle.core_1401.specs.Field.{cells_down, field_len_of, field_at}
 use Rattle.fields_1401.proofs.PlacesLemmas.{length-with_cells, cell_at-within, is_within-inside}
 use Rattle.fields_1401.proofs.FieldLemmas.{length-cells_down, get_or-cells_down, same_first_mark}
+use Rattle.fields_1401.specs.Across.{IsSameOutside}
 use Rattle.fields_1401.specs.Load.{loaded}
+use Rattle.fields_1401.proofs.AcrossLemmas.{cells_outside}
 
 -- after a load the core is as large as before
 pub length-loaded : (storage : Storage) (a b n : ℕ) → length (loaded storage a b n) ≡ length storage
@@ -73,3 +75,8 @@ load_brings_the_field storage a b n a_in b_in b_places len =
       found (Some k) first e =
           let last : n ≡ k + 1 = cc in
           ap (λ m. field_at (loaded storage a b m) b) last ∙ field_at-loaded storage a b k a_in b_in (omega arith) first
+
+-- and no place beside it
+pub loaded_outside : (s t : Storage) (a b n : ℕ) → t ≡ loaded s a b n → IsSameOutside s t b n
+unfolding loaded
+loaded_outside s t a b n e = cells_outside s t b n (λ i. cell_at s (a - i)) e

@@ -1,5 +1,5 @@
 -- Fields read and written from left to right (own).
-use Rattle.std.specs.Prelude.{ℕ, ◌≡◌, ◌<◌, ◌+◌, ◌-◌, ◌==◌, false, List, length, map, take, drop, slice_index}
+use Rattle.std.specs.Prelude.{ℕ, ◌≡◌, ◌⊎◌, ◌<◌, ◌≤◌, ◌+◌, ◌-◌, ◌==◌, false, List, length, map, take, drop, slice_index}
 use Rattle.std.specs.Prelude.{if◌then◌else◌}
 use Rattle.std.specs.List.{range_with_len}
 use Rattle.bcd_1401.specs.Character.{with_zone_of}
@@ -42,3 +42,9 @@ IsUnmarked storage at n = (i : ℕ) → i < n → (cell_at storage (at - i)).mar
 -- each place but the n that end at an address is as it was
 abbrev pub IsSameOutside : Storage → Storage → ℕ → ℕ → Type 0
 IsSameOutside old new at n = (place : ℕ) → is_within at n place ≡ false → cell_at new place ≡ cell_at old place
+
+-- what an operation leaves that wrote from an address down to the place above another, where its register is then: each
+-- place above the first is as it was, and each from the other down, unless that went over the end of core
+abbrev pub IsSameBeside : Storage → Storage → ℕ → ℕ → Type 0
+IsSameBeside old new at below =
+    (place : ℕ) → (at < place) ⊎ ((below < at) × (place ≤ below)) → cell_at new place ≡ cell_at old place

@@ -1,5 +1,5 @@
 //! Fields compared.
-ghost use Rattle.std.specs.Prelude.{ℕ, ◌≡◌, ◌≢◌, ◌+◌, ◌-◌, ◌<◌, ◌≤◌, IfOk, IfSome, Some, length};
+ghost use Rattle.std.specs.Prelude.{ℕ, ◌≡◌, ◌≢◌, ◌+◌, ◌-◌, ◌<◌, ◌≤◌, ◌||◌, true, IfOk, IfSome, Some, length};
 ghost use Rattle.std.specs.Cmp.Lexicographic.{slice_cmp};
 ghost use Rattle.std.specs.Ordering.{nat_cmp};
 ghost use Rattle.core_1401.specs.Address.{addresses};
@@ -56,16 +56,19 @@ pub fn compare(core: &Core, a: u16, b: u16) -> Result<Done, FieldStop>
     })
 }
 
-/// Whether the A field ends before the B field: of n pairs the last has a word mark in A, and none in B.
+/// Whether the A field ends before the B field: of n pairs the last has a word mark in A, and none in B. It has one in
+/// either, so B's is asked for alone.
 #[inline(always)]
+#[tactic(auto, using(crate::proofs::CompareLemmas::asked_alone))]
 fn ends_first(core: &Core, a: u16, b: u16, n: u16) -> bool
     requires some { 0 < n }
     requires address { (a < addresses) × (b < addresses) }
     requires a { (n ≤ a + 1) × (a < length core.now) }
     requires b { (n ≤ b + 1) × (b < length core.now) }
+    requires marked { ((cell_at core.now (a + 1 - n)).mark || (cell_at core.now (b + 1 - n)).mark) ≡ true }
     ensures { result ≡ ends_first core.now a b n }
 {
-    core.get(a + 1 - n).mark && !core.get(b + 1 - n).mark
+    !core.get(b + 1 - n).mark
 }
 
 /// The highest of n pairs whose characters differ, counted from the units.

@@ -1,11 +1,11 @@
 //! A field edited by the control word in the B field.
-ghost use Rattle.std.specs.Prelude.{◌≡◌, ℕ, ◌+◌, ◌<◌, ◌≤◌, false, length, slice_index, IfSome, OnOk};
+ghost use Rattle.std.specs.Prelude.{◌≡◌, ℕ, ◌+◌, ◌<◌, ◌≤◌, false, length, slice_index, IfSome, IfOk, OnOk};
 ghost use Rattle.core_1401.specs.Address.{addresses};
 ghost use Rattle.core_1401.specs.Field.{field_len_of};
 ghost use Rattle.core_1401.specs.Storage.{Storage};
 ghost use Rattle.bcd_1401.specs.Character.{with_zone_of};
 ghost use Rattle.fields_1401.specs.Across.{chars_across, units_unzoned, unzoned_down, with_across, char_to};
-ghost use Rattle.fields_1401.specs.Across.{IsSameOutside, IsUnmarked};
+ghost use Rattle.fields_1401.specs.Across.{IsSameOutside, IsSameBeside, IsUnmarked};
 ghost use Rattle.fields_1401.specs.Edit.{replaceable_in, before_significant, is_left_over, is_comma_blanked};
 ghost use Rattle.fields_1401.specs.Edit.{is_sign_char, is_sign_blanked, is_blanked, kept_char, unsuppressed};
 ghost use Rattle.fields_1401.specs.Edit.{edited, sign_at, taken_at, edit_at, suppressed_to, without_zero, IsPlain};
@@ -63,6 +63,7 @@ pub fn edit(core: &mut Core, a: u16, b: u16) -> Result<Done, FieldStop>
     ensures outcome { CarriesOut (edit_at core.old a b) core.old core.new result }
     ensures marks { OnOk result (IfSome (field_len_of core.old b) (λ n. IsUnmarked core.new b n)) }
     ensures outside { IfSome (field_len_of core.old b) (λ n. IsSameOutside core.old core.new b n) }
+    ensures beside { IfOk result (λ done. IsSameBeside core.old core.new b done.b) }
 
     // A control word of blanks and zeros shows what it takes of A with blanks in front.
     ensures plain { OnOk result (IfSome (taken_at core.old a b) (λ taken. IsPlain (chars_across core.old b taken.1)

@@ -1,6 +1,7 @@
 //! Lengths of fields at any address.
-ghost use Rattle.std.specs.Prelude.{◌≡◌, ◌+◌, ◌<◌, ◌≤◌, IfSome, length};
+ghost use Rattle.std.specs.Prelude.{◌≡◌, ◌+◌, ◌-◌, ◌<◌, ◌≤◌, ◌||◌, true, IfSome, length};
 ghost use Rattle.core_1401.specs.Field.{field_len_of, pair_len_of};
+ghost use Rattle.core_1401.specs.Storage.{cell_at};
 
 use crate::refusals::are_in_core;
 use core_1401::Core;
@@ -28,6 +29,8 @@ pub(crate) fn pair_len(core: &Core, a: u16, b: u16) -> Option<u16>
     ensures some { IfSome result (λ n. 0 < n) }
     ensures a_places { IfSome result (λ n. n ≤ a + 1) }
     ensures b_places { IfSome result (λ n. n ≤ b + 1) }
+    ensures marked { IfSome result (λ n.
+        ((cell_at core.now (a + 1 - n)).mark || (cell_at core.now (b + 1 - n)).mark) ≡ true) }
 {
     if !are_in_core(core, a, b) {
         return None;

@@ -2,6 +2,7 @@
 ghost use Rattle.std.specs.Prelude.{◌≡◌, ◌+◌, ◌<◌, ◌≤◌, Some, IfOk, length};
 ghost use Rattle.core_1401.specs.Address.{addresses};
 ghost use Rattle.core_1401.specs.Field.{field_at, field_len_of};
+ghost use Rattle.fields_1401.specs.Across.{IsSameBeside};
 ghost use Rattle.fields_1401.specs.Load.{loaded, load_at};
 ghost use Rattle.fields_1401.specs.Outcome.{CarriesOut};
 
@@ -24,6 +25,7 @@ pub fn load_chars(core: &mut Core, a: u16, b: u16) -> Result<Done, FieldStop>
     requires b { b < addresses }
     ensures outcome { CarriesOut (load_at core.old a b) core.old core.new result }
     ensures field { IfOk result (λ done. field_at core.new b ≡ field_at core.old a) }
+    ensures beside { IfOk result (λ done. IsSameBeside core.old core.new b done.b) }
 {
     let Some(n) = field_len(core, a) else {
         return Err(FieldStop::Address);

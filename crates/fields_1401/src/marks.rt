@@ -1,6 +1,8 @@
 //! Word marks set, cleared, and cleared with the storage below them.
-ghost use Rattle.std.specs.Prelude.{◌≡◌, ◌+◌, ◌<◌, ◌≤◌, length};
+ghost use Rattle.std.specs.Prelude.{◌≡◌, ◌≢◌, ℕ, ◌+◌, ◌<◌, ◌≤◌, IfOk, length};
 ghost use Rattle.core_1401.specs.Address.{addresses};
+ghost use Rattle.core_1401.specs.Storage.{cell_at};
+ghost use Rattle.fields_1401.specs.Across.{IsSameBeside};
 ghost use Rattle.fields_1401.specs.Marks.{marks_at, set_marks_at, clear_marks_at, cleared, clear_down_at};
 ghost use Rattle.fields_1401.specs.Outcome.{CarriesOut};
 ghost use Rattle.fields_1401.specs.Places.{chars_of};
@@ -20,6 +22,7 @@ pub fn set_marks(core: &mut Core, a: u16, b: u16) -> Result<Done, FieldStop>
     requires b { b < addresses }
     ensures outcome { CarriesOut (set_marks_at core.old a b) core.old core.new result }
     ensures chars { chars_of core.new ≡ chars_of core.old }
+    ensures beside { (place : ℕ) → place ≢ a → place ≢ b → cell_at core.new place ≡ cell_at core.old place }
 {
     put_marks(core, a, b, true)
 }
@@ -34,6 +37,7 @@ pub fn clear_marks(core: &mut Core, a: u16, b: u16) -> Result<Done, FieldStop>
     requires b { b < addresses }
     ensures outcome { CarriesOut (clear_marks_at core.old a b) core.old core.new result }
     ensures chars { chars_of core.new ≡ chars_of core.old }
+    ensures beside { (place : ℕ) → place ≢ a → place ≢ b → cell_at core.new place ≡ cell_at core.old place }
 {
     put_marks(core, a, b, false)
 }
@@ -46,7 +50,8 @@ pub fn clear_marks(core: &mut Core, a: u16, b: u16) -> Result<Done, FieldStop>
 /// `Address` if b isn't in core.
 pub fn clear_down(core: &mut Core, b: u16) -> Result<Done, FieldStop>
     requires { b < addresses }
-    ensures { CarriesOut (clear_down_at core.old b) core.old core.new result }
+    ensures outcome { CarriesOut (clear_down_at core.old b) core.old core.new result }
+    ensures beside { IfOk result (λ done. IsSameBeside core.old core.new b done.b) }
 {
     if !core.in_core(b) {
         return Err(FieldStop::Address);
@@ -57,12 +62,13 @@ pub fn clear_down(core: &mut Core, b: u16) -> Result<Done, FieldStop>
 }
 
 /// Sets both word marks, or clears them.
-#[tactic(auto, using(crate::proofs::PlacesLemmas::chars_stay))]
+#[tactic(auto, using(crate::proofs::PlacesLemmas::chars_stay, crate::proofs::PlacesLemmas::other_mark))]
 fn put_marks(core: &mut Core, a: u16, b: u16, mark: bool) -> Result<Done, FieldStop>
     requires a { a < addresses }
     requires b { b < addresses }
     ensures outcome { CarriesOut (marks_at core.old a b mark) core.old core.new result }
     ensures chars { chars_of core.new ≡ chars_of core.old }
+    ensures beside { (place : ℕ) → place ≢ a → place ≢ b → cell_at core.new place ≡ cell_at core.old place }
 {
     if !are_in_core(core, a, b) {
         return Err(FieldStop::Address);

@@ -7,7 +7,7 @@ ghost use Rattle.fields_1401.specs.Refusal.{used_len_of, needed_at, is_overlap, 
 
 use crate::done::FieldStop;
 use crate::lengths::field_len;
-use crate::refusals::is_overlap;
+use crate::refusals::{are_in_core, is_overlap};
 use crate::sign::Sign;
 use core_1401::Core;
 
@@ -80,6 +80,7 @@ impl Operands {
 
 /// How many places of A are used, and how many the B field has; none if one of them isn't in core.
 #[inline(always)]
+#[tactic(auto, using(crate::proofs::FieldLemmas::none_needed))]
 fn needed(core: &Core, a: u16, b: u16) -> Option<(u16, u16)>
     requires { a < addresses }
     ensures value { result ≡ needed_at core.now a b }
@@ -88,6 +89,9 @@ fn needed(core: &Core, a: u16, b: u16) -> Option<(u16, u16)>
     ensures field { IfSome result (λ taken. field_len_of core.now b ≡ Some taken.1) }
     ensures in_core { IfSome result (λ taken. (a < length core.now) × (b < length core.now)) }
 {
+    if !are_in_core(core, a, b) {
+        return None;
+    }
     let len = field_len(core, b)?;
     let used = used_len(core, a, len)?;
     Some((used, len))

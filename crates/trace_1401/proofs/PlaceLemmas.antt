@@ -4,7 +4,7 @@ use Rattle.std.proofs.Common.{append_assoc, not, set, refl, sym, ◌∙◌, ap, 
 use Rattle.std.specs.Prelude.{if◌then◌else◌}
 use Rattle.notation_1401.specs.Cells.{cell_text, cells_text}
 use Rattle.std.proofs.lemmas.Bool.{cases_lt, eq-eqb, eqb-true, false≢true}
-use Rattle.std.proofs.lemmas.List.{drop_more, get_or_past, same_lists, get_or_default, take_more, take_more_set, get_or-drop, length-drop, length-append}
+use Rattle.std.proofs.lemmas.List.{drop_more, get_or_past, same_lists, get_or_default, get_or-drop, length-drop, length-append}
 use Rattle.std.proofs.lemmas.List.FromFn.{get_or-map-range_with_len}
 use Rattle.std.proofs.lemmas.Nat.{le_bytes_8}
 use Rattle.bcd_1401.specs.declared.cell.Cell.{Cell}
@@ -118,17 +118,6 @@ blank_more text column width lt =
     let count : suc (width - (column + 1)) ≡ width - column = omega (arith, lt) in
     append_assoc text (32 ∷ []) (replicate (width - (column + 1)) 32)
     ∙ ap (λ (n : ℕ). text ++ replicate n 32) count
-
--- a cell more in a copy
-pub copy_more : (cells storage : List Cell) (at i : ℕ) → i < length cells → at + i < length storage
-    → take i cells ≡ take i (drop at storage)
-    → take (i + 1) (set cells i (cell_at storage (at + i))) ≡ take (i + 1) (drop at storage)
-copy_more cells storage at i room within so_far =
-    let inside : i < length (drop at storage) = omega (arith, length-drop at storage, within) in
-    take_more_set cells i (cell_at storage (at + i)) room
-    ∙ ap (λ (xs : List Cell). xs ++ cell_at storage (at + i) ∷ []) so_far
-    ∙ ap (λ (x : Cell). take i (drop at storage) ++ x ∷ []) (sym (get_or-drop at storage i blank))
-    ∙ sym (take_more (drop at storage) i blank inside)
 
 -- core storage is known by its cells
 pub same_storage : (xs ys : Storage) → length xs ≡ length ys

@@ -1,12 +1,10 @@
 -- The line of a step (own).
-use Rattle.std.specs.Prelude.{ℕ, ◌+◌, ◌-◌, ◌==◌, ◌&&◌, nat_lt, min, Bool, false, if◌then◌else◌, List, [], ◌++◌, length}
-use Rattle.std.specs.Prelude.{Option, None, Some, codes, drop, replicate, take}
+use Rattle.std.specs.Prelude.{ℕ, ◌-◌, ◌==◌, ◌&&◌, nat_lt, Bool, false, if◌then◌else◌, List, [], ◌++◌, length}
+use Rattle.std.specs.Prelude.{Option, None, Some, codes, replicate}
 use Rattle.bcd_1401.specs.declared.cell.Cell.{Cell}
-use Rattle.core_1401.specs.Field.{next_mark_from}
-use Rattle.core_1401.specs.Storage.{Storage, cell_at, is_in_core}
-use Rattle.cpu_1401.specs.declared.operation.Operation.{Operation}
+use Rattle.core_1401.specs.Storage.{Storage}
 use Rattle.cpu_1401.specs.declared.stop.Stop.{Stop}
-use Rattle.cpu_1401.specs.Operation.{form_of, operation_of}
+use Rattle.cpu_1401.specs.Fetched.{instruction_at}
 use Rattle.cpu_1401.specs.State.{State}
 use Rattle.cpu_1401.specs.Stepped.{Stepped}
 use Rattle.cpu_1401.specs.Stop.{stop_name}
@@ -35,21 +33,6 @@ seen_of s = record {
   line = line_at s.devices.carriage;
   pending = s.devices.carriage.pending;
 }
-
--- how many characters of an instruction are looked at, by its fifth; eight of what is no operation
-abbrev pub longest_of : Option Operation → ℕ → ℕ
-longest_of None fifth = 8
-longest_of (Some operation) fifth = (form_of operation).longest fifth
-
--- how many cells the instruction at a place has, by the place of the next word mark
-abbrev pub cells_at : Storage → ℕ → ℕ
-cells_at storage at =
-    min (longest_of (operation_of (cell_at storage at).char) (cell_at storage (at + 4)).char)
-    (next_mark_from storage at)
-
--- the cells of the instruction at a place; none outside of core
-unfoldable pub instruction_at : Storage → ℕ → List Cell
-instruction_at storage at = if is_in_core storage at then take (cells_at storage at) (drop at storage) else []
 
 -- a text with blanks after it, up to a width
 abbrev pub padded : ℕ → List ℕ → List ℕ

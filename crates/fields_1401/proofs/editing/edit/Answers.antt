@@ -1,9 +1,11 @@
 -- The places written are those of the B field.
-use Rattle.std.proofs.Common.{◌<◌, ◌≤◌, ℕ, List, Option, IfSome, length, sym, ◌∙◌, subst, arith}
-use Rattle.fields_1401.specs.Across.{chars_across, units_unzoned, IsUnmarked, IsSameOutside}
+use Rattle.std.proofs.Common.{◌≡◌, ◌<◌, ◌≤◌, ℕ, List, Option, IfSome, length, ap, sym, ◌∙◌, subst, arith}
+use Rattle.fields_1401.specs.Across.{chars_across, units_unzoned, IsUnmarked, IsSameOutside, IsSameBeside}
 use Rattle.fields_1401.specs.Edit.{edited, sign_at, IsPlain, ShowsWithBlanks}
+use Rattle.fields_1401.specs.Outcome.{below_by}
+use Rattle.fields_1401.specs.declared.done.Done.{Done}
 use Rattle.fields_1401.proofs.AcrossLemmas.{length-across, length-unzoned_across, across_unmarked, across_outside}
-use Rattle.fields_1401.proofs.AcrossLemmas.{across_again}
+use Rattle.fields_1401.proofs.AcrossLemmas.{across_again, same_beside}
 use Rattle.fields_1401.proofs.EditLemmas.{length-edited}
 use Rattle.fields_1401.proofs.PlainLemmas.{plain_shows}
 use Rattle.fields_1401.proofs.editing.edit.Goals as goal
@@ -38,6 +40,24 @@ returns-clause-outside c =
     let at_b_outside = subst (λ (b : ℕ). IsSameOutside old new b o.len) at_b.0 outside in
     subst (λ (n : Option ℕ). IfSome n (λ k. IsSameOutside old new c.args.b k))
     (sym c.in_ok-word.ensures.field) at_b_outside
+
+pub returns-clause-beside : goal.returns-clause-beside
+returns-clause-beside c =
+    let old = c.args.core.now in
+    let new = c.put_edited.new.core in
+    let o = c.in_ok-word.word in
+    let at_b = c.in_ok-word.ensures.at_b in
+    let control = chars_across old o.b o.len in
+    let digits = units_unzoned (chars_across old o.a o.taken) in
+    let b_in : o.b < length old = omega (arith, at_b.0, at_b.1) in
+    let size = length-edited control digits (sign_at old o.a) ∙ length-across old o.b o.len b_in o.b_above in
+    let outside : IsSameOutside old new o.b o.len = across_outside old new o.b o.len
+    (edited control digits (sign_at old o.a)) c.put_edited.ensures.put size in
+    let at_b_outside = subst (λ (b : ℕ). IsSameOutside old new b o.len) at_b.0 outside in
+    let is : below_by c.args.b o.len ≡ c.registers.result.b =
+    sym (ap (λ (done : Done). done.b) c.registers.ensures ∙ c.below_field-2.ensures.value) in
+    subst (λ below. IsSameBeside old new c.args.b below) is
+    (same_beside old new c.args.b o.len at_b_outside o.some (omega (arith, o.b_above, at_b.0)) c.requires.b)
 
 -- a control word of blanks and zeros
 pub returns-clause-plain : goal.returns-clause-plain

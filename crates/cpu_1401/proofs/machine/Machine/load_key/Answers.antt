@@ -1,7 +1,8 @@
 -- The read area was cleared, and its first place was marked.
-use Rattle.std.proofs.Common.{◌+◌, ◌∙◌, ap, arith}
+use Rattle.std.proofs.Common.{rules, ◌+◌, ◌∙◌, ap, arith}
 use Rattle.core_1401.specs.Storage.{Storage, cell_at}
-use Rattle.cpu_1401.proofs.AreaLemmas.{first_marked}
+use Rattle.cpu_1401.proofs.AreaLemmas.{first_marked, marks_beside}
+use Rattle.cpu_1401.proofs.KeptLemmas.{current_apart}
 use Rattle.cpu_1401.proofs.machine.Machine.load_key.Goals as goal
 
 pub returns-clause-marks : goal.returns-clause-marks
@@ -17,3 +18,17 @@ returns-clause-marks c = λ i within.
       c.put_chars.ensures.size,
     ))
     c.put_chars.ensures.marks within
+
+-- nothing is kept of the read area
+pub invariant_of-self-2 : goal.invariant_of-self-2
+invariant_of-self-2 c = (
+  omega arith,
+  c.self.invariant.1,
+  c.self.invariant.2,
+  search rules,
+  current_apart c.self.inside.kept c.forget_down.new.self c.self.inside.core c.put_mark.new.self 1 80
+      c.self.invariant.4 c.forget_down.ensures.part c.forget_down.ensures.apart
+      (λ k beside. ap (λ (s : Storage). (cell_at s k).mark) c.put_mark.ensures
+      ∙ marks_beside c.self.inside.core c.clear.new.self c.put_chars.new.core k c.clear.ensures.value
+      c.put_chars.ensures.marks beside),
+)

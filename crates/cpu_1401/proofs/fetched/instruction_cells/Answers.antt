@@ -1,8 +1,8 @@
 -- One cell more is copied.
 use Rattle.std.proofs.Common.{◌+◌, arith, ap, ◌∙◌, rules, set, take, length-set}
 use Rattle.bcd_1401.specs.declared.cell.Cell.{Cell}
-use Rattle.trace_1401.proofs.PlaceLemmas.{copy_more}
-use Rattle.trace_1401.proofs.fetched.fetch.Goals as goal
+use Rattle.cpu_1401.proofs.FetchedLemmas.{copy_more}
+use Rattle.cpu_1401.proofs.fetched.instruction_cells.Goals as goal
 
 pub loop-i-preserved : goal.loop-i-preserved
 loop-i-preserved c =

@@ -1,6 +1,6 @@
 -- The cells so far are those of core.
 use Rattle.std.proofs.Common.{◌≡◌, drop, length, take}
-use Rattle.trace_1401.proofs.fetched.fetch.Given as goal
+use Rattle.cpu_1401.proofs.fetched.instruction_cells.Given as goal
 
 abbrev pub invariant-loop-i : goal.invariant-loop-i
 invariant-loop-i l = record {

@@ -1,0 +1,16 @@
+-- Where a place isn't covered nothing is kept.
+use Rattle.std.proofs.Common.{◌≡◌, ◌∙◌, ℕ, List, false, ap, sym, arith, subst}
+use Rattle.core_1401.specs.PlaceSet.{has_place}
+use Rattle.cpu_1401.specs.declared.cache_entry.CacheEntry.{CacheEntry}
+use Rattle.cpu_1401.specs.Kept.{IsApart}
+use Rattle.cpu_1401.proofs.KeptLemmas.{apart_uncovered}
+use Rattle.cpu_1401.proofs.kept.DecodeCache.forget_at.Goals as goal
+
+pub returns-else-has-clause-apart : goal.returns-else-has-clause-apart
+returns-else-has-clause-apart c =
+    let at : ℕ = c.args.at in
+    let covered : List ℕ = c.self.inside.covered in
+    let none : has_place covered at ≡ false = sym c.has.ensures ∙ c.if-has.false in
+    subst (λ (l : List CacheEntry). IsApart l at at) c.self.view_is
+    (apart_uncovered c.self.inside.entries.items covered at at c.self.invariant (omega arith)
+    (λ q low high. ap (has_place covered) (omega (arith, low, high)) ∙ none))

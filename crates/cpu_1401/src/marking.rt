@@ -1,0 +1,164 @@
+//! Operations that change word marks: each forgets what is kept of the instructions there.
+ghost use Rattle.std.specs.Prelude.{◌≡◌, ◌<◌, ◌≤◌, IfOk, IfSome, length};
+ghost use Rattle.core_1401.specs.Address.{addresses};
+ghost use Rattle.core_1401.specs.Field.{field_len_of};
+ghost use Rattle.cpu_1401.specs.Kept.{IsApart, IsCurrent, IsPart, lowest_written};
+ghost use Rattle.fields_1401.specs.Edit.{edit_at};
+ghost use Rattle.fields_1401.specs.Load.{load_at};
+ghost use Rattle.fields_1401.specs.Marks.{clear_down_at, clear_marks_at, set_marks_at};
+ghost use Rattle.fields_1401.specs.Outcome.{CarriesOut};
+ghost use Rattle.fields_1401.specs.Places.{marks_of};
+ghost use Rattle.fields_1401.specs.Suppress.{suppress_at};
+
+use crate::kept::DecodeCache;
+use core_1401::Core;
+use fields_1401::{
+    Done, FieldStop, clear_down, clear_marks, edit, load_chars, set_marks, step_down, suppress,
+};
+
+/// Sets the word marks at both addresses.
+#[inline(always)]
+pub(crate) fn set_marks_there(
+    core: &mut Core,
+    kept: &mut DecodeCache,
+    a: u16,
+    b: u16,
+) -> Result<Done, FieldStop>
+    requires a { a < addresses }
+    requires b { b < addresses }
+    requires current { IsCurrent kept.old (marks_of core.old) }
+    ensures outcome { CarriesOut (set_marks_at core.old a b) core.old core.new result }
+    ensures current { IsCurrent kept.new (marks_of core.new) }
+    ensures size { length kept.new ≡ length kept.old }
+{
+    kept.forget_at(a);
+    kept.forget_at(b);
+    set_marks(core, a, b)
+}
+
+/// Clears the word marks at both addresses.
+#[inline(always)]
+pub(crate) fn clear_marks_there(
+    core: &mut Core,
+    kept: &mut DecodeCache,
+    a: u16,
+    b: u16,
+) -> Result<Done, FieldStop>
+    requires a { a < addresses }
+    requires b { b < addresses }
+    requires current { IsCurrent kept.old (marks_of core.old) }
+    ensures outcome { CarriesOut (clear_marks_at core.old a b) core.old core.new result }
+    ensures current { IsCurrent kept.new (marks_of core.new) }
+    ensures size { length kept.new ≡ length kept.old }
+{
+    kept.forget_at(a);
+    kept.forget_at(b);
+    clear_marks(core, a, b)
+}
+
+/// Loads the A field to b and the places below it.
+#[inline(always)]
+pub(crate) fn load_there(
+    core: &mut Core,
+    kept: &mut DecodeCache,
+    a: u16,
+    b: u16,
+) -> Result<Done, FieldStop>
+    requires a { a < addresses }
+    requires b { b < addresses }
+    requires current { IsCurrent kept.old (marks_of core.old) }
+    ensures outcome { CarriesOut (load_at core.old a b) core.old core.new result }
+    ensures current { IsCurrent kept.new (marks_of core.new) }
+    ensures size { length kept.new ≡ length kept.old }
+{
+    let outcome = load_chars(core, a, b);
+    forget_written(kept, b, &outcome);
+    outcome
+}
+
+/// Edits the A field by the control word at b.
+#[inline(always)]
+pub(crate) fn edit_there(
+    core: &mut Core,
+    kept: &mut DecodeCache,
+    a: u16,
+    b: u16,
+) -> Result<Done, FieldStop>
+    requires a { a < addresses }
+    requires b { b < addresses }
+    requires current { IsCurrent kept.old (marks_of core.old) }
+    ensures outcome { CarriesOut (edit_at core.old a b) core.old core.new result }
+    ensures current { IsCurrent kept.new (marks_of core.new) }
+    ensures size { length kept.new ≡ length kept.old }
+{
+    let outcome = edit(core, a, b);
+    forget_written(kept, b, &outcome);
+    outcome
+}
+
+/// Clears storage from b down to its hundred.
+#[inline(always)]
+pub(crate) fn clear_down_there(
+    core: &mut Core,
+    kept: &mut DecodeCache,
+    b: u16,
+) -> Result<Done, FieldStop>
+    requires b { b < addresses }
+    requires current { IsCurrent kept.old (marks_of core.old) }
+    ensures outcome { CarriesOut (clear_down_at core.old b) core.old core.new result }
+    ensures current { IsCurrent kept.new (marks_of core.new) }
+    ensures size { length kept.new ≡ length kept.old }
+{
+    let outcome = clear_down(core, b);
+    forget_written(kept, b, &outcome);
+    outcome
+}
+
+/// Moves the A field to b and the places below it, with its zeros on the left suppressed. Its register tells nothing of
+/// where that ends, so the field is measured before.
+#[inline(always)]
+pub(crate) fn suppress_there(
+    core: &mut Core,
+    kept: &mut DecodeCache,
+    a: u16,
+    b: u16,
+) -> Result<Done, FieldStop>
+    requires a { a < addresses }
+    requires b { b < addresses }
+    requires current { IsCurrent kept.old (marks_of core.old) }
+    ensures outcome { CarriesOut (suppress_at core.old a b) core.old core.new result }
+    ensures current { IsCurrent kept.new (marks_of core.new) }
+    ensures size { length kept.new ≡ length kept.old }
+{
+    match field_len(core, a) {
+        Some(n) => kept.forget_down(b, step_down(b, n)),
+        None => {}
+    }
+    suppress(core, a, b)
+}
+
+/// How many places the field at an address has; none if it isn't in core, or comes to address 0 before a word mark.
+#[inline(always)]
+fn field_len(core: &Core, at: u16) -> Option<u16>
+    requires { at < addresses }
+    ensures value { result ≡ field_len_of core.now at }
+    ensures range { IfSome result (λ n. n ≤ addresses) }
+{
+    if !core.in_core(at) {
+        return None;
+    }
+    core.field_len(at)
+}
+
+/// Forgets what is kept of the places that an operation wrote from its units down, unless it was refused.
+#[inline(always)]
+fn forget_written(kept: &mut DecodeCache, units: u16, outcome: &Result<Done, FieldStop>)
+    requires { units < addresses }
+    ensures part { IsPart kept.old kept.new }
+    ensures apart { IfOk outcome.now (λ done. IsApart kept.new (lowest_written units done.b) units) }
+    ensures size { length kept.new ≡ length kept.old }
+{
+    if let Ok(done) = outcome {
+        kept.forget_down(units, done.b);
+    }
+}
