@@ -3,6 +3,7 @@ pub mod AttendedLemmas
 mod GlanceExamples
 pub mod ImageLoadingLemmas
 pub mod ReadingLemmas
+pub mod SeatTurnsLemmas
 pub mod ServedLemmas
 mod SessionEndExamples
 mod SessionExamples

@@ -1,5 +1,5 @@
 -- What a line is answered at a seat of a shared room, and what the seat has seen and made then (own).
-use Rattle.std.specs.Prelude.{◌≡◌, ℕ, ◌+◌, ◌<◌, ◌≤◌, length, Option, None, Some, Ok, Err}
+use Rattle.std.specs.Prelude.{◌≡◌, ℕ, ◌+◌, ◌<◌, ◌≤◌, List, length, Option, None, Some, Ok, Err}
 use mathlib.Core.List.{IsPrefix}
 use Rattle.command_1401.specs.declared.command.Command.{Command}
 use Rattle.room_1401.specs.declared.fault.GlanceFault.{GlanceFault}
@@ -12,6 +12,7 @@ use Rattle.text_1401.specs.declared.line.Line.TheVariants as line
 use Rattle.console_1401.specs.declared.reply.Reply.{Reply}
 use Rattle.console_1401.specs.declared.reply.Reply.TheVariants as reply
 use Rattle.text_1401.specs.ConsoleLine.{Said}
+use Rattle.console_1401.specs.ReplyText.{bytes_of}
 
 -- a command is carried out for the seat, and answered as the sequential machine answers it; or the room takes none, and
 -- the seat has seen no less: a full journal, or one that isn't full if memory is the reason
@@ -62,3 +63,14 @@ pub record SeatResponds (size : ℕ) (before : SeatView) (said : Said) (given : 
   pub number_is : after.number ≡ before.number
   pub bound : length after.list ≤ most_entries
   pub line : LineResponds size before said given after
+
+-- One line was answered at a seat, and these bytes are its reply: none for an empty line.
+pub record AnswersAtSeat (size : ℕ) (before : SeatView) (said : Said) (written : List ℕ) (after : SeatView) : Type 0 where
+  pub reply : Option Reply
+  pub responded : SeatResponds size before said reply after
+  pub written_is : written ≡ bytes_of reply
+
+-- One line was carried out at a seat, and has a reply that nobody is told.
+pub record IsUnanswered (size : ℕ) (before : SeatView) (said : Said) (after : SeatView) : Type 0 where
+  pub reply : Reply
+  pub responded : SeatResponds size before said (Some reply) after

@@ -1,13 +1,15 @@
 //! A console at a seat of a shared room.
-ghost use Rattle.std.specs.Prelude.{◌≡◌, ◌≢◌, false, IsTrue};
+ghost use Rattle.std.specs.Prelude.{◌≡◌, ◌≢◌, true, false, IsTrue, IfOk, OnErr, None};
+ghost use mathlib.Core.List.{IsPrefix};
+ghost use Rattle.text_1401.specs.ConsoleLine.{said_by};
 ghost use Rattle.console_1401.specs.Answering.{AnsweredAll};
 ghost use Rattle.console_1401.specs.Attended.{Attended};
-ghost use Rattle.console_1401.specs.SeatTurns.{SeatResponds};
+ghost use Rattle.console_1401.specs.SeatTurns.{AnswersAtSeat, IsUnanswered, SeatResponds};
 ghost use Rattle.console_1401.specs.Session.{SessionDid};
 
 use crate::answering::answer_lines;
 use crate::door::Door;
-use crate::reply::Reply;
+use crate::reply::{Reply, reply_bytes};
 use crate::responder::Responder;
 use crate::session_end::SessionEnd;
 use room_1401::{Keeper, RoomId, Seat, SharedRoom};
@@ -15,7 +17,81 @@ use std::alloc::Global;
 use std::marker::Model;
 use std::sync::Wait;
 use streams_1401::{Sink, Source};
-use text_1401::{Line, LineFault};
+use text_1401::{Line, LineFault, parse_line};
+use thiserror::Error;
+
+/// Why a line that was carried out has no reply.
+#[derive(Clone, Copy, Debug, PartialEq, Eq, Error)]
+pub enum Unanswered {
+    /// 1: the memory for the reply was refused; the command is in the journal.
+    #[error("no memory for the reply")]
+    Memory,
+    /// 2: the command's entry wasn't kept outside of the room; the command is in the room's journal.
+    #[error("the entry wasn't kept")]
+    Unkept,
+}
+
+/// Carries out at a seat what a line says. Gives its reply, which an empty line hasn't, and whether what it did is kept.
+fn respond_at<J: RoomId, R: Wait + Drop, P: Keeper + Drop, W: Wait>(
+    wait: &W,
+    room: &SharedRoom<J, R, P>,
+    seat: &mut Seat<J>,
+    said: Result<Line, LineFault>,
+) -> (Option<Reply>, bool)
+    ensures line { SeatResponds J.size seat.old said result.0 seat.new }
+    ensures kept { result.0 ≡ None → result.1 ≡ true }
+{
+    let mut kept = true;
+    let reply = match said {
+        Ok(Line::Empty) => None,
+        Ok(Line::Command(command)) => match room.command_kept(wait, seat, command) {
+            Ok(carried) => {
+                kept = carried.kept;
+                Some(Reply::Answer(carried.answer))
+            }
+            Err(fault) => Some(Reply::RoomFault(fault)),
+        },
+        Ok(Line::Glance(address)) => match seat.glance(address) {
+            Ok(glance) => Some(Reply::Glance(glance)),
+            Err(fault) => Some(Reply::GlanceFault(fault)),
+        },
+        Ok(Line::Quit) => Some(Reply::Bye),
+        Err(fault) => Some(Reply::LineFault(fault)),
+    };
+    let _made = seat.made();
+    (reply, kept)
+}
+
+/// Answers one line, given without its line feed, as `attend` answers each of its lines: the reply and a line feed, or
+/// nothing for an empty line. QUIT is answered `BYE`, and the seat goes on.
+///
+/// # Errors
+///
+/// `Unkept` if the entry of the line's command wasn't kept, else `Memory` if there is no room for the reply. The line
+/// was carried out.
+#[tactic(auto, using(crate::proofs::SeatTurnsLemmas::seat_grows))]
+pub fn answer_line<J: RoomId, R: Wait + Drop, P: Keeper + Drop, W: Wait>(
+    alloc: Global,
+    wait: &W,
+    room: &SharedRoom<J, R, P>,
+    seat: &mut Seat<J>,
+    line: &[u8],
+) -> Result<Vec<u8>, Unanswered>
+    ensures ok { IfOk result (λ reply. AnswersAtSeat J.size seat.old (said_by line.now) reply.items seat.new) }
+    ensures err { OnErr result (IsUnanswered J.size seat.old (said_by line.now) seat.new) }
+
+    // Whatever it said, the seat has seen no less.
+    ensures grows { IsPrefix seat.old.list seat.new.list }
+{
+    let (reply, kept) = respond_at(wait, room, seat, parse_line(line));
+    let Some(reply) = reply else {
+        return Ok(Vec::new(alloc));
+    };
+    if !kept {
+        return Err(Unanswered::Unkept);
+    }
+    reply_bytes(alloc, reply).map_err(|_| Unanswered::Memory)
+}
 
 /// What answers at a console of a shared room: the seat, its room, and the door. Contracts see what the seat knows.
 struct Attendant<'a, J: RoomId, R: Wait + Drop, P: Keeper + Drop, W: Wait, D: Door> {
@@ -23,7 +99,7 @@ struct Attendant<'a, J: RoomId, R: Wait + Drop, P: Keeper + Drop, W: Wait, D: Do
     room: &'a SharedRoom<J, R, P>,
     seat: Seat<J>,
     door: &'a D,
-    // The last command that the room didn't refuse is kept.
+    // What the last line did is kept.
     kept: bool,
 }
 
@@ -65,25 +141,8 @@ impl<J: RoomId, R: Wait + Drop, P: Keeper + Drop, W: Wait, D: Door> Responder
     }
 
     fn respond(&mut self, said: Result<Line, LineFault>) -> Option<Reply> {
-        let reply = match said {
-            Ok(Line::Empty) => None,
-            Ok(Line::Command(command)) => {
-                match self.room.command_kept(self.wait, &mut self.seat, command) {
-                    Ok(carried) => {
-                        self.kept = carried.kept;
-                        Some(Reply::Answer(carried.answer))
-                    }
-                    Err(fault) => Some(Reply::RoomFault(fault)),
-                }
-            }
-            Ok(Line::Glance(address)) => match self.seat.glance(address) {
-                Ok(glance) => Some(Reply::Glance(glance)),
-                Err(fault) => Some(Reply::GlanceFault(fault)),
-            },
-            Ok(Line::Quit) => Some(Reply::Bye),
-            Err(fault) => Some(Reply::LineFault(fault)),
-        };
-        let _made = self.seat.made();
+        let (reply, kept) = respond_at(self.wait, self.room, &mut self.seat, said);
+        self.kept = kept;
         reply
     }
 

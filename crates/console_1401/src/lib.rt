@@ -27,7 +27,7 @@ pub mod attending;
 pub mod door;
 pub mod serving;
 
-pub use attending::attend;
+pub use attending::{Unanswered, answer_line, attend};
 pub use door::{Door, OpenDoor};
 pub use image_loading::put_image;
 pub use kept_sessions::session_kept;

@@ -2,6 +2,7 @@ pub mod ClosingLemmas
 pub mod HistoryLemmas
 mod JournalExamples
 pub mod KeptLemmas
+pub mod PaperLemmas
 pub mod PrefixLemmas
 pub mod PublishLemmas
 mod ReplayExamples

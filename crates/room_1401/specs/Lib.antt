@@ -5,6 +5,8 @@ pub mod History
 pub mod Journal
 pub mod Kept
 pub mod Opening
+pub mod Paper
+pub mod Picture
 pub mod Replay
 pub mod Rule
 pub mod Seen

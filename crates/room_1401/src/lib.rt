@@ -6,12 +6,13 @@
 //! room.journal()                              // one entry: the command and its answer
 //! ```
 //!
-//! Operators share a room by its seats, each from a thread of its own. A glance waits for nobody.
+//! Operators share a room by its seats, each from a thread of its own. Glances and pictures wait for nobody.
 //!
 //! ```text
 //! let (room, mut seats) = SharedRoom::<J, &R>::power_on(rt, alloc, 4000, 2, opened)?;
 //! room.command(rt, &mut seats[0], Command::Registers)?   // as `carry` of a room, for seat 1
 //! seats[1].glance(500)?                                  // the cell at 500, after 0 commands or 1
+//! seats[1].picture(Window { core: 400, paper: 0 })?      // registers, cells, cards and lines, all of one moment
 //! room.close(seats)                                      // the room, whose journal explains every answer
 //! ```
 #![tactic(auto)]
@@ -34,9 +35,11 @@ mod published;
 mod publisher;
 mod rule;
 
-// what a seat has, what the lock keeps, and how a room is opened, shared and closed
+// what a seat has and sees, what the lock keeps, and how a room is opened, shared and closed
 mod closing;
 mod locked;
+pub mod paper;
+pub mod picture;
 pub mod seat;
 pub mod shared_room;
 
@@ -47,6 +50,8 @@ pub use history::Opened;
 pub use keeper::{Carried, Keeper, NoKeeper, Unkept};
 pub use kept_room::KeptRoom;
 pub use naming::RoomId;
+pub use paper::{PaperLines, WINDOW_LINES};
+pub use picture::{Picture, WINDOW_CELLS, Window};
 pub use room::Room;
 pub use seat::{Glance, Seat, Told};
 pub use shared_room::SharedRoom;

@@ -3,12 +3,14 @@ ghost use Rattle.std.specs.Prelude.{◌≡◌, ◌+◌, ◌<◌, ◌≤◌, ◌�
 ghost use Rattle.std.specs.Prelude.{if◌then◌else◌};
 ghost use mathlib.Core.List.{IsPrefix};
 ghost use Rattle.room_1401.specs.Journal.{most_entries};
+ghost use Rattle.room_1401.specs.Picture.{picture_after, window_cells};
 ghost use Rattle.room_1401.specs.Replay.{cell_after};
 ghost use Rattle.room_1401.specs.Seen.{own};
 
 use crate::fault::GlanceFault;
 use crate::history::{Reached, SeenPrefix};
 use crate::naming::RoomId;
+use crate::picture::{Picture, WINDOW_CELLS, Window, picture_of};
 use crate::rule::{RoomReader, Sees};
 use bcd_1401::Cell;
 use core::mem::replace_with;
@@ -52,6 +54,38 @@ fn read_published<J: RoomId>(
             let found = PublishedCell {
                 count: shown.count,
                 cell: shown.machine.core().get(address),
+                front: shown.front.again(),
+            };
+            (reading.leave(), Some(found))
+        }
+        Err(reader) => (reader, None),
+    }
+}
+
+/// A picture of what is published.
+#[derive(Drop)]
+struct PublishedPicture {
+    /// The picture.
+    picture: Picture,
+    /// After which commands.
+    front: Reached,
+}
+
+/// Takes a picture of the published machine; `None` once nothing is published any more.
+fn read_picture<J: RoomId>(
+    reader: RoomReader<J>,
+    window: Window,
+) -> (RoomReader<J>, Option<PublishedPicture>)
+    requires { window.core + window_cells ≤ J.size }
+    ensures book { IfSome result.1 (λ found. found.front.book ≡ J.book) }
+    ensures bound { IfSome result.1 (λ found. length found.front.log ≤ most_entries) }
+    ensures picture { IfSome result.1 (λ found. found.picture ≡ picture_after J.size found.front.log window) }
+{
+    match reader.enter_as::<Sees<J>>() {
+        Ok(reading) => {
+            let shown = reading.get();
+            let found = PublishedPicture {
+                picture: picture_of(&shown.machine, shown.count, window),
                 front: shown.front.again(),
             };
             (reading.leave(), Some(found))
@@ -216,6 +250,36 @@ impl<J: RoomId> Seat<J> {
             after: found.count,
             cell: found.cell,
         })
+    }
+
+    /// A picture of the published machine, which is no older than what this seat has seen. It waits for nobody, and
+    /// isn't recorded.
+    ///
+    /// # Errors
+    ///
+    /// `Range` if the window isn't in core, else `Gone` if nothing is published any more.
+    pub fn picture(&mut self, window: Window) -> Result<Picture, GlanceFault>
+        ensures range { (result ≡ Err GlanceFault.Range) ↔ (J.size < window.core + window_cells) }
+        ensures number { self.new.number ≡ self.old.number }
+        ensures made { self.new.made ≡ self.old.made }
+
+        // All of it is as after one list of commands, which goes on from what the seat had seen.
+        ensures grows { OnOk result (IsPrefix self.old.list self.new.list) }
+        ensures picture { IfOk result (λ picture. picture ≡ picture_after J.size self.new.list window) }
+        ensures err { OnErr result (self.new ≡ self.old) }
+    {
+        if usize::from(window.core) + WINDOW_CELLS > usize::from(self.size) {
+            return Err(GlanceFault::Range);
+        }
+        let Some(found) = replace_with(&mut self.reader, window, read_picture::<J>) else {
+            return Err(GlanceFault::Gone);
+        };
+        if found.picture.after < self.front.len() {
+            return Err(GlanceFault::Gone);
+        }
+        let front = SeenPrefix::of_token(found.picture.after, &found.front);
+        self.front = self.front.longer(&front);
+        Ok(found.picture)
     }
 
     /// One more of its commands, which it has seen, was carried out.

@@ -64,3 +64,14 @@ pub(crate) fn put_chars(text: &mut Vec<u8>, chars: &[Char]) -> Result<(), AllocE
     }
     Ok(())
 }
+
+/// Adds characters by their graphics, without the blanks at their end, as a reply shows those of a card or a line.
+///
+/// # Errors
+///
+/// If the memory for the text is refused. Some of the text may have been added then.
+pub fn put_characters(text: &mut Vec<u8>, chars: &[Char]) -> Result<(), AllocError>
+    ensures { OnOk result (text.new.items ≡ text.old.items ++ graphics_of (trimmed chars.now)) }
+{
+    put_chars(text, trimmed(chars))
+}

@@ -7,7 +7,7 @@
 #![tactic(auto)]
 
 // a line: its words and numbers, a card's text, and what it says
-mod card_text;
+pub mod card_text;
 pub mod line;
 mod words;
 
@@ -18,5 +18,6 @@ pub mod answer_text;
 pub mod command_text;
 
 pub use answer_text::{fault_text, glance_text, reply_text};
+pub use card_text::put_characters;
 pub use command_text::put_command;
 pub use line::{LINE_LIMIT, Line, LineFault, parse_line};

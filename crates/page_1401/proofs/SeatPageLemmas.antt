@@ -1,0 +1,109 @@
+-- What a seat has seen goes on over all requests at its page.
+use Rattle.std.proofs.Common.{◌≡◌, ℕ, Bool, true, false, List, [], ◌∷◌, ◌++◌, Option, None, Some}
+use Rattle.std.proofs.Common.{sym, ap, ◌∙◌, append_assoc}
+use Rattle.std.proofs.lemmas.List.{append-nil}
+use Rattle.std.specs.Prelude.{MatchBool}
+use Rattle.http_uri.specs.Uri.{uri_path}
+use Rattle.http.specs.declared.request.Request.{Request}
+use Rattle.http.specs.declared.request.Parts.{Parts}
+use Rattle.http.specs.Request.{body_of, head_of}
+use Rattle.http_server.specs.declared.response.Response.{Response}
+use Rattle.http_server.specs.Exchange.{Call, Chain}
+use Rattle.room_1401.specs.declared.entry.SeatedCommand.{SeatedCommand}
+use Rattle.room_1401.specs.Seen.{SeatView}
+use Rattle.page_1401.specs.declared.asked.Asked.{Asked}
+use Rattle.page_1401.specs.declared.route.Route.{Route}
+use Rattle.page_1401.specs.declared.route.Route.TheVariants.{Page, Picture, Line, WrongMethod, Unknown}
+use Rattle.page_1401.specs.declared.showing.Sight.{Sight}
+use Rattle.page_1401.specs.declared.showing.Sight.TheVariants.{Text, Same, NotInCore, Gone, NoMemory}
+use Rattle.page_1401.specs.Fields.{count_in, is_next}
+use Rattle.page_1401.specs.Exchange.{Follows}
+use Rattle.page_1401.specs.Responses.{IsRefused}
+use Rattle.page_1401.specs.Route.{route_of}
+use Rattle.page_1401.specs.SeatPage.{Answers, AnswersRoute, GoesOn, PageView}
+use Rattle.page_1401.specs.Showing.{HasLooked, Sees, ShowsPicture}
+use Rattle.page_1401.specs.Taking.{AnswersLine, TakesLine}
+
+stays : (before after : SeatView) → after ≡ before → GoesOn before after
+stays before after is = record {
+  number_is = ap (λ (seat : SeatView). seat.number) is;
+  grows = ([], append-nil before.list ∙ sym (ap (λ (seat : SeatView). seat.list) is));
+}
+
+looked : (size : ℕ) (asked : Asked) (before after : SeatView) → HasLooked size asked before after → GoesOn before after
+looked size asked before after l = record { number_is = l.number_is; grows = l.grows }
+
+sees : (size seats : ℕ) (asked : Asked) (before : SeatView) (sight : Sight) (after : SeatView)
+    → Sees size seats asked before sight after → GoesOn before after
+sees size seats asked before (Text text) after s = looked size asked before after s.0
+sees size seats asked before Same after s = looked size asked before after s.0
+sees size seats asked before NotInCore after s = stays before after s.1
+sees size seats asked before Gone after s = stays before after s.1
+sees size seats asked before NoMemory after s = looked size asked before after s
+
+shows : (size seats : ℕ) (asked : Option Asked) (before : SeatView) (response : Response) (after : SeatView)
+    → ShowsPicture size seats asked before response after → GoesOn before after
+shows size seats None before response after s = stays before after s.1
+shows size seats (Some asked) before response after s = sees size seats asked before s.0 after s.1
+
+either : (b : Bool) (P Q R : Type 0) → MatchBool b P Q → (P → R) → (Q → R) → R
+either true P Q R m f g = f m
+either false P Q R m f g = g m
+
+answers_line : (size : ℕ) (before : SeatView) (bytes : List ℕ) (response : Response) (after : SeatView)
+    → AnswersLine size before bytes response after → GoesOn before after
+answers_line size before bytes response after a = record { number_is = a.number_is; grows = a.grows }
+
+takes : (size : ℕ) (origin : List ℕ) (head : Parts) (bytes : List ℕ) (before : SeatView) (response : Response)
+    (after : SeatView) → TakesLine size origin head bytes before response after → GoesOn before after
+takes size origin head bytes before response after t =
+    let Refused : ℕ → Type 0 = λ status. IsRefused status response × (after ≡ before) in
+    let Taken : Type 0 = AnswersLine size before bytes response after in
+    either _ (MatchBool (is_next (count_in head) before.made) Taken (Refused 409)) (Refused 403) (GoesOn before after) t
+    (λ own. either _ Taken (Refused 409) (GoesOn before after) own
+    (λ taken. answers_line size before bytes response after taken)
+    (λ refused. stays before after refused.1))
+    (λ refused. stays before after refused.1)
+
+route : (size : ℕ) (to : Route) (old : PageView) (request : Request (List ℕ)) (response : Response) (new : PageView)
+    → AnswersRoute size to old request response new → GoesOn old.seat new.seat
+route size Page old request response new a = stays old.seat new.seat (ap (λ (page : PageView). page.seat) a.1)
+route size Picture old request response new a = shows size old.seats _ old.seat response new.seat a.0
+route size Line old request response new a =
+    takes size _ (head_of request) (body_of request) old.seat response new.seat a.0
+route size WrongMethod old request response new a = stays old.seat new.seat (ap (λ (page : PageView). page.seat) a.1)
+route size Unknown old request response new a = stays old.seat new.seat (ap (λ (page : PageView). page.seat) a.1)
+
+answers : (size : ℕ) (old : PageView) (request : Request (List ℕ)) (response : Response) (new : PageView)
+    → Answers size old request response new → GoesOn old.seat new.seat
+answers size old request response new a =
+    let head : Parts = head_of request in
+    let to : Route = route_of head.method (uri_path head.uri) in
+    either _ (AnswersRoute size to old request response new) (IsRefused 403 response × (new ≡ old))
+    (GoesOn old.seat new.seat) a
+    (λ asked. route size to old request response new asked)
+    (λ refused. stays old.seat new.seat (ap (λ (page : PageView). page.seat) refused.1))
+
+goes_then : (before middle after : SeatView) → GoesOn before middle → GoesOn middle after → GoesOn before after
+goes_then before middle after first second =
+    let more : List SeatedCommand = first.grows.0 in
+    let last : List SeatedCommand = second.grows.0 in
+    record {
+      number_is = second.number_is ∙ first.number_is;
+      grows = (
+        more ++ last,
+        sym (append_assoc before.list more last)
+            ∙ ap (λ (list : List SeatedCommand). list ++ last) first.grows.1
+            ∙ second.grows.1,
+      );
+    }
+
+chain : (size : ℕ) (old : PageView) (calls : List Call) (new : PageView)
+    → Chain (Answers size) old calls new → GoesOn old.seat new.seat
+chain size old [] new c = stays old.seat new.seat (ap (λ (page : PageView). page.seat) c)
+chain size old (call ∷ calls) new c =
+    goes_then old.seat c.0.seat new.seat (answers size old call.0 call.1 c.0 c.1) (chain size c.0 calls new c.2)
+
+-- whatever requests came
+pub goes_on : (size : ℕ) (old new : PageView) → Follows (Answers size) old new → GoesOn old.seat new.seat
+goes_on size old new f = chain size old f.0 new f.1

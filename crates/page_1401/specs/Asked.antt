@@ -1,0 +1,72 @@
+-- Which picture a query asks for (own).
+use Rattle.std.specs.Prelude.{ℕ, ◌==◌, nat_le, nat_lt, Bool, ◌&&◌, if◌then◌else◌, List, [], ◌∷◌, length, take}
+use Rattle.std.specs.Prelude.{drop, codes, Option, None, Some}
+use Rattle.std.specs.List.{slice_split}
+use Rattle.std.specs.Str.{bytes_eq}
+use Rattle.core_1401.specs.Address.{addresses}
+use Rattle.devices_1401.specs.Devices.{most_held}
+use Rattle.notation_1401.specs.Digits.{most_read, number_in}
+use Rattle.room_1401.specs.declared.picture.Window.{Window}
+use Rattle.page_1401.specs.declared.asked.Asked.{Asked}
+
+-- a number is one to nine digits
+unfoldable pub number_of : List ℕ → Option ℕ
+number_of text = if nat_le 1 (length text) && nat_le (length text) most_read then number_in text else None
+
+-- the number behind a name, if the field begins with the name
+unfoldable pub number_behind : List ℕ → List ℕ → Option ℕ
+number_behind name field =
+    if nat_lt (length field) (length name) then None
+    else (if bytes_eq (take (length name) field) name then number_of (drop (length name) field) else None)
+
+-- it parts the fields of a query
+abbrev pub is_ampersand : ℕ → Bool
+is_ampersand byte = byte == 38
+
+-- the fields of a query
+abbrev pub fields_of : List ℕ → List (List ℕ)
+fields_of query = slice_split is_ampersand query
+
+-- the same, if there is more of it
+abbrev pub fields_in : Option (List ℕ) → List (List ℕ)
+fields_in None = []
+fields_in (Some query) = fields_of query
+
+-- the window at an address of core and a line of the paper, which has no more than 500
+abbrev pub window_of : Option ℕ → Option ℕ → Option Window
+window_of None paper = None
+window_of (Some core) None = None
+window_of (Some core) (Some paper) =
+    if nat_lt core addresses && nat_le paper most_held then Some (record { core = core; paper = paper }) else None
+
+-- `core=` and an address, then `paper=` and the index of a line
+abbrev pub window_by : List ℕ → List ℕ → Option Window
+window_by core paper = window_of (number_behind (codes "core=") core) (number_behind (codes "paper=") paper)
+
+-- a picture of the window, whatever the page has
+abbrev pub asked_at : Option Window → Option Asked
+asked_at None = None
+asked_at (Some window) = Some (record { window = window; after = None })
+
+-- a picture of the window, if it is after another number of commands than the one that the page has
+abbrev pub asked_after : Option Window → Option ℕ → Option Asked
+asked_after None after = None
+asked_after (Some window) None = None
+asked_after (Some window) (Some after) = Some (record { window = window; after = Some after })
+
+-- the window, then perhaps `after=` and a count; nothing else
+abbrev pub asked_by_fields : List (List ℕ) → Option Asked
+asked_by_fields [] = None
+asked_by_fields (core ∷ []) = None
+asked_by_fields (core ∷ paper ∷ []) = asked_at (window_by core paper)
+asked_by_fields (core ∷ paper ∷ after ∷ []) = asked_after (window_by core paper) (number_behind (codes "after=") after)
+asked_by_fields (core ∷ paper ∷ after ∷ more ∷ fields) = None
+
+-- the picture that a query asks for
+unfoldable pub asked_by : List ℕ → Option Asked
+asked_by query = asked_by_fields (fields_of query)
+
+-- the same, if there is a query
+abbrev pub asked_in : Option (List ℕ) → Option Asked
+asked_in None = None
+asked_in (Some query) = asked_by query

@@ -1,0 +1,46 @@
+-- The fields of a request that say where it comes from, and what it goes on from (own).
+use Rattle.std.specs.Prelude.{ℕ, ◌==◌, Bool, false, if◌then◌else◌, List, ◌++◌, codes}
+use Rattle.std.specs.Prelude.{Option, None, Some, is_some}
+use Rattle.std.specs.Str.{bytes_eq}
+use Rattle.http_header.specs.FieldValue.{FieldValue}
+use Rattle.http_header.specs.HeaderMap.{get}
+use Rattle.http_header.specs.Token.{lowercase}
+use Rattle.http_uri.specs.Uri.{uri_authority}
+use Rattle.http.specs.declared.request.Parts.{Parts}
+use Rattle.notation_1401.specs.Digits.{digits_in}
+use Rattle.page_1401.specs.Asked.{number_of}
+
+-- there is a field, and it has this value
+abbrev pub is_value : Option FieldValue → List ℕ → Bool
+is_value None value = false
+is_value (Some found) value = bytes_eq found.bytes value
+
+-- the first value of a field is this one, byte for byte
+abbrev pub has_field : Parts → List ℕ → List ℕ → Bool
+has_field head name value = is_value (get head.headers (lowercase name)) value
+
+-- a request is for this host and port: its target has none of its own, and its Host names it
+abbrev pub is_for : Parts → List ℕ → Bool
+is_for head host = if is_some (uri_authority head.uri) then false else has_field head (codes "host") host
+
+-- the number in a field, if there is one
+abbrev pub number_in_field : Option FieldValue → Option ℕ
+number_in_field None = None
+number_in_field (Some found) = number_of found.bytes
+
+-- how many of the seat's commands were carried out before a line, as its sender knows
+abbrev pub count_in : Parts → Option ℕ
+count_in head = number_in_field (get head.headers (lowercase (codes "x-1401-line")))
+
+-- whether a line goes on from this number of commands
+abbrev pub is_next : Option ℕ → ℕ → Bool
+is_next None made = false
+is_next (Some count) made = count == made
+
+-- the only host and port that a seat's page is served at
+abbrev pub host_of : ℕ → List ℕ
+host_of port = codes "127.0.0.1:" ++ digits_in 1 port
+
+-- where a request of that page's script comes from
+abbrev pub origin_of : ℕ → List ℕ
+origin_of port = codes "http://" ++ host_of port

@@ -1,0 +1,9 @@
+pub mod Asked
+pub mod Exchange
+pub mod Fields
+pub mod PictureLines
+pub mod Responses
+pub mod Route
+pub mod SeatPage
+pub mod Showing
+pub mod Taking

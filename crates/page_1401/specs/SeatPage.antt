@@ -1,0 +1,56 @@
+-- What requests are answered at the page of a seat, and what they leave (own).
+use Rattle.std.specs.Prelude.{◌≡◌, ℕ, List, MatchBool}
+use mathlib.Core.List.{IsPrefix}
+use Rattle.http_uri.specs.Uri.{uri_path, uri_query}
+use Rattle.http.specs.declared.request.Request.{Request}
+use Rattle.http.specs.Request.{body_of, head_of}
+use Rattle.http_server.specs.declared.response.Response.{Response}
+use Rattle.http_server.specs.Response.{IsResponse}
+use Rattle.room_1401.specs.Seen.{SeatView}
+use Rattle.page_1401.specs.declared.route.Route.{Route}
+use Rattle.page_1401.specs.declared.route.Route.TheVariants.{Page, Picture, Line, WrongMethod, Unknown}
+use Rattle.page_1401.specs.Asked.{asked_in}
+use Rattle.page_1401.specs.Fields.{host_of, is_for, origin_of}
+use Rattle.page_1401.specs.Responses.{IsRefused, page_fields}
+use Rattle.page_1401.specs.Route.{route_of}
+use Rattle.page_1401.specs.Showing.{ShowsPicture}
+use Rattle.page_1401.specs.Taking.{TakesLine}
+
+-- how many seats there are, the port of the loopback, the page, what its browser may do with it, and what the seat
+-- knows
+pub record PageView : Type 0 where
+  pub seats : ℕ
+  pub port : ℕ
+  pub page : List ℕ
+  pub policy : List ℕ
+  pub seat : SeatView
+
+-- the same page, and what its seat knows then
+abbrev pub with_seat : PageView → SeatView → PageView
+with_seat page seat = record page { seat = seat }
+
+-- by what a request asks for: a picture or a line goes to the seat; any other leaves all as it was
+abbrev pub AnswersRoute : ℕ → Route → PageView → Request (List ℕ) → Response → PageView → Type 0
+AnswersRoute size Page old request response new =
+    IsResponse 200 (page_fields old.policy) old.page response × (new ≡ old)
+AnswersRoute size Picture old request response new =
+    ShowsPicture size old.seats (asked_in (uri_query (head_of request).uri)) old.seat response new.seat
+    × (new ≡ with_seat old new.seat)
+AnswersRoute size Line old request response new =
+    TakesLine size (origin_of old.port) (head_of request) (body_of request) old.seat response new.seat
+    × (new ≡ with_seat old new.seat)
+AnswersRoute size WrongMethod old request response new = IsRefused 405 response × (new ≡ old)
+AnswersRoute size Unknown old request response new = IsRefused 404 response × (new ≡ old)
+
+-- a request that isn't for the page's own host and port is refused, and leaves all as it was
+abbrev pub Answers : ℕ → PageView → Request (List ℕ) → Response → PageView → Type 0
+Answers size old request response new =
+    let head = head_of request in
+    MatchBool (is_for head (host_of old.port))
+    (AnswersRoute size (route_of head.method (uri_path head.uri)) old request response new)
+    (IsRefused 403 response × (new ≡ old))
+
+-- A seat's number stays, and what it has seen goes on.
+pub record GoesOn (before after : SeatView) : Type 0 where
+  pub number_is : after.number ≡ before.number
+  pub grows : IsPrefix before.list after.list

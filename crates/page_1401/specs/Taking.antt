@@ -1,0 +1,36 @@
+-- A console line, as a request brings one (own).
+use Rattle.std.specs.Prelude.{◌≡◌, ℕ, ◌⊎◌, List, [], codes, MatchBool}
+use mathlib.Core.List.{IsPrefix}
+use Rattle.http.specs.declared.request.Parts.{Parts}
+use Rattle.http_server.specs.declared.response.Response.{Response}
+use Rattle.http_server.specs.Response.{IsResponse}
+use Rattle.room_1401.specs.Seen.{SeatView}
+use Rattle.text_1401.specs.ConsoleLine.{said_by}
+use Rattle.console_1401.specs.SeatTurns.{AnswersAtSeat, IsUnanswered}
+use Rattle.page_1401.specs.Fields.{count_in, has_field, is_next}
+use Rattle.page_1401.specs.Responses.{IsRefused, IsText, text_fields}
+
+-- it was carried out, but its reply isn't told: 507 for want of memory, 500 if its entry wasn't kept
+abbrev pub IsUntold : Response → Type 0
+IsUntold response = IsResponse 507 text_fields [] response ⊎ IsResponse 500 text_fields [] response
+
+-- the reply to a line, or that it isn't told
+abbrev pub IsReplied : ℕ → SeatView → List ℕ → Response → SeatView → Type 0
+IsReplied size before line response after =
+    ((reply : List ℕ) × AnswersAtSeat size before (said_by line) reply after × IsText reply response)
+    ⊎ (IsUnanswered size before (said_by line) after × IsUntold response)
+
+-- A line is carried out at a seat, and answered by its reply. The seat has seen no less.
+pub record AnswersLine (size : ℕ) (before : SeatView) (line : List ℕ) (response : Response) (after : SeatView) : Type 0 where
+  pub replied : IsReplied size before line response after
+  pub number_is : after.number ≡ before.number
+  pub grows : IsPrefix before.list after.list
+
+-- a line has to come from the seat's own page, and to go on from what the seat made; else nothing is carried out
+abbrev pub TakesLine : ℕ → List ℕ → Parts → List ℕ → SeatView → Response → SeatView → Type 0
+TakesLine size origin head line before response after =
+    MatchBool (has_field head (codes "origin") origin)
+    (MatchBool (is_next (count_in head) before.made)
+    (AnswersLine size before line response after)
+    (IsRefused 409 response × (after ≡ before)))
+    (IsRefused 403 response × (after ≡ before))

@@ -1,0 +1,129 @@
+//! Which picture a query asks for.
+ghost use Rattle.std.specs.Prelude.{◌≡◌, ◌≤◌, ◌∷◌, length, option_copied};
+ghost use Rattle.std.specs.List.{position_or_len};
+ghost use Rattle.page_1401.specs.Asked.{asked_after, asked_at, asked_by, fields_in, fields_of, is_ampersand};
+ghost use Rattle.page_1401.specs.Asked.{number_behind, number_of, window_by, window_of};
+
+use core_1401::ADDRESSES;
+use devices_1401::MOST_HELD;
+use notation_1401::read_digits;
+use room_1401::Window;
+
+/// The most digits of a number in a query or a field.
+const MOST_DIGITS: usize = 9;
+
+/// A picture that is asked for.
+#[derive(Clone, Copy, Debug, PartialEq, Eq)]
+pub struct Asked {
+    /// What of the machine it shows.
+    pub window: Window,
+    /// The count of commands of the picture that the page has, if it has one of this window.
+    pub after: Option<u32>,
+}
+
+/// The number that a text is: one to nine digits.
+#[tactic(auto, unfolding(crate::specs::Asked::number_of))]
+pub(crate) fn number(text: &[u8]) -> Option<u32>
+    ensures { result ≡ number_of text.now }
+{
+    if text.is_empty() || text.len() > MOST_DIGITS {
+        return None;
+    }
+    read_digits(text)
+}
+
+/// The number behind a name, if the field begins with the name.
+#[tactic(auto, unfolding(crate::specs::Asked::number_behind))]
+fn number_behind(name: &[u8], field: &[u8]) -> Option<u32>
+    ensures { result ≡ number_behind name.now field.now }
+{
+    if field.len() < name.len() {
+        return None;
+    }
+    let (front, value) = field.split_at(name.len());
+    if front == name { number(value) } else { None }
+}
+
+/// How many bytes the first field of a query has.
+fn first_len(query: &[u8]) -> usize
+    ensures value { result ≡ position_or_len is_ampersand query.now }
+    ensures bound { result ≤ length query.now }
+{
+    query.iter().take_while(|byte| **byte != b'&').count()
+}
+
+/// The first field of a query, and what stands after its ampersand, if it has one.
+#[tactic(auto, using(crate::proofs::AskedLemmas::last_field))]
+fn cut_field(query: &[u8]) -> (&[u8], Option<&[u8]>)
+    ensures { fields_of query.now ≡ result.0.now ∷ fields_in (option_copied result.1) }
+{
+    let len = first_len(query);
+    if len == query.len() {
+        return (query, None);
+    }
+    (&query[..len], Some(&query[len + 1..]))
+}
+
+/// The window at an address of core and a line of the paper.
+fn window_of(core: Option<u32>, paper: Option<u32>) -> Option<Window>
+    ensures { result ≡ window_of core paper }
+{
+    let core = core?;
+    let paper = paper?;
+    if core < u32::from(ADDRESSES) && paper <= MOST_HELD as u32 {
+        Some(Window {
+            core: core as u16,
+            paper: paper as u16,
+        })
+    } else {
+        None
+    }
+}
+
+/// The window that the first two fields of a query say.
+fn window_by(core: &[u8], paper: &[u8]) -> Option<Window>
+    ensures { result ≡ window_by core.now paper.now }
+{
+    window_of(
+        number_behind(b"core=", core),
+        number_behind(b"paper=", paper),
+    )
+}
+
+/// A picture of the window, whatever the page has.
+fn asked_at(window: Option<Window>) -> Option<Asked>
+    ensures { result ≡ asked_at window }
+{
+    Some(Asked {
+        window: window?,
+        after: None,
+    })
+}
+
+/// A picture of the window, if it is after another number of commands than the one that the page has.
+fn asked_after(window: Option<Window>, after: Option<u32>) -> Option<Asked>
+    ensures { result ≡ asked_after window after }
+{
+    Some(Asked {
+        window: window?,
+        after: Some(after?),
+    })
+}
+
+/// The picture that a query asks for: `core=` and an address, `paper=` and the index of a printed line, then perhaps
+/// `after=` and a count. `None` if the query says anything else.
+#[tactic(auto, unfolding(crate::specs::Asked::asked_by))]
+pub fn asked_by(query: &[u8]) -> Option<Asked>
+    ensures { result ≡ asked_by query.now }
+{
+    let (core, rest) = cut_field(query);
+    let (paper, rest) = cut_field(rest?);
+    let window = window_by(core, paper);
+    let Some(rest) = rest else {
+        return asked_at(window);
+    };
+    match cut_field(rest) {
+        (after, None) => asked_after(window, number_behind(b"after=", after)),
+        (_, Some(_)) => None,
+    }
+}

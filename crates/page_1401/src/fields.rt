@@ -1,0 +1,48 @@
+//! The fields of a request that say where it comes from, and what it goes on from.
+ghost use Rattle.std.specs.Prelude.{◌≡◌};
+ghost use Rattle.http.specs.Request.{head_of};
+ghost use Rattle.page_1401.specs.Fields.{count_in, has_field, is_for, is_next};
+
+use crate::asked::number;
+use bytes::Bytes;
+use http::Request;
+
+/// Whether the first value of a field is this one, byte for byte.
+pub(crate) fn has_field(request: &Request<Bytes>, name: &str, value: &[u8]) -> bool
+    ensures { result ≡ has_field (head_of request.now) name.now value.now }
+{
+    match request.headers().get(name) {
+        Some(found) => found.as_bytes() == value,
+        None => false,
+    }
+}
+
+/// Whether a request is for this host and port: its target has none of its own, and its Host names it.
+pub(crate) fn is_for(request: &Request<Bytes>, host: &[u8]) -> bool
+    ensures { result ≡ is_for (head_of request.now) host.now }
+{
+    if request.uri().authority().is_some() {
+        return false;
+    }
+    has_field(request, "host", host)
+}
+
+/// How many of the seat's commands were carried out before the line, as its sender knows; `None` if it doesn't say.
+fn count_in(request: &Request<Bytes>) -> Option<u32>
+    ensures { result ≡ count_in (head_of request.now) }
+{
+    match request.headers().get("x-1401-line") {
+        Some(count) => number(count.as_bytes()),
+        None => None,
+    }
+}
+
+/// Whether a line goes on from this number of commands.
+pub(crate) fn is_next(request: &Request<Bytes>, made: u64) -> bool
+    ensures { result ≡ is_next (count_in (head_of request.now)) made }
+{
+    match count_in(request) {
+        Some(count) => u64::from(count) == made,
+        None => false,
+    }
+}

@@ -1,0 +1,62 @@
+//! A console line, as a request brings one.
+ghost use Rattle.std.specs.Prelude.{◌≡◌, [], OnOk, OnErr};
+ghost use Rattle.http.specs.Request.{body_of, head_of};
+ghost use Rattle.http_server.specs.Response.{IsBlank, IsResponse};
+ghost use Rattle.page_1401.specs.Responses.{text_fields};
+ghost use Rattle.page_1401.specs.Taking.{AnswersLine, TakesLine};
+
+use crate::fields::{has_field, is_next};
+use crate::responses::{begin_text, end_with, end_without, refuse};
+use bytes::Bytes;
+use console_1401::{Unanswered, answer_line};
+use http::{Request, StatusCode};
+use http_server::Response;
+use room_1401::{Keeper, RoomId, Seat, SharedRoom};
+use std::alloc::{AllocError, Global};
+use std::sync::Wait;
+
+/// Answers a line at a seat: its reply, or that there is none though it was carried out.
+fn answer_at<J: RoomId, R: Wait + Drop, P: Keeper + Drop, W: Wait>(
+    alloc: Global,
+    wait: &W,
+    room: &SharedRoom<J, R, P>,
+    seat: &mut Seat<J>,
+    line: &[u8],
+    response: &mut Response,
+)
+    requires { IsResponse 200 text_fields [] response.old }
+    ensures { AnswersLine J.size seat.old line.now response.new seat.new }
+{
+    match answer_line(alloc, wait, room, seat, line) {
+        Ok(reply) => end_with(response, reply.as_slice()),
+        Err(Unanswered::Memory) => end_without(response, StatusCode::INSUFFICIENT_STORAGE),
+        Err(Unanswered::Unkept) => end_without(response, StatusCode::INTERNAL_SERVER_ERROR),
+    }
+}
+
+/// Answers a request that brings a line to a seat: it has to come from the seat's own page, and to go on from what the
+/// seat made.
+pub(crate) fn take_line<J: RoomId, R: Wait + Drop, P: Keeper + Drop, W: Wait>(
+    alloc: Global,
+    wait: &W,
+    room: &SharedRoom<J, R, P>,
+    seat: &mut Seat<J>,
+    origin: &[u8],
+    request: &Request<Bytes>,
+    response: &mut Response,
+) -> Result<(), AllocError>
+    requires { IsBlank response.old }
+    ensures ok { OnOk result (TakesLine J.size origin.now (head_of request.now) (body_of request.now)
+        seat.old response.new seat.new) }
+    ensures err { OnErr result (seat.new ≡ seat.old) }
+{
+    if !has_field(request, "origin", origin) {
+        return refuse(response, StatusCode::FORBIDDEN);
+    }
+    if !is_next(request, seat.made()) {
+        return refuse(response, StatusCode::CONFLICT);
+    }
+    begin_text(response)?;
+    answer_at(alloc, wait, room, seat, request.body().as_slice(), response);
+    Ok(())
+}

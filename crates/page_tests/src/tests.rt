@@ -1,0 +1,5 @@
+mod hostile;
+mod pictures;
+mod requests;
+mod room;
+mod taken;

@@ -1,0 +1,167 @@
+//! The texts of pictures.
+
+use crate::tests::room::expect_pictures;
+use room_1401::Opened;
+use std::alloc::Global;
+use std::marker::Brand;
+use std::ops::RangeInclusive;
+use std::test::Fail;
+
+/// A new machine, after another seat's command.
+const NEW_MACHINE: &str = "SEAT 2 OF 3 MADE 0\n\
+    AFTER 1\n\
+    I=00000 A=00000 B=00000 UNEQUAL=0 LOW=0 HIGH=0 OVERFLOW=0 SWITCHES=------- \
+    HOPPER=000 STACKER=000 PAPER=000 FORM=0001 LINE=01\n\
+    NEXT\n\
+    READ \n\
+    HOPPER\n\
+    PUNCHED\n\
+    CORE 00400 OF 04000\n\
+    \x20                                       \n\
+    \x20                                       \n\
+    \x20                                       \n\
+    \x20                                       \n\
+    \x20                                       \n\
+    \x20                                       \n\
+    \x20                                       \n\
+    \x20                                       \n\
+    \x20                                       \n\
+    \x20                                       \n\
+    \x20                                       \n\
+    \x20                                       \n\
+    \x20                                       \n\
+    \x20                                       \n\
+    \x20                                       \n\
+    PAPER 0\n\
+    ";
+
+#[test]
+fn a_new_machine_has_nothing_to_show(rt: HostRuntime) -> Result<(), Fail> {
+    let (alloc, opened) = (rt.alloc(), Opened::new(3));
+    let pictures = [("?core=400&paper=0", NEW_MACHINE)];
+    expect_pictures::<Brand, _>(&rt, alloc, opened, &[], &pictures)
+}
+
+/// A card has been read and one punched, a line printed, and the addition at 403 comes next.
+const BEFORE_AN_ADDITION: &str = "SEAT 2 OF 3 MADE 8\n\
+    AFTER 9\n\
+    I=00403 A=00000 B=00333 UNEQUAL=0 LOW=0 HIGH=0 OVERFLOW=0 SWITCHES=------- \
+    HOPPER=001 STACKER=001 PAPER=001 FORM=0001 LINE=02\n\
+    NEXT A    700,710\n\
+    READ CARD ONE\n\
+    HOPPER CARD TWO\n\
+    PUNCHED TOTAL 12\n\
+    CORE 00400 OF 04000\n\
+    ~1~4~2~A700710~.                             \n\
+    \x20                                       \n\
+    \x20                                       \n\
+    \x20                                       \n\
+    \x20                                       \n\
+    \x20                                       \n\
+    \x20                                       \n\
+    \x20                                       \n\
+    \x20                                       \n\
+    \x20                                       \n\
+    \x20                                       \n\
+    \x20                                       \n\
+    \x20                                       \n\
+    \x20                                       \n\
+    \x20                                       \n\
+    PAPER 0\n\
+    LINE 0001 01 HELLO\n\
+    ";
+
+#[test]
+fn a_picture_shows_all_that_a_visitor_sees(rt: HostRuntime) -> Result<(), Fail> {
+    let lines = [
+        "FEED CARD ONE",
+        "FEED CARD TWO",
+        "DEPOSIT 0001 ~X",
+        "DEPOSIT 0101 TOTAL 12",
+        "DEPOSIT 0201 HELLO",
+        "DEPOSIT 0400 ~1~4~2~A700710~.",
+        "START 0400",
+        "RUN 3",
+    ];
+    let (alloc, opened) = (rt.alloc(), Opened::new(3));
+    let pictures = [("?core=400&paper=0", BEFORE_AN_ADDITION)];
+    expect_pictures::<Brand, _>(&rt, alloc, opened, &lines, &pictures)
+}
+
+/// The machine of `LONG_PAPER`, down to its printed lines. The card that is read next is blank, and the character at
+/// 403 has no word mark.
+const LONG_PAPER_MACHINE: &str = "SEAT 2 OF 3 MADE 10\n\
+    AFTER 11\n\
+    I=00403 A=00400 B=00181 UNEQUAL=0 LOW=0 HIGH=0 OVERFLOW=0 SWITCHES=------- \
+    HOPPER=002 STACKER=071 PAPER=070 FORM=0002 LINE=05\n\
+    NEXT\n\
+    READ \n\
+    HOPPER \n\
+    PUNCHED LAST\n\
+    CORE 00390 OF 04000\n\
+    \x20         ~4~2~B400                        \n\
+    \x20                                       \n\
+    \x20                                       \n\
+    \x20                                       \n\
+    \x20                                       \n\
+    \x20                                       \n\
+    \x20                                       \n\
+    \x20                                       \n\
+    \x20                                       \n\
+    \x20                                       \n\
+    \x20                                       \n\
+    \x20                                       \n\
+    \x20                                       \n\
+    \x20                                       \n\
+    \x20                                       \n\
+    ";
+
+/// What punches 70 cards and prints as many lines, and then punches another card.
+const LONG_PAPER: [&str; 10] = [
+    "FEED",
+    "FEED CARD TWO",
+    "DEPOSIT 0101 FIRST",
+    "DEPOSIT 0201 X",
+    "DEPOSIT 0400 ~4~2~B400",
+    "START 0400",
+    "RUN 210",
+    "DEPOSIT 0101 LAST ",
+    "RUN 1",
+    "START 0403",
+];
+
+/// The picture of that machine with these printed lines: on the first form from one line down to the other, then those
+/// on the second form.
+fn long_paper(
+    alloc: Global,
+    paper: &str,
+    first: RangeInclusive<u8>,
+    second: RangeInclusive<u8>,
+) -> Result<String, Fail> {
+    let mut text = format!(in alloc; "{LONG_PAPER_MACHINE}PAPER {paper}\n")?;
+    for line in first {
+        text.push_str(format!(in alloc; "LINE 0001 {line:02} X\n")?.as_str())?;
+    }
+    for line in second {
+        text.push_str(format!(in alloc; "LINE 0002 {line:02} X\n")?.as_str())?;
+    }
+    Ok(text)
+}
+
+#[test]
+fn a_picture_shows_66_printed_lines(rt: HostRuntime) -> Result<(), Fail> {
+    let (alloc, opened) = (rt.alloc(), Opened::new(3));
+    let from_the_first = long_paper(alloc, "0", 1..=66, 1..=0)?;
+    let from_the_fourth = long_paper(alloc, "3", 4..=66, 1..=3)?;
+    let from_the_tenth = long_paper(alloc, "10", 11..=66, 1..=4)?;
+    let the_last = long_paper(alloc, "69", 1..=0, 4..=4)?;
+    let none = long_paper(alloc, "500", 1..=0, 1..=0)?;
+    let pictures = [
+        ("?core=390&paper=0", from_the_first.as_str()),
+        ("?core=390&paper=3", from_the_fourth.as_str()),
+        ("?core=390&paper=10", from_the_tenth.as_str()),
+        ("?core=390&paper=69", the_last.as_str()),
+        ("?core=390&paper=500", none.as_str()),
+    ];
+    expect_pictures::<Brand, _>(&rt, alloc, opened, &LONG_PAPER, &pictures)
+}
