@@ -59,13 +59,16 @@ pub struct Service {
     pub port: u16,
 }
 
-/// How many operators share a room, and the port at which they come.
+/// How many operators share a room, and the ports on 127.0.0.1 at which they come: by consoles, by pages, or by both.
 #[derive(Clone, Copy, Debug, PartialEq, Eq)]
 pub struct Operators {
     /// How many seats there are, from 1 to 8.
     pub seats: u8,
-    /// The port on 127.0.0.1.
-    pub port: u16,
+    /// The port of the consoles; without one there are none.
+    pub port: Option<u16>,
+    /// The port of the page of seat 1, where each next seat's is one more; without one there are no pages. None of them
+    /// is beyond 65535, and none is 80.
+    pub page: Option<u16>,
 }
 
 /// What a room begins with.
@@ -84,6 +87,8 @@ pub struct Seating {
     pub opening: Opening,
     /// Who comes.
     pub operators: Operators,
+    /// The name of the file of a deck, which is in the hopper when they come; without one the hopper is empty.
+    pub cards: Option<String>,
     /// The journal that is kept; without one none is.
     pub journal: Option<NewJournal>,
 }

@@ -2,7 +2,7 @@
 
 use crate::call::{Call, NewJournal, Resuming, Showing};
 use crate::reading::{LINES, name_in, refusal};
-use crate::serving::{operators_in, port_arg, seats_arg};
+use crate::serving::{operators_in, page_arg, pages_refused, port_arg, ports_group, seats_arg};
 use clap::{Arg, ArgAction, ArgMatches, Command, Error, value_parser};
 use std::alloc::{AllocError, Global};
 
@@ -77,15 +77,17 @@ pub(crate) fn resume_command<'a>(alloc: Global) -> Result<Command<'a>, AllocErro
         .help("Leaves these commands out; --journal names the file of what is left");
     Command::new(alloc, "resume")
         .about(
-            "Carries out the commands of a journal again, and goes on as console does, or with --port as serve does",
+            "Carries out a journal's commands again, and goes on as console does; with --port or --page as serve does",
         )
         .after_help(LINES)
         .arg(journal)?
         .arg(until)?
         .arg(without)?
         .arg(sync_arg(alloc))?
+        .group(ports_group(alloc)?)?
         .arg(port_arg(alloc).requires_arg("seats")?)?
-        .arg(seats_arg(alloc).requires_arg("port")?)?
+        .arg(seats_arg(alloc).requires_arg("ports")?)?
+        .arg(page_arg(alloc).requires_arg("seats")?)?
         .arg(file_arg(alloc))
 }
 
@@ -115,12 +117,8 @@ pub(crate) fn journal_call(
     }))
 }
 
-/// What the options of `resume` ask for.
-pub(crate) fn resume_call(
-    alloc: Global,
-    matches: &ArgMatches<'_>,
-    file: &str,
-) -> Result<Call, Error> {
+/// The journal that the options of `resume` name, and how it is taken up.
+fn resuming_in(alloc: Global, matches: &ArgMatches<'_>, file: &str) -> Result<Resuming, Error> {
     let journal = name_in(alloc, matches, "journal")?;
     let Some(without) = numbers_of(alloc, matches.get_str("without").unwrap_or(""))? else {
         return Err(resume_refusal(alloc, "--without takes numbers parted by commas")?);
@@ -142,19 +140,31 @@ pub(crate) fn resume_call(
             "--until keeps nothing without --journal, so --sync has nothing to write",
         )?);
     }
-    let resuming = Resuming {
+    Ok(Resuming {
         file: String::from_str(alloc, file)?,
         journal,
         until,
         without,
         sync,
+    })
+}
+
+/// What the options of `resume` ask for.
+pub(crate) fn resume_call(
+    alloc: Global,
+    matches: &ArgMatches<'_>,
+    file: &str,
+) -> Result<Call, Error> {
+    let resuming = resuming_in(alloc, matches, file)?;
+    let Some(operators) = operators_in(matches) else {
+        return Ok(Call::Resume(resuming));
     };
-    Ok(match operators_in(matches) {
-        Some(operators) => Call::ResumeSeats {
-            resuming,
-            operators,
-        },
-        None => Call::Resume(resuming),
+    if let Some(text) = pages_refused(operators) {
+        return Err(resume_refusal(alloc, text)?);
+    }
+    Ok(Call::ResumeSeats {
+        resuming,
+        operators,
     })
 }
 

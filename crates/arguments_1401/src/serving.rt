@@ -2,10 +2,13 @@
 
 use crate::call::{Call, Opening, Operators, Seating, Service};
 use crate::journals::{journal_arg, new_journal_in, new_sync_arg};
-use crate::reading::{LINES, name_in, size_arg, size_in};
+use crate::reading::{LINES, name_in, refusal, size_arg, size_in};
 use crate::sizes::SizeTexts;
-use clap::{Arg, ArgAction, ArgMatches, Command, Error, value_parser};
+use clap::{Arg, ArgAction, ArgGroup, ArgMatches, Command, Error, value_parser};
 use std::alloc::{AllocError, Global};
+
+/// The port that a browser leaves out of an address, so that a page there couldn't tell whether it was asked for.
+const UNNAMED_PORT: u16 = 80;
 
 /// The port at which operators come, as an option.
 pub(crate) fn port_arg<'a>(alloc: Global) -> Arg<'a> {
@@ -14,6 +17,25 @@ pub(crate) fn port_arg<'a>(alloc: Global) -> Arg<'a> {
         .value_name("P")
         .help("The port on 127.0.0.1, 1 to 65535")
         .value_parser(value_parser!(u16).range(1..))
+}
+
+/// The port of the first page, as an option.
+pub(crate) fn page_arg<'a>(alloc: Global) -> Arg<'a> {
+    Arg::new(alloc, "page")
+        .long("page")
+        .value_name("PORT")
+        .help("The port on 127.0.0.1 of seat 1's page in a browser; each next seat's is one more")
+        .value_parser(value_parser!(u16).range(1..))
+}
+
+/// The ports at which operators come, one or both of them.
+pub(crate) fn ports_group<'a>(alloc: Global) -> Result<ArgGroup<'a>, AllocError> {
+    Ok(
+        ArgGroup::new(alloc, "ports")
+            .arg("port")?
+            .arg("page")?
+            .multiple(true),
+    )
 }
 
 /// How many operators there are, as an option.
@@ -38,16 +60,23 @@ pub(crate) fn serve_command<'a>(
     let keep_seats = Arg::new(alloc, "keep-seats")
         .long("keep-seats")
         .help(
-            "Gives the seat of a console that has ended to the next operator, as --journal and --image do",
+            "Gives the seat of a console that has ended to the next operator, as the next four options do",
         )
         .action(ArgAction::SetTrue);
+    let cards = Arg::new(alloc, "cards")
+        .long("cards")
+        .value_name("DECK")
+        .help("The file of a deck, a card a line, which is in the hopper when operators come");
     Command::new(alloc, "serve")
-        .about("Opens a machine to operators, each with a connection of his own")
+        .about("Opens a machine to operators, each with a connection or a page of his own")
         .after_help(LINES)
-        .arg(port_arg(alloc).required(true))?
+        .group(ports_group(alloc)?.required(true))?
+        .arg(port_arg(alloc))?
         .arg(seats_arg(alloc).required(true))?
         .arg(keep_seats)?
+        .arg(page_arg(alloc))?
         .arg(image)?
+        .arg(cards)?
         .arg(journal_arg(alloc))?
         .arg(new_sync_arg(alloc)?)?
         .arg(size_arg(alloc, sizes))
@@ -55,10 +84,24 @@ pub(crate) fn serve_command<'a>(
 
 /// The operators that the options name, if they name any.
 pub(crate) fn operators_in(matches: &ArgMatches<'_>) -> Option<Operators> {
-    match (matches.get_one("port"), matches.get_one("seats")) {
-        (Some(port), Some(seats)) => Some(Operators { seats, port }),
+    let port = matches.get_one("port");
+    let page = matches.get_one("page");
+    match matches.get_one("seats") {
+        Some(seats) if port.is_some() || page.is_some() => Some(Operators { seats, port, page }),
         _ => None,
     }
+}
+
+/// Why there can't be pages for these operators, if there can't.
+pub(crate) fn pages_refused(operators: Operators) -> Option<&'static str> {
+    let first = operators.page?;
+    let Some(last) = first.checked_add(u16::from(operators.seats).saturating_sub(1)) else {
+        return Some("the pages of all seats need ports beyond 65535");
+    };
+    if first <= UNNAMED_PORT && UNNAMED_PORT <= last {
+        return Some("no page can be at port 80, which browsers leave out of what they send");
+    }
+    None
 }
 
 /// What the options of `serve` ask for.
@@ -67,11 +110,18 @@ pub(crate) fn serve_call(
     matches: &ArgMatches<'_>,
     operators: Operators,
 ) -> Result<Call, Error> {
+    if let Some(text) = pages_refused(operators) {
+        let sizes = SizeTexts::new(alloc)?;
+        let serve = serve_command(alloc, &sizes)?.bin_name("ibm1401 serve")?;
+        return Err(refusal(serve, text)?);
+    }
     let size = size_in(matches);
     let image = name_in(alloc, matches, "image")?;
+    let cards = name_in(alloc, matches, "cards")?;
     let journal = new_journal_in(alloc, matches)?;
-    if image.is_none() && journal.is_none() && !matches.get_flag("keep-seats") {
-        let Operators { seats, port } = operators;
+    let is_new = image.is_none() && cards.is_none() && journal.is_none();
+    let Operators { seats, port, page } = operators;
+    if let (true, Some(port), None) = (is_new && !matches.get_flag("keep-seats"), port, page) {
         return Ok(Call::Serve(Service { size, seats, port }));
     }
     let opening = match image {
@@ -81,6 +131,7 @@ pub(crate) fn serve_call(
     Ok(Call::ServeSeats(Seating {
         opening,
         operators,
+        cards,
         journal,
     }))
 }

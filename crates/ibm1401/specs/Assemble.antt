@@ -64,6 +64,7 @@ IsWhyNotAssembled size source (fault.Deck why) = ⊥
 IsWhyNotAssembled size source (fault.Source why) = IsMemory why ⊎ (assembly_in size source ≡ Err why)
 IsWhyNotAssembled size source (fault.Unwritten name) = ⊥
 IsWhyNotAssembled size source (fault.Run why) = ⊥
+IsWhyNotAssembled size source (fault.Hopper name count) = ⊥
 IsWhyNotAssembled size source fault.JournalFull = ⊥
 IsWhyNotAssembled size source fault.Memory = IsOk (assembly_in size source)
 IsWhyNotAssembled size source fault.Read = ⊥

@@ -28,6 +28,7 @@ IsWhyNotListed text (fault.Deck why) = ⊥
 IsWhyNotListed text (fault.Source why) = ⊥
 IsWhyNotListed text (fault.Unwritten name) = ⊥
 IsWhyNotListed text (fault.Run why) = ⊥
+IsWhyNotListed text (fault.Hopper name count) = ⊥
 IsWhyNotListed text fault.JournalFull = ⊥
 IsWhyNotListed text fault.Memory = (image : Image) × IsTextOf text image
 IsWhyNotListed text fault.Read = ⊥

@@ -41,6 +41,7 @@ IsWhyNotLoaded text (fault.Deck why) = ⊥
 IsWhyNotLoaded text (fault.Source why) = ⊥
 IsWhyNotLoaded text (fault.Unwritten name) = ⊥
 IsWhyNotLoaded text (fault.Run why) = ⊥
+IsWhyNotLoaded text (fault.Hopper name count) = ⊥
 IsWhyNotLoaded text fault.JournalFull = IsTooLong text
 IsWhyNotLoaded text fault.Memory = (image : Image) × IsTextOf text image
 IsWhyNotLoaded text fault.Read = ⊥

@@ -29,6 +29,7 @@ status_of (fault.Faulty told) = 1
 status_of (fault.Deck why) = 1
 status_of (fault.Unwritten name) = 1
 status_of (fault.Run why) = 1
+status_of (fault.Hopper name count) = 1
 status_of fault.JournalFull = 1
 status_of fault.Memory = 1
 status_of fault.Read = 1

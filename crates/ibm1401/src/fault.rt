@@ -47,6 +47,9 @@ pub enum Fault {
     /// A run of a program with its deck was refused, broke off, or ended otherwise than by a halt.
     #[error("{0}")]
     Run(RunFault),
+    /// The deck of this file has so many cards.
+    #[error("{0}: {1} cards are more than the hopper holds")]
+    Hopper(String, u64),
     /// The file has no source that can be assembled.
     #[error("{0}")]
     Source(AsmFault),
@@ -113,7 +116,7 @@ impl Fault {
             Fault::Output | Fault::Size | Fault::Memory => FAILED,
             Fault::Unread(_) | Fault::File(..) | Fault::Image(_) | Fault::JournalFull => FAILED,
             Fault::Source(_) | Fault::Faulty(_) | Fault::Deck(_) => FAILED,
-            Fault::Unwritten(_) | Fault::Run(_) => FAILED,
+            Fault::Unwritten(_) | Fault::Run(_) | Fault::Hopper(..) => FAILED,
             Fault::Read | Fault::Write | Fault::Bound | Fault::Reply => FAILED,
             Fault::Unkept | Fault::Kept(_) => FAILED,
             Fault::NoReader | Fault::Port | Fault::Accept | Fault::Thread => FAILED,

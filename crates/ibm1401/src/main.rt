@@ -2,7 +2,9 @@
 #![tactic(auto)]
 
 mod assembling;
+mod beginning;
 mod disassembling;
+mod entrances;
 mod fault;
 mod journals;
 mod loading;
@@ -30,6 +32,7 @@ use std::fs::File;
 use std::io::{IsTerminal, StdinLock};
 use std::net::{Net, TcpListener, TcpStream};
 use std::process::ExitCode;
+use std::random::RandomSource;
 use std::rt::{Clock, Env, Files};
 use std::sync::Wait;
 use std::thread::Threads;
@@ -55,6 +58,7 @@ fn run<
     R: Env
         + Files<File = File>
         + Clock
+        + RandomSource
         + Input<Reader = StdinLock<'static>>
         + Print
         + Eprint

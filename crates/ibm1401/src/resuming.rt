@@ -1,10 +1,12 @@
 //! What the subcommand `resume` does where operators share the room.
-ghost use Rattle.std.specs.Prelude.{◌≡◌, false};
+ghost use Rattle.std.specs.Prelude.{◌≡◌, ◌≤◌, false, vec_len};
 ghost use Rattle.journal_1401.specs.JournalText.{journal_text};
 
+use crate::beginning::Before;
+use crate::entrances::{Entrances, open_entrances};
 use crate::fault::Fault;
 use crate::journals::{chosen_room, durability_of, tell_cut};
-use crate::seating::{Before, listener_at, open_new, serve_room};
+use crate::seating::{open_new, serve_room};
 use arguments_1401::{NewJournal, Operators, Resuming};
 use console_1401::Sink;
 use keeping_1401::{
@@ -16,7 +18,8 @@ use std::fs::File;
 use std::io::StdinLock;
 use std::marker::Brand;
 use std::net::{Net, TcpListener, TcpStream};
-use std::rt::Files;
+use std::random::RandomSource;
+use std::rt::{Clock, Files};
 use std::sync::Wait;
 use std::thread::Threads;
 
@@ -33,13 +36,15 @@ fn expect_seats(entries: &[Entry], least: u8, most: u8) -> Result<(), Fault> {
 ///
 /// # Errors
 ///
-/// `Port` where the port is refused; `Kept` where a file can't be had or has no journal; `NoSeat` where an entry is of a
+/// `Port` where a port is refused; `Kept` where a file can't be had or has no journal; `NoSeat` where an entry is of a
 /// seat that the room hasn't: in the same file seat 0 is such a one, in a new file seat 1 gives its commands. Else as
 /// `serve`.
 pub fn resume_seats<
     R: Threads
         + Wait
         + Sync
+        + Clock
+        + RandomSource
         + Input<Reader = StdinLock<'static>>
         + Print
         + Eprint
@@ -54,10 +59,10 @@ pub fn resume_seats<
         without,
         sync,
     } = asked;
-    let Operators { seats, port } = operators;
-    let listener = listener_at(rt, port)?;
+    let seats = operators.seats;
+    let entrances = open_entrances(rt, operators)?;
     if journal.is_none() && until.is_none() {
-        return go_on(rt, file, durability_of(sync), seats, &listener);
+        return go_on(rt, file, durability_of(sync), seats, &entrances);
     }
     let room = read_room(rt, file).map_err(Fault::Kept)?;
     let room = chosen_room(rt.alloc(), &room, until, without.as_slice())?;
@@ -67,7 +72,7 @@ pub fn resume_seats<
         Some(file) => Some(NewJournal { file, sync }),
         None => None,
     };
-    open_new(rt, size, seats, Before::Journal(room), journal, &listener)
+    open_new(rt, size, seats, Before::Journal(room), journal, &entrances)
 }
 
 /// Goes on in the file of a journal.
@@ -75,6 +80,8 @@ fn go_on<
     R: Threads
         + Wait
         + Sync
+        + Clock
+        + RandomSource
         + Input<Reader = StdinLock<'static>>
         + Print
         + Eprint
@@ -86,8 +93,10 @@ fn go_on<
     file: String,
     durability: Durability,
     seats: u8,
-    listener: &TcpListener,
-) -> Result<(), Fault> {
+    entrances: &Entrances,
+) -> Result<(), Fault>
+    requires { vec_len entrances.now.pages ≤ seats }
+{
     let found = find_journal(rt, file, durability).map_err(Fault::Kept)?;
     expect_seats(found.entries(), 1, seats)?;
     let TakenUp {
@@ -97,7 +106,7 @@ fn go_on<
         cut,
     } = found.take_up().map_err(Fault::Kept)?;
     tell_cut(rt, cut);
-    verify_room(rt, room, file, text, seats, listener)
+    verify_room(rt, room, file, text, seats, entrances)
 }
 
 /// Goes on by the file of a room's journal, which has its text.
@@ -105,6 +114,8 @@ fn verify_room<
     R: Threads
         + Wait
         + Sync
+        + Clock
+        + RandomSource
         + Input<Reader = StdinLock<'static>>
         + Print
         + AllocGlobal
@@ -116,8 +127,9 @@ fn verify_room<
     file: JournalFile,
     text: Vec<u8>,
     seats: u8,
-    listener: &TcpListener,
+    entrances: &Entrances,
 ) -> Result<(), Fault>
+    requires pages { vec_len entrances.now.pages ≤ seats }
     requires good { ⟦<JournalFile as Sink>⟧.has_failed file ≡ false }
     requires text { text.items ≡ journal_text room.size room.journal }
 {
@@ -134,7 +146,7 @@ fn verify_room<
         Before::Journal(room),
         opened,
         keeper,
-        listener,
+        entrances,
         None,
     )
 }

@@ -39,7 +39,10 @@ pub fn tell_small_letters(rt: &impl Eprint, name: &str) {
 /// # Errors
 ///
 /// `File` if the file can't be read, `Deck` if a line is no card, or `Memory`.
-fn read_cards(rt: &(impl Files + Eprint + AllocGlobal), name: String) -> Result<Vec<Card>, RunFault>
+pub fn read_cards(
+    rt: &(impl Files + Eprint + AllocGlobal),
+    name: String,
+) -> Result<Vec<Card>, RunFault>
     ensures { IfErr result (IsOfFile (string_bytes name)) }
 {
     let Ok(label) = name.clone() else {

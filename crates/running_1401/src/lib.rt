@@ -28,7 +28,7 @@ pub mod running;
 pub use deck_running::{Broken, run_started};
 pub use ending::Ending;
 pub use fault::{RunFault, job_outcome};
-pub use inputs::tell_small_letters;
+pub use inputs::{read_cards, tell_small_letters};
 pub use job_report::JobReport;
 pub use programs::{Program, loaded_machine, program_of};
 pub use punch_file::PunchFile;

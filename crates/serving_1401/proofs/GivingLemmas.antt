@@ -1,17 +1,18 @@
 -- Entries by their seats, and seats that gave the commands of entries.
 use Rattle.std.proofs.Common.{◌≡◌, ℕ, zero, suc, ◌+◌, ◌<◌, ◌≤◌, ◌⊎◌, inl, inr, Bool, true, false, nat_lt, ◌||◌}
-use Rattle.std.proofs.Common.{if◌then◌else◌, List, [], ◌∷◌, ◌++◌, take, drop, length, get_or, slice_set, None, Some}
+use Rattle.std.proofs.Common.{if◌then◌else◌, List, [], ◌∷◌, ◌++◌, take, drop, length, get_or, slice_set, Option, None, Some, All, ◌↔◌}
 use Rattle.std.proofs.Common.{refl, sym, ap, subst, ◌∙◌, arith}
 use Rattle.std.proofs.lemmas.Bool.{cases_lt}
 use Rattle.std.proofs.lemmas.Bool.Decides.{nat_tests}
 use Rattle.std.proofs.lemmas.Option.{none-some}
+use Rattle.std.proofs.lemmas.List.Elements.{All-cons, All-head, All-nil, All-tail}
 use Rattle.std.proofs.lemmas.List.{drop_more, get_or-map, length-take-le, take-append-drop}
 use Rattle.std.proofs.Math.Seq.{map-set_same, set-append_seam}
 use Rattle.command_1401.specs.declared.answer.Answer.{Answer}
 use Rattle.room_1401.specs.declared.entry.Entry.{Entry}
 use Rattle.room_1401.specs.Seen.{SeatView, Carries}
 use Rattle.console_1401.specs.Served.{AreAllSeats}
-use Rattle.serving_1401.specs.Giving.{Gives, GiveAll, foreign_in, giver}
+use Rattle.serving_1401.specs.Giving.{Gives, GiveAll, IsSeated, foreign_in, giver}
 use Rattle.serving_1401.proofs.PlacesLemmas.{length_seats, number_at}
 
 chosen : (below above : Bool) (least most : ℕ) (entry : Entry) (entries : List Entry) → nat_lt entry.seat least ≡ below
@@ -62,6 +63,40 @@ pub seated : (most : ℕ) (entries : List Entry) (i : ℕ) (d : Entry) → forei
 seated most [] i d none less = absurd (omega arith)
 seated most (entry ∷ entries) i d none less =
     seated_by most entry entries i d (cases_lt most entry.seat) (λ k. seated most entries k d) none less
+
+seated_first : (least most : ℕ) (entry : Entry) (entries : List Entry) → (entry.seat < least) ⊎ (least ≤ entry.seat)
+    → (most < entry.seat) ⊎ (entry.seat ≤ most)
+    → (foreign_in least most entries ≡ None → All (IsSeated least most) entries)
+    → foreign_in least most (entry ∷ entries) ≡ None → All (IsSeated least most) (entry ∷ entries)
+seated_first least most entry entries (inl low) high more none =
+    absurd (none-some entry.seat (sym none ∙ below_first least most entry entries low))
+seated_first least most entry entries (inr low) (inl high) more none =
+    absurd (none-some entry.seat (sym none ∙ above_first least most entry entries high))
+seated_first least most entry entries (inr low) (inr high) more none =
+    All-cons (IsSeated least most) entry entries (low, high) (more (sym (own_first least most entry entries low high) ∙ none))
+
+-- where no seat is foreign, each entry is of one of these seats
+pub all_seated : (least most : ℕ) (entries : List Entry) → foreign_in least most entries ≡ None
+    → All (IsSeated least most) entries
+all_seated least most [] none = All-nil (IsSeated least most)
+all_seated least most (entry ∷ entries) none =
+    seated_first least most entry entries (cases_lt entry.seat least) (cases_lt most entry.seat)
+    (all_seated least most entries) none
+
+-- where each entry is of one of these seats, no seat is foreign
+pub none_foreign : (least most : ℕ) (entries : List Entry) → All (IsSeated least most) entries
+    → foreign_in least most entries ≡ None
+none_foreign least most [] all = refl
+none_foreign least most (entry ∷ entries) all =
+    let own = All-head (IsSeated least most) entry entries all in
+    own_first least most entry entries own.0 own.1
+    ∙ none_foreign least most entries (All-tail (IsSeated least most) entry entries all)
+
+-- what is found is no seat exactly if each entry is of one of these
+pub foreign_none : (least most : ℕ) (entries : List Entry) (found : Option ℕ) → found ≡ foreign_in least most entries
+    → (found ≡ None) ↔ All (IsSeated least most) entries
+foreign_none least most entries found is =
+    ((λ none. all_seated least most entries (sym is ∙ none)), (λ all. is ∙ none_foreign least most entries all))
 
 -- the seat at an index has the next number
 pub seat_number : (n : ℕ) (seats : List SeatView) (at : ℕ) (seat : SeatView) → AreAllSeats n seats → at < n

@@ -1,13 +1,14 @@
 -- Places and the numbers of their seats.
-use Rattle.std.proofs.Common.{◌≡◌, ℕ, zero, suc, ◌+◌, ◌<◌, ◌≤◌, ◌⊎◌, inl, inr, Bool, true, false, cond}
+use Rattle.std.proofs.Common.{◌≡◌, ℕ, zero, suc, ◌+◌, ◌-◌, ◌<◌, ◌≤◌, ◌⊎◌, inl, inr, Bool, true, false, cond}
 use Rattle.std.proofs.Common.{List, [], ◌∷◌, ◌++◌, length, get_or, slice_set, refl, sym, ap, subst, ◌∙◌, arith}
 use Rattle.std.proofs.lemmas.Bool.{cases_lt}
-use Rattle.std.proofs.lemmas.List.{get_or-map, get_or_append_left, get_or_push, length-map, length_push, map-append}
+use Rattle.std.proofs.lemmas.List.{get_or-map, get_or-set_same, get_or_append_left, get_or_push, length-map, length-set}
+use Rattle.std.proofs.lemmas.List.{length_push, map-append}
 use Rattle.std.proofs.Math.Seq.{map-set_same}
 use Rattle.std.specs.List.{Contains}
 use Rattle.room_1401.specs.Seen.{SeatView, newcomer, newcomers}
 use Rattle.console_1401.specs.Served.{numbers_of}
-use Rattle.serving_1401.specs.Places.{PlaceView, first_free, free_in, numbers_in}
+use Rattle.serving_1401.specs.Places.{PlaceView, first_free, free_in, is_free_at, numbers_in}
 
 numbers_more : (n : ℕ) → numbers_of (newcomers (suc n)) ≡ numbers_of (newcomers n) ++ suc n ∷ []
 numbers_more n = map-append (λ (seat : SeatView). seat.number) (newcomers n) (newcomer (suc n) ∷ [])
@@ -58,6 +59,25 @@ indexed_number n places k place all less is =
 pub numbers_stay : (places : List PlaceView) (k : ℕ) (new d : PlaceView) → new.number ≡ (get_or places k d).number
     → numbers_in (slice_set places k new) ≡ numbers_in places
 numbers_stay places k new d same = map-set_same (λ (place : PlaceView). place.number) places k new d same
+
+-- the seat of a number is free if its place is
+pub free_at : (n : ℕ) (places : List PlaceView) (number : ℕ) (place : PlaceView)
+    → numbers_in places ≡ numbers_of (newcomers n) → 0 < number → number ≤ n
+    → place ≡ get_or places (number - 1) place → is_free_at number places ≡ place.is_free
+free_at n places number place all some most is =
+    get_or-map (λ (it : PlaceView). it.is_free) places (number - 1) place false (omega (arith, length_places n places all))
+    ∙ sym (ap (λ (it : PlaceView). it.is_free) is)
+
+-- and so where its place has changed
+pub free_at_new : (n : ℕ) (places : List PlaceView) (number : ℕ) (new : PlaceView)
+    → numbers_in places ≡ numbers_of (newcomers n) → 0 < number → number ≤ n
+    → is_free_at number (slice_set places (number - 1) new) ≡ new.is_free
+free_at_new n places number new all some most =
+    let at : ℕ = number - 1 in
+    let less : at < length places = omega (arith, length_places n places all) in
+    get_or-map (λ (it : PlaceView). it.is_free) (slice_set places at new) at new false
+    (omega (arith, less, length-set places at new))
+    ∙ ap (λ (it : PlaceView). it.is_free) (get_or-set_same places at new new less)
 
 abbrev place_of : ℕ → Bool → PlaceView
 place_of number is_free = record { number = number; is_free = is_free }

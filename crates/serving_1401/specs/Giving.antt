@@ -1,5 +1,5 @@
 -- The commands of a journal, given again by the seats of a room (own).
-use Rattle.std.specs.Prelude.{◌≡◌, ℕ, ◌+◌, nat_lt, ◌||◌, max, if◌then◌else◌, List, [], ◌∷◌, ◌++◌, Option, None, Some}
+use Rattle.std.specs.Prelude.{◌≡◌, ℕ, ◌+◌, ◌≤◌, nat_lt, ◌||◌, max, if◌then◌else◌, List, [], ◌∷◌, ◌++◌, Option, None, Some}
 use Rattle.command_1401.specs.declared.answer.Answer.{Answer}
 use Rattle.room_1401.specs.declared.entry.Entry.{Entry}
 use Rattle.room_1401.specs.Seen.{SeatView, Carries}
@@ -11,6 +11,10 @@ abbrev pub foreign_in : ℕ → ℕ → List Entry → Option ℕ
 foreign_in least most [] = None
 foreign_in least most (entry ∷ entries) =
     if nat_lt entry.seat least || nat_lt most entry.seat then Some entry.seat else foreign_in least most entries
+
+-- an entry is of one of the seats from the least to the most
+abbrev pub IsSeated : ℕ → ℕ → Entry → Type 0
+IsSeated least most entry = (least ≤ entry.seat) × (entry.seat ≤ most)
 
 -- why commands aren't given again, where this seat is the first that the room hasn't
 abbrev pub IsWhyNotGiven : Option ℕ → GiveFault → Type 0

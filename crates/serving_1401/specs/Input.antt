@@ -1,22 +1,29 @@
 -- The input by which a served room is closed (own).
-use Rattle.std.specs.Prelude.{◌≡◌, ℕ, ◌+◌, ◌≤◌, List, [], ◌∷◌, ◌++◌, ◌⊎◌, take, Option, Some, None}
+use Rattle.std.specs.Prelude.{◌≡◌, ℕ, ◌+◌, ◌≤◌, List, [], ◌∷◌, ◌++◌, ◌⊎◌, take, codes, Option, Some, None}
 use Rattle.std.specs.Io.KnownBytes.{Consumes}
 
--- the bytes of QUIT
-abbrev pub quit : List ℕ
-quit = 81 ∷ 85 ∷ 73 ∷ 84 ∷ []
+-- QUIT, and the carriage return that may follow it
+abbrev pub quit_return : List ℕ
+quit_return = codes "QUIT\r"
 
--- the first bytes of QUIT, as many as this, are those of one fewer and then this byte
+-- the first bytes of these five, as many as this, are those of one fewer and then this byte
 abbrev pub MatchesMore : Option ℕ → ℕ → ℕ → Type 0
 MatchesMore None byte count = ⊥
-MatchesMore (Some before) byte count = (count ≡ before + 1) × (count ≤ 4) × (take count quit ≡ take before quit ++ byte ∷ [])
+MatchesMore (Some before) byte count =
+    (count ≡ before + 1) × (count ≤ 5) × (take count quit_return ≡ take before quit_return ++ byte ∷ [])
+
+-- a line that closes the room, without its line feed
+abbrev pub SaysClose : List ℕ → Type 0
+SaysClose line = (line ≡ codes "QUIT") ⊎ (line ≡ codes "QUIT\r")
 
 -- no line has begun after these bytes
 abbrev pub IsBetween : List ℕ → Type 0
 IsBetween bytes = (bytes ≡ []) ⊎ ((before : List ℕ) × (bytes ≡ before ++ 10 ∷ []))
 
--- what was read ends with a line that is QUIT
+-- what was read ends with a line that closes the room
 pub record SaysQuit (old new : Option (List ℕ)) : Type 0 where
   pub front : List ℕ
   pub between : IsBetween front
-  pub read : Consumes old new (front ++ quit ++ 10 ∷ [])
+  pub line : List ℕ
+  pub closes : SaysClose line
+  pub read : Consumes old new (front ++ line ++ 10 ∷ [])

@@ -1,11 +1,11 @@
 -- The places of a served room's seats, and that it is closed with all of them (own).
-use Rattle.std.specs.Prelude.{ℕ, suc, ◌<◌, ◌≤◌, Bool, cond, List, [], ◌∷◌, map}
+use Rattle.std.specs.Prelude.{ℕ, suc, ◌-◌, ◌<◌, ◌≤◌, Bool, cond, false, List, [], ◌∷◌, get_or, map}
 use Rattle.room_1401.specs.declared.entry.Entry.{Entry}
 use Rattle.room_1401.specs.Closing.{IsSettled}
 use Rattle.room_1401.specs.Seen.{SeatView}
 use Rattle.console_1401.specs.Served.{AreAllSeats}
-use Rattle.serving_1401.specs.declared.serving.Admission.{Admission}
-use Rattle.serving_1401.specs.declared.serving.Admission.TheVariants as admission
+use Rattle.serving_1401.specs.declared.consoles.Admission.{Admission}
+use Rattle.serving_1401.specs.declared.consoles.Admission.TheVariants as admission
 
 -- what contracts see of a place: its seat's number, and whether the seat is there and no connection has it
 pub record PlaceView : Type 0 where
@@ -25,6 +25,10 @@ free_in (place ∷ places) = cond place.is_free (place.number ∷ free_in places
 abbrev pub first_free : List PlaceView → ℕ
 first_free [] = 0
 first_free (place ∷ places) = cond place.is_free 0 (suc (first_free places))
+
+-- whether the seat of this number is free, where the places are in the order of their numbers from 1 on
+abbrev pub is_free_at : ℕ → List PlaceView → Bool
+is_free_at number places = get_or (map (λ (place : PlaceView). place.is_free) places) (number - 1) false
 
 -- a connection is given a seat of this many
 abbrev pub IsAdmission : ℕ → Admission → Type 0

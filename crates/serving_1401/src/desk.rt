@@ -1,8 +1,9 @@
 //! What the lock of a service keeps.
-ghost use Rattle.std.specs.Prelude.{◌≡◌, ◌<◌, ◌≤◌, ◌^◌, [], ◌∷◌, IfOk, IfSome, OnErr, vec_len, vec_capacity, length};
+ghost use Rattle.std.specs.Prelude.{◌≡◌, ◌<◌, ◌≤◌, ◌^◌, [], ◌∷◌, IfOk, IfSome, IfNone, OnErr};
+ghost use Rattle.std.specs.Prelude.{vec_len, vec_capacity, length, false, is_some};
 ghost use Rattle.std.specs.List.{Contains};
 ghost use Rattle.console_1401.specs.Served.{AreAllSeats, numbers_of};
-ghost use Rattle.serving_1401.specs.Places.{first_free as free_from, free_in, numbers_in};
+ghost use Rattle.serving_1401.specs.Places.{first_free as free_from, free_in, is_free_at, numbers_in};
 
 use crate::fault::SeatsFault;
 use crate::place::Place;
@@ -71,6 +72,17 @@ impl<J: RoomId> Desk<J> {
         ensures { IfSome result (λ seat. seat.number ≡ number) }
     {
         self.places[usize::from(number) - 1].take_seat()
+    }
+
+    /// Takes the seat of a number, if it is there and no console sits at it.
+    pub(crate) fn take_free(&mut self, number: u8) -> Option<Seat<J>>
+        requires { (0 < number) × (number ≤ J.seats) }
+        ensures free { is_some result ≡ is_free_at number self.old }
+        ensures taken { is_free_at number self.new ≡ false }
+        ensures number { IfSome result (λ seat. seat.number ≡ number) }
+        ensures none { IfNone result (self.new ≡ self.old) }
+    {
+        self.places[usize::from(number) - 1].take_free()
     }
 
     /// Puts a seat back at its place, which is free then.

@@ -5,13 +5,15 @@ use thiserror::Error;
 /// What went wrong first while a room was served.
 #[derive(Clone, Copy, Debug, PartialEq, Eq, Error)]
 pub enum SeatsFault {
-    /// 1: there was no memory for the places of the seats, and nobody was served.
+    /// 1: there was no memory for the places of the seats, and nobody was served; or none for those who come to a page,
+    /// which wasn't served.
     #[error("memory refused")]
     Memory,
-    /// 2: a connection couldn't be accepted, and none was accepted after it.
+    /// 2: a connection couldn't be accepted, and none was accepted after it at that port.
     #[error("accept failed")]
     Accept,
-    /// 3: a thread was refused, or a second handle of a connection; the connection was closed, and its seat is free.
+    /// 3: a thread was refused, or a second handle of a connection; the connection was closed, and its seat is free. Or
+    /// it was a thread of a page, which wasn't served.
     #[error("thread refused")]
     Thread,
     /// 4: the input that closes the room couldn't be read, which closed it.

@@ -1,9 +1,9 @@
 //! The commands of a journal, given again by the seats of a room before its operators come.
-ghost use Rattle.std.specs.Prelude.{◌≡◌, ℕ, ◌+◌, ◌<◌, ◌^◌, Some, OnOk, IfErr};
+ghost use Rattle.std.specs.Prelude.{◌≡◌, ◌↔◌, ℕ, ◌+◌, ◌<◌, ◌^◌, None, Some, All, OnOk, IfErr};
 ghost use Rattle.command_1401.specs.declared.answer.Answer.{Answer};
 ghost use Rattle.room_1401.specs.Seen.{Carries};
 ghost use Rattle.console_1401.specs.Served.{AreAllSeats};
-ghost use Rattle.serving_1401.specs.Giving.{GiveAll, IsWhyNotGiven, foreign_in};
+ghost use Rattle.serving_1401.specs.Giving.{GiveAll, IsSeated, IsWhyNotGiven, foreign_in};
 
 use room_1401::{Carried, Command, Entry, Keeper, RoomFault, RoomId, Seat, SharedRoom};
 use std::sync::Wait;
@@ -23,7 +23,10 @@ pub enum GiveFault {
 /// The seat of the first of these entries that is of no seat from the least to the most, if there is one. The entries
 /// of a console with a machine of its own are of seat 0.
 pub fn foreign_seat(entries: &[Entry], least: u8, most: u8) -> Option<u8>
-    ensures { result ≡ foreign_in least most entries.now }
+    ensures value { result ≡ foreign_in least most entries.now }
+
+    // There is none exactly if each entry is of one of these seats.
+    ensures none { (result ≡ None) ↔ All (IsSeated least most) entries.now }
 {
     for entry in entries {
         if entry.seat < least || entry.seat > most {

@@ -1,13 +1,16 @@
 //! The input by which a served room is closed.
-ghost use Rattle.std.specs.Prelude.{◌≡◌, ◌↔◌, ◌≤◌, IfSome, IsTrue};
+ghost use Rattle.std.specs.Prelude.{◌≡◌, ◌↔◌, ◌≤◌, ℕ, Some, true, IfSome, IsTrue};
 ghost use Rattle.std.specs.Io.KnownBytes.{IsAtEnd};
 ghost use Rattle.serving_1401.specs.Input.{MatchesMore, SaysQuit};
 
 use std::sync::Wait;
 use streams_1401::Source;
 
-/// The line that closes the room.
-const QUIT: [u8; 4] = *b"QUIT";
+/// The line that closes the room, and the carriage return that it may end with.
+const QUIT_RETURN: [u8; 5] = *b"QUIT\r";
+
+/// How many bytes QUIT has.
+const QUIT_LEN: u8 = 4;
 
 /// How the input ended.
 #[derive(Clone, Copy, Debug, PartialEq, Eq)]
@@ -20,8 +23,8 @@ pub enum InputEnd {
     Failed,
 }
 
-/// Reads the input until a line says QUIT and nothing else, or to its end. Every other line is passed over, an empty
-/// one too.
+/// Reads the input until a line says QUIT and nothing else, or to its end. A line may end with a carriage return too, as
+/// at the console. Every other line is passed over, an empty one too.
 pub(crate) fn read_to_quit<R: Wait, S: Source>(wait: &R, input: &mut S) -> InputEnd
     ensures quit { result ≡ InputEnd.Quit → SaysQuit (S.left input.old) (S.left input.new) }
     ensures end { result ≡ InputEnd.End → IsAtEnd (S.left input.new) }
@@ -34,7 +37,7 @@ pub(crate) fn read_to_quit<R: Wait, S: Source>(wait: &R, input: &mut S) -> Input
     for _ in wait.forever() {
         match input.next_byte() {
             Ok(Some(b'\n')) => {
-                if matched == Some(4) {
+                if is_quit(matched) {
                     return InputEnd::Quit;
                 }
                 matched = Some(0);
@@ -47,13 +50,23 @@ pub(crate) fn read_to_quit<R: Wait, S: Source>(wait: &R, input: &mut S) -> Input
     unreachable!()
 }
 
-/// How much of QUIT a line is with one byte more, if it is a part of it.
+/// Whether a line of which this much is matched is QUIT, with a carriage return or without one.
+fn is_quit(matched: Option<u8>) -> bool
+    ensures { result ≡ true → (n : ℕ) × (matched ≡ Some n) × (4 ≤ n) }
+{
+    match matched {
+        Some(count) => count >= QUIT_LEN,
+        None => false,
+    }
+}
+
+/// How much of QUIT and a carriage return a line is with one byte more, if it is a part of them.
 fn match_more(matched: Option<u8>, byte: u8) -> Option<u8>
-    requires { IfSome matched (λ count. count ≤ 4) }
+    requires { IfSome matched (λ count. count ≤ 5) }
     ensures { IfSome result (λ count. MatchesMore matched byte count) }
 {
     let count = matched?;
-    if count < 4 && QUIT[usize::from(count)] == byte {
+    if count < 5 && QUIT_RETURN[usize::from(count)] == byte {
         Some(count + 1)
     } else {
         None

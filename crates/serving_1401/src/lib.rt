@@ -1,4 +1,5 @@
-//! A shared room that is served until it is closed: a connection has the lowest free seat, and its end frees the seat.
+//! A shared room that is served until it is closed: a connection has the lowest free seat, and its end frees the
+//! seat; a seat may have a page in a browser too, and then it goes to whoever comes first.
 //!
 //! ```text
 //! let served = serve_seats(alloc, rt, room, seats, &listener, &mut input, &OpenDoor); // until the input says QUIT
@@ -14,9 +15,15 @@ pub mod fault;
 mod input;
 mod until_closing;
 
-// the places of the seats, and what the lock of a service keeps
+// the places of the seats, what the lock of a service keeps, and what its threads share
 mod desk;
 mod place;
+mod service;
+
+// who comes to a seat: consoles, and the connections of a page
+mod arrivals;
+mod consoles;
+pub mod paging;
 
 // the service
 pub mod serving;
@@ -26,4 +33,5 @@ pub mod giving;
 
 pub use fault::SeatsFault;
 pub use giving::{GiveFault, foreign_seat, give, give_entries};
-pub use serving::{SeatsServed, serve_seats};
+pub use paging::PagePort;
+pub use serving::{SeatsServed, serve_pages, serve_seats};

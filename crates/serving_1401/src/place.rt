@@ -1,5 +1,5 @@
 //! The place of a seat.
-ghost use Rattle.std.specs.Prelude.{◌≡◌, true, false, IfSome};
+ghost use Rattle.std.specs.Prelude.{◌≡◌, true, false, is_some, IfSome, IfNone};
 
 use room_1401::{RoomId, Seat};
 use std::marker::Model;
@@ -70,6 +70,21 @@ impl<J: RoomId> Place<J> {
         ensures seat { IfSome result (λ seat. seat.number ≡ self.old.number) }
     {
         self.seat.take()
+    }
+
+    /// Takes the seat, if the place is free.
+    pub(crate) fn take_free(&mut self) -> Option<Seat<J>>
+        ensures number { self.new.number ≡ self.old.number }
+        ensures free { is_some result ≡ self.old.is_free }
+        ensures taken { self.new.is_free ≡ false }
+        ensures seat { IfSome result (λ seat. seat.number ≡ self.old.number) }
+        ensures none { IfNone result (self.new ≡ self.old) }
+    {
+        if self.is_free() {
+            self.seat.take()
+        } else {
+            None
+        }
     }
 
     /// Puts the seat back, and closes its handle of the connection.

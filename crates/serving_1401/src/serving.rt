@@ -3,23 +3,25 @@ ghost use Rattle.std.specs.Prelude.{◌≡◌, ◌≢◌, ◌<◌, ◌≤◌, �
 ghost use Rattle.room_1401.specs.Journal.{IsLegal};
 ghost use Rattle.room_1401.specs.Kept.{IsKeptAs};
 ghost use Rattle.console_1401.specs.Served.{AreAllSeats};
-ghost use Rattle.serving_1401.specs.Places.{IsAccounted, IsAdmission};
+ghost use Rattle.serving_1401.specs.Places.{IsAccounted};
 
+use crate::consoles::accept_each;
 use crate::desk::Desk;
 use crate::fault::SeatsFault;
 use crate::input::{InputEnd, read_to_quit};
-use crate::place::Place;
-use crate::until_closing::UntilClosing;
-use console_1401::{Door, attend};
+use crate::paging::{PagePort, start_pages};
+use crate::service::Service;
+use console_1401::Door;
 use room_1401::{Keeper, Room, RoomId, Seat, SharedRoom};
-use std::alloc::Global;
+use std::alloc::{AllocGlobal, Global};
 use std::net::{Net, TcpListener, TcpStream};
-use std::sync::atomic::AtomicBool;
+use std::random::RandomSource;
+use std::sync::Wait;
 use std::sync::atomic::Ordering::SeqCst;
-use std::sync::{Mutex, Wait};
 use std::thread;
 use std::thread::{Scope, Threads};
-use streams_1401::{FromReader, Source, ToWriter, put_all};
+use std::time::Clock;
+use streams_1401::Source;
 
 /// What is left of a served room.
 #[derive(Drop)]
@@ -30,14 +32,6 @@ pub struct SeatsServed<K: Keeper + Drop> {
     pub keeper: K,
     /// What went wrong first, if anything did.
     pub fault: Option<SeatsFault>,
-}
-
-/// What the threads of a service share: the places of the seats, and whether the room is being closed, which is written
-/// under the lock alone.
-#[derive(Drop)]
-struct Service<J: RoomId> {
-    desk: Mutex<Desk<J>>,
-    is_closing: AtomicBool,
 }
 
 /// Listens, and attends a console for each connection, in a thread of its own, at the lowest seat that is free; when it
@@ -63,7 +57,13 @@ where
     J: RoomId + Send + Sync,
     H: Wait + Drop + Send + Sync,
     K: Keeper + Drop + Send + Sync,
-    R: Threads + Wait + Sync + Net<Listener = TcpListener, Stream = TcpStream>,
+    R: Threads
+        + Wait
+        + Sync
+        + Clock
+        + AllocGlobal
+        + RandomSource
+        + Net<Listener = TcpListener, Stream = TcpStream>,
     S: Source + Drop + Send,
     D: Door + Sync,
     requires ledger { J.parts ≡ J.seats }
@@ -79,6 +79,56 @@ where
     // Whatever was refused, the room is closed with all of its seats.
     ensures accounted { result.fault ≢ Some SeatsFault.Unreturned → IsAccounted J.seats result.room.journal }
 {
+    serve_pages(alloc, rt, room, seats, Some(listener), &[], input, door)
+}
+
+/// Serves a page for each seat that has a port among these: the first is that of seat 1, the next that of seat 2, and
+/// so on; and consoles too, as `serve_seats` does, where there is a listener for them. A seat goes to whoever comes
+/// first, the page or a console. A page that was opened keeps its seat until the room is closed; while a console sits
+/// there, each request of the page is refused.
+///
+/// It ends as `serve_seats` does: no connection is accepted any more, the request of each page that is being answered
+/// is answered, and the connections that still wait are closed.
+///
+/// A page isn't served any more once a connection to it couldn't be accepted, nor at all if its threads are refused,
+/// or the memory for those who wait; the room goes on. A connection whose thread is refused is closed.
+pub fn serve_pages<J, H, K, R, S, D>(
+    alloc: Global,
+    rt: &R,
+    room: SharedRoom<J, H, K>,
+    seats: Vec<Seat<J>>,
+    consoles: Option<&TcpListener>,
+    pages: &[PagePort],
+    input: S,
+    door: &D,
+) -> SeatsServed<K>
+where
+    J: RoomId + Send + Sync,
+    H: Wait + Drop + Send + Sync,
+    K: Keeper + Drop + Send + Sync,
+    R: Threads
+        + Wait
+        + Sync
+        + Clock
+        + AllocGlobal
+        + RandomSource
+        + Net<Listener = TcpListener, Stream = TcpStream>,
+    S: Source + Drop + Send,
+    D: Door + Sync,
+    requires ledger { J.parts ≡ J.seats }
+
+    // All of the room's seats are handed in, in the order of their numbers.
+    requires seats { AreAllSeats J.seats seats.items }
+    requires count { (0 < J.seats) × (J.seats < 2 ^ 8) }
+    requires pages { length pages.now ≤ J.seats }
+    ensures size { result.room.size ≡ J.size }
+    ensures legal { IsLegal J.size result.room.journal }
+    ensures kept { IsKeptAs K.form J.size result.room.journal (K.has_failed result.keeper) K.first
+        (K.kept result.keeper) }
+
+    // Whatever was refused, the room is closed with all of its seats.
+    ensures accounted { result.fault ≢ Some SeatsFault.Unreturned → IsAccounted J.seats result.room.journal }
+{
     let total = seats.len();
     let (Ok(places), Ok(back)) = (
         Vec::with_capacity(alloc, total),
@@ -86,11 +136,18 @@ where
     ) else {
         return end_service(room, Some(seats), Some(SeatsFault::Memory));
     };
-    let service = Service {
-        desk: Mutex::new(Desk::new(seats, places)),
-        is_closing: AtomicBool::new(false),
-    };
-    attend_connections(alloc, rt, &room, &service, listener, input, door);
+    let service = Service::new(Desk::new(seats, places));
+    serve_connections(
+        alloc,
+        rt,
+        &room,
+        &service,
+        total as u8,
+        consoles,
+        pages,
+        input,
+        door,
+    );
     let Service {
         desk,
         is_closing: _,
@@ -134,13 +191,15 @@ fn end_service<J: RoomId, H: Wait + Drop, K: Keeper + Drop>(
     }
 }
 
-/// Attends a console for each connection until the input closes the room, and until all of them have ended.
-fn attend_connections<J, H, K, R, S, D>(
+/// Attends consoles and answers pages until the input closes the room, and until all of them have ended.
+fn serve_connections<J, H, K, R, S, D>(
     alloc: Global,
     rt: &R,
     room: &SharedRoom<J, H, K>,
     service: &Service<J>,
-    listener: &TcpListener,
+    seats: u8,
+    consoles: Option<&TcpListener>,
+    pages: &[PagePort],
     input: S,
     door: &D,
 )
@@ -148,23 +207,41 @@ where
     J: RoomId + Send + Sync,
     H: Wait + Drop + Send + Sync,
     K: Keeper + Drop + Send + Sync,
-    R: Threads + Wait + Sync + Net<Listener = TcpListener, Stream = TcpStream>,
+    R: Threads
+        + Wait
+        + Sync
+        + Clock
+        + AllocGlobal
+        + RandomSource
+        + Net<Listener = TcpListener, Stream = TcpStream>,
     S: Source + Drop + Send,
     D: Door + Sync,
+    requires pages { length pages.now ≤ J.seats }
+    requires count { J.seats < 2 ^ 8 }
 {
-    thread::scope(thread::scope_env(), rt, move |scope| {
-        listen(scope, alloc, rt, room, service, listener, input, door)
-    });
+    thread::scope(
+        thread::scope_env(),
+        rt,
+        move |scope|
+            requires { (length pages.now ≤ J.seats) × (J.seats < 2 ^ 8) }
+        {
+            listen(
+                scope, alloc, rt, room, service, seats, consoles, pages, input, door,
+            )
+        },
+    );
 }
 
-/// Starts the thread that waits for the input's end, and accepts connections until then.
+/// Starts the thread that waits for the input's end, and those of the pages, and accepts consoles until then.
 fn listen<'s, E: 's, J, H, K, R, S, D>(
     scope: &Scope<'s, E>,
     alloc: Global,
     rt: &'s R,
     room: &'s SharedRoom<J, H, K>,
     service: &'s Service<J>,
-    listener: &'s TcpListener,
+    seats: u8,
+    consoles: Option<&'s TcpListener>,
+    pages: &'s [PagePort],
     input: S,
     door: &'s D,
 )
@@ -172,165 +249,36 @@ where
     J: RoomId + Send + Sync + 's,
     H: Wait + Drop + Send + Sync + 's,
     K: Keeper + Drop + Send + Sync + 's,
-    R: Threads + Wait + Sync + Net<Listener = TcpListener, Stream = TcpStream> + 's,
+    R: Threads
+        + Wait
+        + Sync
+        + Clock
+        + AllocGlobal
+        + RandomSource
+        + Net<Listener = TcpListener, Stream = TcpStream>
+        + 's,
     S: Source + Drop + Send + 's,
     D: Door + Sync + 's,
+    requires pages { length pages.now ≤ J.seats }
+    requires count { J.seats < 2 ^ 8 }
 {
-    let closing = scope.spawn(move || close_by_input(rt, service, listener, input));
+    let closing = scope.spawn(move || close_by_input(rt, service, consoles, pages, input));
     if closing.is_err() {
-        service.desk.lock(rt).note(SeatsFault::Thread);
+        service.note(rt, SeatsFault::Thread);
         return;
     }
-    accept_each(scope, alloc, rt, room, service, listener, door);
-}
-
-/// Accepts connections until the room is being closed, or one couldn't be accepted.
-fn accept_each<'s, E: 's, J, H, K, R, D>(
-    scope: &Scope<'s, E>,
-    alloc: Global,
-    rt: &'s R,
-    room: &'s SharedRoom<J, H, K>,
-    service: &'s Service<J>,
-    listener: &TcpListener,
-    door: &'s D,
-)
-where
-    J: RoomId + Send + Sync + 's,
-    H: Wait + Drop + Send + Sync + 's,
-    K: Keeper + Drop + Send + Sync + 's,
-    R: Threads + Wait + Sync + 's,
-    D: Door + Sync + 's,
-{
-    for _ in rt.forever() {
-        let Ok((stream, _)) = listener.accept() else {
-            service.desk.lock(rt).note(SeatsFault::Accept);
-            return;
-        };
-        match admit(rt, service, &stream) {
-            Admission::Given(number) => {
-                start_console(scope, alloc, rt, room, service, stream, number, door);
-            }
-            Admission::Full => refuse(&stream),
-            Admission::Fault => service.desk.lock(rt).note(SeatsFault::Thread),
-            Admission::Closing => return,
-        }
+    start_pages(scope, alloc, rt, room, service, seats, pages);
+    if let Some(listener) = consoles {
+        accept_each(scope, alloc, rt, room, service, listener, door);
     }
 }
 
-/// Attends the console of a connection at the seat of this number.
-fn attend_connection<J: RoomId, H: Wait + Drop, K: Keeper + Drop, R: Wait, D: Door>(
-    alloc: Global,
-    rt: &R,
-    room: &SharedRoom<J, H, K>,
-    service: &Service<J>,
-    stream: TcpStream,
-    number: u8,
-    door: &D,
-)
-    requires { (0 < number) × (number ≤ J.seats) }
-{
-    let Some(seat) = service.desk.lock(rt).take_seat(number) else {
-        return;
-    };
-    let seat = attend_stream(alloc, rt, room, seat, &stream, &service.is_closing, door);
-
-    // The peer sees the end of the connection only when the seat is free.
-    service.desk.lock(rt).put_back(seat);
-}
-
-/// Attends the console of a stream until its input ends, or the service closes.
-fn attend_stream<'a, J: RoomId, H: Wait + Drop, K: Keeper + Drop, R: Wait, D: Door>(
-    alloc: Global,
-    rt: &R,
-    room: &SharedRoom<J, H, K>,
-    seat: Seat<J>,
-    stream: &'a TcpStream,
-    is_closing: &'a AtomicBool,
-    door: &D,
-) -> Seat<J>
-    ensures { result.number ≡ seat.number }
-{
-    // Replies are sent at once. If the system refuses this, they only come later.
-    let _sent_at_once = stream.set_nodelay(true);
-    let mut reader = UntilClosing::new(FromReader::new(stream), is_closing);
-    let mut writer = ToWriter::new(stream);
-    let (seat, _) = attend(alloc, rt, room, seat, &mut reader, &mut writer, door);
-    seat
-}
-
-/// What becomes of a connection.
-enum Admission {
-    /// It has the seat of this number.
-    Given(u8),
-    /// No seat is free.
-    Full,
-    /// The system gives no second handle of it.
-    Fault,
-    /// The room is being closed.
-    Closing,
-}
-
-/// Gives a connection the lowest free seat, unless the room is being closed.
-fn admit<J: RoomId, R: Wait>(rt: &R, service: &Service<J>, stream: &TcpStream) -> Admission
-    ensures { IsAdmission J.seats result }
-{
-    let mut desk = service.desk.lock(rt);
-    if service.is_closing.load(SeqCst) {
-        return Admission::Closing;
-    }
-    let Ok(second) = stream.try_clone() else {
-        return Admission::Fault;
-    };
-    match desk.give(second) {
-        Ok(number) => Admission::Given(number),
-        Err(_) => Admission::Full,
-    }
-}
-
-/// Starts the thread of a connection's console; if it is refused, the seat is free again.
-fn start_console<'s, E: 's, J, H, K, R, D>(
-    scope: &Scope<'s, E>,
-    alloc: Global,
-    rt: &'s R,
-    room: &'s SharedRoom<J, H, K>,
-    service: &'s Service<J>,
-    stream: TcpStream,
-    number: u8,
-    door: &'s D,
-)
-where
-    J: RoomId + Send + Sync + 's,
-    H: Wait + Drop + Send + Sync + 's,
-    K: Keeper + Drop + Send + Sync + 's,
-    R: Threads + Wait + Sync + 's,
-    D: Door + Sync + 's,
-    requires { (0 < number) × (number ≤ J.seats) }
-{
-    let started = scope.spawn(
-        move ||
-            requires { (0 < number) × (number ≤ J.seats) }
-        { attend_connection(alloc, rt, room, service, stream, number, door) },
-    );
-    if started.is_err() {
-        let mut desk = service.desk.lock(rt);
-        desk.take_back(number);
-        desk.note(SeatsFault::Thread);
-    }
-}
-
-/// Tells a connection that no seat is free. The write doesn't wait for the peer.
-fn refuse(stream: &TcpStream) {
-    if stream.set_nonblocking(true).is_ok() {
-        let _told = put_all(&mut ToWriter::new(stream), b"FULL\n");
-    }
-}
-
-/// Waits until the input closes the room, ends the input of each console, and wakes the thread that accepts.
+/// Waits until the input closes the room, ends the input of each console, and wakes the threads that accept.
 fn close_by_input<
     J: RoomId,
     R: Wait + Net<Listener = TcpListener, Stream = TcpStream>,
     S: Source + Drop,
->(rt: &R, service: &Service<J>, listener: &TcpListener, input: S) {
+>(rt: &R, service: &Service<J>, consoles: Option<&TcpListener>, pages: &[PagePort], input: S) {
     let mut input = input;
     let end = read_to_quit(rt, &mut input);
     let mut desk = service.desk.lock(rt);
@@ -340,7 +288,12 @@ fn close_by_input<
     service.is_closing.store(true, SeqCst);
     desk.end_inputs();
     drop(desk);
-    wake(rt, listener);
+    if let Some(listener) = consoles {
+        wake(rt, listener);
+    }
+    for page in pages {
+        wake(rt, &page.listener);
+    }
 }
 
 /// A connection to the listener, which is closed at once.

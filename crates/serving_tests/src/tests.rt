@@ -5,5 +5,6 @@ mod closing;
 mod giving;
 mod lines;
 mod operators;
+mod pages;
 mod seats;
 mod service;

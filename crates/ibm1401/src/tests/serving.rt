@@ -2,7 +2,7 @@
 
 use crate::fault::Fault;
 use crate::serving::open_room;
-use arguments_1401::{Call, Service, read_call};
+use arguments_1401::{Call, Opening, Operators, Seating, Service, read_call};
 use clap::error::ErrorKind;
 use std::net::{Ipv4Addr, TcpListener};
 use std::test::Fail;
@@ -29,6 +29,35 @@ fn a_service_has_a_port_seats_and_a_size(rt: HostRuntime) -> Result<(), Fail> {
 }
 
 #[test]
+fn pages_need_no_port_of_consoles(rt: HostRuntime) -> Result<(), Fail> {
+    for (options, port, page) in [
+        ("--page 8080 --seats 8", None, Some(8_080)),
+        ("--port 1401 --seats 8 --page 81", Some(1_401), Some(81)),
+        ("--page 72 --seats 8", None, Some(72)),
+        ("--page 65528 --seats 8", None, Some(65_528)),
+        ("--port 1401 --keep-seats --seats 8", Some(1_401), None),
+    ] {
+        let mut words = vec![in rt.alloc(); "ibm1401", "serve"]?;
+        for word in options.split(' ') {
+            words.push(word)?;
+        }
+        let call = read_call(rt.alloc(), words.as_slice())?;
+        let asked = Seating {
+            opening: Opening::PowerOn(4_000),
+            operators: Operators {
+                seats: 8,
+                port,
+                page,
+            },
+            cards: None,
+            journal: None,
+        };
+        assert_eq!(rt; call, Call::ServeSeats(asked), "{options}");
+    }
+    Ok(())
+}
+
+#[test]
 fn a_service_out_of_range_is_refused(rt: HostRuntime) -> Result<(), Fail> {
     for (options, kind) in [
         ("--port 1401", ErrorKind::MissingRequiredArgument),
@@ -42,6 +71,11 @@ fn a_service_out_of_range_is_refused(rt: HostRuntime) -> Result<(), Fail> {
             ErrorKind::ValueValidation,
         ),
         ("--port 1401 --seats 2 extra", ErrorKind::UnknownArgument),
+        ("--page 8080", ErrorKind::MissingRequiredArgument),
+        ("--page 0 --seats 1", ErrorKind::ValueValidation),
+        ("--page 80 --seats 1", ErrorKind::ValueValidation),
+        ("--page 79 --seats 2", ErrorKind::ValueValidation),
+        ("--page 65535 --seats 2", ErrorKind::ValueValidation),
     ] {
         let mut words = vec![in rt.alloc(); "ibm1401", "serve"]?;
         for word in options.split(' ') {

@@ -24,6 +24,11 @@ impl Button {
         }
     }
 
+    /// The input may come now.
+    pub fn press(&self) {
+        self.pressed.store(true, SeqCst);
+    }
+
     /// Waits for a while until this is so.
     pub fn wait_until(flag: &AtomicBool) {
         for _ in 0..TURNS {

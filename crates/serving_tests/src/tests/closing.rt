@@ -59,6 +59,11 @@ fn quit_closes_the_room_after_the_last_reply(rt: HostRuntime) -> Result<(), Fail
             None,
         ),
         (b"QUIT\n".as_slice(), false, None),
+        (
+            b"\rQUIT\nQUIT\r\r\nQUIT\rA\nQUIT\r\n".as_slice(),
+            false,
+            None,
+        ),
         (b"".as_slice(), false, None),
         (b"\n \n".as_slice(), false, None),
         (b"A".as_slice(), true, Some(SeatsFault::Input)),

@@ -1,10 +1,15 @@
 //! What operators do at their connections.
 
 use crate::tests::button::Button;
+use page_1401::document::PAGE;
 use std::alloc::Global;
 use std::io;
 use std::io::{Read, Write};
 use std::net::{Net, Shutdown, SocketAddr, TcpStream};
+use std::time::Duration;
+
+/// How many bytes an answer has up to its status.
+const STATUS_BYTES: usize = 12;
 
 /// The operators of a room, who are told something.
 pub trait Operators {
@@ -59,4 +64,27 @@ pub fn visit<R: Net<Stream = TcpStream>>(
     send(&stream, text)?;
     stream.shutdown(Shutdown::Write)?;
     hear_end(&stream, told)
+}
+
+/// Asks for the page at an address, which has a second for its answer, and adds the answer's status to what was told,
+/// and whether it is the page.
+pub fn ask<R: Net<Stream = TcpStream>>(
+    rt: &R,
+    alloc: Global,
+    address: SocketAddr,
+    told: &mut Vec<u8>,
+) -> io::Result<()> {
+    let stream = TcpStream::connect(rt, address)?;
+    stream.set_read_timeout(Some(Duration::from_secs(1)))?;
+    let request = format!(in alloc; "GET / HTTP/1.1\r\nHost: {address}\r\n\r\n")?;
+    send(&stream, request.as_str())?;
+    let mut answer = Vec::new(alloc);
+    let mut reader = &stream;
+    reader.read_to_end(&mut answer)?;
+    let is_page = answer.as_slice().ends_with(PAGE);
+    for byte in answer.as_slice().iter().take(STATUS_BYTES) {
+        told.push(*byte)?;
+    }
+    told.extend_from_slice(if is_page { b" PAGE/" } else { b"/" })?;
+    Ok(())
 }

@@ -1,5 +1,5 @@
 //! A service with its operators.
-ghost use Rattle.std.specs.Prelude.{◌≡◌, ◌<◌, ◌≤◌, ◌^◌};
+ghost use Rattle.std.specs.Prelude.{◌≡◌, ◌<◌, ◌≤◌, ◌^◌, length};
 ghost use Rattle.console_1401.specs.Served.{AreAllSeats};
 
 use crate::tests::button::{Button, Pressed};
@@ -7,16 +7,18 @@ use crate::tests::lines::Lines;
 use crate::tests::operators::Operators;
 use console_1401::Door;
 use room_1401::{Opened, RoomId, Seat, SharedRoom};
-use serving_1401::{SeatsFault, SeatsServed, serve_seats};
-use std::alloc::Global;
+use serving_1401::{PagePort, SeatsFault, SeatsServed, serve_pages, serve_seats};
+use std::alloc::{AllocGlobal, Global};
 use std::marker::Brand;
 use std::net::{Ipv4Addr, Net, SocketAddr, TcpListener, TcpStream};
 use std::process::Abort;
+use std::random::RandomSource;
 use std::sync::Wait;
 use std::sync::atomic::Ordering::SeqCst;
 use std::test::Fail;
 use std::thread;
 use std::thread::{Scope, Threads};
+use std::time::Clock;
 
 /// What a service left, and what its operators were told; `None` if a connection of theirs failed.
 #[derive(Drop)]
@@ -44,7 +46,13 @@ pub fn listen<R: Net<Listener = TcpListener, Stream = TcpStream>>(
 
 /// Serves the operators of a new room, until they have gone and the input has closed it.
 pub fn hold<
-    R: Threads + Wait + Sync + Net<Listener = TcpListener, Stream = TcpStream>,
+    R: Threads
+        + Wait
+        + Sync
+        + Clock
+        + AllocGlobal
+        + RandomSource
+        + Net<Listener = TcpListener, Stream = TcpStream>,
     O: Operators + Sync,
     D: Door + Sync,
 >(
@@ -60,16 +68,61 @@ pub fn hold<
 ) -> Result<Evening, Fail>
     requires { (0 < seats) × (seats ≤ 8) }
 {
+    hold_with_pages(
+        rt,
+        alloc,
+        seats,
+        room_for,
+        listener,
+        &[],
+        input,
+        button,
+        operators,
+        door,
+    )
+}
+
+/// The same for a room whose first seats have pages.
+pub fn hold_with_pages<
+    R: Threads
+        + Wait
+        + Sync
+        + Clock
+        + AllocGlobal
+        + RandomSource
+        + Net<Listener = TcpListener, Stream = TcpStream>,
+    O: Operators + Sync,
+    D: Door + Sync,
+>(
+    rt: &R,
+    alloc: Global,
+    seats: u8,
+    room_for: u64,
+    listener: &TcpListener,
+    pages: &[PagePort],
+    input: Pressed<'_>,
+    button: &Button,
+    operators: &O,
+    door: &D,
+) -> Result<Evening, Fail>
+    requires { (0 < seats) × (seats ≤ 8) × (length pages.now ≤ seats) }
+{
     let opened = Opened::new(seats);
     open::<Brand, R, O, D>(
-        rt, alloc, seats, opened, room_for, listener, input, button, operators, door,
+        rt, alloc, seats, opened, room_for, listener, pages, input, button, operators, door,
     )
 }
 
 /// The same for a room of this name.
 fn open<
     J: RoomId + Send + Sync,
-    R: Threads + Wait + Sync + Net<Listener = TcpListener, Stream = TcpStream>,
+    R: Threads
+        + Wait
+        + Sync
+        + Clock
+        + AllocGlobal
+        + RandomSource
+        + Net<Listener = TcpListener, Stream = TcpStream>,
     O: Operators + Sync,
     D: Door + Sync,
 >(
@@ -79,6 +132,7 @@ fn open<
     opened: Opened,
     room_for: u64,
     listener: &TcpListener,
+    pages: &[PagePort],
     input: Pressed<'_>,
     button: &Button,
     operators: &O,
@@ -88,6 +142,7 @@ fn open<
     requires ledger { (opened.ledger ≡ J.name) × (opened.parts ≡ J.parts) × (J.parts ≡ J.seats) }
     requires named { (4000 ≡ J.size) × (seats ≡ J.seats) }
     requires count { (0 < seats) × (seats ≤ 8) }
+    requires pages { length pages.now ≤ seats }
 {
     let keeper = Lines::new(alloc, room_for);
     let (room, seats) = SharedRoom::<J, &R, Lines>::power_on_kept(
@@ -95,7 +150,7 @@ fn open<
     )?;
     let address = listener.local_addr()?;
     Ok(spend(
-        rt, alloc, room, seats, listener, address, input, button, operators, door,
+        rt, alloc, room, seats, listener, pages, address, input, button, operators, door,
     ))
 }
 
@@ -106,6 +161,7 @@ fn spend<J, R, O, D>(
     room: SharedRoom<J, &R, Lines>,
     seats: Vec<Seat<J>>,
     listener: &TcpListener,
+    pages: &[PagePort],
     address: SocketAddr,
     input: Pressed<'_>,
     button: &Button,
@@ -114,21 +170,33 @@ fn spend<J, R, O, D>(
 ) -> Evening
 where
     J: RoomId + Send + Sync,
-    R: Threads + Wait + Sync + Net<Listener = TcpListener, Stream = TcpStream>,
+    R: Threads
+        + Wait
+        + Sync
+        + Clock
+        + AllocGlobal
+        + RandomSource
+        + Net<Listener = TcpListener, Stream = TcpStream>,
     O: Operators + Sync,
     D: Door + Sync,
     requires ledger { J.parts ≡ J.seats }
     requires seats { AreAllSeats J.seats seats.items }
     requires count { (0 < J.seats) × (J.seats < 2 ^ 8) }
+    requires pages { length pages.now ≤ J.seats }
 {
     thread::scope(
         thread::scope_env(),
         rt,
         move |scope| -> Evening
-            requires { (J.parts ≡ J.seats) × AreAllSeats J.seats seats.items × (0 < J.seats) × (J.seats < 2 ^ 8) }
+            requires { (J.parts ≡ J.seats)
+                × AreAllSeats J.seats seats.items
+                × (0 < J.seats)
+                × (J.seats < 2 ^ 8)
+                × (length pages.now ≤ J.seats) }
         {
             attend_both(
-                scope, rt, alloc, room, seats, listener, address, input, button, operators, door,
+                scope, rt, alloc, room, seats, listener, pages, address, input, button, operators,
+                door,
             )
         },
     )
@@ -142,6 +210,7 @@ fn attend_both<'s, E: 's, J, R, O, D>(
     room: SharedRoom<J, &R, Lines>,
     seats: Vec<Seat<J>>,
     listener: &TcpListener,
+    pages: &[PagePort],
     address: SocketAddr,
     input: Pressed<'_>,
     button: &'s Button,
@@ -150,15 +219,27 @@ fn attend_both<'s, E: 's, J, R, O, D>(
 ) -> Evening
 where
     J: RoomId + Send + Sync,
-    R: Threads + Wait + Sync + Net<Listener = TcpListener, Stream = TcpStream> + 's,
+    R: Threads
+        + Wait
+        + Sync
+        + Clock
+        + AllocGlobal
+        + RandomSource
+        + Net<Listener = TcpListener, Stream = TcpStream>
+        + 's,
     O: Operators + Sync + 's,
     D: Door + Sync,
     requires ledger { J.parts ≡ J.seats }
     requires seats { AreAllSeats J.seats seats.items }
     requires count { (0 < J.seats) × (J.seats < 2 ^ 8) }
+    requires pages { length pages.now ≤ J.seats }
 {
     let operating = scope.spawn(move || operate(rt, alloc, address, button, operators));
-    let served = serve_seats(alloc, rt, room, seats, listener, input, door);
+    let served = if pages.is_empty() {
+        serve_seats(alloc, rt, room, seats, listener, input, door)
+    } else {
+        serve_pages(alloc, rt, room, seats, Some(listener), pages, input, door)
+    };
     let told = match operating {
         Ok(thread) => thread.join(rt),
         Err(_) => None,

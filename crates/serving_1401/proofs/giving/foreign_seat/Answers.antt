@@ -1,17 +1,17 @@
 -- What is left begins with an entry of one of these seats, or of another.
-use Rattle.std.proofs.Common.{◌≡◌, ◌+◌, ◌∷◌, ◌∙◌, drop, refl, sym, ap}
+use Rattle.std.proofs.Common.{◌≡◌, ◌+◌, ◌∷◌, ◌∙◌, drop, Some, None, refl, sym, ap}
 use Rattle.std.proofs.lemmas.List.{drop_all, drop_more}
 use Rattle.room_1401.specs.declared.entry.Entry.{Entry}
 use Rattle.serving_1401.specs.Giving.{foreign_in}
-use Rattle.serving_1401.proofs.GivingLemmas.{above_first, below_first, own_first}
+use Rattle.serving_1401.proofs.GivingLemmas.{above_first, below_first, foreign_none, own_first}
 use Rattle.serving_1401.proofs.giving.foreign_seat.Goals.{then-entry-least-via-then-entry-least, then-entry-least-via-else-entry-least+then-entry-most}
 use Rattle.serving_1401.proofs.giving.foreign_seat.Goals as goal
 
 pub loop-entry-init : goal.loop-entry-init
 loop-entry-init c = refl
 
-pub returns-then-entry-least : goal.returns-then-entry-least
-returns-then-entry-least c =
+pub returns-then-entry-least-clause-value : goal.returns-then-entry-least-clause-value
+returns-then-entry-least-clause-value c =
     let least = c.args.least in
     let most = c.args.most in
     let entries = c.args.entries.now in
@@ -39,7 +39,15 @@ loop-entry-preserved c =
     ∙ sym (ap (foreign_in least most) (drop_more entries c.loop-entry.entry-index entry c.loop-entry-test.true))
     ∙ c.loop-entry.invariant
 
-pub returns : goal.returns
-returns c =
+pub returns-clause-value : goal.returns-clause-value
+returns-clause-value c =
     sym (ap (foreign_in c.args.least c.args.most) (drop_all c.loop-entry.entry-index c.args.entries.now c.loop-entry-test.false))
     ∙ c.loop-entry.invariant
+
+pub returns-then-entry-least-clause-none : goal.returns-then-entry-least-clause-none
+returns-then-entry-least-clause-none c =
+    foreign_none c.args.least c.args.most c.args.entries.now (Some c.entry-item.result.seat)
+    (returns-then-entry-least-clause-value c)
+
+pub returns-clause-none : goal.returns-clause-none
+returns-clause-none c = foreign_none c.args.least c.args.most c.args.entries.now None (returns-clause-value c)

@@ -22,7 +22,7 @@ pub returns-in-Some-clause-fault : goal.returns-in-Some-clause-fault
 returns-in-Some-clause-fault g c =
     let seats = g.J.RoomId.seats in
     found_in seats c.len.result c.args.entries.now c.foreign_seat.result
-    (omega (arith, c.len.ensures, length_seats seats c.args.seats.now.items c.requires.seats)) c.foreign_seat.ensures
+    (omega (arith, c.len.ensures, length_seats seats c.args.seats.now.items c.requires.seats)) c.foreign_seat.ensures.value
     ∙ c.in-Some.is
 
 pub loop-entry-init : goal.loop-entry-init
@@ -33,7 +33,7 @@ index_mut-requires g c =
     let seats = g.J.RoomId.seats in
     let none : foreign_in 0 seats c.args.entries.now ≡ None =
     found_in seats c.len.result c.args.entries.now c.foreign_seat.result
-    (omega (arith, c.len.ensures, length_seats seats c.args.seats.now.items c.requires.seats)) c.foreign_seat.ensures
+    (omega (arith, c.len.ensures, length_seats seats c.args.seats.now.items c.requires.seats)) c.foreign_seat.ensures.value
     ∙ c.in_default.is in
     let own : (get_or c.args.entries.now c.loop-entry.entry-index c.entry-item.result).seat ≤ seats =
     seated seats c.args.entries.now c.loop-entry.entry-index c.entry-item.result none c.loop-entry-test.true in
@@ -57,7 +57,7 @@ pub returns-in-Err-clause-fault : goal.returns-in-Err-clause-fault
 returns-in-Err-clause-fault g c =
     let seats = g.J.RoomId.seats in
     found_in seats c.len.result c.args.entries.now c.foreign_seat.result
-    (omega (arith, c.len.ensures, length_seats seats c.args.seats.now.items c.requires.seats)) c.foreign_seat.ensures
+    (omega (arith, c.len.ensures, length_seats seats c.args.seats.now.items c.requires.seats)) c.foreign_seat.ensures.value
     ∙ c.in_default.is
 
 pub returns-in-Err-clause-none : goal.returns-in-Err-clause-none
@@ -65,7 +65,7 @@ returns-in-Err-clause-none g c = λ seat found.
     let seats = g.J.RoomId.seats in
     let none =
     found_in seats c.len.result c.args.entries.now c.foreign_seat.result
-    (omega (arith, c.len.ensures, length_seats seats c.args.seats.now.items c.requires.seats)) c.foreign_seat.ensures
+    (omega (arith, c.len.ensures, length_seats seats c.args.seats.now.items c.requires.seats)) c.foreign_seat.ensures.value
     ∙ c.in_default.is in
     absurd (none-some seat (sym none ∙ found))
 
@@ -83,7 +83,7 @@ loop-entry-preserved g c =
     let given = c.in_default-give.ensures in
     let none : foreign_in 0 seats entries ≡ None =
     found_in seats c.len.result entries c.foreign_seat.result
-    (omega (arith, c.len.ensures, length_seats seats c.args.seats.now.items c.requires.seats)) c.foreign_seat.ensures
+    (omega (arith, c.len.ensures, length_seats seats c.args.seats.now.items c.requires.seats)) c.foreign_seat.ensures.value
     ∙ c.in_default.is in
     let own : (get_or entries i entry).seat ≤ seats = seated seats entries i entry none c.loop-entry-test.true in
     let seat : entry.seat ≤ seats = subst (λ (it : Entry). it.seat ≤ seats) (sym c.entry-item.is) own in
@@ -115,6 +115,6 @@ returns-clause-none g c = λ seat found.
     let seats = g.J.RoomId.seats in
     let none =
     found_in seats c.len.result c.args.entries.now c.foreign_seat.result
-    (omega (arith, c.len.ensures, length_seats seats c.args.seats.now.items c.requires.seats)) c.foreign_seat.ensures
+    (omega (arith, c.len.ensures, length_seats seats c.args.seats.now.items c.requires.seats)) c.foreign_seat.ensures.value
     ∙ c.in_default.is in
     absurd (none-some seat (sym none ∙ found))

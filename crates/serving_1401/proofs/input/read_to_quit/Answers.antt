@@ -1,7 +1,7 @@
 -- A byte more of the line, or a line more.
 use Rattle.std.proofs.Common.{IfSome, Some, ap, ◌∙◌}
 use Rattle.serving_1401.specs.Input.{MatchesMore}
-use Rattle.serving_1401.proofs.InputLemmas.{line_ended, line_grown}
+use Rattle.serving_1401.proofs.InputLemmas.{line_ended, line_grown, quit_read}
 use Rattle.serving_1401.proofs.input.read_to_quit.Goals as goal
 
 pub loop-preserved-in-Ok-Some-eq10 : goal.loop-preserved-in-Ok-Some-eq10
@@ -25,3 +25,11 @@ loop-preserved g c =
       read = line_grown c.loop.matched now (left c.args.input.now) (left c.loop.input) (left c.next_byte.new.self)
           some.field-0 some.byte c.loop.invariant.read some.field-0-is some.ensures.byte more;
     }
+
+pub returns-then-is_quit-clause-quit : goal.returns-then-is_quit-clause-quit
+returns-then-is_quit-clause-quit g c = λ _.
+    let left = g.S.Source.left in
+    let byte = c.in-Ok-Some-eq10 in
+    let said = c.is_quit.ensures c.if-is_quit.true in
+    quit_read c.loop.matched said.0 (left c.args.input.now) (left c.loop.input) (left c.next_byte.new.self) byte.field-0
+    c.loop.invariant.read said.1 said.2 (byte.field-0-is ∙ ap Some byte.field-0-0-test) byte.ensures.byte

@@ -1,6 +1,6 @@
 -- Each segment so far was a command of this seat.
 use Rattle.std.proofs.Common.{◌≡◌, ◌+◌}
-use Rattle.ibm1401.proofs.seating.put_image_by.Given as goal
+use Rattle.ibm1401.proofs.beginning.put_image_by.Given as goal
 
 abbrev pub invariant-loop-segment : goal.invariant-loop-segment
 invariant-loop-segment g l =

@@ -1,0 +1,81 @@
+//! The ports at which the operators of a room come.
+ghost use Rattle.std.specs.Prelude.{◌≤◌, IfOk, vec_len};
+
+use crate::fault::Fault;
+use arguments_1401::Operators;
+use serving_1401::PagePort;
+use std::net::{Ipv4Addr, Net, TcpListener, TcpStream};
+
+/// The listeners at these ports.
+#[derive(Drop)]
+pub(crate) struct Entrances {
+    /// That of the consoles, if there are any.
+    pub consoles: Option<TcpListener>,
+    /// Those of the pages, the one of seat 1 first.
+    pub pages: Vec<PagePort>,
+}
+
+/// The listener at this port of 127.0.0.1.
+fn listener_at(
+    rt: &impl Net<Listener = TcpListener, Stream = TcpStream>,
+    port: u16,
+) -> Result<TcpListener, Fault> {
+    TcpListener::bind(rt, (Ipv4Addr::LOCALHOST, port)).map_err(|_| Fault::Port)
+}
+
+/// The listeners for these operators.
+///
+/// # Errors
+///
+/// `Port` if a port is refused; or `Memory`.
+pub(crate) fn open_entrances<R: AllocGlobal + Net<Listener = TcpListener, Stream = TcpStream>>(
+    rt: &R,
+    operators: Operators,
+) -> Result<Entrances, Fault>
+    ensures { IfOk result (λ entrances. vec_len entrances.pages ≤ operators.seats) }
+{
+    let consoles = match operators.port {
+        Some(port) => Some(listener_at(rt, port)?),
+        None => None,
+    };
+    let pages = match operators.page {
+        Some(first) => open_pages(rt, first, operators.seats)?,
+        None => Vec::new(rt.alloc()),
+    };
+    Ok(Entrances { consoles, pages })
+}
+
+/// The listeners of as many pages as seats, from this port on; one beyond the last port is refused.
+fn open_pages<R: AllocGlobal + Net<Listener = TcpListener, Stream = TcpStream>>(
+    rt: &R,
+    first: u16,
+    seats: u8,
+) -> Result<Vec<PagePort>, Fault>
+    ensures { IfOk result (λ pages. vec_len pages ≤ seats) }
+{
+    let mut pages = Vec::new(rt.alloc());
+    for seat in 0..seats {
+        let Some(port) = first.checked_add(u16::from(seat)) else {
+            return Err(Fault::Port);
+        };
+        let listener = listener_at(rt, port)?;
+        if pages.push(PagePort { port, listener }).is_err() {
+            return Err(Fault::Memory);
+        }
+    }
+    Ok(pages)
+}
+
+/// Tells on standard output that the room is open, and where each page is.
+///
+/// # Errors
+///
+/// `Output` if standard output takes nothing.
+pub(crate) fn tell_ready(rt: &impl Print, pages: &[PagePort]) -> Result<(), Fault> {
+    println!(rt; "READY").map_err(|_| Fault::Output)?;
+    for (before, page) in pages.iter().enumerate() {
+        let port = page.port;
+        println!(rt; "SEAT {} http://127.0.0.1:{port}/", before + 1).map_err(|_| Fault::Output)?;
+    }
+    Ok(())
+}
