@@ -235,11 +235,17 @@ def served_outcome(told, status, output, error):
     return end, "; ".join(wrong)
 
 
-def seats_end(how):
-    """How a room ended whose seat is taken again and whose journal is kept, in which one growth was refused."""
+def seats_end(how, given=()):
+    """How a room ended whose seat is taken again and whose journal is kept, in which one growth was refused: a new one,
+    or one that is resumed after its seat gave these commands."""
     with tempfile.TemporaryDirectory() as folder:
-        path, told = Path(folder) / "new.journal", []
-        room = Room("serve", "--port", "PORT", "--seats", "1", "--journal", path, **how)
+        path, told = Path(folder) / "a.journal", []
+        entries = (b"%d\t1\t%s\tOK\n" % (number, line[:-1]) for number, line in enumerate(given, 1))
+        begun = b"JOURNAL1 4000\n" + b"".join(entries)
+        words = ["resume", path] if given else ["serve", "--journal", path]
+        if given:
+            path.write_bytes(begun)
+        room = Room(*words, "--port", "PORT", "--seats", "1", **how)
         try:
             console = room.console() if room.first.startswith(b"READY\n") else None
         except OSError:
@@ -255,27 +261,29 @@ def seats_end(how):
         text = path.read_bytes() if path.exists() else None
     status, output = room.process.returncode, room.first + output
     if not output:
-        is_so = (status, output, text) == (1, b"", None)
-        is_so &= error in (MEMORY, b"ibm1401: no reader\n", b"ibm1401: %s: cannot be written\n" % bytes(path))
+        is_so = (status, output, text) == (1, b"", begun if given else None)
+        named = b"ibm1401: %s: " % bytes(path)
+        faults = (b"cannot be written\n", b"cannot be read\n", b"line 1: 1 MEMORY\n", b"1 MEMORY\n")
+        is_so &= error in (MEMORY, UNKEPT, b"ibm1401: no reader\n", *(named + fault for fault in faults))
         return "before READY", "" if is_so else f"{status} {output} {error} {text}"
     if error == MEMORY:
-        is_so = (status, output, text) == (1, b"READY\nJOURNAL 0\n", b"JOURNAL1 4000\n")
+        is_so = (status, output, text) == (1, b"READY\nJOURNAL %d\n" % len(given), begun)
         return "before a console", "" if is_so else f"{status} {output} {text}"
-    return kept_outcome(told, status, output, error, text)
+    return kept_outcome(told, status, output, error, text, given)
 
 
-def kept_outcome(told, status, output, error, text):
-    """What became of a kept room that was opened. Its console is told what one is told that gives the commands which were
-    carried out; the file has all of them, but for a last one that wasn't kept and has no reply."""
+def kept_outcome(told, status, output, error, text, given):
+    """What became of a kept room that was opened after these commands. Its console is told what one is told that gives
+    the commands which were carried out; the file has all of them, but for a last one that wasn't kept and has no reply."""
     is_unserved, is_unkept = error == THREAD, error == UNKEPT
     kept = [] if is_unserved else [each for each in told if each[1] != b"FAULT 1 MEMORY\n" and each[0] != b"QUIT\n"]
-    wanted = replies(tuple(line for line, _ in kept))
+    wanted = replies((*given, *(line for line, _ in kept)))[len(given):]
     wrong = [f"{line}: {reply}, not {want}" for (line, reply), want in zip(kept, wanted, strict=True) if reply not in (want, b"")]
     lost = [line for line, reply in told if not reply]
     refused = [line for line, reply in told if reply == b"FAULT 1 MEMORY\n"]
     wrong += [f"no reply to {lost}, and {refused} refused"] if len(lost) + len(refused) > 1 else []
     wrong += ["a command that isn't kept is answered"] if is_unkept and not lost else []
-    commands = [line for line, _ in kept if line.split()[0] not in (b"HELLO", b"GLANCE")]
+    commands = [*given, *(line for line, _ in kept if line.split()[0] not in (b"HELLO", b"GLANCE"))]
     wrong += difference("standard output", output, f"READY\nJOURNAL {len(commands)}\n")
     wrong += [f"{status}, {error}"] if (status, error) not in ((0, b""), (1, THREAD), (1, UNKEPT)) else []
     found = [line.split(b"\t")[2].split()[0] for line in text.splitlines()[1:]]
@@ -285,6 +293,11 @@ def kept_outcome(told, status, output, error, text):
         return "unkept", "; ".join(wrong)
     end = "at the journal" if refused else "at a thread" if is_unserved else "at a reply" if lost else "without an effect"
     return end, "; ".join(wrong)
+
+
+def resumed_end(how):
+    """How a room ended that goes on in the file of a journal, in which one growth was refused."""
+    return seats_end(how, (b"START 0001\n",))
 
 
 def growth():
@@ -298,4 +311,5 @@ def growth():
         number += refusing.each("serve", served_end, ["before READY", "at the journal", "at a reply"])
         ends = ["before READY", "before a console", "at the journal", "unkept", "at a reply"]
         number += refusing.each("serve --journal", seats_end, ends)
+        number += refusing.each("resume --port", resumed_end, ends)
     tell(f"{number} runs with a growth refused", "" if number > 300 else "these are few")

@@ -3,6 +3,7 @@ import os
 import random
 import resource
 import select
+import shutil
 import signal
 import socket
 import subprocess
@@ -11,6 +12,7 @@ import threading
 import time
 from pathlib import Path
 
+from checks.journals import sync_library
 from checks.report import PROGRAM, REPLY_SECONDS, SECONDS, TOP, difference, expect, run, tell
 from checks.service import answer, hear, say
 
@@ -81,6 +83,8 @@ def taken_again(_):
         answer("the end of standard input ends a console", hear(only), b"")
         room.process.stdin = None
     room.ended("a room is ended by the end of its input", 1, None)
+    room = Room("serve", "--port", "PORT", "--seats", "1", "--keep-seats")
+    room.ended("a room is ended by QUIT and a carriage return", 0, b"quit\r\nQUIT\r\n")
     ended = run([PROGRAM, "serve", "--port", str(room.port), "--seats", "1", "--keep-seats"], b"")
     expect("a room whose input is at its end", ended, 0, "READY\nJOURNAL 0\n")
 
@@ -215,6 +219,114 @@ def unkept(folder):
     room.ended("an unkept room ends", 2, status=1, error="ibm1401: session ended: UNKEPT\n")
 
 
+def unheard(folder):
+    """A room whose standard output takes nothing: it isn't opened, or its journal can't be told at its end."""
+    path, new = folder / "unheard.journal", folder / "unheard.new"
+    path.write_bytes(b"JOURNAL1 4000\n1\t1\tSTART 0001\tOK\n")
+    with socket.socket() as free:
+        free.bind(("127.0.0.1", 0))
+        port = str(free.getsockname()[1])
+    for words in (
+        ["serve", "--seats", "1", "--keep-seats"],
+        ["serve", "--seats", "1", "--journal", str(new)],
+        ["resume", str(path), "--seats", "1"],
+        ["resume", str(path), "--seats", "1", "--journal", str(folder / "unheard.newer")],
+    ):
+        name = " ".join(word for word in words if not word.startswith(str(folder)))
+        for output in (">&-", "> /dev/full"):
+            call = ["bash", "-c", f'"$0" "$@" {output}', PROGRAM, *words, "--port", port]
+            ran = run([str(word) for word in call])
+            expect(f"{name} {output}: READY can't be written", ran, 1, "", "ibm1401: cannot write\n")
+            (folder / "unheard.newer").unlink(missing_ok=True)
+            new.unlink(missing_ok=True)
+    text = path.read_bytes()
+    tell("the journal is as it was", "" if text == b"JOURNAL1 4000\n1\t1\tSTART 0001\tOK\n" else f"{text}")
+    room = Room("resume", path, "--port", "PORT", "--seats", "1")
+    room.process.stdout.close()
+    with room.console() as only:
+        answer("a resumed room whose output was closed", say(only, b"START 2\n"), b"OK\n")
+        room.process.stdin.write(b"QUIT\n")
+        room.process.stdin.close()
+        error, status = room.process.stderr.read(), room.process.wait(SECONDS)
+    wrong = difference("standard error", error, "ibm1401: cannot write\n") + ([] if status == 1 else [str(status)])
+    tell("a resumed journal that can't be told", "; ".join(wrong))
+    kept_text = text + b"2\t1\tSTART 0002\tOK\n"
+    tell("but it is kept", "; ".join(difference("the file", path.read_bytes(), kept_text)))
+
+
+def unheld(_):
+    """A connection of which the system gives no second handle: it is closed, and the room goes on to its end."""
+
+    def few_handles():
+        resource.setrlimit(resource.RLIMIT_NOFILE, (5, 5))
+
+    room = Room("serve", "--port", "PORT", "--seats", "2", "--keep-seats", preexec_fn=few_handles)
+    for turn in range(2):
+        with room.console() as console:
+            answer(f"a connection without a second handle, {turn}", hear(console), b"")
+    room.ended("a room that gave no seat", 0, status=1, error="ibm1401: thread refused\n")
+
+
+def denied(folder):
+    """A journal's file that may not be read or written, and a folder in which none may be made."""
+    locked = folder / "locked"
+    locked.mkdir()
+    path = locked / "class.journal"
+    path.write_bytes(b"JOURNAL1 4000\n1\t1\tSTART 0001\tOK\n")
+    path.chmod(0o444)
+    locked.chmod(0o555)
+    folder.chmod(0o755)
+
+    def nobody():
+        if os.geteuid() == 0:
+            os.setgid(65534)
+            os.setuid(65534)
+
+    refused = f"ibm1401: {path}: permission denied\n"
+    port = ["--port", "1401", "--seats", "1"]
+    program = folder / "program"
+    shutil.copy(PROGRAM, program)
+    for words in ["resume", path], ["resume", path, *port]:
+        name = " ".join(word for word in words if isinstance(word, str))
+        ran = run([program, *words], b"START 2\n", preexec_fn=nobody)
+        expect(f"{name}: a file that is read-only", ran, 1, "", refused)
+    ran = run([program, "journal", "--check", path], preexec_fn=nobody)
+    expect("a file that is read-only is checked", ran, 0, "1 entries\n")
+    new = locked / "new.journal"
+    refused = f"ibm1401: {new}: permission denied\n"
+    for words in ["console"], ["serve", *port], ["resume", path, *port]:
+        name = " ".join(word for word in words if isinstance(word, str))
+        ran = run([program, *words, "--journal", new], b"START 2\n", preexec_fn=nobody)
+        expect(f"{name} --journal: a folder that is read-only", ran, 1, "", refused)
+    text = path.read_bytes()
+    tell("and it stays as it is", "" if text == b"JOURNAL1 4000\n1\t1\tSTART 0001\tOK\n" else f"{text}")
+
+
+def unsynced(folder):
+    """A served entry that isn't synced: no reply, and every later command is refused, in a new file and in the same."""
+    if shutil.which("cc") is None:
+        print("LEFT OUT  there is no C compiler cc: no sync of a served journal is refused")
+        return
+    path = folder / "synced.journal"
+
+    def refusing(number):
+        asked = {"LD_PRELOAD": sync_library(folder), "EVENTS_FILE": folder / "events", "REFUSED_SYNC": number}
+        return {"env": {**os.environ, **{name: str(value) for name, value in asked.items()}}}
+
+    text = b"JOURNAL1 4000\n"
+    # The folder and the first line are synced before anybody comes; the folder alone where the file is there.
+    for words, synced, entry in (["serve", "--journal", path], 4, 1), (["resume", path], 3, 3):
+        room = Room(*words, "--sync", "--port", "PORT", "--seats", "2", **refusing(synced))
+        name = words[0]
+        with room.console() as first, room.console() as second:
+            answer(f"{name} --sync: a command that is synced", say(first, b"START 1\n"), b"OK\n")
+            answer(f"{name} --sync: one that isn't has no reply", say(first, b"START 2\n"), b"")
+            answer(f"{name} --sync: every later command is refused", say(second, b"START 3\n"), b"FAULT 4 UNKEPT\n")
+        room.ended(f"{name} --sync: the room ends", entry + 1, status=1, error="ibm1401: session ended: UNKEPT\n")
+        text += b"%d\t1\tSTART 0001\tOK\n%d\t1\tSTART 0002\tOK\n" % (entry, entry + 1)
+        tell(f"{name} --sync: its line stands", "; ".join(difference("the file", path.read_bytes(), text)))
+
+
 class Operator(threading.Thread):
     """An operator who sends each command when the one before it is answered, until the connection breaks."""
 
@@ -282,5 +394,5 @@ def killed(folder):
 def seats():
     """All of these."""
     with tempfile.TemporaryDirectory() as folder:
-        for part in taken_again, begun, misused, kept, resumed, unkept, killed:
+        for part in taken_again, begun, misused, kept, resumed, unkept, unheard, unheld, denied, unsynced, killed:
             part(Path(folder))

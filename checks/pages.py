@@ -1,0 +1,234 @@
+"""Pages beside consoles at the seats of a served room: who has a seat, idle connections, a deck, options and ends."""
+import http.client
+import os
+import select
+import socket
+import subprocess
+import tempfile
+import threading
+import time
+from pathlib import Path
+
+from checks.report import PROGRAM, REPLY_SECONDS, SECONDS, TOP, difference, expect, run, tell
+from checks.service import answer, hear, say
+
+# How many idle connections a page may have without a delay, and how many at most.
+IDLE = 40
+MOST_WAITING = 64
+# How long a page waits for the first byte of a connection, and for each other part of it.
+PATIENCE = 1
+TAKEN = b"a console sits at this seat\n"
+
+
+def free_ports(count):
+    """The first of as many ports in a row that are free."""
+    while True:
+        with socket.socket() as first:
+            first.bind(("127.0.0.1", 0))
+            port = first.getsockname()[1]
+            try:
+                for more in range(1, count):
+                    with socket.socket() as free:
+                        free.bind(("127.0.0.1", port + more))
+                return port
+            except (OSError, OverflowError):
+                continue
+
+
+class Pages:
+    """The program serving a room with a page for each seat, with its standard input held open."""
+
+    def __init__(self, seats, *words, consoles=True, call=("serve",)):
+        self.page = free_ports(seats + 1)
+        self.port = self.page + seats
+        words = ["--page", str(self.page), "--seats", str(seats), *map(str, words)]
+        words += ["--port", str(self.port)] if consoles else []
+        pipes = {"stdin": subprocess.PIPE, "stdout": subprocess.PIPE, "stderr": subprocess.PIPE}
+        self.process = subprocess.Popen([PROGRAM, *map(str, call), *words], **pipes)
+        self.ready = "READY\n" + "".join(f"SEAT {k + 1} http://127.0.0.1:{self.page + k}/\n" for k in range(seats))
+        self.first = b""
+        while len(self.first) < len(self.ready) and select.select([self.process.stdout], [], [], SECONDS)[0]:
+            more = os.read(self.process.stdout.fileno(), 1000)
+            if not more:
+                break
+            self.first += more
+
+    def console(self):
+        """A connection of a console, which has the lowest free seat."""
+        return socket.create_connection(("127.0.0.1", self.port), timeout=REPLY_SECONDS)
+
+    def connect(self, seat):
+        """A connection to the page of a seat, which sends nothing."""
+        return socket.create_connection(("127.0.0.1", self.page + seat - 1), timeout=REPLY_SECONDS)
+
+    def ask(self, seat, method="GET", path="/", body=None, fields=()):
+        """A request at the page of a seat: the status, and the body."""
+        page = http.client.HTTPConnection("127.0.0.1", self.page + seat - 1, timeout=REPLY_SECONDS)
+        try:
+            page.request(method, path, body, dict(fields))
+            response = page.getresponse()
+            return response.status, response.read()
+        except (OSError, http.client.HTTPException) as late:
+            return 0, repr(late).encode()
+        finally:
+            page.close()
+
+    def give(self, seat, made, line):
+        """A line at the page of a seat that has made this many commands."""
+        fields = {"Origin": f"http://127.0.0.1:{self.page + seat - 1}", "X-1401-Line": str(made)}
+        return self.ask(seat, "POST", "/line", line, fields)
+
+    def ended(self, name, journal, typed=b"QUIT\n", status=0, error=""):
+        """Tells whether the program ends as it should, with this number of commands, once this is typed."""
+        try:
+            output, told = self.process.communicate(typed, timeout=SECONDS)
+        except subprocess.TimeoutExpired:
+            self.process.kill()
+            output, told = self.process.communicate()
+        ran = subprocess.CompletedProcess(name, self.process.returncode, self.first + output, told)
+        expect(name, ran, status, f"{self.ready}JOURNAL {journal}\n", error)
+
+
+def same(name, is_it, wanted):
+    """Tells whether a value is the one that is wanted."""
+    tell(name, "" if is_it == wanted else f"it is {is_it!r}, not {wanted!r}")
+
+
+def is_page(name, asked):
+    """Tells whether a request was answered by the page."""
+    tell(name, "" if asked[0] == 200 and b"1401" in asked[1] else f"it is {asked!r}")
+
+
+def whoever_comes_first(_):
+    """A seat goes to its page or to a console, whoever comes first; a page keeps it, a console frees it."""
+    room = Pages(2)
+    with room.console() as first:
+        answer("a console comes first", say(first, b"DEPOSIT 0700 ~1\n"), b"OK\n")
+        same("its page is refused", room.ask(1), (503, TAKEN))
+        same("so is a line there", room.give(1, 1, b"DEPOSIT 0700 ~2"), (503, TAKEN))
+        is_page("the other page is there", room.ask(2))
+        same("a line is answered there", room.give(2, 0, b"EXAMINE 0700 1"), (200, b"~1\n"))
+        with room.console() as third:
+            answer("no seat is left for a console", hear(third), b"FULL\n")
+        answer("the console leaves", say(first, b"QUIT\n"), b"BYE\n")
+        answer("and its connection ends", hear(first), b"")
+    is_page("its page has the seat then", room.ask(1))
+    lines = room.ask(1, path="/picture?core=0400&paper=0")[1].split(b"\n")
+    same("with what the console made there", lines[:2], [b"SEAT 1 OF 2 MADE 1", b"AFTER 2"])
+    same("a line goes on from that", room.give(1, 1, b"EXAMINE 0700 1"), (200, b"~1\n"))
+    with room.console() as late:
+        answer("a page keeps its seat", hear(late), b"FULL\n")
+    same("QUIT of a page leaves it its seat", room.give(1, 2, b"QUIT"), (200, b"BYE\n"))
+    same("and it goes on", room.give(1, 2, b"GLANCE 0700"), (200, b"AFTER 3 ~1\n"))
+    room.ended("a room with pages ends", 3)
+
+
+def many_wait(_):
+    """Idle connections delay nobody; those beyond what a page takes are closed at once; one that drips is let go."""
+    room = Pages(1, consoles=False)
+    is_page("a page alone", room.ask(1))
+    idle = [room.connect(1) for _ in range(IDLE)]
+    begun = time.monotonic()
+    is_page(f"a page behind {IDLE} idle connections", room.ask(1))
+    took = time.monotonic() - begun
+    tell("is answered within half a second", "" if took < 0.5 else f"it took {took:.1f} s")
+    time.sleep(PATIENCE + 0.5)
+    for connection in idle:
+        connection.settimeout(0.2)
+    closed = [hear(connection) for connection in idle]
+    same("the idle ones are closed", closed, [b""] * IDLE)
+    idle = [room.connect(1) for _ in range(MOST_WAITING + 6)]
+    time.sleep(0.3)
+    same("those beyond 64 are closed at once", len(select.select(idle, [], [], 0)[0]), 6)
+    time.sleep(PATIENCE + 0.2)
+    is_page("and the page is there again", room.ask(1))
+    with room.connect(1) as drips:
+        begun = time.monotonic()
+        drips.sendall(b"G")
+        answers = []
+        asking = threading.Thread(target=lambda: answers.append((room.ask(1), time.monotonic() - begun)))
+        asking.start()
+        try:
+            for _ in range(100):
+                drips.sendall(b"E")
+                time.sleep(0.1)
+        except OSError:
+            pass
+        asking.join()
+    is_page("a request behind one that drips", answers[0][0])
+    tell("is answered within three seconds", "" if answers[0][1] < 3 else f"it took {answers[0][1]:.1f} s")
+    idle = [room.connect(1) for _ in range(IDLE)]
+    begun = time.monotonic()
+    room.ended("a room with idle connections ends", 0)
+    took = time.monotonic() - begun
+    tell("within two seconds", "" if took < 2 else f"it took {took:.1f} s")
+    for connection in idle:
+        connection.close()
+
+
+def begun(folder):
+    """A room with pages begins with an image and a deck, is kept in a journal, and goes on from it."""
+    image, deck = TOP / "examples/card_listing.image", TOP / "examples/card_listing.cards"
+    cards = deck.read_bytes().count(b"\n")
+    kept = folder / "kept.journal"
+    room = Pages(1, "--image", image, "--cards", deck, "--journal", kept, consoles=False)
+    lines = room.ask(1, path="/picture?core=0000&paper=0")[1].split(b"\n")
+    made = int(lines[0].split()[-1])
+    tell("the deck is in the hopper", "" if b"HOPPER=%03d" % cards in lines[2] else f"it is {lines[2]!r}")
+    same("by commands of seat 1", kept.read_bytes().count(b"\t1\tFEED "), cards)
+    status, reply = room.give(1, made, b"RUN 1000000")
+    tell("the deck is read", "" if (status, reply[:14]) == (200, b"STOP 03 READER") else f"it is {status} {reply!r}")
+    room.ended("a room with a deck ends", made + 1)
+    room = Pages(2, call=("resume", kept))
+    lines = room.ask(1, path="/picture?core=0000&paper=0")[1].split(b"\n")
+    same("it goes on where it ended", lines[:2], [b"SEAT 1 OF 2 MADE %d" % (made + 1), b"AFTER %d" % (made + 1)])
+    with room.console() as second:
+        answer("beside a console", say(second, b"EXAMINE 0001\n").count(b"\n"), 1)
+    room.ended("a resumed room with pages ends", made + 2)
+    new = Pages(1, "--cards", deck, consoles=False)
+    with new.connect(1):
+        new.process.stdin.close()
+        new.process.stdin = None
+        new.ended("the end of standard input ends it", cards, None)
+
+
+def refused(folder):
+    """Ports, options and decks that are refused, before anything is made."""
+    call = [PROGRAM, "serve", "--seats", "2"]
+    for page in 79, 80:
+        text = "error: no page can be at port 80, which browsers leave out of what they send\n..."
+        expect(f"a page at port 80, from {page} on", run([*call, "--page", str(page)]), 2, "", text)
+    beyond = run([*call, "--page", "65535"])
+    expect("a page beyond the last port", beyond, 2, "", "error: the pages of all seats need ports beyond 65535\n...")
+    for wrong in "0", "65536", "x":
+        expect(f"no page at {wrong}", run([*call, "--page", wrong]), 2, "", "error: ...")
+    none = run(call)
+    expect("no port and no page", none, 2, "", "error: the following required arguments were not provided:\n...")
+    kept = folder / "none.journal"
+    with socket.socket() as taken:
+        taken.bind(("127.0.0.1", 0))
+        taken.listen()
+        port = taken.getsockname()[1]
+        words = ["--page", str(port - 1), "--journal", kept]
+        expect("a page's port that is taken", run([*call, *words]), 1, "", "ibm1401: port refused\n")
+    deck = folder / "big.cards"
+    deck.write_bytes(b"A CARD\n" * 501)
+    words = ["--page", str(free_ports(2)), "--journal", kept, "--cards"]
+    text = f"ibm1401: {deck}: 501 cards are more than the hopper holds\n"
+    expect("a deck that the hopper doesn't hold", run([*call, *words, deck]), 1, "", text)
+    deck.write_bytes(b"A CARD\n" + b"B" * 81 + b"\n")
+    text = f"ibm1401: {deck}: line 2, column 81: a card has 80 columns\n"
+    expect("a deck that is none", run([*call, *words, deck]), 1, "", text)
+    text = f"ibm1401: {folder / 'no.cards'}: no such file\n"
+    expect("no deck", run([*call, *words, folder / "no.cards"]), 1, "", text)
+    tell("and no journal is made", "it is there" if kept.exists() else "")
+    deck.write_bytes(b"a card\n" * 500)
+    room = Pages(1, "--cards", deck)
+    room.ended("a full hopper", 500, error=f"ibm1401: {deck}: small letters are read as capitals\n")
+
+
+def page_seats():
+    """All of these."""
+    with tempfile.TemporaryDirectory() as folder:
+        for part in whoever_comes_first, many_wait, begun, refused:
+            part(Path(folder))
