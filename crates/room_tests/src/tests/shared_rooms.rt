@@ -58,6 +58,84 @@ fn the_size_is_looked_at_before_the_seats(rt: HostRuntime) {
     }
 }
 
+/// Glances until a seat that was told nothing sees the K at 500, which comes in time by itself.
+fn sees_it_in_time<J: RoomId>(rt: &impl Abort, seat: &mut Seat<J>) -> Result<(), GlanceFault> {
+    for _ in 0..1_000_000 {
+        let glance = seat.glance(500)?;
+        if glance.after == 1 {
+            assert_eq!(rt; shown(glance), (1, b'K'));
+            break;
+        }
+        assert_eq!(rt; shown(glance), (0, b' '));
+    }
+    Ok(())
+}
+
+/// Seat 1 deposits a K at 500, and leaves a note of it for seat 2.
+fn deposit_and_tell<J: RoomId, R: Wait + Abort>(
+    rt: &R,
+    room: &SharedRoom<J, &R>,
+    one: &mut Seat<J>,
+    two: &mut Seat<J>,
+) -> Result<(), Fail> {
+    let done = room.command(rt, one, deposit(500, b'K').ok_or("K")?)?;
+    assert_eq!(rt; done, Answer::Done);
+    assert_eq!(rt; shown(one.glance(500)?), (1, b'K'));
+    sees_it_in_time(rt, two)?;
+    let note = room.tell(rt, one)?;
+    two.learn(note);
+    assert_eq!(rt; shown(two.glance(500)?), (1, b'K'));
+    assert_eq!(rt; two.glance(4_000).err(), Some(GlanceFault::Range));
+    assert_eq!(rt; two.made(), 0);
+    Ok(())
+}
+
+/// Each seat asks for something, seat 1 last. Then seat 2 tells of the last command too, which is seat 1's.
+fn ask_and_tell_back<J: RoomId, R: Wait + Abort>(
+    rt: &R,
+    room: &SharedRoom<J, &R>,
+    one: &mut Seat<J>,
+    two: &mut Seat<J>,
+) -> Result<(), Fail> {
+    let examine = Command::Examine {
+        address: 500,
+        count: 1,
+    };
+    assert!(rt; matches!(room.command(rt, two, examine)?, Answer::Cells(_)));
+    assert!(rt; two.glance(500)?.after >= 2);
+    assert!(rt; matches!(room.command(rt, one, Command::Registers)?, Answer::Regs(_)));
+    assert_eq!(rt; (one.made(), two.made()), (2, 1));
+    let note = room.tell(rt, two)?;
+    assert_eq!(rt; two.len(), 3);
+    one.learn(note);
+    assert_eq!(rt; one.len(), 3);
+    Ok(())
+}
+
+/// The room closes with both of its seats, and not with one of them.
+fn close_in_vain_first<J: RoomId, R: Wait + Drop>(
+    rt: &impl Abort,
+    room: SharedRoom<J, R>,
+    mut seats: Vec<Seat<J>>,
+    one: Seat<J>,
+    two: Seat<J>,
+) -> Result<(), Fail>
+    requires { J.parts ≡ J.seats }
+{
+    seats.push(one)?;
+    let (room, mut seats, fault) = match room.close(seats) {
+        Ok(_) => return Err(Fail::from("closed without seat 2")),
+        Err(back) => back,
+    };
+    assert_eq!(rt; fault, CloseFault::Unreturned { back: 1, total: 2 });
+    seats.push(two)?;
+    let Ok(room) = room.close(seats) else {
+        return Err(Fail::from("not closed"));
+    };
+    assert_eq!(rt; room.journal().len(), 3);
+    Ok(())
+}
+
 fn two_operators<J: RoomId, R: Wait + Abort>(
     rt: &R,
     alloc: Global,
@@ -73,60 +151,12 @@ fn two_operators<J: RoomId, R: Wait + Abort>(
     let mut one = seats.pop().ok_or("seat 1")?;
     assert_eq!(rt; (one.number(), two.number()), (1, 2));
     assert_eq!(rt; (one.made(), two.made()), (0, 0));
-
-    let done = room.command(rt, &mut one, deposit(500, b'K').ok_or("K")?)?;
-    assert_eq!(rt; done, Answer::Done);
-    assert_eq!(rt; shown(one.glance(500)?), (1, b'K'));
-
-    // Seat 2, told nothing, comes to see it all the same.
-    for _ in 0..1_000_000 {
-        let glance = two.glance(500)?;
-        if glance.after == 1 {
-            assert_eq!(rt; shown(glance), (1, b'K'));
-            break;
-        }
-        assert_eq!(rt; shown(glance), (0, b' '));
+    deposit_and_tell(rt, &room, &mut one, &mut two)?;
+    ask_and_tell_back(rt, &room, &mut one, &mut two)?;
+    if closes {
+        return close_in_vain_first(rt, room, seats, one, two);
     }
-    let note = room.tell(rt, &mut one)?;
-    two.learn(note);
-    assert_eq!(rt; shown(two.glance(500)?), (1, b'K'));
-    assert_eq!(rt; two.glance(4_000).err(), Some(GlanceFault::Range));
-    assert_eq!(rt; two.made(), 0);
-
-    let examine = Command::Examine {
-        address: 500,
-        count: 1,
-    };
-    assert!(rt; matches!(room.command(rt, &mut two, examine)?, Answer::Cells(_)));
-    assert!(rt; two.glance(500)?.after >= 2);
-    assert!(rt;
-        matches!(
-            room.command(rt, &mut one, Command::Registers)?,
-            Answer::Regs(_)
-        )
-    );
-    assert_eq!(rt; (one.made(), two.made()), (2, 1));
-
-    // Seat 2 tells of the last command too, which is seat 1's.
-    let note = room.tell(rt, &mut two)?;
-    assert_eq!(rt; two.len(), 3);
-    one.learn(note);
-    assert_eq!(rt; one.len(), 3);
-    if !closes {
-        assert_eq!(rt; room.abandon().journal().len(), 3);
-        return Ok(());
-    }
-    seats.push(one)?;
-    let (room, mut seats, fault) = match room.close(seats) {
-        Ok(_) => return Err(Fail::from("closed without seat 2")),
-        Err(back) => back,
-    };
-    assert_eq!(rt; fault, CloseFault::Unreturned { back: 1, total: 2 });
-    seats.push(two)?;
-    let Ok(room) = room.close(seats) else {
-        return Err(Fail::from("not closed"));
-    };
-    assert_eq!(rt; room.journal().len(), 3);
+    assert_eq!(rt; room.abandon().journal().len(), 3);
     Ok(())
 }
 
