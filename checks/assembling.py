@@ -4,7 +4,7 @@ import re
 import tempfile
 from pathlib import Path
 
-from checks.report import PROGRAM, TOP, difference, expect, run, tell
+from checks.report import PROGRAM, TOP, difference, expect, misuse, run, tell
 
 # A good source, and its image.
 GOOD, IMAGE = "               END  0\n", "IMAGE2 04000\nEND 00000\n"
@@ -34,6 +34,18 @@ TOLD = [
 ]
 
 
+# A source with a fault of each kind but those above, and the lines that tell it.
+FAULTS_OF_A_KIND = [
+    (" " * 81 + "\n" + GOOD, ["1:81: LONG LINE: a line has at most 80 columns"]),
+    ("               a\n" + GOOD, ["1:1: GRAPHIC: a byte can't stand in its column"]),
+    ("     X1        DCW  #1\n" + GOOD,
+     ["1:6: LABEL: columns 6 to 15 hold no label, or lack one, or hold one where there is none"]),
+    ("     *\n" * 9, ["10:1: NO END: the source ends without END"]),
+    (GOOD + "     *\n               H\n", ["3:1: AFTER END: only comments may follow END"]),
+    ("               ZZZ\n" + " " * 81 + "\n" + GOOD, [TOLD[0], "2:81: LONG LINE: a line has at most 80 columns"]),
+]
+
+
 def holds(name, file, wanted):
     """Tells whether a file has this text, and nothing lies beside it that wasn't there."""
     wrong = difference("the file", file.read_bytes() if file.exists() else b"no file", wanted)
@@ -47,9 +59,12 @@ def into_files():
         folder = Path(name)
         source, out = folder / "source", folder / "out"
         source.write_text(GOOD)
-        for words in ["-o", out], [f"--output={out}"], ["-o", out, "--all"]:
+        for words in ["-o", out], [f"--output={out}"], ["-o", out, "--all"], [f"--output={out}", "--all"]:
             expect("assemble -o", run([PROGRAM, "assemble", source, *words]))
             holds("assemble -o: the image", out, IMAGE)
+            out.unlink()
+            expect("assemble -o, with the source last", run([PROGRAM, "assemble", *words, source]))
+            holds("assemble -o, with the source last: the image", out, IMAGE)
         expect("assemble -o --list", run([PROGRAM, "assemble", "--list", "-o", out, source]))
         holds("assemble -o --list: the listing", out, "0001 00000                         END  0\n")
         os.chmod(out, 0o640)
@@ -77,8 +92,9 @@ def into_files():
         ran = run(["bash", "-c", '"$0" assemble "$1" -o "$2" >&- 2>&-', PROGRAM, source, out])
         expect("assemble -o with closed streams", ran)
         holds("assemble -o with closed streams: the image", out, IMAGE)
-        for words in ["-o"], ["-o", out, "-o", out]:
-            expect("assemble -o ends with 2", run([PROGRAM, "assemble", source, *words]), 2, "", "error: ...")
+        needed = misuse("a value is required for '--output <OUT>' but none was supplied")
+        for words, error in (["-o"], needed), (["-o", out, "-o", out], "error: ..."):
+            expect("assemble -o ends with 2", run([PROGRAM, "assemble", source, *words]), 2, "", error)
 
 
 # The deck of the good source, which has no cells: storage is cleared, and the program begun.
@@ -221,6 +237,11 @@ def tables():
         for words in ["--symbols=1"], ["--xref", "1"], ["--symbol", "--xrefs"]:
             ran = run([PROGRAM, "assemble", source, *words])
             expect(f"assemble {' '.join(words)} ends with 2", ran, 2, "", "error: ...")
+    five = TOP / "examples/five_and_five.source"
+    symbols = "START  00400 00007 0002\nTOTAL  00420 00003 0005\nNAME   00422 00002 0006\n"
+    expect("the symbols of five_and_five.source", run([PROGRAM, "assemble", "--symbols", five]), 0, symbols)
+    both = f"{symbols}\nSTART  0002 0008\nTOTAL  0005 0002 0003\nNAME   0006\n"
+    expect("both its tables", run([PROGRAM, "assemble", "--xref", five, "--symbols"]), 0, both)
     page = (TOP / "docs/FORMATS.md").read_text()
     shown = re.search(r"`ibm1401 (assemble --symbols [^`]*)` writes\n\n```text\n(.*?)```", page, re.DOTALL)
     expect("the tables of FORMATS.md", run([PROGRAM, *shown[1].split()], cwd=TOP), 0, shown[2])
@@ -232,8 +253,14 @@ def all_faults():
         source = Path(name) / "a source"
         source.write_text(FAULTY)
         lines = "".join(f"{source}:{line}\n" for line in TOLD)
-        for words in [], ["--list"], ["-o", Path(name) / "out"]:
+        for words in [], ["--list"], ["-o", Path(name) / "out"], [f"--output={name}/out"]:
             expect("assemble --all", run([PROGRAM, "assemble", "--all", source, *words]), 1, "", lines)
+        tell("assemble --all: a fault makes no file", "there is one" if (Path(name) / "out").exists() else "")
+        for text, told in FAULTS_OF_A_KIND:
+            source.write_text(text)
+            lines = "".join(f"{source}:{line}\n" for line in told)
+            expect(f"assemble --all: {told[0]}", run([PROGRAM, "assemble", "--all", source]), 1, "", lines)
+        source.write_text(FAULTY)
         expect("the first fault", run([PROGRAM, "assemble", source]), 1, "", "ibm1401: line 1: 6 OPERATION\n")
         ran = run(["bash", "-c", '"$0" assemble --all "$1" 2>/dev/full', PROGRAM, source])
         expect("assemble --all 2>/dev/full", ran, 1)

@@ -9,7 +9,7 @@ import time
 from functools import cache
 from pathlib import Path
 
-from checks.report import PROGRAM, REPLY_SECONDS, TOP, difference, expect, run, tell
+from checks.report import PROGRAM, REPLY_SECONDS, TOP, difference, expect, misuse, run, tell
 
 LINES = b"DEPOSIT 0700 ~999\nEXAMINE 0700 3\nSTART 4000\nQUIT\n"
 REPLIES = b"OK\n~999\nREFUSED 1 ADDRESS\nBYE\n"
@@ -145,12 +145,28 @@ def synced(room):
         (["resume", "--until", "1", "--journal", room / "l.journal", path], b"w" + 3 * b"wr" + b"r", REPLIES),
         (["resume", "--sync", "--until", "1", "--journal", room / "m.journal", path],
          b"fws" + 3 * b"wsr" + b"r", REPLIES),
+        (["console", "--journal", room / "q.journal", "--sync"], b"fws" + 3 * b"wsr" + b"r", REPLIES),
+        (["load", image, f"--journal={room}/r.journal", "--sync"], b"fws" + 3 * b"wsr" + b"r", REPLIES),
+        (["load", image, f"--journal={room}/s.journal"], b"w" + 3 * b"wr" + b"r", REPLIES),
+        (["resume", path, "--sync", "--until=1", f"--journal={room}/t.journal"],
+         b"fws" + 3 * b"wsr" + b"r", REPLIES),
+        (["resume", path, "--sync"], b"f" + 3 * b"wsr" + b"r", REPLIES),
+        (["resume", path, "--until", "1"], 3 * b"r" + b"r", REPLIES),
     ]:
         name = " ".join(word for word in words if isinstance(word, str))
         ran, events = noted(room, words, LINES)
         expect(f"{name}: its replies", ran, 0, replies)
         tell(f"{name}: its writes and syncs", "; ".join(difference("the order", events, order)))
-    holds("a synced journal is the same text", room / "i.journal", TEXT)
+    for each in "h", "i", "q":
+        holds("a journal is the same text, synced or not", room / f"{each}.journal", TEXT)
+    before, after = b"JOURNAL1 4000\n1\t0\tDEPOSIT 0700 ~999\tOK\n", TEXT.splitlines(keepends=True)[1:]
+    renumbered = b"".join(b"%d%s" % (number, line[1:]) for number, line in enumerate(after, 2))
+    for each in "l", "m", "t":
+        holds("so is one that goes on after a command", room / f"{each}.journal", before + renumbered)
+    before = b"JOURNAL1 4000\n1\t0\tDEPOSIT 0400 ~HI\tOK\n2\t0\tSTART 0400\tOK\n"
+    renumbered = b"".join(b"%d%s" % (number, line[1:]) for number, line in enumerate(after, 3))
+    for each in "j", "k", "r", "s":
+        holds("so is one that begins with an image", room / f"{each}.journal", before + renumbered)
 
 
 def unsynced(room):
@@ -180,14 +196,14 @@ def unsynced(room):
 
 def missync(room):
     """--sync where no journal is kept is refused before anything is read or made."""
-    missing = "error: the following required arguments were not provided:\n  --journal <NEW>\n..."
-    nothing = "error: --until keeps nothing without --journal, so --sync has nothing to write\n..."
+    missing = "the following required arguments were not provided:\n  --journal <NEW>"
+    nothing = "--until keeps nothing without --journal, so --sync has nothing to write"
     path = room / "p.journal"
     path.write_bytes(TEXT)
     for words, told in [
-        (["console", "--sync"], missing),
-        (["load", "--sync", room / "none"], missing),
-        (["resume", "--sync", "--until", "1", path], nothing),
+        (["console", "--sync"], misuse(missing, "console --journal <NEW> --sync")),
+        (["load", "--sync", room / "none"], misuse(missing, "load --journal <NEW> --sync <FILE>")),
+        (["resume", "--sync", "--until", "1", path], misuse(nothing, "resume [OPTIONS] <FILE>")),
     ]:
         name = " ".join(word for word in words if isinstance(word, str))
         expect(f"{name}: nothing is kept", run([PROGRAM, *words], LINES), 2, b"", told)

@@ -9,7 +9,7 @@ import threading
 import time
 from pathlib import Path
 
-from checks.report import PROGRAM, REPLY_SECONDS, SECONDS, TOP, difference, expect, run, tell
+from checks.report import PROGRAM, REPLY_SECONDS, SECONDS, TOP, difference, expect, misuse, run, tell
 from checks.service import answer, hear, say
 
 # How many idle connections a page may have without a delay, and how many at most.
@@ -194,16 +194,24 @@ def begun(folder):
 
 def refused(folder):
     """Ports, options and decks that are refused, before anything is made."""
-    call = [PROGRAM, "serve", "--seats", "2"]
-    for page in 79, 80:
-        text = "error: no page can be at port 80, which browsers leave out of what they send\n..."
-        expect(f"a page at port 80, from {page} on", run([*call, "--page", str(page)]), 2, "", text)
-    beyond = run([*call, "--page", "65535"])
-    expect("a page beyond the last port", beyond, 2, "", "error: the pages of all seats need ports beyond 65535\n...")
-    for wrong in "0", "65536", "x":
-        expect(f"no page at {wrong}", run([*call, "--page", wrong]), 2, "", "error: ...")
-    none = run(call)
-    expect("no port and no page", none, 2, "", "error: the following required arguments were not provided:\n...")
+    call, usage = [PROGRAM, "serve", "--seats", "2"], "serve [OPTIONS] --seats <K> <--port <P>|--page <PORT>>"
+    text = misuse("no page can be at port 80, which browsers leave out of what they send", usage)
+    for page, seats in (79, 2), (80, 2), (80, 1), (73, 8):
+        ran = run([PROGRAM, "serve", "--page", str(page), "--seats", str(seats)])
+        expect(f"a page at port 80, {seats} from {page} on", ran, 2, "", text)
+    text = misuse("the pages of all seats need ports beyond 65535", usage)
+    for page, seats in (65535, 2), (65529, 8):
+        ran = run([PROGRAM, "serve", "--page", str(page), "--seats", str(seats)])
+        expect(f"a page beyond the last port, {seats} from {page} on", ran, 2, "", text)
+    for wrong, why in [
+        ("0", "0 is not in 1..=65535"),
+        ("65536", "65536 is not in 1..=65535"),
+        ("x", "invalid digit found in string"),
+    ]:
+        text = misuse(f"invalid value '{wrong}' for '--page <PORT>': {why}")
+        expect(f"no page at {wrong}", run([*call, "--page", wrong]), 2, "", text)
+    missing = "the following required arguments were not provided:\n  <--port <P>|--page <PORT>>"
+    expect("no port and no page", run(call), 2, "", misuse(missing, usage.replace(" [OPTIONS]", "")))
     kept = folder / "none.journal"
     with socket.socket() as taken:
         taken.bind(("127.0.0.1", 0))
@@ -211,6 +219,16 @@ def refused(folder):
         port = taken.getsockname()[1]
         words = ["--page", str(port - 1), "--journal", kept]
         expect("a page's port that is taken", run([*call, *words]), 1, "", "ibm1401: port refused\n")
+    # The last port that eight pages need; where it can't be had here, it is another's, or not this user's.
+    for page in 72, 65528:
+        with socket.socket() as taken:
+            try:
+                taken.bind(("127.0.0.1", page + 7))
+                taken.listen()
+            except OSError:
+                pass
+            ran = run([PROGRAM, "serve", "--page", str(page), "--seats", "8", "--journal", kept])
+            expect(f"the last of eight ports from {page} on", ran, 1, "", "ibm1401: port refused\n")
     deck = folder / "big.cards"
     deck.write_bytes(b"A CARD\n" * 501)
     words = ["--page", str(free_ports(2)), "--journal", kept, "--cards"]

@@ -70,6 +70,12 @@ def difference(what, is_it, wanted):
     return [f"{what} is {is_it[-300:]!r}, not {wanted[-300:]!r}"]
 
 
+def misuse(error, usage=""):
+    """What a command line that can't be read is told, with the usage that it is shown, if there is one."""
+    shown = f"Usage: ibm1401 {usage}\n\n" if usage else ""
+    return f"error: {error}\n\n{shown}For more information, try '--help'.\n"
+
+
 def expect(name, ran, status=0, output="", error=""):
     """Tells whether a run ended and wrote as it should."""
     wrong = [] if ran.returncode == status else [f"status {ran.returncode}, not {status}"]

@@ -8,7 +8,7 @@ import tempfile
 import time
 from pathlib import Path
 
-from checks.report import MOST_BYTES, PROGRAM, TOP, count, difference, expect, run, tell
+from checks.report import MOST_BYTES, PROGRAM, TOP, count, difference, expect, misuse, run, tell
 
 # Columns 1 to 4 of each card are listed and punched, until it was the last one.
 LIST_AND_PUNCH = """\
@@ -25,6 +25,41 @@ LIST_AND_PUNCH = """\
                NOP
                END  START
 """
+
+# Goes on if switch G is on and B isn't; lists and punches columns 1 to 4 of a card; and goes to DONE if it was the last
+# one and switch A is on: seven steps.
+SWITCHED = """\
+               ORG  1
+               DCW  #1
+               ORG  101
+               DCW  #1
+               ORG  400
+     START     BSS  WRONG,B
+               BSS  GOOD,G
+     WRONG     H    *-3
+     GOOD      R
+               MLC  4,204
+               MLC  4,104
+               WP
+               BLC  DONE
+               H    *-3
+     DONE      H    *-3
+               NOP
+               END  START
+"""
+
+# Prints a line, and halts; and what its trace has for the two steps.
+ONE_LINE = """\
+               ORG  400
+     START     W
+               H
+               NOP
+               END  START
+"""
+STEPS = [
+    "00400\t~2       \tW                   \t00000\t00333\tPRINT 0001/01\tCARRIAGE 0001/02\n",
+    "00401\t~.       \tH                   \t00000\t00333\tHALT\n",
+]
 
 SIZE, CANNOT = "ibm1401: size refused\n", b"ibm1401: cannot write\n"
 
@@ -76,6 +111,7 @@ def running():
         faults(folder)
         denied()
         stops(folder)
+        named(folder)
         decks(folder)
         places(folder)
         outputs(folder)
@@ -108,6 +144,16 @@ def traces():
         ran = run([PROGRAM, "run", *words, "--trace", trace, "--limit", "3"])
         expect("a limit with a trace", ran, 1, "", told("LIMIT", 409, 3, shown="line 6, CC S", why=LIMIT))
         tell("a trace up to the limit", difference("it", trace.read_bytes(), b"".join(wanted.splitlines(True)[:3])))
+        source = Path(name) / "one line"
+        source.write_text(ONE_LINE)
+        for limit, status, steps, end in [
+            (9, 0, STEPS, told("HALT", 401, 2, printed=1, shown="line 3, H")),
+            (1, 1, STEPS[:1], told("LIMIT", 401, 1, printed=1, shown="line 3, H", why=LIMIT)),
+            (0, 1, [], told("LIMIT", 400, 0, shown="line 2, START W", why=LIMIT)),
+        ]:
+            ran = run([PROGRAM, "run", source, "--trace", trace, "--limit", str(limit)])
+            expect(f"a trace of {limit} steps at most", ran, status, "\n" if steps else "", end)
+            tell(f"{len(steps)} lines of it", "; ".join(difference("the trace", trace.read_bytes(), "".join(steps))))
         for out, fault in (name, name), ("/dev/full", "/dev/full"), (f"{name}/none/trace", f"{name}/none/trace"):
             ran = run([PROGRAM, "run", *words, "--trace", out, "--paper", "/dev/null"])
             expect(f"a trace to {out}", ran, 1, "", f"{cannot} {fault}\n")
@@ -204,15 +250,20 @@ def faults(folder):
     source, deck, none = folder / "source", folder / "deck", folder / "none"
     long = folder / "long"
     long.write_bytes(b" " * (MOST_BYTES + 1))
+    loop = folder / "loop"
+    loop.symlink_to(loop)
     for text, words, fault in [
         (HALT, ["--size", "1401"], "size refused"),
         (HALT, ["--cards", none], f"{none}: no such file"),
         (HALT, ["--cards", folder], f"{folder}: is a folder"),
         (HALT, ["--cards", source / "deck"], f"{source / 'deck'}: no such file"),
         (HALT, ["--cards", long], f"{long}: is larger than {MOST_BYTES} bytes"),
+        (HALT, ["--cards", loop], f"{loop}: cannot be read"),
         (HALT, ["--punch", folder], f"cannot write {folder}"),
         (HALT, ["--paper", none / "paper"], f"cannot write {none / 'paper'}"),
         ("               ZZZ\n", [], "line 1: 6 OPERATION"),
+        ("               END  4000\n", [], "line 1: 9 OUT OF CORE"),
+        ("               END  1400\n", ["--size", "1400"], "line 1: 9 OUT OF CORE"),
         ("IMAGE1 4001\n", [], "image refused: 2 HEADER"),
         ("IMAGE2 4001\n", [], "image refused: 2 HEADER"),
         ("IMAGE1 4000\n", [], "image refused: 5 TRUNCATED"),
@@ -221,10 +272,22 @@ def faults(folder):
         ran = run([PROGRAM, "run", source, *words])
         expect(f"run {' '.join(map(str, words))}: {fault}", ran, 1, "", f"ibm1401: {fault}\n")
     source.write_text(HALT)
-    for name, fault in (none, "no such file"), (folder, "is a folder"), (long, f"is larger than {MOST_BYTES} bytes"):
+    for name, fault in [
+        (none, "no such file"),
+        (folder, "is a folder"),
+        (long, f"is larger than {MOST_BYTES} bytes"),
+        (loop, "cannot be read"),
+    ]:
         expect(f"run {name} ends with 1", run([PROGRAM, "run", name]), 1, "", f"ibm1401: {name}: {fault}\n")
-    for words in [], ["a", "b"], ["--size", "x", "a"], ["--switches", "H", "a"], ["--limit", "-1", "a"]:
-        expect(f"run {' '.join(words)} ends with 2", run([PROGRAM, "run", *words]), 2, "", "error: ...")
+    missing = "the following required arguments were not provided:\n  <FILE>"
+    for words, error in [
+        ([], misuse(missing, "run <FILE>")),
+        (["a", "b"], misuse("unexpected argument 'b' found", "run [OPTIONS] <FILE>")),
+        (["--size", "x", "a"], misuse("invalid value 'x' for '--size <N>': invalid digit found in string")),
+        (["--switches", "H", "a"], misuse("the switches are letters from A to G", "run [OPTIONS] <FILE>")),
+        (["--limit", "-1", "a"], "error: unexpected argument '-1' found\n..."),
+    ]:
+        expect(f"run {' '.join(words)} ends with 2", run([PROGRAM, "run", *words]), 2, "", error)
     bad = "no card has this character"
     for text, fault in [
         ("A\n" * 6 + " " * 11 + "~\n", f"line 7, column 12: {bad}"),
@@ -264,6 +327,39 @@ def denied():
             expect(f"run {shown}, which is denied", ran, 1, "", f"ibm1401: {fault}\n")
         ran = run([PROGRAM, "disassemble", secret], **how)
         expect("disassemble of a file that is denied", ran, 1, "", f"ibm1401: {secret}: permission denied\n")
+
+
+def named(folder):
+    """A run with each of its files and numbers named, one with none of them, and places of five digits."""
+    files = [folder / each for each in ("a source", "a deck", "cards", "lines", "steps")]
+    source, deck, punch, paper, trace = files
+    source.write_text(SWITCHED)
+    deck.write_text("CARD\n")
+    names = ["--cards", deck, source, "--punch", punch, "--paper", paper, "--trace", trace]
+    call = [PROGRAM, "run", *names, "--size", "1400", "--limit"]
+    for limit, switches, status, end in [
+        ("7", "GA", 1, told("LIMIT", 439, 7, 1, 1, 1, "line 15, DONE H *-3", LIMIT)),
+        ("8", "AG", 0, told("HALT", 439, 8, 1, 1, 1, "line 15, DONE H *-3")),
+        ("8", "G", 0, told("HALT", 435, 8, 1, 1, 1, "line 14, H *-3")),
+        ("8", "A", 0, told("HALT", 410, 3, shown="line 8, WRONG H *-3")),
+        ("8", "GAB", 0, told("HALT", 410, 2, shown="line 8, WRONG H *-3")),
+    ]:
+        ran = run([*call, limit, "--switches", switches])
+        expect(f"run --limit {limit} --switches {switches}", ran, status, "", end)
+        made = "" if "410" in end else "CARD\n"
+        wrong = difference("the cards", punch.read_bytes(), made) + difference("the paper", paper.read_bytes(), made)
+        steps = len(trace.read_bytes().splitlines())
+        wrong += [] if f" after {steps} steps;" in end else [f"the trace has {steps} lines"]
+        tell(f"run --switches {switches}: its files", "; ".join(wrong))
+    source.write_text("               END  3999\n")
+    end = told("NOMARK", 3999, 0, why="no word mark at 3999")
+    expect("the last place where no size is named", run([PROGRAM, "run", source]), 1, "", end)
+    source.write_text("               ORG  400\n     START     B    START\n               END  START\n")
+    end = told("LIMIT", 400, 1_000_000_000, shown="line 2, START B START", why=LIMIT)
+    expect("1,000,000,000 steps where no limit is named", run([PROGRAM, "run", source]), 1, "", end)
+    source.write_text("IMAGE2 16000\n15999 01 ~N\nEND 15999\n")
+    end = told("LIMIT", 15999, 0, shown="NOP", why=LIMIT)
+    expect("a place of five digits", run([PROGRAM, "run", source, "--limit", "0"]), 1, "", end)
 
 
 def stops(folder):
@@ -309,6 +405,7 @@ def decks(folder):
         ("\n" * 600 + "z", "\n" * 600 + "Z\n", small),
         ("A" * 80 + "\n" + "B" * 80, "AAAA\nBBBB\n", ""),
         ("A\r\nB\r\n", "A\nB\n", ""),
+        ("A", "A\n", ""),
     ]:
         deck.write_text(text, newline="")
         count = wanted.count("\n")

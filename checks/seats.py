@@ -116,6 +116,13 @@ def misused(folder):
     alone = run([*call, "--sync"])
     expect("--sync is of a journal", alone, 2, "", "error: the following required arguments were not provided:...")
     expect("no such size", run([*call, "--keep-seats", "--size", "1401"]), 1, "", "ibm1401: size refused\n")
+    # The size is looked at before a port is had, so these are read without one.
+    for words in (
+        "--port 1401 --keep-seats --seats 8", "--page 8080 --seats 8", "--port 1401 --seats 8 --page 81",
+        "--page 72 --seats 8", "--page 79 --seats 1", "--page 65528 --seats 8", "--page 65535 --seats 1",
+    ):
+        ran = run([PROGRAM, "serve", *words.split(), "--size", "0"])
+        expect(f"serve {words} --size 0", ran, 1, "", "ibm1401: size refused\n")
     with socket.socket() as taken:
         taken.bind(("127.0.0.1", 0))
         taken.listen()
@@ -255,16 +262,51 @@ def unheard(folder):
 
 
 def unheld(_):
-    """A connection of which the system gives no second handle: it is closed, and the room goes on to its end."""
+    """A connection of which the system gives no second handle: it is closed, and the room goes on to its end, which
+    needs a handle too. So it is given more before: who waits for a connection may hold the last one meanwhile."""
+    _, most = resource.getrlimit(resource.RLIMIT_NOFILE)
 
     def few_handles():
-        resource.setrlimit(resource.RLIMIT_NOFILE, (5, 5))
+        resource.setrlimit(resource.RLIMIT_NOFILE, (5, most))
 
     room = Room("serve", "--port", "PORT", "--seats", "2", "--keep-seats", preexec_fn=few_handles)
     for turn in range(2):
         with room.console() as console:
             answer(f"a connection without a second handle, {turn}", hear(console), b"")
+    resource.prlimit(room.process.pid, resource.RLIMIT_NOFILE, (most, most))
     room.ended("a room that gave no seat", 0, status=1, error="ibm1401: thread refused\n")
+
+
+def unaccepted(_):
+    """A connection that the system doesn't accept: it has no reply, and the room goes on to its end."""
+
+    def few_handles():
+        resource.setrlimit(resource.RLIMIT_NOFILE, (4, 4))
+
+    room = Room("serve", "--port", "PORT", "--seats", "1", "--keep-seats", preexec_fn=few_handles)
+    with room.console() as console:
+        ready = select.select([console], [], [], 0.5)[0]
+        tell("a connection that isn't accepted", "it has an answer" if ready and hear(console) else "")
+    room.ended("a room that accepted none", 0, status=1, error="ibm1401: accept failed\n")
+
+
+def unread(folder):
+    """A room whose standard input can't be read is told so at its end, which is then."""
+    path = folder / "unread.journal"
+    path.write_bytes(b"JOURNAL1 4000\n1\t1\tSTART 0001\tOK\n")
+    with socket.socket() as free:
+        free.bind(("127.0.0.1", 0))
+        port = str(free.getsockname()[1])
+    for words, journal in [
+        (["serve", "--keep-seats"], 0),
+        (["serve", "--journal", folder / "unread.new"], 0),
+        (["resume", path], 1),
+    ]:
+        name = " ".join(word for word in words if isinstance(word, str))
+        inside = os.open("/", os.O_RDONLY)
+        ran = run([PROGRAM, *words, "--port", port, "--seats", "1"], stdin=inside)
+        os.close(inside)
+        expect(f"{name}: its input fails", ran, 1, f"READY\nJOURNAL {journal}\n", "ibm1401: input failed\n")
 
 
 def denied(folder):
@@ -394,5 +436,8 @@ def killed(folder):
 def seats():
     """All of these."""
     with tempfile.TemporaryDirectory() as folder:
-        for part in taken_again, begun, misused, kept, resumed, unkept, unheard, unheld, denied, unsynced, killed:
+        for part in (
+            taken_again, begun, misused, kept, resumed, unkept, unheard, unheld, unaccepted, unread, denied, unsynced,
+            killed
+        ):
             part(Path(folder))

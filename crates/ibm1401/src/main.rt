@@ -14,8 +14,6 @@ mod serving;
 mod source_faults;
 mod source_file;
 mod subcommands;
-#[cfg(test)]
-mod tests;
 
 use crate::disassembling::write_disassembly;
 use crate::fault::{Fault, report};

@@ -1,8 +1,6 @@
 //! Requests that nobody's page sends: none of them is carried out.
 
-use crate::tests::room::{Exchange, expect_answers, expect_no_command};
-use room_1401::Opened;
-use std::marker::Brand;
+use crate::tests::room::{Exchange, Work, expect_at_the_page};
 use std::test::Fail;
 
 #[test]
@@ -70,9 +68,7 @@ fn a_request_for_another_place_is_refused(rt: HostRuntime) -> Result<(), Fail> {
             "\r\n\r\n",
         ),
     ];
-    let made = expect_answers::<Brand, _>(&rt, rt.alloc(), Opened::new(3), &exchanges)?;
-    assert_eq!(rt; made, 0);
-    Ok(())
+    expect_at_the_page(&rt, rt.alloc(), Work::Answers(&exchanges), 0)
 }
 
 #[test]
@@ -177,9 +173,7 @@ fn bytes_that_are_no_request_are_refused(rt: HostRuntime) -> Result<(), Fail> {
             "\r\n\r\n",
         ),
     ];
-    let made = expect_answers::<Brand, _>(&rt, rt.alloc(), Opened::new(3), &exchanges)?;
-    assert_eq!(rt; made, 0);
-    Ok(())
+    expect_at_the_page(&rt, rt.alloc(), Work::Answers(&exchanges), 0)
 }
 
 /// The end of a head, for a request of the page's own host.
@@ -205,16 +199,14 @@ fn a_head_that_is_too_long_is_refused(rt: HostRuntime) -> Result<(), Fail> {
         (long_field.as_str(), "HTTP/1.1 431 ", "\r\n\r\n"),
         (many_fields.as_str(), "HTTP/1.1 431 ", "\r\n\r\n"),
     ];
-    let made = expect_answers::<Brand, _>(&rt, alloc, Opened::new(3), &exchanges)?;
-    assert_eq!(rt; made, 0);
-    Ok(())
+    expect_at_the_page(&rt, alloc, Work::Answers(&exchanges), 0)
 }
 
 #[test]
 fn a_damaged_request_for_a_picture_is_no_command(rt: HostRuntime) -> Result<(), Fail> {
     let request = b"GET /picture?core=0400&paper=0&after=187 HTTP/1.1\r\nHost: 127.0.0.1:8080\r\n\
         Origin: http://127.0.0.1:8080\r\nAccept: text/plain\r\n\r\n";
-    expect_no_command::<Brand, _>(&rt, rt.alloc(), Opened::new(3), request)
+    expect_at_the_page(&rt, rt.alloc(), Work::Damages(request), 0)
 }
 
 /// The number of the line isn't the seat's, and no damage of one byte makes it so.
@@ -223,5 +215,5 @@ fn a_damaged_line_that_is_out_of_turn_is_no_command(rt: HostRuntime) -> Result<(
     let request =
         b"POST /line HTTP/1.1\r\nHost: 127.0.0.1:8080\r\nOrigin: http://127.0.0.1:8080\r\n\
         X-1401-Line: 187\r\nContent-Length: 10\r\n\r\nSTART 0500";
-    expect_no_command::<Brand, _>(&rt, rt.alloc(), Opened::new(3), request)
+    expect_at_the_page(&rt, rt.alloc(), Work::Damages(request), 0)
 }

@@ -1,9 +1,7 @@
 //! The texts of pictures.
 
-use crate::tests::room::expect_pictures;
-use room_1401::Opened;
+use crate::tests::room::{Work, expect_at_the_page};
 use std::alloc::Global;
-use std::marker::Brand;
 use std::ops::RangeInclusive;
 use std::test::Fail;
 
@@ -37,9 +35,9 @@ const NEW_MACHINE: &str = "SEAT 2 OF 3 MADE 0\n\
 
 #[test]
 fn a_new_machine_has_nothing_to_show(rt: HostRuntime) -> Result<(), Fail> {
-    let (alloc, opened) = (rt.alloc(), Opened::new(3));
-    let pictures = [("?core=400&paper=0", NEW_MACHINE)];
-    expect_pictures::<Brand, _>(&rt, alloc, opened, &[], &pictures)
+    let text = format!(in rt.alloc(); "{NEW_MACHINE}")?;
+    let pictures = [("?core=400&paper=0", text)];
+    expect_at_the_page(&rt, rt.alloc(), Work::Pictures("", &pictures), 0)
 }
 
 /// A card has been read and one punched, a line printed, and the addition at 403 comes next.
@@ -71,21 +69,22 @@ const BEFORE_AN_ADDITION: &str = "SEAT 2 OF 3 MADE 8\n\
     LINE 0001 01 HELLO\n\
     ";
 
+/// What has a card read and one punched, and a line printed, and stops before the addition.
+const DECK: &str = "FEED CARD ONE\n\
+    FEED CARD TWO\n\
+    DEPOSIT 0001 ~X\n\
+    DEPOSIT 0101 TOTAL 12\n\
+    DEPOSIT 0201 HELLO\n\
+    DEPOSIT 0400 ~1~4~2~A700710~.\n\
+    START 0400\n\
+    RUN 3\n\
+    ";
+
 #[test]
 fn a_picture_shows_all_that_a_visitor_sees(rt: HostRuntime) -> Result<(), Fail> {
-    let lines = [
-        "FEED CARD ONE",
-        "FEED CARD TWO",
-        "DEPOSIT 0001 ~X",
-        "DEPOSIT 0101 TOTAL 12",
-        "DEPOSIT 0201 HELLO",
-        "DEPOSIT 0400 ~1~4~2~A700710~.",
-        "START 0400",
-        "RUN 3",
-    ];
-    let (alloc, opened) = (rt.alloc(), Opened::new(3));
-    let pictures = [("?core=400&paper=0", BEFORE_AN_ADDITION)];
-    expect_pictures::<Brand, _>(&rt, alloc, opened, &lines, &pictures)
+    let text = format!(in rt.alloc(); "{BEFORE_AN_ADDITION}")?;
+    let pictures = [("?core=400&paper=0", text)];
+    expect_at_the_page(&rt, rt.alloc(), Work::Pictures(DECK, &pictures), 8)
 }
 
 /// The machine of `LONG_PAPER`, down to its printed lines. The card that is read next is blank, and the character at
@@ -117,18 +116,17 @@ const LONG_PAPER_MACHINE: &str = "SEAT 2 OF 3 MADE 10\n\
     ";
 
 /// What punches 70 cards and prints as many lines, and then punches another card.
-const LONG_PAPER: [&str; 10] = [
-    "FEED",
-    "FEED CARD TWO",
-    "DEPOSIT 0101 FIRST",
-    "DEPOSIT 0201 X",
-    "DEPOSIT 0400 ~4~2~B400",
-    "START 0400",
-    "RUN 210",
-    "DEPOSIT 0101 LAST ",
-    "RUN 1",
-    "START 0403",
-];
+const LONG_PAPER: &str = "FEED\n\
+    FEED CARD TWO\n\
+    DEPOSIT 0101 FIRST\n\
+    DEPOSIT 0201 X\n\
+    DEPOSIT 0400 ~4~2~B400\n\
+    START 0400\n\
+    RUN 210\n\
+    DEPOSIT 0101 LAST \n\
+    RUN 1\n\
+    START 0403\n\
+    ";
 
 /// The picture of that machine with these printed lines: on the first form from one line down to the other, then those
 /// on the second form.
@@ -150,18 +148,18 @@ fn long_paper(
 
 #[test]
 fn a_picture_shows_66_printed_lines(rt: HostRuntime) -> Result<(), Fail> {
-    let (alloc, opened) = (rt.alloc(), Opened::new(3));
+    let alloc = rt.alloc();
     let from_the_first = long_paper(alloc, "0", 1..=66, 1..=0)?;
     let from_the_fourth = long_paper(alloc, "3", 4..=66, 1..=3)?;
     let from_the_tenth = long_paper(alloc, "10", 11..=66, 1..=4)?;
     let the_last = long_paper(alloc, "69", 1..=0, 4..=4)?;
     let none = long_paper(alloc, "500", 1..=0, 1..=0)?;
     let pictures = [
-        ("?core=390&paper=0", from_the_first.as_str()),
-        ("?core=390&paper=3", from_the_fourth.as_str()),
-        ("?core=390&paper=10", from_the_tenth.as_str()),
-        ("?core=390&paper=69", the_last.as_str()),
-        ("?core=390&paper=500", none.as_str()),
+        ("?core=390&paper=0", from_the_first),
+        ("?core=390&paper=3", from_the_fourth),
+        ("?core=390&paper=10", from_the_tenth),
+        ("?core=390&paper=69", the_last),
+        ("?core=390&paper=500", none),
     ];
-    expect_pictures::<Brand, _>(&rt, alloc, opened, &LONG_PAPER, &pictures)
+    expect_at_the_page(&rt, alloc, Work::Pictures(LONG_PAPER, &pictures), 10)
 }

@@ -1,8 +1,6 @@
 //! Requests at the page of a seat.
 
-use crate::tests::room::{Exchange, expect_answers, expect_statuses};
-use room_1401::Opened;
-use std::marker::Brand;
+use crate::tests::room::{Exchange, Work, expect_at_the_page};
 use std::test::Fail;
 
 #[test]
@@ -48,9 +46,7 @@ fn each_route_is_answered(rt: HostRuntime) -> Result<(), Fail> {
             "\r\n\r\n",
         ),
     ];
-    let made = expect_answers::<Brand, _>(&rt, rt.alloc(), Opened::new(3), &exchanges)?;
-    assert_eq!(rt; made, 2);
-    Ok(())
+    expect_at_the_page(&rt, rt.alloc(), Work::Answers(&exchanges), 2)
 }
 
 #[test]
@@ -61,7 +57,7 @@ fn a_picture_needs_a_window_in_core(rt: HostRuntime) -> Result<(), Fail> {
         ("?core=3401&paper=0", "HTTP/1.1 404 "),
         ("?core=15999&paper=0", "HTTP/1.1 404 "),
     ];
-    expect_statuses::<Brand, _>(&rt, rt.alloc(), Opened::new(3), &queries)
+    expect_at_the_page(&rt, rt.alloc(), Work::Statuses(&queries), 0)
 }
 
 #[test]
@@ -101,7 +97,7 @@ fn a_query_says_a_window_and_perhaps_a_count(rt: HostRuntime) -> Result<(), Fail
         ("?core=400&paper=0&after=1&after=1", "HTTP/1.1 400 "),
         ("?core=400&paper=0&after=1%20", "HTTP/1.1 400 "),
     ];
-    expect_statuses::<Brand, _>(&rt, rt.alloc(), Opened::new(3), &queries)
+    expect_at_the_page(&rt, rt.alloc(), Work::Statuses(&queries), 0)
 }
 
 #[test]
@@ -155,7 +151,5 @@ fn a_line_is_taken_once_and_from_the_own_page_alone(rt: HostRuntime) -> Result<(
             "\r\n\r\nBYE\n",
         ),
     ];
-    let made = expect_answers::<Brand, _>(&rt, rt.alloc(), Opened::new(3), &exchanges)?;
-    assert_eq!(rt; made, 1);
-    Ok(())
+    expect_at_the_page(&rt, rt.alloc(), Work::Answers(&exchanges), 1)
 }

@@ -6,6 +6,7 @@ use page_1401::{SeatPage, answer, page_config};
 use room_1401::{Command, NoKeeper, Opened, RoomId, Seat, SharedRoom};
 use std::alloc::{AllocError, AllocGlobal, Global};
 use std::hash::RandomState;
+use std::marker::Brand;
 use std::process::Abort;
 use std::random::RandomSource;
 use std::sync::Wait;
@@ -13,6 +14,23 @@ use std::test::Fail;
 
 /// A request, and what it is answered: the first bytes of the response, and the last ones.
 pub type Exchange<'a> = (&'a str, &'a str, &'a str);
+
+/// The query of a picture, and its text.
+pub type Shown<'a> = (&'a str, String);
+
+/// What is done at the page.
+#[derive(Clone, Copy)]
+pub enum Work<'a> {
+    /// These requests are answered so, one after the other.
+    Answers(&'a [Exchange<'a>]),
+    /// Pictures are asked for, each by a query, and the responses begin so.
+    Statuses(&'a [(&'a str, &'a str)]),
+    /// The lines of a text are given, each of them a command, and then pictures are asked for, each by a query, and have
+    /// these texts. Before the lines the third seat gives a command.
+    Pictures(&'a str, &'a [Shown<'a>]),
+    /// A request is sent with damages, and then the page is asked for. No command is carried out.
+    Damages(&'a [u8]),
+}
 
 /// What the browser may do with the page.
 const POLICY: &str = "default-src 'none'";
@@ -86,7 +104,7 @@ fn picture_request(alloc: Global, query: &str) -> Result<String, AllocError> {
 }
 
 /// The request that brings a line, after so many commands of the seat.
-fn line_request(alloc: Global, made: usize, line: &str) -> Result<String, AllocError> {
+fn line_request(alloc: Global, made: u64, line: &str) -> Result<String, AllocError> {
     let len = line.len();
     format!(in alloc;
         "POST /line HTTP/1.1\r\nHost: 127.0.0.1:8080\r\nOrigin: http://127.0.0.1:8080\r\n\
@@ -94,17 +112,19 @@ fn line_request(alloc: Global, made: usize, line: &str) -> Result<String, AllocE
     )
 }
 
-/// Gives lines, each of them a command.
+/// Gives the lines of a text, each of them a command.
 fn give_lines<R: Abort + AllocGlobal + RandomSource, S: Service>(
     rt: &R,
     alloc: Global,
     service: &mut S,
-    lines: &[&str],
+    lines: &str,
 ) -> Result<(), Fail> {
-    for (made, line) in lines.iter().enumerate() {
+    let mut made: u64 = 0;
+    for line in lines.lines() {
         let request = line_request(alloc, made, line)?;
         let written = ask(rt, alloc, service, request.as_bytes())?;
         assert!(rt; written.as_slice().starts_with(b"HTTP/1.1 200 "), "{line}");
+        made = made.saturating_add(1);
     }
     Ok(())
 }
@@ -114,7 +134,7 @@ fn expect_texts<R: Abort + AllocGlobal + RandomSource, S: Service>(
     rt: &R,
     alloc: Global,
     service: &mut S,
-    pictures: &[(&str, &str)],
+    pictures: &[Shown],
 ) -> Result<(), Fail> {
     for (query, text) in pictures {
         let request = picture_request(alloc, query)?;
@@ -126,25 +146,33 @@ fn expect_texts<R: Abort + AllocGlobal + RandomSource, S: Service>(
     Ok(())
 }
 
-/// Has these requests answered at the page, one after the other, and gives how many commands its seat made.
-pub fn expect_answers<J: RoomId, R: Wait + Abort + AllocGlobal + RandomSource>(
+/// Asks for pictures, each by a query, and expects these first bytes of the responses.
+fn expect_statuses<R: Abort + AllocGlobal + RandomSource, S: Service>(
     rt: &R,
     alloc: Global,
-    opened: Opened,
+    service: &mut S,
+    queries: &[(&str, &str)],
+) -> Result<(), Fail> {
+    for (query, first) in queries {
+        let request = picture_request(alloc, query)?;
+        let written = ask(rt, alloc, service, request.as_bytes())?;
+        assert!(rt;
+            written.as_slice().starts_with(first.as_bytes()),
+            "{query} {first}"
+        );
+    }
+    Ok(())
+}
+
+/// Has these requests answered, one after the other, and expects these answers.
+fn expect_answers<R: Abort + AllocGlobal + RandomSource, S: Service>(
+    rt: &R,
+    alloc: Global,
+    service: &mut S,
     exchanges: &[Exchange],
-) -> Result<u64, Fail>
-    requires history { opened.book ≡ J.book }
-    requires ledger { (opened.ledger ≡ J.name) × (opened.parts ≡ J.parts) × (J.parts ≡ J.seats) }
-    requires named { (4000 ≡ J.size) × (3 ≡ J.seats) }
-{
-    let (room, mut seats) = SharedRoom::<J, &R>::power_on(rt, alloc, 4_000, 3, opened)?;
-    let third = seats.pop().ok_or("seat 3")?;
-    let second = seats.pop().ok_or("seat 2")?;
-    let Ok(mut page) = SeatPage::new(alloc, rt, &room, second, 3, 8_080, PAGE, POLICY) else {
-        return Err(Fail::from("no page"));
-    };
+) -> Result<(), Fail> {
     for (request, first, last) in exchanges {
-        let written = ask(rt, alloc, &mut page, request.as_bytes())?;
+        let written = ask(rt, alloc, service, request.as_bytes())?;
         assert!(rt;
             written.as_slice().starts_with(first.as_bytes()),
             "{request} {first}"
@@ -154,20 +182,74 @@ pub fn expect_answers<J: RoomId, R: Wait + Abort + AllocGlobal + RandomSource>(
             "{request} {last}"
         );
     }
-    let second = page.into_seat();
-    let made = second.made();
-    assert_eq!(rt; close(room, seats, second, third)?, made);
-    Ok(made)
+    Ok(())
 }
 
-/// Gives lines at the page, each of them a command, and then asks for pictures, each by a query, and expects these
-/// texts. Before the lines the third seat has given a command.
-pub fn expect_pictures<J: RoomId, R: Wait + Abort + AllocGlobal + RandomSource>(
+/// Asks with a request that is cut off, or has another byte, at each of its places. Each is answered as HTTP or not at
+/// all.
+fn ask_damaged<R: Abort + AllocGlobal + RandomSource, S: Service>(
+    rt: &R,
+    alloc: Global,
+    service: &mut S,
+    request: &[u8],
+) -> Result<(), Fail> {
+    for place in 0..request.len() {
+        let written = ask(rt, alloc, service, &request[..place])?;
+        assert!(rt; is_http(written.as_slice()), "cut off at {place}");
+        for byte in DAMAGES {
+            let mut damaged = Vec::from_slice(alloc, request)?;
+            damaged[place] = byte;
+            let written = ask(rt, alloc, service, damaged.as_slice())?;
+            assert!(rt; is_http(written.as_slice()), "{byte} at {place}");
+        }
+    }
+    Ok(())
+}
+
+/// Does the work at a service.
+fn work_at<R: Abort + AllocGlobal + RandomSource, S: Service>(
+    rt: &R,
+    alloc: Global,
+    service: &mut S,
+    work: Work,
+) -> Result<(), Fail> {
+    match work {
+        Work::Answers(exchanges) => expect_answers(rt, alloc, service, exchanges),
+        Work::Statuses(queries) => expect_statuses(rt, alloc, service, queries),
+        Work::Pictures(lines, pictures) => {
+            give_lines(rt, alloc, service, lines)?;
+            expect_texts(rt, alloc, service, pictures)
+        }
+        Work::Damages(request) => {
+            ask_damaged(rt, alloc, service, request)?;
+            expect_page(rt, alloc, service)
+        }
+    }
+}
+
+/// Has the third seat give the commands that come before the work, and gives how many they are.
+fn give_before<J: RoomId, R: Wait + Drop, W: Wait>(
+    wait: &W,
+    room: &SharedRoom<J, R, NoKeeper>,
+    third: &mut Seat<J>,
+    work: Work,
+) -> Result<u64, Fail> {
+    match work {
+        Work::Pictures(_, _) => {
+            room.command(wait, third, Command::Registers)?;
+            Ok(1)
+        }
+        _ => Ok(0),
+    }
+}
+
+/// Does the work at the page of a room of this name, and expects that its seat makes so many commands.
+fn expect_in_room<J: RoomId, R: Wait + Abort + AllocGlobal + RandomSource>(
     rt: &R,
     alloc: Global,
     opened: Opened,
-    lines: &[&str],
-    pictures: &[(&str, &str)],
+    work: Work,
+    made: u64,
 ) -> Result<(), Fail>
     requires history { opened.book ≡ J.book }
     requires ledger { (opened.ledger ≡ J.name) × (opened.parts ≡ J.parts) × (J.parts ≡ J.seats) }
@@ -176,81 +258,28 @@ pub fn expect_pictures<J: RoomId, R: Wait + Abort + AllocGlobal + RandomSource>(
     let (room, mut seats) = SharedRoom::<J, &R>::power_on(rt, alloc, 4_000, 3, opened)?;
     let mut third = seats.pop().ok_or("seat 3")?;
     let second = seats.pop().ok_or("seat 2")?;
-    room.command(rt, &mut third, Command::Registers)?;
+    let before = give_before(rt, &room, &mut third, work)?;
     let Ok(mut page) = SeatPage::new(alloc, rt, &room, second, 3, 8_080, PAGE, POLICY) else {
         return Err(Fail::from("no page"));
     };
-    give_lines(rt, alloc, &mut page, lines)?;
-    expect_texts(rt, alloc, &mut page, pictures)?;
+    work_at(rt, alloc, &mut page, work)?;
     let second = page.into_seat();
-    let made = second.made();
-    assert_eq!(rt; made, lines.len() as u64);
-    assert_eq!(rt; close(room, seats, second, third)?, made + 1);
+    assert_eq!(rt; second.made(), made);
+    let recorded = close(room, seats, second, third)?;
+    assert_eq!(rt; Some(recorded), made.checked_add(before));
     Ok(())
 }
 
-/// Asks for pictures, each by a query, and expects these first bytes of the responses.
-pub fn expect_statuses<J: RoomId, R: Wait + Abort + AllocGlobal + RandomSource>(
+/// Does the work at the page of a new room, and expects that its seat makes so many commands, and that the room's
+/// journal has these and no others but those that come before the work.
+pub fn expect_at_the_page<R: Wait + Abort + AllocGlobal + RandomSource>(
     rt: &R,
     alloc: Global,
-    opened: Opened,
-    queries: &[(&str, &str)],
-) -> Result<(), Fail>
-    requires history { opened.book ≡ J.book }
-    requires ledger { (opened.ledger ≡ J.name) × (opened.parts ≡ J.parts) × (J.parts ≡ J.seats) }
-    requires named { (4000 ≡ J.size) × (3 ≡ J.seats) }
-{
-    let (room, mut seats) = SharedRoom::<J, &R>::power_on(rt, alloc, 4_000, 3, opened)?;
-    let third = seats.pop().ok_or("seat 3")?;
-    let second = seats.pop().ok_or("seat 2")?;
-    let Ok(mut page) = SeatPage::new(alloc, rt, &room, second, 3, 8_080, PAGE, POLICY) else {
-        return Err(Fail::from("no page"));
-    };
-    for (query, first) in queries {
-        let request = picture_request(alloc, query)?;
-        let written = ask(rt, alloc, &mut page, request.as_bytes())?;
-        assert!(rt;
-            written.as_slice().starts_with(first.as_bytes()),
-            "{query} {first}"
-        );
-    }
-    let second = page.into_seat();
-    assert_eq!(rt; close(room, seats, second, third)?, 0);
-    Ok(())
-}
-
-/// Asks with a request that is cut off, or has another byte, at each of its places, and then for the page. Each is
-/// answered as HTTP or not at all, and no command is carried out.
-pub fn expect_no_command<J: RoomId, R: Wait + Abort + AllocGlobal + RandomSource>(
-    rt: &R,
-    alloc: Global,
-    opened: Opened,
-    request: &[u8],
-) -> Result<(), Fail>
-    requires history { opened.book ≡ J.book }
-    requires ledger { (opened.ledger ≡ J.name) × (opened.parts ≡ J.parts) × (J.parts ≡ J.seats) }
-    requires named { (4000 ≡ J.size) × (3 ≡ J.seats) }
-{
-    let (room, mut seats) = SharedRoom::<J, &R>::power_on(rt, alloc, 4_000, 3, opened)?;
-    let third = seats.pop().ok_or("seat 3")?;
-    let second = seats.pop().ok_or("seat 2")?;
-    let Ok(mut page) = SeatPage::new(alloc, rt, &room, second, 3, 8_080, PAGE, POLICY) else {
-        return Err(Fail::from("no page"));
-    };
-    for place in 0..request.len() {
-        let written = ask(rt, alloc, &mut page, &request[..place])?;
-        assert!(rt; is_http(written.as_slice()), "cut off at {place}");
-        for byte in DAMAGES {
-            let mut damaged = Vec::from_slice(alloc, request)?;
-            damaged[place] = byte;
-            let written = ask(rt, alloc, &mut page, damaged.as_slice())?;
-            assert!(rt; is_http(written.as_slice()), "{byte} at {place}");
-        }
-    }
-    expect_page(rt, alloc, &mut page)?;
-    let second = page.into_seat();
-    assert_eq!(rt; close(room, seats, second, third)?, 0);
-    Ok(())
+    work: Work,
+    made: u64,
+) -> Result<(), Fail> {
+    let opened = Opened::new(3);
+    expect_in_room::<Brand, R>(rt, alloc, opened, work, made)
 }
 
 /// Whether these bytes are a response, or nothing.
