@@ -245,8 +245,28 @@ def refused(folder):
     room.ended("a full hopper", 500, error=f"ibm1401: {deck}: small letters are read as capitals\n")
 
 
+def unheard(folder):
+    """Pages whose standard output takes nothing: they aren't opened, or the journal can't be told at their end."""
+    new, port = folder / "unheard.journal", free_ports(1)
+    for words in ["serve"], ["serve", "--journal", new]:
+        name = " ".join(["serve", "--page", *words[1:2]])
+        for output in ">&-", "> /dev/full":
+            call = ["bash", "-c", f'"$0" "$@" {output}', PROGRAM, *words, "--seats", "1", "--page", port]
+            ran = run([str(word) for word in call])
+            expect(f"{name} {output}: READY can't be written", ran, 1, "", "ibm1401: cannot write\n")
+            new.unlink(missing_ok=True)
+    room = Pages(1, "--journal", new)
+    room.process.stdout.close()
+    same("a line at a page whose room's output was closed", room.give(1, 0, b"START 2")[0], 200)
+    room.process.stdin.write(b"QUIT\n")
+    room.process.stdin.close()
+    error, status = room.process.stderr.read(), room.process.wait(SECONDS)
+    same("a journal of pages that can't be told", (status, error), (1, b"ibm1401: cannot write\n"))
+    same("but it is kept", new.read_bytes(), b"JOURNAL1 4000\n1\t1\tSTART 0002\tOK\n")
+
+
 def page_seats():
     """All of these."""
     with tempfile.TemporaryDirectory() as folder:
-        for part in whoever_comes_first, many_wait, begun, refused:
+        for part in whoever_comes_first, many_wait, begun, refused, unheard:
             part(Path(folder))
