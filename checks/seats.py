@@ -262,8 +262,9 @@ def unheard(folder):
 
 
 def unheld(_):
-    """A connection of which the system gives no second handle: it is closed, and the room goes on to its end, which
-    needs a handle too. So it is given more before: who waits for a connection may hold the last one meanwhile."""
+    """A connection for which the system gives no second handle is closed, and the room goes on. Its end needs a handle
+    too, which whoever waits for a connection may hold, so the limit is raised before the end: the end at the limit
+    itself isn't tried."""
     _, most = resource.getrlimit(resource.RLIMIT_NOFILE)
 
     def few_handles():
