@@ -1,22 +1,21 @@
 -- What is kept of decoded instructions, when word marks change.
-use Rattle.std.proofs.Common.{◌≡◌, ◌≢◌, ◌⊎◌, ℕ, ◌+◌, ◌-◌, ◌==◌, ◌<◌, ◌≤◌, min, Bool, true, false, List, length, set}
+use Rattle.std.proofs.Common.{◌≡◌, ◌≢◌, ◌⊎◌, ℕ, ◌+◌, ◌-◌, ◌==◌, ◌<◌, ◌≤◌, min, max, Bool, true, false, List, length, set}
 use Rattle.std.proofs.Common.{Option, None, Some, Result, Ok, Err, IfOk, OnErr, IfSome, is_ok, if◌then◌else◌}
-use Rattle.std.proofs.Common.{slice_index_or, inl, inr, refl, ap, sym, ◌∙◌, arith, replicate, subst}
+use Rattle.std.proofs.Common.{slice_index_or, inl, inr, ap, sym, ◌∙◌, ◌%◌, arith, subst}
 use Rattle.std.proofs.lemmas.Bool.{cases_eq, cases_lt, false≢true, lt-ltb, le-ltb}
 use Rattle.std.proofs.lemmas.Bool.Decides.{nat_tests}
-use Rattle.std.proofs.lemmas.List.{ext_get_or, length-map, get_or-replicate, get_or-set_other, get_or-set_same, get_or_past, length-replicate, length-set}
-use Rattle.std.specs.Int.{bit_at, to_le_bytes, w64}
-use Rattle.std.proofs.lemmas.Nat.{le_bytes_8}
+use Rattle.std.proofs.lemmas.List.{ext_get_or, length-map, get_or-set_other, get_or-set_same, length-set}
+use Rattle.std.specs.Int.{bit_at}
 use Rattle.std.proofs.Math.ListN.{get_or-map}
 use Rattle.bcd_1401.specs.declared.cell.Cell.{Cell}
-use Rattle.core_1401.specs.EightCells.{AreEightCells, AreEightCodes, codes_at}
+use Rattle.core_1401.specs.EightCells.{AreEightCells, AreEightCodes}
 use Rattle.core_1401.specs.PlaceSet.{has_place}
 use Rattle.core_1401.specs.Address.{addresses}
 use Rattle.core_1401.specs.Field.{field_len_of}
 use Rattle.core_1401.specs.Storage.{Storage, blank, cell_at, with_char, with_mark}
 use Rattle.cpu_1401.specs.declared.cache_entry.CacheEntry.{CacheEntry}
-use Rattle.cpu_1401.specs.Kept.{no_codes, IsKept, IsCurrent, AreCovered, IsPart, IsApart, lowest_written}
-use Rattle.cpu_1401.proofs.DecodedLemmas.{code_at}
+use Rattle.cpu_1401.specs.Kept.{entry_count, IsKept, IsCurrent, AreBetween, AreCovered, AreInside, IsPart, IsApart}
+use Rattle.cpu_1401.specs.Kept.{lowest_written}
 use Rattle.fields_1401.specs.Across.{IsSameBeside, IsSameOutside}
 use Rattle.fields_1401.specs.Places.{is_within, marks_of}
 use Rattle.fields_1401.specs.Outcome.{CarriesOut, Outcome, below_by}
@@ -29,78 +28,99 @@ use Rattle.fields_1401.specs.declared.done.FieldStop.TheVariants.{Address}
 pub mark_at : (s : Storage) (at : ℕ) → slice_index_or (marks_of s) at false ≡ (cell_at s at).mark
 mark_at s at = get_or-map (λ (cell : Cell). cell.mark) s at blank
 
--- nothing is kept in empty entries
-pub none_kept : (entries : List CacheEntry) (n at : ℕ) (none entry : CacheEntry) → entries ≡ replicate n none
-    → none.cells.codes ≡ no_codes → IsKept entries at entry → ⊥
-none_kept entries n at none entry e empty kept =
-    let inside : at < n = omega (arith, kept.inside, ap length e, length-replicate n none) in
-    let is : entry ≡ none =
-    sym kept.is ∙ ap (λ (l : List CacheEntry). slice_index_or l at entry) e ∙ get_or-replicate n at none entry inside in
-    kept.some (ap (λ (c : CacheEntry). c.cells.codes) is ∙ empty)
+-- the entry of a place keeps the instruction there, if it has that place
+pub found : (entries : List CacheEntry) (at k : ℕ) (entry : CacheEntry) → length entries ≡ entry_count
+    → at < addresses → k ≡ at % entry_count → entry ≡ slice_index_or entries k entry → entry.at ≡ at
+    → IsKept entries at entry
+found entries at k entry all some is e there = record {
+  some = some;
+  inside = omega (arith, all);
+  is = ap (λ (q : ℕ). slice_index_or entries q entry) (sym is) ∙ sym e;
+  there = there;
+}
 
 -- the cells of an instruction that is kept are there, if its codes are
 pub are_cells : (entries : List CacheEntry) (s : Storage) (at codes : ℕ) (entry : CacheEntry) → IsKept entries at entry
-    → IsCurrent entries (marks_of s) → AreEightCodes s at codes → codes ≡ entry.cells.codes
-    → AreEightCells s at entry.cells.codes entry.cells.marks
+    → IsCurrent entries (marks_of s) → AreEightCodes s at codes → codes ≡ entry.codes
+    → AreEightCells s at entry.codes entry.marks
 are_cells entries s at codes entry kept current are e = record {
   are_bytes = sym e ∙ are.are_bytes;
   are_codes = are.are_codes;
   are_bits = λ i lt. current at entry kept i lt ∙ mark_at s (at + i);
 }
 
--- and those of no eight characters are those of an empty entry
-small : (s : Storage) (at codes : ℕ) → AreEightCodes s at codes → (i : ℕ) → slice_index_or (codes_at s at) i 0 < 256
-small s at codes are i =
-    elim (cases_lt i 8) [
-      | inl lt ↦ omega (arith, code_at s at i lt, are.are_codes i lt)
-      | inr past ↦ omega (arith, get_or_past (codes_at s at) i 0 past)
-    ]
+-- an entry that is put in place of another keeps what it says, and nothing else is kept that wasn't
+pub kept_beside : (entries : List CacheEntry) (k at : ℕ) (new entry : CacheEntry) → new.at ≢ at
+    → IsKept (set entries k new) at entry → IsKept entries at entry
+kept_beside entries k at new entry other kept =
+    let place : ℕ = at % entry_count in
+    let inside : place < length entries = omega (arith, kept.inside, length-set entries k new) in
+    let apart : place ≢ k = λ e.
+    let is : new ≡ entry =
+    sym (get_or-set_same entries k new entry (omega (arith, inside, e)))
+    ∙ ap (λ (q : ℕ). slice_index_or (set entries k new) q entry) (sym e) ∙ kept.is in
+    other (ap (λ (c : CacheEntry). c.at) is ∙ kept.there) in
+    record {
+      some = kept.some;
+      inside = inside;
+      is = sym (get_or-set_other entries k place new entry apart) ∙ kept.is;
+      there = kept.there;
+    }
 
-pub some_codes : (s : Storage) (at codes : ℕ) → AreEightCodes s at codes → codes ≢ no_codes
-some_codes s at codes are e =
-    let first : slice_index_or (to_le_bytes w64 no_codes) 0 0 ≡ slice_index_or (codes_at s at) 0 0 =
-    ap (λ (l : List ℕ). slice_index_or l 0 0)
-    (le_bytes_8 (codes_at s at) no_codes refl (small s at codes are) (sym e ∙ are.are_bytes)) in
-    omega (arith, first, code_at s at 0 (omega arith), are.are_codes 0 (omega arith))
-
--- an instruction that is put in an entry, beside those that are kept
-pub kept_beside : (entries : List CacheEntry) (place at : ℕ) (new entry : CacheEntry) → at ≢ place
-    → IsKept (set entries place new) at entry → IsKept entries at entry
-kept_beside entries place at new entry other kept = record {
-  inside = omega (arith, kept.inside, length-set entries place new);
-  is = sym (get_or-set_other entries place at new entry other) ∙ kept.is;
-  some = kept.some;
-}
-
-pub kept_there : (entries : List CacheEntry) (place at : ℕ) (new entry : CacheEntry) → at ≡ place
-    → IsKept (set entries place new) at entry → new ≡ entry
-kept_there entries place at new entry here kept =
-    let inside : place < length entries = omega (arith, kept.inside, here, length-set entries place new) in
-    sym (ap (λ (q : ℕ). slice_index_or (set entries place new) q entry) here
-    ∙ get_or-set_same entries place new entry inside) ∙ kept.is
+pub kept_there : (entries : List CacheEntry) (k at : ℕ) (new entry : CacheEntry) → at % entry_count ≡ k
+    → IsKept (set entries k new) at entry → new ≡ entry
+kept_there entries k at new entry here kept =
+    let inside : k < length entries = omega (arith, kept.inside, here, length-set entries k new) in
+    sym (ap (λ (q : ℕ). slice_index_or (set entries k new) q entry) here
+    ∙ get_or-set_same entries k new entry inside) ∙ kept.is
 
 -- it has its own word marks
-pub current_kept : (entries : List CacheEntry) (s : Storage) (place : ℕ) (new : CacheEntry)
-    → IsCurrent entries (marks_of s) → AreEightCells s place new.cells.codes new.cells.marks
-    → IsCurrent (set entries place new) (marks_of s)
-current_kept entries s place new current are =
+pub current_kept : (entries : List CacheEntry) (s : Storage) (place : ℕ) (new : CacheEntry) → new.at ≡ place
+    → IsCurrent entries (marks_of s) → AreEightCells s place new.codes new.marks
+    → IsCurrent (set entries (place % entry_count) new) (marks_of s)
+current_kept entries s place new own current are =
+    let k : ℕ = place % entry_count in
     λ at entry kept. elim (cases_eq at place) [
       | inl here ↦ λ i lt.
-          ap (λ (e : CacheEntry). bit_at e.cells.marks i == 1) (sym (kept_there entries place at new entry here kept))
+          ap (λ (e : CacheEntry). bit_at e.marks i == 1)
+          (sym (kept_there entries k at new entry (ap (λ (q : ℕ). q % entry_count) here) kept))
           ∙ are.are_bits i lt ∙ sym (mark_at s (place + i))
           ∙ ap (λ (q : ℕ). slice_index_or (marks_of s) (q + i) false) (sym here)
-      | inr other ↦ current at entry (kept_beside entries place at new entry other kept)
+      | inr other ↦ current at entry (kept_beside entries k at new entry (λ e. other (sym e ∙ own)) kept)
     ]
 
--- and is covered
+-- is covered
 pub covered_kept : (entries : List CacheEntry) (before covered : List ℕ) (place : ℕ) (new : CacheEntry)
-    → AreCovered entries before → ((i : ℕ) → i < 8 → has_place covered (place + i) ≡ true)
+    → new.at ≡ place → AreCovered entries before → ((i : ℕ) → i < 8 → has_place covered (place + i) ≡ true)
     → ((q : ℕ) → has_place before q ≡ true → has_place covered q ≡ true)
-    → AreCovered (set entries place new) covered
-covered_kept entries before covered place new all there more =
+    → AreCovered (set entries (place % entry_count) new) covered
+covered_kept entries before covered place new own all there more =
     λ at entry kept i lt. elim (cases_eq at place) [
       | inl here ↦ ap (λ (q : ℕ). has_place covered (q + i)) here ∙ there i lt
-      | inr other ↦ more (at + i) (all at entry (kept_beside entries place at new entry other kept) i lt)
+      | inr other ↦ more (at + i)
+          (all at entry (kept_beside entries (place % entry_count) at new entry (λ e. other (sym e ∙ own)) kept) i lt)
+    ]
+
+-- and inside
+pub inside_kept : (entries : List CacheEntry) (size place : ℕ) (new : CacheEntry) → new.at ≡ place → place + 8 < size
+    → AreInside entries size → AreInside (set entries (place % entry_count) new) size
+inside_kept entries size place new own within all =
+    λ at entry kept. elim (cases_eq at place) [
+      | inl here ↦ omega (arith, here, within)
+      | inr other ↦
+          all at entry (kept_beside entries (place % entry_count) at new entry (λ e. other (sym e ∙ own)) kept)
+    ]
+
+-- and between the first place and the last
+pub between_kept : (entries : List CacheEntry) (first last from to place : ℕ) (new : CacheEntry) → new.at ≡ place
+    → from ≡ min first place → to ≡ max last (place + 7) → AreBetween entries first last
+    → AreBetween (set entries (place % entry_count) new) from to
+between_kept entries first last from to place new own from_is to_is all =
+    λ at entry kept. elim (cases_eq at place) [
+      | inl here ↦ (omega (arith, here, from_is), omega (arith, here, to_is))
+      | inr other ↦
+          let h = all at entry (kept_beside entries (place % entry_count) at new entry (λ e. other (sym e ∙ own)) kept) in
+          (omega (arith, h.0, from_is), omega (arith, h.1, to_is))
     ]
 
 -- where no place is covered no instruction is kept
@@ -120,42 +140,6 @@ apart_uncovered entries covered low high all order none =
               ∙ all at entry kept 0 (omega arith)))
         ]
       ]
-    ]
-
--- entries that are emptied
-pub record AreEmptied (old new : List CacheEntry) (from to : ℕ) : Type 0 where
-  pub count : length new ≡ length old
-  pub inside : (at : ℕ) → (none : CacheEntry) → from ≤ at → at < to
-      → (slice_index_or new at none).cells.codes ≡ no_codes
-  pub others : (at : ℕ) → (none : CacheEntry) → (at < from) ⊎ (to ≤ at)
-      → slice_index_or new at none ≡ slice_index_or old at none
-
-not_emptied : (old new : List CacheEntry) (from to at : ℕ) (entry : CacheEntry) → AreEmptied old new from to
-    → IsKept new at entry → (at < from) ⊎ (to ≤ at)
-not_emptied old new from to at entry emptied kept =
-    elim (cases_lt at from) [
-      | inl before ↦ inl before
-      | inr le ↦ elim (cases_lt at to) [
-        | inl within ↦ absurd (kept.some (ap (λ (e : CacheEntry). e.cells.codes) (sym kept.is)
-            ∙ emptied.inside at entry le within))
-        | inr behind ↦ inr behind
-      ]
-    ]
-
-pub part_emptied : (old new : List CacheEntry) (from to : ℕ) → AreEmptied old new from to → IsPart old new
-part_emptied old new from to emptied =
-    λ at entry kept. record {
-      inside = omega (arith, kept.inside, emptied.count);
-      is = sym (emptied.others at entry (not_emptied old new from to at entry emptied kept)) ∙ kept.is;
-      some = kept.some;
-    }
-
-pub apart_emptied : (old new : List CacheEntry) (from to low high : ℕ) → AreEmptied old new from to
-    → to ≡ min (high + 1) (length old) → from ≡ min (low - min low 7) to → low ≤ high → IsApart new low high
-apart_emptied old new from to low high emptied to_is from_is order =
-    λ at entry kept. elim (not_emptied old new from to at entry emptied kept) [
-      | inl before ↦ inl (omega (arith, before, from_is))
-      | inr behind ↦ inr (omega (arith, behind, to_is, kept.inside, emptied.count))
     ]
 
 -- what is left is still covered

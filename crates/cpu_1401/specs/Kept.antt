@@ -1,19 +1,30 @@
 -- The instructions that are kept decoded, beside the word marks of core storage (own).
-use Rattle.std.specs.Prelude.{◌≡◌, ◌≢◌, ◌⊎◌, ℕ, ◌+◌, ◌-◌, ◌^◌, ◌==◌, ◌<◌, Bool, true, false, List, length}
+use Rattle.std.specs.Prelude.{◌≡◌, ◌⊎◌, ℕ, ◌+◌, ◌-◌, ◌^◌, ◌%◌, ◌==◌, ◌<◌, ◌≤◌, Bool, true, false, List, length}
 use Rattle.std.specs.Prelude.{slice_index_or, if◌then◌else◌, nat_lt}
 use Rattle.std.specs.Int.{bit_at}
+use Rattle.core_1401.specs.Address.{addresses}
 use Rattle.core_1401.specs.PlaceSet.{has_place}
 use Rattle.cpu_1401.specs.declared.cache_entry.CacheEntry.{CacheEntry}
 
--- the codes of an entry that keeps nothing: no eight characters have them
-abbrev pub no_codes : ℕ
-no_codes = 2 ^ 64 - 1
+-- how many instructions are kept at most
+abbrev pub entry_count : ℕ
+entry_count = 1024
 
--- the entry of a place keeps an instruction
+-- the place of an entry that keeps nothing: no address has it
+abbrev pub no_place : ℕ
+no_place = 2 ^ 16 - 1
+
+-- what is kept of a core of some size
+pub record Kept : Type 0 where
+  pub entries : List CacheEntry
+  pub size : ℕ
+
+-- An entry keeps the instruction at a place: it is the one that the place shares with all that have the same remainder.
 pub record IsKept (entries : List CacheEntry) (at : ℕ) (entry : CacheEntry) : Type 0 where
-  pub inside : at < length entries
-  pub is : slice_index_or entries at entry ≡ entry
-  pub some : entry.cells.codes ≢ no_codes
+  pub some : at < addresses
+  pub inside : at % entry_count < length entries
+  pub is : slice_index_or entries (at % entry_count) entry ≡ entry
+  pub there : entry.at ≡ at
 
 -- eight word marks from a place up are the bits of a number, the first the lowest
 abbrev pub AreMarks : List Bool → ℕ → ℕ → Type 0
@@ -22,7 +33,16 @@ AreMarks marks at number = (i : ℕ) → i < 8 → (bit_at number i == 1) ≡ sl
 -- each instruction that is kept has the word marks that are there
 abbrev pub IsCurrent : List CacheEntry → List Bool → Type 0
 IsCurrent entries marks =
-    (at : ℕ) → (entry : CacheEntry) → IsKept entries at entry → AreMarks marks at entry.cells.marks
+    (at : ℕ) → (entry : CacheEntry) → IsKept entries at entry → AreMarks marks at entry.marks
+
+-- the cells of each instruction that is kept are in core, and a place behind them
+abbrev pub AreInside : List CacheEntry → ℕ → Type 0
+AreInside entries size = (at : ℕ) → (entry : CacheEntry) → IsKept entries at entry → at + 8 < size
+
+-- the cells of each instruction that is kept are from one place to another
+abbrev pub AreBetween : List CacheEntry → ℕ → ℕ → Type 0
+AreBetween entries first last =
+    (at : ℕ) → (entry : CacheEntry) → IsKept entries at entry → (first ≤ at) × (at + 7 ≤ last)
 
 -- the cells of each instruction that is kept are covered
 abbrev pub AreCovered : List CacheEntry → List ℕ → Type 0

@@ -5,30 +5,32 @@ ghost use Rattle.cpu_1401.specs.Decoded.{AlwaysSay};
 use crate::decoded::{Address, Decoded, Source};
 use crate::operation::Operation;
 use bcd_1401::Char;
-use core_1401::EightCells;
 
-/// Eight cells, and the instruction that they are.
+/// The place of an entry that keeps nothing: no address has it.
+pub(crate) const NO_PLACE: u16 = u16::MAX;
+
+/// The codes and the word marks of eight cells, the instruction that they are, and the place at which it was decoded: 32
+/// bytes.
 #[derive(Clone, Copy)]
 pub(crate) struct CacheEntry {
-    pub(crate) cells: EightCells,
+    pub(crate) codes: u64,
     pub(crate) decoded: Decoded,
-    ghost says: { AlwaysSay cells.codes cells.marks decoded },
+    pub(crate) at: u16,
+    pub(crate) marks: u8,
+    ghost says: { AlwaysSay codes marks decoded },
 }
 
 impl CacheEntry {
-    /// The entry that keeps nothing: no eight characters have its codes.
+    /// The entry that keeps nothing. Its codes are those of no eight characters.
     pub(crate) fn empty() -> CacheEntry
-        ensures { result.cells.codes ≡ 2 ^ 64 - 1 }
+        ensures { result.at ≡ 2 ^ 16 - 1 }
     {
         let none = Address {
             value: 0,
             register: 0,
         };
         CacheEntry {
-            cells: EightCells {
-                codes: u64::MAX,
-                marks: 0,
-            },
+            codes: u64::MAX,
             decoded: Decoded {
                 operation: Operation::NoOperation,
                 len: 1,
@@ -38,6 +40,8 @@ impl CacheEntry {
                 source: Source::Unasked,
                 is_ready: true,
             },
+            at: NO_PLACE,
+            marks: 0,
         }
     }
 }

@@ -1,78 +1,93 @@
 //! A cache of decoded instructions: one that is carried out again isn't decoded again.
-ghost use Rattle.std.specs.Prelude.{◌≡◌, ◌⊎◌, ℕ, ◌+◌, ◌<◌, ◌≤◌, Bool, List, true, IfOk, IfSome, length};
-ghost use Rattle.std.specs.Prelude.{slice_index_or};
+ghost use Rattle.std.specs.Prelude.{◌≡◌, ◌⊎◌, ℕ, ◌+◌, ◌%◌, ◌<◌, ◌≤◌, Bool, List, true, IfOk, IfSome, length};
 ghost use Rattle.core_1401.specs.Address.{addresses};
 ghost use Rattle.core_1401.specs.PlaceSet.{has_place};
 ghost use Rattle.cpu_1401.specs.declared.cache_entry.CacheEntry.{CacheEntry};
 ghost use Rattle.cpu_1401.specs.Decoded.{Says};
-ghost use Rattle.cpu_1401.specs.Kept.{IsApart, IsCurrent, IsPart, lowest_written, no_codes};
+ghost use Rattle.cpu_1401.specs.Kept.{IsApart, IsCurrent, IsKept, IsPart, entry_count, lowest_written};
 ghost use Rattle.fields_1401.specs.Places.{marks_of};
 
-use crate::cache_entry::CacheEntry;
+use crate::cache_entry::{CacheEntry, NO_PLACE};
 use crate::decoded::Decoded;
 use core_1401::{ADDRESSES, Core, PlaceSet};
 use std::alloc::{AllocError, Global};
 use std::marker::Model;
 
+/// How many instructions are kept at most: 32 KB of them. A loop that is no longer than so many places is kept whole.
+const ENTRIES: u16 = 1024;
+
 /// How many cells an entry has after its first.
 const MORE_CELLS: u16 = 7;
 
-/// A decode cache: for each place but the last eight, the last instruction decoded there, with its eight cells.
-/// So the next instruction begins at a place too.
+/// How many places `has_none_near` answers for.
+const NEAR_PLACES: u16 = 64;
+
+/// A decode cache: the instructions decoded last, each with its eight cells, in the entry of its place. Places with the
+/// same remainder by the number of entries share one. None is kept at the last eight places, so the next instruction
+/// begins at a place too.
 ///
-/// An instruction is found by its characters alone: who changes a word mark has what is kept of it forgotten. A bit for
-/// each place tells whether it may be a cell of an instruction that is kept. Contracts see the entries.
+/// An instruction is found by its place and its characters: who changes a word mark has what is kept of it forgotten. A
+/// bit for each place tells whether it may be a cell of an instruction that is kept. Contracts see the entries, and the
+/// size of the core that they are of.
 #[derive(Drop)]
 pub(crate) struct DecodeCache {
     entries: Vec<CacheEntry>,
     covered: PlaceSet,
+    // No instruction that is kept has a cell below the first place, nor above the last. Most of what a program writes is
+    // on one side of its instructions.
+    first: u16,
+    last: u16,
+    size: u16,
 }
 
 impl Model for DecodeCache {
-    ghost use Rattle.std.specs.Prelude.{List};
-    ghost use Rattle.cpu_1401.specs.declared.cache_entry.CacheEntry.{CacheEntry};
-    ghost use Rattle.cpu_1401.specs.Kept.{AreCovered};
+    ghost use Rattle.std.specs.Prelude.{◌≡◌, length};
+    ghost use Rattle.cpu_1401.specs.Kept.{AreBetween, AreCovered, AreInside, Kept, entry_count};
 
-    ghost Value = { List CacheEntry };
+    ghost Value = { Kept };
 
-    ghost view = { λ cache. cache.entries.items };
+    ghost view = { λ cache. record { entries = cache.entries.items; size = cache.size } };
 
-    ghost invariant = { λ cache. AreCovered cache.entries.items cache.covered };
+    ghost invariant = { λ cache.
+        (length cache.entries.items ≡ entry_count) × AreCovered cache.entries.items cache.covered
+        × AreInside cache.entries.items cache.size × AreBetween cache.entries.items cache.first cache.last };
 }
 
 impl DecodeCache {
-    /// A cache with an empty entry for each place of a core of this size but the last eight.
+    /// A cache that keeps nothing, of a core of this size.
     ///
     /// # Errors
     ///
     /// An allocation that was refused.
     pub(crate) fn none(alloc: Global, size: u16) -> Result<DecodeCache, AllocError>
-        requires { 8 ≤ size }
-        ensures size { IfOk result (λ cache. length cache + 8 ≡ size) }
-        ensures current { IfOk result (λ cache. (marks : List Bool) → IsCurrent cache marks) }
+        ensures size { IfOk result (λ cache. cache.size ≡ size) }
+        ensures current { IfOk result (λ cache. (marks : List Bool) → IsCurrent cache.entries marks) }
     {
-        let entries = vec![in alloc; CacheEntry::empty(); usize::from(size - 8)]?;
+        let entries = vec![in alloc; CacheEntry::empty(); usize::from(ENTRIES)]?;
         Ok(DecodeCache {
             entries,
             covered: PlaceSet::none(),
+            first: NO_PLACE,
+            last: 0,
+            size,
         })
     }
 
     /// The instruction at a place, if it was decoded there from the same cells that are there now.
     #[inline(always)]
     pub(crate) fn find(&self, core: &Core, at: u16) -> Option<&Decoded>
-        requires size { length self.now + 8 ≤ length core.now }
-        requires current { IsCurrent self.now (marks_of core.now) }
+        requires place { at < addresses }
+        requires size { self.now.size ≤ length core.now }
+        requires current { IsCurrent self.now.entries (marks_of core.now) }
         ensures says { IfSome result (λ decoded. Says core.now at decoded.now) }
         ensures inside { IfSome result (λ decoded. at + decoded.now.len < addresses) }
     {
-        let place = usize::from(at);
-        if place >= self.entries.len() {
+        let entry = &self.entries[entry_of(at)];
+        if entry.at != at {
             return None;
         }
         prove!(core.size() <= ADDRESSES);
-        let entry = &self.entries[place];
-        if core.eight_codes(at) != entry.cells.codes {
+        if core.eight_codes(at) != entry.codes {
             return None;
         }
         Some(&entry.decoded)
@@ -81,22 +96,26 @@ impl DecodeCache {
     /// Keeps the instruction at a place, but not at the last eight places.
     #[tactic(auto, using(crate::proofs::DecodedLemmas::always_say))]
     pub(crate) fn keep(&mut self, core: &Core, at: u16, decoded: &Decoded)
-        requires size { length self.old + 8 ≤ length core.now }
+        requires size { self.old.size ≤ length core.now }
+        requires place { at < addresses }
         requires says { Says core.now at decoded.now }
-        requires current { IsCurrent self.old (marks_of core.now) }
-        ensures size { length self.new ≡ length self.old }
-        ensures current { IsCurrent self.new (marks_of core.now) }
+        requires current { IsCurrent self.old.entries (marks_of core.now) }
+        ensures size { self.new.size ≡ self.old.size }
+        ensures current { IsCurrent self.new.entries (marks_of core.now) }
     {
-        let place = usize::from(at);
-        if place >= self.entries.len() {
+        prove!(core.size() <= ADDRESSES);
+        if at + 8 >= self.size {
             return;
         }
-        prove!(core.size() <= ADDRESSES);
         let cells = core.eight_cells(at);
         cover_eight(&mut self.covered, at);
-        self.entries[place] = CacheEntry {
-            cells,
+        self.first = self.first.min(at);
+        self.last = self.last.max(at + MORE_CELLS);
+        self.entries[entry_of(at)] = CacheEntry {
+            codes: cells.codes,
             decoded: *decoded,
+            at,
+            marks: cells.marks,
         };
     }
 
@@ -104,9 +123,9 @@ impl DecodeCache {
     #[inline(always)]
     pub(crate) fn forget_at(&mut self, at: u16)
         requires { at < addresses }
-        ensures part { IsPart self.old self.new }
-        ensures apart { IsApart self.new at at }
-        ensures size { length self.new ≡ length self.old }
+        ensures part { IsPart self.old.entries self.new.entries }
+        ensures apart { IsApart self.new.entries at at }
+        ensures size { self.new.size ≡ self.old.size }
     {
         if self.covered.has(at) {
             self.forget(at, at);
@@ -118,23 +137,28 @@ impl DecodeCache {
     #[inline(always)]
     pub(crate) fn forget_down(&mut self, units: u16, below: u16)
         requires { units < addresses }
-        ensures part { IsPart self.old self.new }
-        ensures apart { IsApart self.new (lowest_written units below) units }
-        ensures size { length self.new ≡ length self.old }
+        ensures part { IsPart self.old.entries self.new.entries }
+        ensures apart { IsApart self.new.entries (lowest_written units below) units }
+        ensures size { self.new.size ≡ self.old.size }
     {
+        let is_above = self.last <= below && below < units;
+        if units < self.first || is_above {
+            return;
+        }
         let beside_units = units.wrapping_sub(below).wrapping_sub(1);
-        if beside_units >= 64 || !self.covered.has_none_near(units) {
+        if beside_units >= NEAR_PLACES || !self.covered.has_none_near(units) {
             self.forget_written(units, below);
         }
     }
 
     /// The same, with the places that were written counted.
+    #[cold]
     #[inline(never)]
     fn forget_written(&mut self, units: u16, below: u16)
         requires { units < addresses }
-        ensures part { IsPart self.old self.new }
-        ensures apart { IsApart self.new (lowest_written units below) units }
-        ensures size { length self.new ≡ length self.old }
+        ensures part { IsPart self.old.entries self.new.entries }
+        ensures apart { IsApart self.new.entries (lowest_written units below) units }
+        ensures size { self.new.size ≡ self.old.size }
     {
         let n = if below < units {
             units - below
@@ -147,32 +171,43 @@ impl DecodeCache {
     }
 
     /// Forgets each instruction that has one of the places from low to high among its eight cells.
+    #[cold]
     #[inline(never)]
     fn forget(&mut self, low: u16, high: u16)
         requires order { low ≤ high }
         requires high { high < addresses }
-        ensures part { IsPart self.old self.new }
-        ensures apart { IsApart self.new low high }
-        ensures size { length self.new ≡ length self.old }
+        ensures part { IsPart self.old.entries self.new.entries }
+        ensures apart { IsApart self.new.entries low high }
+        ensures size { self.new.size ≡ self.old.size }
     {
-        let behind = (usize::from(high) + 1).min(self.entries.len());
-        let first = usize::from(low - low.min(MORE_CELLS)).min(behind);
-        empty_entries(&mut self.entries, first, behind);
+        empty_entries(&mut self.entries, low - low.min(MORE_CELLS), high + 1);
         self.covered.remove(low, high);
     }
 }
 
-/// Empties the entries from one up to another.
-fn empty_entries(entries: &mut [CacheEntry], from: usize, to: usize)
-    requires order { from ≤ to }
-    requires within { to ≤ length entries.old }
-    ensures count { length entries.new ≡ length entries.old }
-    ensures inside { (at : ℕ) → (none : CacheEntry) → from ≤ at → at < to →
-        (slice_index_or entries.new at none).cells.codes ≡ no_codes }
-    ensures others { (at : ℕ) → (none : CacheEntry) → (at < from) ⊎ (to ≤ at) →
-        slice_index_or entries.new at none ≡ slice_index_or entries.old at none }
+/// The entry of a place.
+#[inline(always)]
+fn entry_of(at: u16) -> usize
+    ensures { result ≡ at % entry_count }
 {
-    entries[from..to].fill(CacheEntry::empty());
+    usize::from(at % ENTRIES)
+}
+
+/// Empties the entries of the instructions that are kept at the places from one up to another.
+fn empty_entries(entries: &mut [CacheEntry], from: u16, to: u16)
+    requires order { from ≤ to }
+    requires places { to ≤ addresses }
+    requires all { length entries.old ≡ entry_count }
+    ensures count { length entries.new ≡ length entries.old }
+    ensures part { IsPart entries.old entries.new }
+    ensures beside { (at : ℕ) → (entry : CacheEntry) → IsKept entries.new at entry → (at < from) ⊎ (to ≤ at) }
+{
+    for place in from..to {
+        let entry = &mut entries[entry_of(place)];
+        if entry.at == place {
+            entry.at = NO_PLACE;
+        }
+    }
 }
 
 /// Adds eight places from one up.

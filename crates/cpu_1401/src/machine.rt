@@ -31,7 +31,7 @@ pub struct Machine {
 }
 
 impl Model for Machine {
-    ghost use Rattle.std.specs.Prelude.{◌+◌, ◌<◌, ◌≤◌, length};
+    ghost use Rattle.std.specs.Prelude.{◌<◌, ◌≤◌, length};
     ghost use Rattle.core_1401.specs.Address.{addresses};
     ghost use Rattle.cpu_1401.specs.Kept.{IsCurrent};
     ghost use Rattle.cpu_1401.specs.State.{State};
@@ -53,8 +53,8 @@ impl Model for Machine {
     } };
 
     ghost invariant = { λ m.
-        (m.i < addresses) × (m.a < addresses) × (m.b < addresses) × (length m.kept + 8 ≤ length m.core)
-        × IsCurrent m.kept (marks_of m.core) };
+        (m.i < addresses) × (m.a < addresses) × (m.b < addresses) × (m.kept.size ≤ length m.core)
+        × IsCurrent m.kept.entries (marks_of m.core) };
 }
 
 impl Machine {

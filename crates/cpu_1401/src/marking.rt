@@ -26,10 +26,10 @@ pub(crate) fn set_marks_there(
 ) -> Result<Done, FieldStop>
     requires a { a < addresses }
     requires b { b < addresses }
-    requires current { IsCurrent kept.old (marks_of core.old) }
+    requires current { IsCurrent kept.old.entries (marks_of core.old) }
     ensures outcome { CarriesOut (set_marks_at core.old a b) core.old core.new result }
-    ensures current { IsCurrent kept.new (marks_of core.new) }
-    ensures size { length kept.new ≡ length kept.old }
+    ensures current { IsCurrent kept.new.entries (marks_of core.new) }
+    ensures size { kept.new.size ≡ kept.old.size }
 {
     kept.forget_at(a);
     kept.forget_at(b);
@@ -46,10 +46,10 @@ pub(crate) fn clear_marks_there(
 ) -> Result<Done, FieldStop>
     requires a { a < addresses }
     requires b { b < addresses }
-    requires current { IsCurrent kept.old (marks_of core.old) }
+    requires current { IsCurrent kept.old.entries (marks_of core.old) }
     ensures outcome { CarriesOut (clear_marks_at core.old a b) core.old core.new result }
-    ensures current { IsCurrent kept.new (marks_of core.new) }
-    ensures size { length kept.new ≡ length kept.old }
+    ensures current { IsCurrent kept.new.entries (marks_of core.new) }
+    ensures size { kept.new.size ≡ kept.old.size }
 {
     kept.forget_at(a);
     kept.forget_at(b);
@@ -66,10 +66,10 @@ pub(crate) fn load_there(
 ) -> Result<Done, FieldStop>
     requires a { a < addresses }
     requires b { b < addresses }
-    requires current { IsCurrent kept.old (marks_of core.old) }
+    requires current { IsCurrent kept.old.entries (marks_of core.old) }
     ensures outcome { CarriesOut (load_at core.old a b) core.old core.new result }
-    ensures current { IsCurrent kept.new (marks_of core.new) }
-    ensures size { length kept.new ≡ length kept.old }
+    ensures current { IsCurrent kept.new.entries (marks_of core.new) }
+    ensures size { kept.new.size ≡ kept.old.size }
 {
     let outcome = load_chars(core, a, b);
     forget_written(kept, b, &outcome);
@@ -86,10 +86,10 @@ pub(crate) fn edit_there(
 ) -> Result<Done, FieldStop>
     requires a { a < addresses }
     requires b { b < addresses }
-    requires current { IsCurrent kept.old (marks_of core.old) }
+    requires current { IsCurrent kept.old.entries (marks_of core.old) }
     ensures outcome { CarriesOut (edit_at core.old a b) core.old core.new result }
-    ensures current { IsCurrent kept.new (marks_of core.new) }
-    ensures size { length kept.new ≡ length kept.old }
+    ensures current { IsCurrent kept.new.entries (marks_of core.new) }
+    ensures size { kept.new.size ≡ kept.old.size }
 {
     let outcome = edit(core, a, b);
     forget_written(kept, b, &outcome);
@@ -104,10 +104,10 @@ pub(crate) fn clear_down_there(
     b: u16,
 ) -> Result<Done, FieldStop>
     requires b { b < addresses }
-    requires current { IsCurrent kept.old (marks_of core.old) }
+    requires current { IsCurrent kept.old.entries (marks_of core.old) }
     ensures outcome { CarriesOut (clear_down_at core.old b) core.old core.new result }
-    ensures current { IsCurrent kept.new (marks_of core.new) }
-    ensures size { length kept.new ≡ length kept.old }
+    ensures current { IsCurrent kept.new.entries (marks_of core.new) }
+    ensures size { kept.new.size ≡ kept.old.size }
 {
     let outcome = clear_down(core, b);
     forget_written(kept, b, &outcome);
@@ -125,10 +125,10 @@ pub(crate) fn suppress_there(
 ) -> Result<Done, FieldStop>
     requires a { a < addresses }
     requires b { b < addresses }
-    requires current { IsCurrent kept.old (marks_of core.old) }
+    requires current { IsCurrent kept.old.entries (marks_of core.old) }
     ensures outcome { CarriesOut (suppress_at core.old a b) core.old core.new result }
-    ensures current { IsCurrent kept.new (marks_of core.new) }
-    ensures size { length kept.new ≡ length kept.old }
+    ensures current { IsCurrent kept.new.entries (marks_of core.new) }
+    ensures size { kept.new.size ≡ kept.old.size }
 {
     match field_len(core, a) {
         Some(n) => kept.forget_down(b, step_down(b, n)),
@@ -154,9 +154,9 @@ fn field_len(core: &Core, at: u16) -> Option<u16>
 #[inline(always)]
 fn forget_written(kept: &mut DecodeCache, units: u16, outcome: &Result<Done, FieldStop>)
     requires { units < addresses }
-    ensures part { IsPart kept.old kept.new }
-    ensures apart { IfOk outcome.now (λ done. IsApart kept.new (lowest_written units done.b) units) }
-    ensures size { length kept.new ≡ length kept.old }
+    ensures part { IsPart kept.old.entries kept.new.entries }
+    ensures apart { IfOk outcome.now (λ done. IsApart kept.new.entries (lowest_written units done.b) units) }
+    ensures size { kept.new.size ≡ kept.old.size }
 {
     if let Ok(done) = outcome {
         kept.forget_down(units, done.b);

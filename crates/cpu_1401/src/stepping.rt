@@ -46,10 +46,28 @@ impl Machine {
         self.perform(fetched.0, fetched.1)
     }
 
-    /// The operation and the instruction at the I register, decoded anew, or why it can't be carried out.
+    /// The operation and the instruction at the I register, decoded anew, or why it can't be carried out. It stands
+    /// between a step and the decoding so that a step makes room for the result only where it decodes.
     #[inline(always)]
-    #[tactic(auto, using(crate::proofs::DecodedLemmas::says_step))]
     fn fetch_anew(&mut self) -> Result<(Operation, Instruction), Stop>
+        ensures ok { IfOk result (λ fetched. step self.old ≡ perform fetched.0 fetched.1 self.old) }
+        ensures a { IfOk result (λ fetched. fetched.1.a < addresses) }
+        ensures b { IfOk result (λ fetched. fetched.1.b < addresses) }
+        ensures next { IfOk result (λ fetched. fetched.1.next < addresses) }
+        ensures err { IfErr result (λ stop. step self.old ≡ stopped stop self.old) }
+        ensures no_halt { IfErr result (λ stop. stop ≢ Stop.Halt) }
+        ensures no_limit { IfErr result (λ stop. stop ≢ Stop.Limit) }
+        ensures same { self.new ≡ self.old }
+    {
+        let fetched = self.instruction_anew()?;
+        Ok(fetched)
+    }
+
+    /// The same, apart from a step.
+    #[cold]
+    #[inline(never)]
+    #[tactic(auto, using(crate::proofs::DecodedLemmas::says_step))]
+    fn instruction_anew(&mut self) -> Result<(Operation, Instruction), Stop>
         ensures ok { IfOk result (λ fetched. step self.old ≡ perform fetched.0 fetched.1 self.old) }
         ensures a { IfOk result (λ fetched. fetched.1.a < addresses) }
         ensures b { IfOk result (λ fetched. fetched.1.b < addresses) }
@@ -70,7 +88,6 @@ impl Machine {
     }
 
     /// Decodes the instruction at the I register and keeps it, or says why it can't be carried out.
-    #[inline(never)]
     fn decode_anew(&mut self) -> Result<Decoded, Stop>
         ensures ok { IfOk result (λ said. Says self.old.storage self.old.i said) }
         ensures err { IfErr result (λ stop. step self.old ≡ stopped stop self.old) }

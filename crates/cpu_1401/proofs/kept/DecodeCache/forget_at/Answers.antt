@@ -1,8 +1,7 @@
 -- Where a place isn't covered nothing is kept.
 use Rattle.std.proofs.Common.{◌≡◌, ◌∙◌, ℕ, List, false, ap, sym, arith, subst}
 use Rattle.core_1401.specs.PlaceSet.{has_place}
-use Rattle.cpu_1401.specs.declared.cache_entry.CacheEntry.{CacheEntry}
-use Rattle.cpu_1401.specs.Kept.{IsApart}
+use Rattle.cpu_1401.specs.Kept.{Kept, IsApart}
 use Rattle.cpu_1401.proofs.KeptLemmas.{apart_uncovered}
 use Rattle.cpu_1401.proofs.kept.DecodeCache.forget_at.Goals as goal
 
@@ -11,6 +10,6 @@ returns-else-has-clause-apart c =
     let at : ℕ = c.args.at in
     let covered : List ℕ = c.self.inside.covered in
     let none : has_place covered at ≡ false = sym c.has.ensures ∙ c.if-has.false in
-    subst (λ (l : List CacheEntry). IsApart l at at) c.self.view_is
-    (apart_uncovered c.self.inside.entries.items covered at at c.self.invariant (omega arith)
+    subst (λ (k : Kept). IsApart k.entries at at) c.self.view_is
+    (apart_uncovered c.self.inside.entries.items covered at at c.self.invariant.1 (omega arith)
     (λ q low high. ap (has_place covered) (omega (arith, low, high)) ∙ none))

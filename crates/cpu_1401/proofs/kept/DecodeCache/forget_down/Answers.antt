@@ -3,7 +3,7 @@ use Rattle.std.proofs.Common.{◌≡◌, ◌+◌, ◌≤◌, ◌<◌, ℕ, List,
 use Rattle.std.proofs.lemmas.Bool.{cases_lt, lt-ltb, le-ltb}
 use Rattle.core_1401.specs.PlaceSet.{HasNone}
 use Rattle.cpu_1401.specs.declared.cache_entry.CacheEntry.{CacheEntry}
-use Rattle.cpu_1401.specs.Kept.{IsApart, lowest_written}
+use Rattle.cpu_1401.specs.Kept.{Kept, IsApart, lowest_written}
 use Rattle.cpu_1401.proofs.KeptLemmas.{apart_uncovered}
 use Rattle.cpu_1401.proofs.kept.DecodeCache.forget_down.Goals as goal
 
@@ -13,14 +13,14 @@ returns-else-not-has_none_near-clause-apart c =
     let below : ℕ = c.args.below in
     let entries : List CacheEntry = c.self.inside.entries.items in
     let covered : List ℕ = c.self.inside.covered in
-    let near = c.if-beside_units-ge64.false in
+    let near = c.if-beside_units-ge-NEAR_PLACES.false in
     let none : HasNone covered units 64 = c.has_none_near.ensures c.if-not-has_none_near.false in
     let apart : (low : ℕ) → lowest_written units below ≡ low → low ≤ units → units < low + 64
     → IsApart entries (lowest_written units below) units =
     λ low is order most. subst (λ (n : ℕ). IsApart entries n units) (sym is)
-    (apart_uncovered entries covered low units c.self.invariant order
+    (apart_uncovered entries covered low units c.self.invariant.1 order
     (λ q from to. none q to (omega (arith, from, most)))) in
-    subst (λ (l : List CacheEntry). IsApart l (lowest_written units below) units) c.self.view_is
+    subst (λ (k : Kept). IsApart k.entries (lowest_written units below) units) c.self.view_is
     (elim (cases_lt below units) [
       | inl under ↦ apart (below + 1) (ap (λ b. if b then below + 1 else 0) (lt-ltb below units under))
           (omega (arith, under)) (omega (arith, under, near))

@@ -2,8 +2,7 @@
 use Rattle.std.proofs.Common.{◌≡◌, ◌+◌, ◌-◌, ◌≤◌, ◌<◌, ◌∙◌, ℕ, List, ap, sym, arith, subst, if◌then◌else◌}
 use Rattle.std.proofs.lemmas.Bool.{lt-ltb, le-ltb}
 use Rattle.core_1401.specs.PlaceSet.{HasNone}
-use Rattle.cpu_1401.specs.declared.cache_entry.CacheEntry.{CacheEntry}
-use Rattle.cpu_1401.specs.Kept.{IsApart, lowest_written}
+use Rattle.cpu_1401.specs.Kept.{Kept, IsApart, lowest_written}
 use Rattle.cpu_1401.proofs.KeptLemmas.{apart_uncovered}
 use Rattle.cpu_1401.proofs.kept.DecodeCache.forget_written.Goals.{then-below-units, else-below-units}
 use Rattle.cpu_1401.proofs.kept.DecodeCache.forget_written.Goals as goal
@@ -28,9 +27,9 @@ returns-else-not-has_none-clause-apart c =
     ] in
     let none : HasNone covered units n = c.has_none.ensures.0 c.if-not-has_none.false in
     let apart : IsApart c.self.inside.entries.items (units + 1 - n) units =
-    apart_uncovered c.self.inside.entries.items covered (units + 1 - n) units c.self.invariant (omega (arith, some.0))
+    apart_uncovered c.self.inside.entries.items covered (units + 1 - n) units c.self.invariant.1 (omega (arith, some.0))
     (λ q from to. none q to (omega (arith, from, some.0))) in
-    subst (λ (l : List CacheEntry). IsApart l (lowest_written units below) units) c.self.view_is
+    subst (λ (k : Kept). IsApart k.entries (lowest_written units below) units) c.self.view_is
     (subst (λ (low : ℕ). IsApart c.self.inside.entries.items low units) is apart)
 
 pub returns-then-not-has_none-clause-apart : goal.returns-then-not-has_none-clause-apart
@@ -45,4 +44,4 @@ returns-then-not-has_none-clause-apart c =
       | else-below-units w ↦ omega (arith, w.n-is)
           ∙ sym (ap (λ b. if b then below + 1 else 0) (le-ltb below units w.if-below-units.false))
     ] in
-    subst (λ (low : ℕ). IsApart c.forget.new.self low units) is c.forget.ensures.apart
+    subst (λ (low : ℕ). IsApart c.forget.new.self.entries low units) is c.forget.ensures.apart

@@ -1,35 +1,56 @@
--- What these cells say they always say; they are covered, and their word marks are there.
-use Rattle.std.proofs.Common.{◌+◌, ◌∙◌, ℕ, List, arith, ap, sym, length, subst}
-use Rattle.core_1401.specs.EightCells.{AreEightCells}
-use Rattle.core_1401.specs.PlaceSet.{has_place}
+-- What these cells say they always say; they are inside and covered, and their word marks are there.
+use Rattle.std.proofs.Common.{◌∙◌, ◌≡◌, ◌%◌, ℕ, List, arith, ap, sym, length, set, subst, refl}
+use Rattle.std.proofs.lemmas.List.{length-set}
 use Rattle.core_1401.specs.Storage.{Storage}
 use Rattle.cpu_1401.specs.declared.cache_entry.CacheEntry.{CacheEntry}
-use Rattle.cpu_1401.specs.Kept.{IsCurrent}
+use Rattle.cpu_1401.specs.Kept.{Kept, AreBetween, AreCovered, AreInside, IsCurrent, entry_count}
 use Rattle.fields_1401.specs.Places.{marks_of}
 use Rattle.cpu_1401.proofs.DecodedLemmas.{always_say}
-use Rattle.cpu_1401.proofs.KeptLemmas.{covered_kept, current_kept}
+use Rattle.cpu_1401.proofs.KeptLemmas.{covered_kept, current_kept, between_kept, inside_kept}
 use Rattle.cpu_1401.proofs.kept.DecodeCache.keep.Goals as goal
 
-pub invariant_of-t-16 : goal.invariant_of-t-16
-invariant_of-t-16 c = record {
+pub invariant_of-t-15 : goal.invariant_of-t-15
+invariant_of-t-15 c = record {
   says = always_say c.args.core.now c.args.at c.eight_cells-cells.result.codes c.eight_cells-cells.result.marks
       c.args.decoded.now
-      (omega (arith, c.if-place-len.false, c.len.ensures, c.from-place.ensures, ap length c.self.view_is, c.requires.size))
+      (omega (arith, c.if-at-self.false, ap (λ (k : Kept). k.size) c.self.view_is, c.requires.size))
       c.eight_cells-cells.ensures c.requires.says;
 }
 
 pub invariant_of-self : goal.invariant_of-self
 invariant_of-self c =
+    let entries : List CacheEntry = c.self.inside.entries.items in
     let covered : List ℕ = c.cover_eight.new.covered in
-    covered_kept c.self.inside.entries.items c.self.inside.covered covered c.from-place.result _ c.self.invariant
-    (λ i lt. ap (λ (q : ℕ). has_place covered (q + i)) c.from-place.ensures ∙ c.cover_eight.ensures.there i lt)
-    c.cover_eight.ensures.more
+    let new : CacheEntry = record {
+      codes = c.eight_cells-cells.result.codes;
+      decoded = c.args.decoded.now;
+      at = c.args.at;
+      marks = c.eight_cells-cells.result.marks;
+      says = c.t15-1.given.0;
+    } in
+    subst (λ (k : ℕ). (length (set entries k new) ≡ entry_count) × AreCovered (set entries k new) covered
+    × AreInside (set entries k new) c.self.inside.size × AreBetween (set entries k new) c.min-self-inside.result c.max-self-inside.result)
+    (sym c.entry_of.ensures) (
+      length-set entries (c.args.at % entry_count) new ∙ c.self.invariant.0,
+      covered_kept entries c.self.inside.covered covered c.args.at new refl c.self.invariant.1
+          c.cover_eight.ensures.there c.cover_eight.ensures.more,
+      inside_kept entries c.self.inside.size c.args.at new refl c.if-at-self.false c.self.invariant.2,
+      between_kept entries c.self.inside.first c.self.inside.last c.min-self-inside.result c.max-self-inside.result
+          c.args.at new refl c.min-self-inside.ensures c.max-self-inside.ensures c.self.invariant.3,
+    )
 
 pub returns-clause-current : goal.returns-clause-current
 returns-clause-current c =
+    let entries : List CacheEntry = c.self.inside.entries.items in
     let s : Storage = c.args.core.now in
-    let codes : ℕ = c.eight_cells-cells.result.codes in
-    let marks : ℕ = c.eight_cells-cells.result.marks in
-    current_kept c.self.inside.entries.items s c.from-place.result _
-    (subst (λ (l : List CacheEntry). IsCurrent l (marks_of s)) (sym c.self.view_is) c.requires.current)
-    (subst (λ (at : ℕ). AreEightCells s at codes marks) (sym c.from-place.ensures) c.eight_cells-cells.ensures)
+    let new : CacheEntry = record {
+      codes = c.eight_cells-cells.result.codes;
+      decoded = c.args.decoded.now;
+      at = c.args.at;
+      marks = c.eight_cells-cells.result.marks;
+      says = c.t15-1.given.0;
+    } in
+    subst (λ (k : ℕ). IsCurrent (set entries k new) (marks_of s)) (sym c.entry_of.ensures)
+    (current_kept entries s c.args.at new refl
+    (subst (λ (k : Kept). IsCurrent k.entries (marks_of s)) (sym c.self.view_is) c.requires.current)
+    c.eight_cells-cells.ensures)

@@ -26,7 +26,7 @@ invariant_of-self-2 c = (
   c.self.invariant.1,
   c.self.invariant.2,
   search rules,
-  current_apart c.self.inside.kept c.forget_down.new.self c.self.inside.core c.put_mark.new.self 1 80
+  current_apart c.self.inside.kept.entries c.forget_down.new.self.entries c.self.inside.core c.put_mark.new.self 1 80
       c.self.invariant.4 c.forget_down.ensures.part c.forget_down.ensures.apart
       (λ k beside. ap (λ (s : Storage). (cell_at s k).mark) c.put_mark.ensures
       ∙ marks_beside c.self.inside.core c.clear.new.self c.put_chars.new.core k c.clear.ensures.value

@@ -10,7 +10,7 @@ invariant_of-self c = (
   c.self.invariant.1,
   c.self.invariant.2,
   search rules,
-  current_put c.self.inside.kept c.forget_at.new.self c.self.inside.core c.put_mark.new.self c.args.at c.args.cell.char
+  current_put c.self.inside.kept.entries c.forget_at.new.self.entries c.self.inside.core c.put_mark.new.self c.args.at c.args.cell.char
       c.args.cell.mark c.self.invariant.4 c.forget_at.ensures.part c.forget_at.ensures.apart
       (c.put_mark.ensures ∙ ap (λ (s : Storage). with_mark s c.args.at c.args.cell.mark) c.put_char.ensures),
 )
