@@ -37,11 +37,18 @@ TOLD = [
 # A source with a fault of each kind but those above, and the lines that tell it.
 FAULTS_OF_A_KIND = [
     (" " * 81 + "\n" + GOOD, ["1:81: LONG LINE: a line has at most 80 columns"]),
-    ("               a\n" + GOOD, ["1:1: GRAPHIC: a byte can't stand in its column"]),
+    ("     A         h\n" + GOOD, ["1:16: GRAPHIC: a small letter can't stand in its column"]),
+    ("     A\tH\n" + GOOD, ["1:7: GRAPHIC: a tab can't stand in its column"]),
+    ("     A         \a\n     * \tA TAB IN A COMMENT\n" + GOOD,
+     ["1:16: GRAPHIC: a byte can't stand in its column", "2:8: GRAPHIC: a tab can't stand in its column"]),
+    ("                H\n" + GOOD, ["1:17: OPERATION: the operation begins after column 16"]),
+    ("     A        MLC  A,A\n" + GOOD,
+     ["1:6: LABEL: columns 6 to 15 hold no label, or lack one, or hold one where there is none"]),
+    ("              MLC  1,2\n" + GOOD, ["1:15: LABEL: a label begins in column 6, and an operation in column 16"]),
     ("     X1        DCW  #1\n" + GOOD,
      ["1:6: LABEL: columns 6 to 15 hold no label, or lack one, or hold one where there is none"]),
     ("     *\n" * 9, ["10:1: NO END: the source ends without END"]),
-    (GOOD + "     *\n               H\n", ["3:1: AFTER END: only comments may follow END"]),
+    (GOOD + "     *\n               H\n", ["3:16: AFTER END: only comments may follow END"]),
     ("               ZZZ\n" + " " * 81 + "\n" + GOOD, [TOLD[0], "2:81: LONG LINE: a line has at most 80 columns"]),
 ]
 
@@ -188,6 +195,10 @@ AREAS = """\
                MLC  KEY,KEY
                END  REC
 """
+AREAS_WARNED = [
+    "3:6: WARNING: no operand names the label",
+    "4:16: WARNING: no word mark is at 00348: the instruction is read on",
+]
 PARTS = {
     "--list": """\
 0001 00333               REC       DA   2X4
@@ -218,7 +229,8 @@ def tables():
             call, whole = f"assemble {' '.join(words)}", "\n".join(PARTS[word] for word in words)
             expect(call, run([PROGRAM, "assemble", *words, source]), 0, whole)
             expect(f"{call}, in another order", run([PROGRAM, "assemble", source, *words[::-1]]), 0, whole)
-            expect(f"{call} --all", run([PROGRAM, "assemble", "--all", *words, source]), 0, whole)
+            warned = "".join(f"{source}:{line}\n" for line in AREAS_WARNED)
+            expect(f"{call} --all", run([PROGRAM, "assemble", "--all", *words, source]), 0, whole, warned)
             expect(f"{call} -o", run([PROGRAM, "assemble", *words, source, "-o", out]))
             holds(f"{call} -o: its text", out, whole)
             for output in ">&-", ">/dev/full":
@@ -274,4 +286,58 @@ def all_faults():
             expect(f"assemble --all: {fault}", ran, 1, "", f"ibm1401: {fault}\n")
     for page in sorted((TOP / "examples").glob("*.source")):
         wanted = page.with_suffix(".image").read_bytes()
-        expect(f"assemble --all {page.name}", run([PROGRAM, "assemble", "--all", page]), 0, wanted)
+        warned = f"{page}:{UNUSED[page.stem]}:6: {NO_OPERAND}\n" if page.stem in UNUSED else ""
+        expect(f"assemble --all {page.name}", run([PROGRAM, "assemble", "--all", page]), 0, wanted, warned)
+
+
+NO_OPERAND = "WARNING: no operand names the label"
+
+# The examples with a label that no operand names, and the line that has it.
+UNUSED = {"five_and_five": 6, "sort_cards": 14, "sorted_records": 31}
+
+# Sources that assemble, and what they are warned of.
+WARNED = [
+    ("     A         H    A\n     B         DCW  #1\n     C         EQU  A\n               END  A\n",
+     [f"2:6: {NO_OPERAND}", f"3:6: {NO_OPERAND}"]),
+    ("     A         BE   A\n               BAV  A\n               DCW  #1\n               END  A\n",
+     ["1:16: WARNING: no instruction sets the indicator that the branch tests",
+      "2:16: WARNING: no instruction sets the indicator that the branch tests"]),
+    ("     A         C    A,A\n               BE   A\n               S    A\n               BAV  A\n"
+     "               DCW  #1\n               END  A\n", []),
+    ("     A         C    +5,B\n               A    +1,B\n     B         DCW  0\n               END  A\n",
+     ["1:21: WARNING: a literal with a sign is never equal to a number that has none"]),
+    ("     A         C    +5,B\n               ZA   +1,B\n     B         DCW  0\n               END  A\n", []),
+    ("     A         H    A\n               END  A\n",
+     ["1:16: WARNING: no word mark is at 00337: the instruction is read on"]),
+    ("     A         B    A\n               END  A\n", []),
+    ("     A         H    A\r\n     *\r\n               DCW  #1\r\n               END  A\r\n", []),
+]
+
+
+def warnings():
+    """What a source that assembles is warned of with `--all`, which changes nothing else; and of what none is."""
+    with tempfile.TemporaryDirectory() as name:
+        source, out = Path(name) / "a source", Path(name) / "out"
+        for text, told in WARNED:
+            source.write_bytes(text.encode())
+            lines = "".join(f"{source}:{line}\n" for line in told)
+            for words in [], ["--list"], ["--symbols", "--xref"]:
+                alone = run([PROGRAM, "assemble", source, *words])
+                expect(f"assemble {' '.join(words)}: no warning", alone, 0, "...")
+                ran = run([PROGRAM, "assemble", "--all", source, *words])
+                expect(f"assemble --all {' '.join(words)}: {told}", ran, 0, alone.stdout, lines)
+            image = run([PROGRAM, "assemble", source]).stdout
+            expect("assemble --all -o: the warnings", run([PROGRAM, "assemble", "--all", source, "-o", out]), 0, "", lines)
+            holds("assemble --all -o: the image", out, image)
+            for error in "2>/dev/full", "2>&-":
+                call = f'"$0" assemble --all "$1" {error}'
+                expect(f"assemble --all {error}: a warning", run(["bash", "-c", call, PROGRAM, source]), 0, image)
+        source.write_text(FAULTY.replace("QQ   1", "BE   A"))
+        lines = "".join(f"{source}:{line}\n" for line in TOLD[1:])
+        expect("assemble --all: faults alone", run([PROGRAM, "assemble", "--all", source]), 1, "", lines)
+        source.write_text("     A         DCW  #1\n               END  0\n")
+        ran = run([PROGRAM, "assemble", "--all", source, "-o", "/dev/full"])
+        expect("assemble --all -o /dev/full: no warning", ran, 1, "", "ibm1401: cannot write /dev/full\n")
+        source.write_text("     A         DCW  #1\n               END  0\n" + "     *\n" * 100_000)
+        ran = run([PROGRAM, "assemble", "--all", source])
+        expect("assemble --all: a long source", ran, 0, "...", f"{source}:1:6: {NO_OPERAND}\n")

@@ -15,6 +15,7 @@ from checks.seats import Room
 from checks.service import Service, say
 
 MEMORY = b"ibm1401: memory refused\n"
+NO_LINES = b"ibm1401: line 0: 1 MEMORY\n"
 THREAD = b"ibm1401: thread refused\n"
 UNKEPT = b"ibm1401: session ended: UNKEPT\n"
 MOST_GROWTHS = 10_000
@@ -141,7 +142,7 @@ def texts(refusing):
 
 def all_faults(refusing):
     """All faults of a source: each of them is told, or that memory was refused."""
-    faults = [MEMORY, b"ibm1401: line 0: 1 MEMORY\n"]
+    faults = [MEMORY, NO_LINES]
     with tempfile.NamedTemporaryFile() as source:
         source.write(b"               ZZZ\n               B    Q\n")
         source.flush()
@@ -154,7 +155,26 @@ def all_faults(refusing):
                 return ran.stderr.decode().split(": ", 1)[1].strip(), ""
             return "without an effect", "" if (ran.returncode, ran.stdout, ran.stderr) == (1, b"", whole) else f"{ran}"
 
-        return refusing.each("assemble --all", assemble, ["memory refused", "line 0: 1 MEMORY"])
+        number = refusing.each("assemble --all", assemble, ["memory refused", "line 0: 1 MEMORY"])
+    return number + warnings(refusing)
+
+
+def warnings(refusing):
+    """The warnings of a source: each of them is told, or that memory was refused, which leaves the image whole."""
+    with tempfile.NamedTemporaryFile() as source:
+        source.write(b"     A         BE   A\n     B         C    +5,C\n     C         DCW  0\n               END  A\n")
+        source.flush()
+        words = [PROGRAM, "assemble", "--all", source.name]
+        whole = run(words)
+
+        def assemble(how):
+            ran = run(words, **how)
+            if ran.returncode == 1 and ran.stdout in (b"", whole.stdout) and ran.stderr in (MEMORY, NO_LINES):
+                return ran.stderr.decode().split(": ", 1)[1].strip(), ""
+            ended = (ran.returncode, ran.stdout, ran.stderr) == (0, whole.stdout, whole.stderr)
+            return "without an effect", "" if ended else f"{ran}"
+
+        return refusing.each("assemble --all, warnings", assemble, ["memory refused", "line 0: 1 MEMORY"])
 
 
 def disassemblies(refusing):

@@ -25,7 +25,9 @@ pub(crate) fn assemble_command<'a>(
         .action(ArgAction::SetTrue);
     let all = Arg::new(alloc, "all")
         .long("all")
-        .help("Tells every fault of the source, a line each, as FILE:LINE:COLUMN: FAULT")
+        .help(
+            "Tells every fault of the source, or its warnings, a line each, as FILE:LINE:COLUMN: FAULT",
+        )
         .action(ArgAction::SetTrue);
     let out = Arg::new(alloc, "output")
         .short('o')

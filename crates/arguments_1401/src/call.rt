@@ -44,7 +44,7 @@ pub struct Assembling {
 pub enum Told {
     /// The first.
     First,
-    /// All, each on a line of its own.
+    /// All, each on a line of its own; of a source without any, its warnings.
     All,
 }
 

@@ -5,3 +5,4 @@ mod faults;
 mod images;
 mod lines;
 mod tables;
+mod warnings;

@@ -36,6 +36,22 @@ a_label_may_be_meant : wrong_in (codes "     BEGIN     MLC  BEGIN,BEGIM\n       
 unfolding wrong_in wrong
 a_label_may_be_meant = refl
 
+-- a small letter, here s, is no character of the machine
+a_small_letter : wrong_in (codes "     start     H\n               END  0\n")
+    ≡ wrong 1 kinds.Graphic 6 1 (causes.ForeignByte (Some 115)) ∷ []
+unfolding wrong_in wrong
+a_small_letter = refl
+
+a_tab : wrong_in (codes "     A\tH\n               END  0\n")
+    ≡ wrong 1 kinds.Graphic 7 1 (causes.ForeignByte (Some 9)) ∷ []
+unfolding wrong_in wrong
+a_tab = refl
+
+an_operation_too_far_right : wrong_in (codes "                H\n               END  0\n")
+    ≡ wrong 1 kinds.Operation 17 1 causes.OperationDisplaced ∷ []
+unfolding wrong_in wrong
+an_operation_too_far_right = refl
+
 a_label_twice : wrong_in (codes "     A         H\n     A         H\n               END  0\n")
     ≡ wrong 2 kinds.DoubleLabel 6 1 (causes.DeclaredBefore 1) ∷ []
 unfolding wrong_in wrong

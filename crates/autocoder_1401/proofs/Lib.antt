@@ -7,6 +7,7 @@ pub mod CoreLemmas
 pub mod CrossReferenceLemmas
 mod ExplanationExamples
 pub mod ExplanationLemmas
+pub mod FillingLemmas
 pub mod FirstFaultLemmas
 pub mod LawLemmas
 pub mod ListingLemmas
@@ -15,3 +16,4 @@ pub mod PlacementLawLemmas
 pub mod PlacingLemmas
 pub mod StandingLemmas
 mod TablesExamples
+mod WarningsExamples

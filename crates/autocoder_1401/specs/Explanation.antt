@@ -1,7 +1,7 @@
 -- What is wrong at a fault, and in which columns (own).
-use Rattle.std.specs.Prelude.{ℕ, Bool, false, not, ◌&&◌, ◌||◌, nat_lt, if◌then◌else◌, List, [], ◌∷◌, ◌++◌, length, map}
-use Rattle.std.specs.Prelude.{unwrap_or, Option, None, Some}
-use Rattle.std.specs.Option.{option_map_or, option_or}
+use Rattle.std.specs.Prelude.{ℕ, ◌-◌, Bool, false, not, ◌&&◌, ◌||◌, nat_lt, if◌then◌else◌, List, [], ◌∷◌, ◌++◌, length, map}
+use Rattle.std.specs.Prelude.{unwrap_or, slice_get, Option, None, Some}
+use Rattle.std.specs.Option.{option_map_or, option_or, option_and_then}
 use Rattle.source_1401.specs.Description.{describe}
 use Rattle.source_1401.specs.Flaw.{stretch, filled, foreign_column, operand_flaw, operation_flaw, first_base}
 use Rattle.source_1401.specs.Flaw.{second_base}
@@ -105,20 +105,24 @@ abbrev pub operand_cause : Option Flaw → Body → Cause
 operand_cause None body = causes.PastArea
 operand_cause (Some flaw) body = if (describe body).is_well_formed then causes.PastArea else causes.BadOperand flaw.kind
 
--- what is wrong with a statement that has a fault of this kind
+-- the byte of a line that can't be in its column
+abbrev pub foreign_byte : List ℕ → Option ℕ
+foreign_byte source = option_and_then (λ column. slice_get source (column - 1)) (foreign_column (columns_of source))
+
+-- what is wrong with a statement of this line that has a fault of this kind
 abbrev pub statement_cause : Declared → Declared → List Line → List ℕ → Statement → AsmKind → Cause
-statement_cause declared anywhere lines columns this kinds.Memory = causes.Memory
-statement_cause declared anywhere lines columns this kinds.LongLine = causes.LongLine
-statement_cause declared anywhere lines columns this kinds.Graphic = causes.ForeignByte
-statement_cause declared anywhere lines columns this kinds.Label = label_cause this.label
-statement_cause declared anywhere lines columns this kinds.DoubleLabel = declared_before declared this.label
-statement_cause declared anywhere lines columns this kinds.Operation = operation_cause columns this.body
-statement_cause declared anywhere lines columns this kinds.Undefined =
+statement_cause declared anywhere lines source this kinds.Memory = causes.Memory
+statement_cause declared anywhere lines source this kinds.LongLine = causes.LongLine
+statement_cause declared anywhere lines source this kinds.Graphic = causes.ForeignByte (foreign_byte source)
+statement_cause declared anywhere lines source this kinds.Label = label_cause this.label
+statement_cause declared anywhere lines source this kinds.DoubleLabel = declared_before declared this.label
+statement_cause declared anywhere lines source this kinds.Operation = operation_cause (columns_of source) this.body
+statement_cause declared anywhere lines source this kinds.Undefined =
     symbol_cause anywhere lines (undefined_operand declared anywhere (describe this.body).addressing)
-statement_cause declared anywhere lines columns this kinds.Operand = operand_cause (operand_flaw columns) this.body
-statement_cause declared anywhere lines columns this kinds.OutOfCore = causes.OutOfCore
-statement_cause declared anywhere lines columns this kinds.NoEnd = causes.NoEnd
-statement_cause declared anywhere lines columns this kinds.AfterEnd = causes.AfterEnd
+statement_cause declared anywhere lines source this kinds.Operand = operand_cause (operand_flaw (columns_of source)) this.body
+statement_cause declared anywhere lines source this kinds.OutOfCore = causes.OutOfCore
+statement_cause declared anywhere lines source this kinds.NoEnd = causes.NoEnd
+statement_cause declared anywhere lines source this kinds.AfterEnd = causes.AfterEnd
 
 -- the column of a byte that can't be there
 abbrev pub foreign_stretch : List ℕ → Stretch
@@ -147,8 +151,8 @@ statement_stretch declared anywhere columns this kinds.NoEnd = stretch 1 0
 statement_stretch declared anywhere columns this kinds.AfterEnd = filled 6 (columns_in 6 72 columns)
 
 -- a comment can only be too long, or hold a byte that can't be there
-abbrev pub comment_cause : LineCheck → Cause
-comment_cause bytes = if is_long bytes then causes.LongLine else causes.ForeignByte
+abbrev pub comment_cause : LineCheck → List ℕ → Cause
+comment_cause bytes source = if is_long bytes then causes.LongLine else causes.ForeignByte (foreign_byte source)
 
 abbrev pub comment_stretch : LineCheck → List ℕ → Stretch
 comment_stretch bytes columns = if is_long bytes then stretch 81 0 else foreign_stretch columns
@@ -164,8 +168,8 @@ explained_at declared anywhere lines number source kind =
           option_map_or (λ this. statement_stretch declared anywhere columns this kind) line.statement
           (comment_stretch line.bytes columns);
       cause =
-          option_map_or (λ this. statement_cause declared anywhere lines columns this kind) line.statement
-          (comment_cause line.bytes);
+          option_map_or (λ this. statement_cause declared anywhere lines source this kind) line.statement
+          (comment_cause line.bytes source);
     }
 
 -- a fault of this kind with what is wrong, if there is one

@@ -6,10 +6,12 @@ pub mod Characters
 pub mod CrossReference
 pub mod Explanation
 pub mod Fault
+pub mod Filling
 pub mod FirstFault
 pub mod KeptLine
 pub mod Laws
 pub mod Listing
+pub mod Noted
 pub mod OwnFault
 pub mod Placement
 pub mod PlacementLaws
@@ -18,3 +20,4 @@ pub mod SymbolTable
 pub mod Symbols
 pub mod Values
 pub mod View
+pub mod Warnings

@@ -31,6 +31,9 @@ mod own_fault; // faults that don't only follow from one told before
 pub mod explanation; // what is wrong at a fault, and in which columns
 pub mod all_faults; // all faults of a source
 pub mod explaining; // all faults of a source, each with what is wrong
+mod notes; // what lines say of labels, and which indicators they can set
+mod filling; // core storage as the cells of lines fill it
+pub mod warning; // what a source without a fault says and hardly means
 pub mod fault; // the kinds of fault
 
 pub use all_faults::faults;
@@ -40,3 +43,4 @@ pub use explanation::{Cause, Explanation};
 pub use fault::{AsmFault, AsmKind};
 pub use listing::{Listing, ListingLine};
 pub use tables::{AssemblyTables, assemble_with_tables};
+pub use warning::{Warning, WarningKind, warnings};

@@ -3,9 +3,9 @@
 use crate::assembling::{assembly_text, check_size, source_deck, write_assembly};
 use crate::fault::Fault;
 use crate::loading::read_file;
-use crate::source_faults::fault_lines;
+use crate::source_faults::{fault_lines, warning_lines};
 use arguments_1401::{Assembling, Product, Told};
-use autocoder_1401::{AsmKind, faults};
+use autocoder_1401::{AsmKind, explained_faults, warnings};
 use files_1401::{WriteFault, hold_closed_streams, write_whole};
 use std::alloc::Global;
 use std::io;
@@ -76,7 +76,7 @@ fn write_asked<R: Files + Print + AllocGlobal>(
 
 /// The fault of a source of this name with each of its faults on a line of its own, in place of the first of them.
 fn all_told(alloc: Global, name: &str, source: &[u8], size: u16, first: Fault) -> Fault {
-    match faults(alloc, source, size) {
+    match explained_faults(alloc, source, size) {
         Ok(found) if !found.is_empty() => match fault_lines(alloc, name, found.as_slice()) {
             Ok(lines) => Fault::Faulty(lines),
             Err(_) => Fault::Memory,
@@ -86,14 +86,36 @@ fn all_told(alloc: Global, name: &str, source: &[u8], size: u16, first: Fault) -
     }
 }
 
-/// Assembles the source of a file, and writes its image, its listing or its tables, and its deck.
+/// Tells the warnings of a source of this name on standard error, whether that takes them or not.
+///
+/// # Errors
+///
+/// `Memory`, and none is told then.
+fn tell_warnings(
+    rt: &(impl Eprint + AllocGlobal),
+    name: &str,
+    source: &[u8],
+    size: u16,
+) -> Result<(), Fault> {
+    let Ok(found) = warnings(rt.alloc(), source, size) else {
+        return Err(Fault::Memory);
+    };
+    let Ok(lines) = warning_lines(rt.alloc(), name, found.as_slice()) else {
+        return Err(Fault::Memory);
+    };
+    let _ = rt.eprint(lines);
+    Ok(())
+}
+
+/// Assembles the source of a file, and writes its image, its listing or its tables, and its deck. Of a source that
+/// assembles the warnings are told after that, where all is to be told.
 ///
 /// # Errors
 ///
 /// `Size` where no core storage of the size named is made, `Unread` where the file can't be read; `Source` or `Faulty`
 /// where it can't be assembled, and `Deck` where its image has no deck, and nothing is written then; `Output` or
 /// `Unwritten` where a text isn't written; or `Memory`.
-pub fn assemble_file<R: Files + Print + AllocGlobal>(
+pub fn assemble_file<R: Files + Print + Eprint + AllocGlobal>(
     rt: &R,
     asked: Assembling,
 ) -> Result<(), Fault> {
@@ -123,6 +145,7 @@ pub fn assemble_file<R: Files + Print + AllocGlobal>(
             size,
             Fault::Source(first),
         )),
+        (Ok(()), Told::All) => tell_warnings(rt, name.as_str(), source.as_slice(), size),
         (outcome, Told::First | Told::All) => outcome,
     }
 }

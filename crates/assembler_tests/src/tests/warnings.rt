@@ -1,0 +1,162 @@
+//! Sources without a fault, and what they are warned of.
+
+use autocoder_1401::WarningKind::{self, ReadOn, UnlikeSigns, UnsetIndicator, UnusedLabel};
+use autocoder_1401::warnings;
+use std::process::Abort;
+use std::test::Fail;
+
+/// Compares the warnings of a source in 4,000 places: lines, and what they are about.
+fn expect_warnings(
+    rt: &(impl Abort + AllocGlobal),
+    source: &[u8],
+    wanted: &[(u64, WarningKind)],
+) -> Result<(), Fail> {
+    let mut told = Vec::new(rt.alloc());
+    for warning in warnings(rt.alloc(), source, 4_000)? {
+        told.push((warning.line, warning.kind))?;
+    }
+    assert_eq!(rt; told.as_slice(), wanted);
+    Ok(())
+}
+
+#[test]
+fn a_label_that_no_operand_names(rt: HostRuntime) -> Result<(), Fail> {
+    let source = b"     ENTRY     ZA   FIRST,SECOND
+     SELF      B    SELF
+     LONE      H    BEYOND+3
+     FIRST     DCW  #2
+     SECOND    DCW  #2
+     SPARE     DCW  #2
+     BEYOND    EQU  SECOND
+               END  ENTRY
+";
+    expect_warnings(&rt, source, &[(3, UnusedLabel), (6, UnusedLabel)])
+}
+
+#[test]
+fn a_branch_that_nothing_sets(rt: HostRuntime) -> Result<(), Fail> {
+    let source = b"     A         BE   A
+               BL   A
+               BH   A
+               BU   A
+               BAV  A
+               B    A,/
+               B    A,Z
+               B    A,F
+               B    A
+               BLC  A
+               BC9  A
+               BCE  A,A,S
+               ZA   +5,A
+               DCW  #1
+               END  A
+";
+    let unset = [1, 2, 3, 4, 5, 6, 7].map(|line| (line, UnsetIndicator));
+    expect_warnings(&rt, source, &unset)?;
+    let set = b"     A         BE   A
+               BAV  A
+               C    A,A
+               S    A,A
+               DCW  #1
+               END  A
+";
+    expect_warnings(&rt, set, &[])
+}
+
+#[test]
+fn a_sign_beside_a_number_without_one(rt: HostRuntime) -> Result<(), Fail> {
+    let source = b"     A         C    +5,PLAIN
+               C    PLAIN,-5
+               C    @5@,PLAIN
+               C    +5,PLAIN-1
+               C    +5,PLAIN+X1
+               C    +5,SIGNED
+               C    +5,TEXT
+               C    +5,LATER
+               C    +5,ALIAS
+               A    +1,PLAIN
+               A    PLAIN,LATER
+               BCE  A,PLAIN,5
+               B    A
+     PLAIN     DCW  0
+     SIGNED    DCW  +0
+     TEXT      DCW  @0@
+     LATER     DCW  0
+     ALIAS     DCW  0
+     OTHER     EQU  ALIAS
+               END  OTHER
+";
+    expect_warnings(&rt, source, &[(1, UnlikeSigns), (2, UnlikeSigns)])
+}
+
+#[test]
+fn an_instruction_without_a_mark_after_it(rt: HostRuntime) -> Result<(), Fail> {
+    let before_space = b"     A         H    A
+               DS   5
+               W
+               DC   @1@
+               H
+               DCW  #1
+               W
+               END  A
+";
+    let read_on = [(1, ReadOn(337)), (3, ReadOn(343)), (7, ReadOn(347))];
+    expect_warnings(&rt, before_space, &read_on)?;
+    let ended = b"     A         SW   A,A
+               DS   5
+               CS   A,A
+               DS   5
+               BCE  A,A,1
+               DS   5
+               B    A
+               DS   5
+               H    +5
+               END  A
+";
+    expect_warnings(&rt, ended, &[])?;
+    let not_blank = b"     A         B    A
+               DC   @1@
+               END  A
+";
+    expect_warnings(&rt, not_blank, &[(1, ReadOn(337))])
+}
+
+#[test]
+fn storage_is_as_the_last_cells_leave_it(rt: HostRuntime) -> Result<(), Fail> {
+    let marked_later = b"     A         H    A
+               DS   1
+               ORG  337
+               DCW  #1
+               ORG  3996
+               H    A
+               END  A
+";
+    expect_warnings(&rt, marked_later, &[])?;
+    let unmarked_later = b"     A         H    A
+               DCW  #1
+               ORG  337
+               DC   #1
+               END  A
+";
+    expect_warnings(&rt, unmarked_later, &[(1, ReadOn(337))])
+}
+
+#[test]
+fn warnings_of_a_line_are_in_the_order_of_their_kinds(rt: HostRuntime) -> Result<(), Fail> {
+    let source = b"     A         BAV  B
+     C         C    +5,B
+     B         DC   0
+     D         DCW  0
+     E         C    +5,D
+               END  B
+";
+    let told = [
+        (1, UnusedLabel),
+        (1, UnsetIndicator),
+        (2, UnusedLabel),
+        (2, ReadOn(345)),
+        (5, UnusedLabel),
+        (5, UnlikeSigns),
+    ];
+    expect_warnings(&rt, source, &told)
+}

@@ -1,0 +1,269 @@
+-- What a source without a fault says and hardly means (own).
+use Rattle.std.specs.Prelude.{ℕ, ◌+◌, ◌==◌, Bool, true, false, not, ◌&&◌, ◌||◌, if◌then◌else◌, List, [], ◌∷◌, ◌++◌, pos, nat_le, slice_get}
+use Rattle.std.specs.Prelude.{Option, Some, None}
+use Rattle.std.specs.List.{list_any}
+use Rattle.std.specs.Option.{option_map_or, option_and_then}
+use Rattle.std.specs.Ordering.{int_eq}
+use Rattle.std.specs.Str.{byte}
+use Rattle.bcd_1401.specs.declared.cell.Cell.{Cell}
+use Rattle.source_1401.specs.Description.{describe, operands_in}
+use Rattle.source_1401.specs.Operands.{count_of}
+use Rattle.source_1401.specs.Statement.{well_formed}
+use Rattle.source_1401.specs.declared.address.Address.{Address}
+use Rattle.source_1401.specs.declared.constant.Constant.{Constant}
+use Rattle.source_1401.specs.declared.constant.Constant.TheVariants as constants
+use Rattle.source_1401.specs.declared.description.Contents.{Contents}
+use Rattle.source_1401.specs.declared.description.Contents.TheVariants as contents
+use Rattle.source_1401.specs.declared.description.Description.{Description}
+use Rattle.source_1401.specs.declared.label.Label.{Label}
+use Rattle.source_1401.specs.declared.mnemonic.Instruction.{Instruction}
+use Rattle.source_1401.specs.declared.operands.Operand.TheVariants as operands
+use Rattle.source_1401.specs.declared.operands.OperandField.{OperandField}
+use Rattle.source_1401.specs.declared.operands.OperandField.TheVariants as fields
+use Rattle.source_1401.specs.declared.operands.Operands.{Operands}
+use Rattle.source_1401.specs.declared.statement.Line.{Line}
+use Rattle.source_1401.specs.declared.statement.Statement.{Statement}
+use Rattle.autocoder_1401.specs.CrossReference.{is_named_in}
+use Rattle.autocoder_1401.specs.Filling.{filled, addresses_of}
+use Rattle.autocoder_1401.specs.FirstFault.{symbol_in, symbol_in_base}
+use Rattle.autocoder_1401.specs.Placement.{instruction_length}
+use Rattle.autocoder_1401.specs.Symbols.{has_label}
+use Rattle.autocoder_1401.specs.declared.warning.Warning.{Warning}
+use Rattle.autocoder_1401.specs.declared.warning.WarningKind.{WarningKind}
+use Rattle.autocoder_1401.specs.declared.warning.WarningKind.TheVariants as warnings
+
+-- digits without a sign
+abbrev pub is_unsigned : Option Constant → Bool
+is_unsigned None = false
+is_unsigned (Some (constants.Text text)) = false
+is_unsigned (Some (constants.Number digits)) = true
+is_unsigned (Some (constants.Plus digits)) = false
+is_unsigned (Some (constants.Minus digits)) = false
+is_unsigned (Some (constants.Blanks count)) = false
+
+-- a DCW of such digits
+abbrev pub is_number : Contents → Bool
+is_number contents.Nothing = false
+is_number (contents.Instruction instruction of) = false
+is_number (contents.MarkedConstant constant) = is_unsigned constant
+is_number (contents.Constant constant) = false
+is_number (contents.Space places) = false
+is_number (contents.Areas areas) = false
+
+-- the label of a number without a sign
+abbrev pub number_label : Statement → Option Label
+number_label this = if is_number (describe this.body).contents then well_formed this.label else None
+
+abbrev pub is_number_in : Label → Line → Bool
+is_number_in label line =
+    option_map_or (λ (this : Statement). has_label label (number_label this)) line.statement false
+
+-- a number with a plus sign, as a literal
+abbrev pub is_plus : Constant → Bool
+is_plus (constants.Text text) = false
+is_plus (constants.Number digits) = false
+is_plus (constants.Plus digits) = true
+is_plus (constants.Minus digits) = false
+is_plus (constants.Blanks count) = false
+
+abbrev pub is_plus_literal : OperandField → Bool
+is_plus_literal fields.Absent = false
+is_plus_literal fields.Malformed = false
+is_plus_literal (fields.Operand (operands.Address address)) = false
+is_plus_literal (fields.Operand (operands.Literal constant)) = is_plus constant
+
+-- an instruction that brings no sign into its fields: a comparison, a branch, and a sum with a literal that has a plus
+-- sign, since a field without a sign counts as plus and stays as it is
+abbrev pub brings_no_sign : Instruction → Operands → Bool
+brings_no_sign this of =
+    (this.operation == byte "C") || (this.operation == byte "B") || (this.operation == byte "V")
+    || ((this.operation == byte "A") && is_plus_literal of.a)
+
+-- the field that an instruction changes, if it changes one: the last that it names
+abbrev pub last_field : Operands → OperandField
+last_field of = if count_of of.b == 0 then of.a else of.b
+
+-- the symbol of a field into which a statement may bring a sign; EQU may give it a second name, and ORG may place
+-- something else there
+abbrev pub signed_symbol : Contents → Operands → Option Label
+signed_symbol contents.Nothing of = symbol_in of.a
+signed_symbol (contents.Instruction instruction these) of =
+    if brings_no_sign instruction these then None else symbol_in (last_field these)
+signed_symbol (contents.MarkedConstant constant) of = None
+signed_symbol (contents.Constant constant) of = None
+signed_symbol (contents.Space places) of = None
+signed_symbol (contents.Areas areas) of = None
+
+abbrev pub signed_label : Description → Option Label
+signed_label row = signed_symbol row.contents (operands_in row.addressing)
+
+abbrev pub is_signed_in : Label → Line → Bool
+is_signed_in label line =
+    option_map_or (λ (this : Statement). has_label label (signed_label (describe this.body))) line.statement false
+
+-- an instruction of this operation
+abbrev pub is_operation : ℕ → Contents → Bool
+is_operation operation contents.Nothing = false
+is_operation operation (contents.Instruction instruction of) = instruction.operation == operation
+is_operation operation (contents.MarkedConstant constant) = false
+is_operation operation (contents.Constant constant) = false
+is_operation operation (contents.Space places) = false
+is_operation operation (contents.Areas areas) = false
+
+abbrev pub has_operation : ℕ → Line → Bool
+has_operation operation line =
+    option_map_or (λ (this : Statement). is_operation operation (describe this.body).contents) line.statement false
+
+-- what the lines of a source say of its labels, and which indicators they can set
+pub record Known : Type 0 where
+  pub is_named : Label → Bool
+  pub is_number : Label → Bool
+  pub is_signed : Label → Bool
+  pub compares : Bool
+  pub adds : Bool
+
+-- an operand names the label; the entry is one that END names
+abbrev pub is_named : List Line → Label → Bool
+is_named lines label = list_any (is_named_in label) lines
+
+-- a number without a sign has the label
+abbrev pub is_number_of : List Line → Label → Bool
+is_number_of lines label = list_any (is_number_in label) lines
+
+-- a line may bring a sign into the field that the label names
+abbrev pub is_signed : List Line → Label → Bool
+is_signed lines label = list_any (is_signed_in label) lines
+
+-- C sets the indicators of a comparison, A and S that of an overflow
+abbrev pub known_in : List Line → Known
+known_in lines =
+    record {
+      is_named = is_named lines;
+      is_number = is_number_of lines;
+      is_signed = is_signed lines;
+      compares = list_any (has_operation (byte "C")) lines;
+      adds =
+          list_any (has_operation (byte "A")) lines || list_any (has_operation (byte "S")) lines;
+    }
+
+-- a label that no operand names
+abbrev pub is_unused : Known → Option Label → Bool
+is_unused known None = false
+is_unused known (Some label) = not (known.is_named label)
+
+-- the d-characters of a branch by the last comparison: unequal, equal, low, high
+abbrev pub tests_comparison : ℕ → Bool
+tests_comparison d = (d == byte "/") || (d == byte "S") || (d == byte "T") || (d == byte "U")
+
+-- the d-character of a branch by an indicator that nothing sets; Z is that of an overflow
+abbrev pub is_unset : Known → ℕ → Bool
+is_unset known d = (tests_comparison d && not known.compares) || ((d == byte "Z") && not known.adds)
+
+-- a branch by such an indicator; one with two addresses tests a character
+abbrev pub branches_unset : Known → Contents → Bool
+branches_unset known contents.Nothing = false
+branches_unset known (contents.Instruction instruction of) =
+    (instruction.operation == byte "B") && (count_of of.b == 0) && option_map_or (is_unset known) of.d false
+branches_unset known (contents.MarkedConstant constant) = false
+branches_unset known (contents.Constant constant) = false
+branches_unset known (contents.Space places) = false
+branches_unset known (contents.Areas areas) = false
+
+-- a number with a sign, as a literal
+abbrev pub has_sign : Constant → Bool
+has_sign (constants.Text text) = false
+has_sign (constants.Number digits) = false
+has_sign (constants.Plus digits) = true
+has_sign (constants.Minus digits) = true
+has_sign (constants.Blanks count) = false
+
+abbrev pub is_signed_literal : OperandField → Bool
+is_signed_literal fields.Absent = false
+is_signed_literal fields.Malformed = false
+is_signed_literal (fields.Operand (operands.Address address)) = false
+is_signed_literal (fields.Operand (operands.Literal constant)) = has_sign constant
+
+-- a symbol alone, without an adjustment and an index register
+abbrev pub is_lone : Address → Bool
+is_lone address = int_eq address.adjustment (pos 0) && (address.index == 0)
+
+abbrev pub lone_symbol : OperandField → Option Label
+lone_symbol fields.Absent = None
+lone_symbol fields.Malformed = None
+lone_symbol (fields.Operand (operands.Address address)) = if is_lone address then symbol_in_base address.base else None
+lone_symbol (fields.Operand (operands.Literal constant)) = None
+
+-- the label of a number without a sign, into which no line brings one
+abbrev pub stays_unsigned : Known → Label → Bool
+stays_unsigned known label = known.is_number label && not (known.is_signed label)
+
+-- a literal with a sign, and a field that has none: the zone over the literal's units makes them unequal
+abbrev pub are_unlike : Known → OperandField → OperandField → Bool
+are_unlike known literal field =
+    is_signed_literal literal && option_map_or (stays_unsigned known) (lone_symbol field) false
+
+abbrev pub compares_unlike : Known → Contents → Bool
+compares_unlike known contents.Nothing = false
+compares_unlike known (contents.Instruction instruction of) =
+    (instruction.operation == byte "C") && (are_unlike known of.a of.b || are_unlike known of.b of.a)
+compares_unlike known (contents.MarkedConstant constant) = false
+compares_unlike known (contents.Constant constant) = false
+compares_unlike known (contents.Space places) = false
+compares_unlike known (contents.Areas areas) = false
+
+-- the most characters that an instruction has
+abbrev pub longest : ℕ → ℕ
+longest operation = if (operation == byte ",") || (operation == byte "/") then 7 else 8
+
+-- the cell after an instruction ends it: by its word mark, or because nothing longer is an instruction, or since a
+-- branch of four characters ends before a blank
+abbrev pub ends : ℕ → ℕ → Cell → Bool
+ends operation length cell =
+    cell.mark || nat_le (longest operation) length
+    || ((operation == byte "B") && (length == 4) && (cell.char == 0))
+
+-- the place after an instruction whose cell doesn't end it; the end of core storage ends any
+abbrev pub open_place : List Cell → ℕ → ℕ → ℕ → Option ℕ
+open_place storage operation length place =
+    option_and_then (λ cell. if ends operation length cell then None else Some place) (slice_get storage place)
+
+-- that of a statement which begins at this address
+abbrev pub read_on : List Cell → ℕ → Contents → Option ℕ
+read_on storage address contents.Nothing = None
+read_on storage address (contents.Instruction instruction of) =
+    open_place storage instruction.operation (instruction_length of) (address + instruction_length of)
+read_on storage address (contents.MarkedConstant constant) = None
+read_on storage address (contents.Constant constant) = None
+read_on storage address (contents.Space places) = None
+read_on storage address (contents.Areas areas) = None
+
+-- a warning of this kind at this line, if there is one
+abbrev pub warned_if : Bool → ℕ → WarningKind → List Warning
+warned_if is number kind = if is then record { line = number; kind = kind } ∷ [] else []
+
+abbrev pub warned_of : Option ℕ → ℕ → List Warning
+warned_of None number = []
+warned_of (Some place) number = record { line = number; kind = warnings.ReadOn place } ∷ []
+
+-- the warnings of a statement on the line of this number, which begins at this address
+abbrev pub statement_warnings : Known → List Cell → ℕ → ℕ → Statement → List Warning
+statement_warnings known storage number address this =
+    warned_if (is_unused known (well_formed this.label)) number warnings.UnusedLabel
+    ++ warned_if (branches_unset known (describe this.body).contents) number warnings.UnsetIndicator
+    ++ warned_if (compares_unlike known (describe this.body).contents) number warnings.UnlikeSigns
+    ++ warned_of (read_on storage address (describe this.body).contents) number
+
+abbrev pub line_warnings : Known → List Cell → ℕ → ℕ → Line → List Warning
+line_warnings known storage number address line =
+    option_map_or (statement_warnings known storage number address) line.statement []
+
+-- the warnings of lines, counting them from this number, each of which begins at its address
+abbrev pub warnings_from : Known → List Cell → ℕ → List ℕ → List Line → List Warning
+warnings_from known storage number addresses [] = []
+warnings_from known storage number [] (line ∷ lines) = []
+warnings_from known storage number (address ∷ addresses) (line ∷ lines) =
+    line_warnings known storage number address line ++ warnings_from known storage (number + 1) addresses lines
+
+-- the warnings of a source's lines, in their order, for core storage of this size
+abbrev pub all_warnings : ℕ → List Line → List Warning
+all_warnings size lines = warnings_from (known_in lines) (filled size lines) 1 (addresses_of lines) lines

@@ -1,0 +1,326 @@
+//! What a source without a fault says and hardly means.
+ghost use Rattle.std.specs.Prelude.{◌≡◌, ◌+◌, ◌<◌, ◌^◌, ◌++◌, length, IfOk, IfErr, OnOk};
+ghost use Rattle.source_1401.specs.Statement.{well_formed};
+ghost use Rattle.autocoder_1401.specs.Assembly.{lines_in};
+ghost use Rattle.autocoder_1401.specs.Fault.{IsMemory};
+ghost use Rattle.autocoder_1401.specs.Noted.{known_of};
+ghost use Rattle.autocoder_1401.specs.Warnings.{is_unused, tests_comparison, is_unset, branches_unset, has_sign};
+ghost use Rattle.autocoder_1401.specs.Warnings.{is_signed_literal, lone_symbol, stays_unsigned, are_unlike};
+ghost use Rattle.autocoder_1401.specs.Warnings.{compares_unlike, longest, ends, open_place, read_on, warned_if, warned_of};
+ghost use Rattle.autocoder_1401.specs.Warnings.{statement_warnings, line_warnings, warnings_from, all_warnings};
+ghost use Rattle.autocoder_1401.specs.Placement.{instruction_length};
+
+use crate::fault::AsmFault;
+use crate::filling::{Filling, fill};
+use crate::hashing::SourceHashing;
+use crate::kept_line::KeptLine;
+use crate::notes::Notes;
+use crate::placing::instruction_length;
+use crate::reading::read_lines;
+use bcd_1401::{Cell, Char};
+use source_1401::{
+    Base, Constant, Contents, Instruction, Label, LabelField, Operand, OperandField, Operands,
+    Statement,
+};
+use std::alloc::Global;
+
+/// What a line says and hardly means.
+#[derive(Clone, Copy, Debug, PartialEq, Eq)]
+pub enum WarningKind {
+    /// No operand names the label.
+    UnusedLabel,
+    /// A branch tests the last comparison or an overflow, and no instruction compares, or adds and subtracts.
+    UnsetIndicator,
+    /// A literal with a sign is compared with a number that has none. The sign is a zone over the units, so they are
+    /// never equal.
+    UnlikeSigns,
+    /// No word mark follows an instruction, which is read on at this place.
+    ReadOn(u32),
+}
+
+/// A warning.
+#[derive(Clone, Copy, Debug, PartialEq, Eq)]
+pub struct Warning {
+    /// The number of the line, counted from 1.
+    pub line: u64,
+    /// What it is about.
+    pub kind: WarningKind,
+}
+
+/// Whether no operand names a label.
+fn is_unused(notes: &Notes, label: LabelField) -> bool
+    ensures { result ≡ is_unused (known_of notes.now) (well_formed label) }
+{
+    match label {
+        LabelField::Label(label) => !notes.named.contains(&label),
+        LabelField::Absent | LabelField::Malformed => false,
+    }
+}
+
+/// Whether a branch with this d-character tests the last comparison.
+fn tests_comparison(d: u8) -> bool
+    ensures { result ≡ tests_comparison d }
+{
+    d == b'/' || d == b'S' || d == b'T' || d == b'U'
+}
+
+/// Whether a branch with this d-character tests an indicator that no instruction sets.
+fn is_unset(notes: &Notes, d: u8) -> bool
+    ensures { result ≡ is_unset (known_of notes.now) d }
+{
+    (tests_comparison(d) && !notes.compares) || (d == b'Z' && !notes.adds)
+}
+
+/// Whether a statement branches by an indicator that no instruction sets.
+fn branches_unset(notes: &Notes, contents: Contents) -> bool
+    ensures { result ≡ branches_unset (known_of notes.now) contents }
+{
+    match contents {
+        Contents::Instruction(instruction, operands) => match (operands.b, operands.d) {
+            (OperandField::Absent, Some(d)) => {
+                instruction.operation == b'B' && is_unset(notes, d)
+            },
+            (OperandField::Absent | OperandField::Malformed | OperandField::Operand(_), _) => {
+                false
+            },
+        },
+        Contents::Nothing
+        | Contents::MarkedConstant(_)
+        | Contents::Constant(_)
+        | Contents::Space(_)
+        | Contents::Areas(_) => false,
+    }
+}
+
+/// Whether an operand is a literal with a sign.
+fn is_signed_literal(field: OperandField) -> bool
+    ensures { result ≡ is_signed_literal field }
+{
+    matches!(
+        field,
+        OperandField::Operand(Operand::Literal(Constant::Plus(_) | Constant::Minus(_)))
+    )
+}
+
+/// The symbol that an operand is, without an adjustment and an index register.
+fn lone_symbol(field: OperandField) -> Option<Label>
+    ensures { result ≡ lone_symbol field }
+{
+    match field {
+        OperandField::Operand(Operand::Address(address))
+            if address.adjustment == 0 && address.index == 0 => {
+            match address.base {
+                Base::Symbol(label) => Some(label),
+                Base::Number(_) | Base::Here => None,
+            }
+        },
+        OperandField::Operand(Operand::Address(_) | Operand::Literal(_))
+        | OperandField::Absent
+        | OperandField::Malformed => None,
+    }
+}
+
+/// Whether a number without a sign has the label, and no line brings one into it.
+fn stays_unsigned(notes: &Notes, label: Label) -> bool
+    ensures { result ≡ stays_unsigned (known_of notes.now) label }
+{
+    notes.numbers.contains(&label) && !notes.signed.contains(&label)
+}
+
+/// Whether one operand is a literal with a sign, and the other a number that has none.
+fn are_unlike(notes: &Notes, literal: OperandField, field: OperandField) -> bool
+    ensures { result ≡ are_unlike (known_of notes.now) literal field }
+{
+    match lone_symbol(field) {
+        Some(label) => is_signed_literal(literal) && stays_unsigned(notes, label),
+        None => false,
+    }
+}
+
+/// Whether a statement compares a literal with a sign with a number that has none.
+fn compares_unlike(notes: &Notes, contents: Contents) -> bool
+    ensures { result ≡ compares_unlike (known_of notes.now) contents }
+{
+    match contents {
+        Contents::Instruction(instruction, operands) => {
+            instruction.operation == b'C'
+                && (are_unlike(notes, operands.a, operands.b)
+                    || are_unlike(notes, operands.b, operands.a))
+        },
+        Contents::Nothing
+        | Contents::MarkedConstant(_)
+        | Contents::Constant(_)
+        | Contents::Space(_)
+        | Contents::Areas(_) => false,
+    }
+}
+
+/// The most characters that an instruction of this operation has.
+fn longest(operation: u8) -> u32
+    ensures { result ≡ longest operation }
+{
+    match operation {
+        b',' | b'/' => 7,
+        _ => 8,
+    }
+}
+
+/// Whether an instruction of this length ends before a cell.
+fn ends(operation: u8, length: u32, cell: Cell) -> bool
+    ensures { result ≡ ends operation length cell }
+{
+    cell.mark
+        || length >= longest(operation)
+        || (operation == b'B' && length == 4 && cell.char == Char::BLANK)
+}
+
+/// The place at which an instruction is read on that begins at this address.
+fn open_place(
+    storage: &[Cell],
+    address: u16,
+    instruction: Instruction,
+    operands: Operands,
+) -> Option<u32>
+    ensures { result ≡ open_place storage.now instruction.operation (instruction_length operands)
+        (address + instruction_length operands) }
+{
+    let length = instruction_length(operands);
+    let place = u32::from(address) + length;
+    match storage.get(place as usize) {
+        Some(cell) if !ends(instruction.operation, length, *cell) => Some(place),
+        Some(_) | None => None,
+    }
+}
+
+/// The place at which a statement is read on that begins at this address.
+fn read_on(storage: &[Cell], address: u16, contents: Contents) -> Option<u32>
+    ensures { result ≡ read_on storage.now address contents }
+{
+    match contents {
+        Contents::Instruction(instruction, operands) => {
+            open_place(storage, address, instruction, operands)
+        },
+        Contents::Nothing
+        | Contents::MarkedConstant(_)
+        | Contents::Constant(_)
+        | Contents::Space(_)
+        | Contents::Areas(_) => None,
+    }
+}
+
+/// Adds a warning, if there is one.
+fn warn_if(
+    warnings: &mut Vec<Warning>,
+    is: bool,
+    line: u64,
+    kind: WarningKind,
+) -> Result<(), AsmFault>
+    ensures ok { OnOk result (warnings.new.items ≡ warnings.old.items ++ warned_if is line kind) }
+    ensures err { IfErr result IsMemory }
+{
+    if is {
+        warnings.push(Warning { line, kind })?;
+    }
+    Ok(())
+}
+
+/// Adds the warning that an instruction is read on at a place, if it is.
+fn warn_of(warnings: &mut Vec<Warning>, place: Option<u32>, line: u64) -> Result<(), AsmFault>
+    ensures ok { OnOk result (warnings.new.items ≡ warnings.old.items ++ warned_of place line) }
+    ensures err { IfErr result IsMemory }
+{
+    if let Some(place) = place {
+        warnings.push(Warning {
+            line,
+            kind: WarningKind::ReadOn(place),
+        })?;
+    }
+    Ok(())
+}
+
+/// What is known of all lines when the warnings of one are told.
+#[derive(Drop)]
+struct Context {
+    /// What they say of labels, and which indicators they can set.
+    notes: Notes,
+    /// Core storage as their cells fill it, and where they begin.
+    filling: Filling,
+}
+
+/// Adds the warnings of a statement on the line of this number, which begins at this address.
+fn warn_of_statement(
+    warnings: &mut Vec<Warning>,
+    this: &Context,
+    number: u64,
+    address: u16,
+    statement: Statement,
+) -> Result<(), AsmFault>
+    ensures ok { OnOk result (warnings.new.items ≡ warnings.old.items
+        ++ statement_warnings (known_of this.now.notes) this.now.filling.storage.items number address statement) }
+    ensures err { IfErr result IsMemory }
+{
+    let contents = statement.body.describe().contents;
+    let unused = is_unused(&this.notes, statement.label);
+    let unset = branches_unset(&this.notes, contents);
+    let unlike = compares_unlike(&this.notes, contents);
+    let place = read_on(&this.filling.storage, address, contents);
+    warn_if(warnings, unused, number, WarningKind::UnusedLabel)?;
+    warn_if(warnings, unset, number, WarningKind::UnsetIndicator)?;
+    warn_if(warnings, unlike, number, WarningKind::UnlikeSigns)?;
+    warn_of(warnings, place, number)?;
+    Ok(())
+}
+
+/// Adds the warnings of the line of this number, which begins at this address.
+fn warn_of_line(
+    warnings: &mut Vec<Warning>,
+    this: &Context,
+    number: u64,
+    address: u16,
+    line: &KeptLine,
+) -> Result<(), AsmFault>
+    ensures ok { OnOk result (warnings.new.items ≡ warnings.old.items
+        ++ line_warnings (known_of this.now.notes) this.now.filling.storage.items number address line.now) }
+    ensures err { IfErr result IsMemory }
+{
+    match line.line().statement {
+        Some(statement) => warn_of_statement(warnings, this, number, address, statement),
+        None => Ok(()),
+    }
+}
+
+/// The warnings of lines.
+fn warnings_of(alloc: Global, this: &Context, lines: &[KeptLine]) -> Result<Vec<Warning>, AsmFault>
+    requires few { length lines.now < 2 ^ 32 }
+    requires as_many { length this.now.filling.addresses.items ≡ length lines.now }
+    ensures ok { IfOk result (λ warnings. warnings.items ≡ warnings_from (known_of this.now.notes)
+        this.now.filling.storage.items 1 this.now.filling.addresses.items lines.now) }
+    ensures err { IfErr result IsMemory }
+{
+    let mut warnings = Vec::new(alloc);
+    let addresses = this.filling.addresses.as_slice();
+    for (i, line) in lines.iter().enumerate() {
+        warn_of_line(&mut warnings, this, i as u64 + 1, addresses[i], line)?;
+    }
+    Ok(warnings)
+}
+
+/// The warnings of a source for core storage of this size, in the order of its lines, and those of a line in the order
+/// of the kinds. They speak of a source that assembles: in one with a fault they may only follow from it, as that of a
+/// label which a misspelled operand should name.
+///
+/// # Errors
+///
+/// `Memory` if memory is refused or the source has too many lines.
+pub fn warnings(alloc: Global, source: &[u8], size: u16) -> Result<Vec<Warning>, AsmFault>
+    ensures ok { IfOk result (λ warnings. warnings.items ≡ all_warnings size (lines_in source.now)) }
+    ensures err { IfErr result IsMemory }
+{
+    let lines = read_lines(alloc, source)?;
+    let hashing = SourceHashing::from_source(source);
+    let notes = Notes::new(alloc, hashing, &lines)?;
+    let filling = fill(alloc, hashing, size, &lines)?;
+    let this = Context { notes, filling };
+    let warnings = warnings_of(alloc, &this, &lines)?;
+    Ok(warnings)
+}
