@@ -10,6 +10,7 @@ import time
 from pathlib import Path
 
 from checks.report import PROGRAM, REPLY_SECONDS, SECONDS, TOP, difference, expect, misuse, run, tell
+from checks.seats import handles
 from checks.service import answer, hear, say
 
 # How many idle connections a page may have without a delay, and how many at most.
@@ -38,13 +39,13 @@ def free_ports(count):
 class Pages:
     """The program serving a room with a page for each seat, with its standard input held open."""
 
-    def __init__(self, seats, *words, consoles=True, call=("serve",)):
+    def __init__(self, seats, *words, consoles=True, call=("serve",), **how):
         self.page = free_ports(seats + 1)
         self.port = self.page + seats
         words = ["--page", str(self.page), "--seats", str(seats), *map(str, words)]
         words += ["--port", str(self.port)] if consoles else []
         pipes = {"stdin": subprocess.PIPE, "stdout": subprocess.PIPE, "stderr": subprocess.PIPE}
-        self.process = subprocess.Popen([PROGRAM, *map(str, call), *words], **pipes)
+        self.process = subprocess.Popen([PROGRAM, *map(str, call), *words], **pipes, **how)
         self.ready = "READY\n" + "".join(f"SEAT {k + 1} http://127.0.0.1:{self.page + k}/\n" for k in range(seats))
         self.first = b""
         while len(self.first) < len(self.ready) and select.select([self.process.stdout], [], [], SECONDS)[0]:
@@ -265,8 +266,24 @@ def unheard(folder):
     same("but it is kept", new.read_bytes(), b"JOURNAL1 4000\n1\t1\tSTART 0002\tOK\n")
 
 
+def all_held(_):
+    """A room with pages that has no handle left ends at QUIT: with a console that got no second handle, and with a
+    connection to a page that has the last one."""
+    room = Pages(1, **handles(7))
+    time.sleep(0.2)
+    with room.console() as console:
+        answer("a console without a second handle, beside a page", hear(console), b"")
+    time.sleep(0.2)
+    room.ended("a room with a page that gave no seat", 0, status=1, error="ibm1401: thread refused\n")
+    room = Pages(1, **handles(8))
+    time.sleep(0.2)
+    with room.connect(1):
+        time.sleep(0.2)
+        room.ended("a room whose page holds the last handle", 0)
+
+
 def page_seats():
     """All of these."""
     with tempfile.TemporaryDirectory() as folder:
-        for part in whoever_comes_first, many_wait, begun, refused, unheard:
+        for part in whoever_comes_first, many_wait, begun, refused, unheard, all_held:
             part(Path(folder))

@@ -261,30 +261,43 @@ def unheard(folder):
     tell("but it is kept", "; ".join(difference("the file", path.read_bytes(), kept_text)))
 
 
+def handles(most):
+    """How a program is started that may have this many handles of the system."""
+    return {"preexec_fn": lambda: resource.setrlimit(resource.RLIMIT_NOFILE, (most, most))}
+
+
 def unheld(_):
-    """A connection for which the system gives no second handle is closed, and the room goes on. Its end needs a handle
-    too, which whoever waits for a connection may hold, so the limit is raised before the end: the end at the limit
-    itself isn't tried."""
-    _, most = resource.getrlimit(resource.RLIMIT_NOFILE)
-
-    def few_handles():
-        resource.setrlimit(resource.RLIMIT_NOFILE, (5, most))
-
-    room = Room("serve", "--port", "PORT", "--seats", "2", "--keep-seats", preexec_fn=few_handles)
+    """A connection for which the system gives no second handle is closed, and the room goes on; it ends at QUIT though
+    no handle is left: the streams, the listener, and what is held for the next connection."""
+    room = Room("serve", "--port", "PORT", "--seats", "2", "--keep-seats", **handles(5))
     for turn in range(2):
         with room.console() as console:
             answer(f"a connection without a second handle, {turn}", hear(console), b"")
-    resource.prlimit(room.process.pid, resource.RLIMIT_NOFILE, (most, most))
+    time.sleep(0.2)
     room.ended("a room that gave no seat", 0, status=1, error="ibm1401: thread refused\n")
+
+
+def all_held(folder):
+    """A room whose operators have every handle that is left, two for each, ends at QUIT, kept or not."""
+    path = folder / "held.journal"
+    for words, most in (["--keep-seats"], 9), (["--journal", path], 10):
+        room = Room("serve", "--port", "PORT", "--seats", "2", *words, **handles(most))
+        with room.console() as first, room.console() as second:
+            answer(f"{words[0]}, {most} handles: the first seat", say(first, b"DEPOSIT 0700 A\n"), b"OK\n")
+            answer("the second seat", say(second, b"EXAMINE 0700\n"), b"A\n")
+            time.sleep(0.2)
+            room.process.stdin.write(b"QUIT\n")
+            room.process.stdin.flush()
+            answer("QUIT ends the first console", hear(first), b"")
+            answer("and the second", hear(second), b"")
+        room.ended("a room that holds every handle it may have", 2, b"")
+    text = b"JOURNAL1 4000\n1\t1\tDEPOSIT 0700 A\tOK\n2\t2\tEXAMINE 0700 1\tA\n"
+    tell("its journal is whole", "; ".join(difference("the file", path.read_bytes(), text)))
 
 
 def unaccepted(_):
     """A connection that the system doesn't accept: it has no reply, and the room goes on to its end."""
-
-    def few_handles():
-        resource.setrlimit(resource.RLIMIT_NOFILE, (4, 4))
-
-    room = Room("serve", "--port", "PORT", "--seats", "1", "--keep-seats", preexec_fn=few_handles)
+    room = Room("serve", "--port", "PORT", "--seats", "1", "--keep-seats", **handles(4))
     with room.console() as console:
         ready = select.select([console], [], [], 0.5)[0]
         tell("a connection that isn't accepted", "it has an answer" if ready and hear(console) else "")
@@ -438,7 +451,7 @@ def seats():
     """All of these."""
     with tempfile.TemporaryDirectory() as folder:
         for part in (
-            taken_again, begun, misused, kept, resumed, unkept, unheard, unheld, unaccepted, unread, denied, unsynced,
-            killed
+            taken_again, begun, misused, kept, resumed, unkept, unheard, unheld, all_held, unaccepted, unread, denied,
+            unsynced, killed
         ):
             part(Path(folder))

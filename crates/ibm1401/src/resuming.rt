@@ -86,8 +86,7 @@ fn go_on<
         + Print
         + Eprint
         + AllocGlobal
-        + Files<File = File>
-        + Net<Listener = TcpListener, Stream = TcpStream>,
+        + Files<File = File>,
 >(
     rt: &R,
     file: String,
@@ -119,8 +118,7 @@ fn verify_room<
         + Input<Reader = StdinLock<'static>>
         + Print
         + AllocGlobal
-        + Files
-        + Net<Listener = TcpListener, Stream = TcpStream>,
+        + Files,
 >(
     rt: &R,
     room: Room,

@@ -127,8 +127,7 @@ pub(crate) fn open_new<
         + Input<Reader = StdinLock<'static>>
         + Print
         + AllocGlobal
-        + Files<File = File>
-        + Net<Listener = TcpListener, Stream = TcpStream>,
+        + Files<File = File>,
 >(
     rt: &R,
     size: u16,
@@ -166,8 +165,7 @@ pub(crate) fn serve_room<
         + Input<Reader = StdinLock<'static>>
         + Print
         + AllocGlobal
-        + Files
-        + Net<Listener = TcpListener, Stream = TcpStream>,
+        + Files,
     K: Keeper + Drop + Send + Sync,
 >(
     rt: &R,

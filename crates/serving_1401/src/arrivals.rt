@@ -97,13 +97,9 @@ where
     R: Threads + Wait + Sync + 's,
 {
     for _ in rt.forever() {
-        let Ok((stream, _)) = listener.accept() else {
-            service.note(rt, SeatsFault::Accept);
+        let Some(stream) = service.accept(rt, listener) else {
             return;
         };
-        if service.is_closing() {
-            return;
-        }
         if waiting.fetch_add(1, SeqCst) >= MOST_WAITING as u64 {
             waiting.fetch_sub(1, SeqCst);
             continue;

@@ -32,8 +32,7 @@ where
     D: Door + Sync + 's,
 {
     for _ in rt.forever() {
-        let Ok((stream, _)) = listener.accept() else {
-            service.note(rt, SeatsFault::Accept);
+        let Some(stream) = service.accept(rt, listener) else {
             return;
         };
         match admit(rt, service, &stream) {

@@ -14,7 +14,8 @@ use crate::service::Service;
 use console_1401::Door;
 use room_1401::{Keeper, Room, RoomId, Seat, SharedRoom};
 use std::alloc::{AllocGlobal, Global};
-use std::net::{Net, TcpListener, TcpStream};
+use std::net::TcpListener;
+use std::os::fd::AsRawFd;
 use std::random::RandomSource;
 use std::sync::Wait;
 use std::sync::atomic::Ordering::SeqCst;
@@ -38,9 +39,9 @@ pub struct SeatsServed<K: Keeper + Drop> {
 /// ends, its seat is free again, with what it made and has seen. A connection for which no seat is free is told `FULL`
 /// and closed.
 ///
-/// A line of the input that says QUIT, or the end of the input, closes the room: no connection is accepted any more,
-/// each console ends as at the end of its input, with its last reply out, and the room is closed. Other lines of the
-/// input say nothing. A peer that doesn't take its replies can keep the room from closing.
+/// A line of the input that says QUIT, or the end of the input, closes the room: the listener is shut down, and accepts
+/// no connection any more; each console ends as at the end of its input, with its last reply out, and the room is
+/// closed. Other lines of the input say nothing. A peer that doesn't take its replies can keep the room from closing.
 ///
 /// A connection whose thread is refused is closed, and the room goes on. Once a connection couldn't be accepted, none is
 /// accepted any more; the consoles go on until the room is closed.
@@ -57,13 +58,7 @@ where
     J: RoomId + Send + Sync,
     H: Wait + Drop + Send + Sync,
     K: Keeper + Drop + Send + Sync,
-    R: Threads
-        + Wait
-        + Sync
-        + Clock
-        + AllocGlobal
-        + RandomSource
-        + Net<Listener = TcpListener, Stream = TcpStream>,
+    R: Threads + Wait + Sync + Clock + AllocGlobal + RandomSource,
     S: Source + Drop + Send,
     D: Door + Sync,
     requires ledger { J.parts ≡ J.seats }
@@ -87,8 +82,8 @@ where
 /// first, the page or a console. A page that was opened keeps its seat until the room is closed; while a console sits
 /// there, each request of the page is refused.
 ///
-/// It ends as `serve_seats` does: no connection is accepted any more, the request of each page that is being answered
-/// is answered, and the connections that still wait are closed.
+/// It ends as `serve_seats` does: all listeners are shut down, the request of each page that is being answered is
+/// answered, and the connections that still wait are closed.
 ///
 /// A page isn't served any more once a connection to it couldn't be accepted, nor at all if its threads are refused,
 /// or the memory for those who wait; the room goes on. A connection whose thread is refused is closed.
@@ -106,13 +101,7 @@ where
     J: RoomId + Send + Sync,
     H: Wait + Drop + Send + Sync,
     K: Keeper + Drop + Send + Sync,
-    R: Threads
-        + Wait
-        + Sync
-        + Clock
-        + AllocGlobal
-        + RandomSource
-        + Net<Listener = TcpListener, Stream = TcpStream>,
+    R: Threads + Wait + Sync + Clock + AllocGlobal + RandomSource,
     S: Source + Drop + Send,
     D: Door + Sync,
     requires ledger { J.parts ≡ J.seats }
@@ -207,13 +196,7 @@ where
     J: RoomId + Send + Sync,
     H: Wait + Drop + Send + Sync,
     K: Keeper + Drop + Send + Sync,
-    R: Threads
-        + Wait
-        + Sync
-        + Clock
-        + AllocGlobal
-        + RandomSource
-        + Net<Listener = TcpListener, Stream = TcpStream>,
+    R: Threads + Wait + Sync + Clock + AllocGlobal + RandomSource,
     S: Source + Drop + Send,
     D: Door + Sync,
     requires pages { length pages.now ≤ J.seats }
@@ -249,14 +232,7 @@ where
     J: RoomId + Send + Sync + 's,
     H: Wait + Drop + Send + Sync + 's,
     K: Keeper + Drop + Send + Sync + 's,
-    R: Threads
-        + Wait
-        + Sync
-        + Clock
-        + AllocGlobal
-        + RandomSource
-        + Net<Listener = TcpListener, Stream = TcpStream>
-        + 's,
+    R: Threads + Wait + Sync + Clock + AllocGlobal + RandomSource + 's,
     S: Source + Drop + Send + 's,
     D: Door + Sync + 's,
     requires pages { length pages.now ≤ J.seats }
@@ -273,12 +249,14 @@ where
     }
 }
 
-/// Waits until the input closes the room, ends the input of each console, and wakes the threads that accept.
-fn close_by_input<
-    J: RoomId,
-    R: Wait + Net<Listener = TcpListener, Stream = TcpStream>,
-    S: Source + Drop,
->(rt: &R, service: &Service<J>, consoles: Option<&TcpListener>, pages: &[PagePort], input: S) {
+/// Waits until the input closes the room, ends the input of each console, and shuts the listeners down.
+fn close_by_input<J: RoomId, R: Wait, S: Source + Drop>(
+    rt: &R,
+    service: &Service<J>,
+    consoles: Option<&TcpListener>,
+    pages: &[PagePort],
+    input: S,
+) {
     let mut input = input;
     let end = read_to_quit(rt, &mut input);
     let mut desk = service.desk.lock(rt);
@@ -289,16 +267,15 @@ fn close_by_input<
     desk.end_inputs();
     drop(desk);
     if let Some(listener) = consoles {
-        wake(rt, listener);
+        shut_down(listener);
     }
     for page in pages {
-        wake(rt, &page.listener);
+        shut_down(&page.listener);
     }
 }
 
-/// A connection to the listener, which is closed at once.
-fn wake<R: Net<Listener = TcpListener, Stream = TcpStream>>(rt: &R, listener: &TcpListener) {
-    if let Ok(address) = listener.local_addr() {
-        let _woken = TcpStream::connect(rt, address);
-    }
+/// Shuts a listener down: a thread that waits for its next connection waits no more, and whoever connects is refused.
+/// A connection would wake the thread too, but needs a handle of the system, which may have none left.
+fn shut_down(listener: &TcpListener) {
+    let _shut = libc::net::shutdown(listener.as_raw_fd(), libc::net::SHUT_RD);
 }
