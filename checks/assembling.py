@@ -4,7 +4,7 @@ import re
 import tempfile
 from pathlib import Path
 
-from checks.report import PROGRAM, TOP, difference, expect, misuse, run, tell
+from checks.report import PROGRAM, TOP, count, difference, expect, misuse, run, tell
 
 # A good source, and its image.
 GOOD, IMAGE = "               END  0\n", "IMAGE2 04000\nEND 00000\n"
@@ -341,3 +341,25 @@ def warnings():
         source.write_text("     A         DCW  #1\n               END  0\n" + "     *\n" * 100_000)
         ran = run([PROGRAM, "assemble", "--all", source])
         expect("assemble --all: a long source", ran, 0, "...", f"{source}:1:6: {NO_OPERAND}\n")
+
+
+# What stands below a statement of OLD_DECKS: the labels that it names.
+LABELS = "     TAG       DCW  #3\n     AREA      DCW  #9\n               END  TAG\n"
+
+# Operations that this assembler has, of those that OLD_DECKS shows.
+OPERATION = re.compile(r"`((?:MN|MZ|LCA|B|BWZ|BCE|CC|SS|NOP|H|MLC|ZS|DCW|DC|EX|ORG|DA)(?: .*?)?)`")
+
+
+def old_decks():
+    """Each statement of OLD_DECKS that isn't taken is refused as the page says, and what it writes instead is taken."""
+    page = (TOP / "docs/OLD_DECKS.md").read_text()
+    rows = re.findall(r"^\| `(.*?)` \| (\d+ [A-Z ]+) \| (.*) \|$", page, re.MULTILINE)
+    count("statements of old decks", len(rows), 29)
+    with tempfile.TemporaryDirectory() as folder:
+        source = Path(folder) / "old.source"
+        for statement, told, instead in rows:
+            source.write_text(f"{'':15}{statement}\n{LABELS}")
+            expect(f"an old {statement}", run([PROGRAM, "assemble", source]), 1, "", f"ibm1401: line 1: {told}\n")
+            for taken in OPERATION.findall(instead):
+                source.write_text(f"{'':15}{taken}\n{LABELS}")
+                expect(f"{taken}, which is in its place", run([PROGRAM, "assemble", source]), 0, "...")
