@@ -1,9 +1,10 @@
--- The first line of a source.
+-- The first line of a source, and the columns of a line.
 use Rattle.std.proofs.Common.{◌≡◌, ℕ, ◌+◌, ◌<◌, ◌==◌, Bool, true, false, List, [], ◌∷◌, length, take, drop, refl, ap}
 use Rattle.std.proofs.Common.{◌∙◌, arith}
+use Rattle.std.proofs.lemmas.List.{append-nil, take_all}
 use Rattle.std.proofs.lemmas.List.Splits.{slice_split_first, length-slice_split}
 use Rattle.std.specs.List.{slice_split, onto_first, position_or_len, before_first, after_first}
-use Rattle.source_1401.specs.SourceLine.{is_line_feed, lines_of, lines_between, without_return}
+use Rattle.source_1401.specs.SourceLine.{columns_of, is_line_feed, lines_of, lines_between, without_return}
 
 -- without a line feed there is one part
 pub no_line_feed : (source : List ℕ) → position_or_len is_line_feed source ≡ length source
@@ -40,3 +41,8 @@ first_line source n e h =
     (ap lines_between (slice_split_first is_line_feed source 0 (omega (arith, e, h)))
     ∙ ended_line (before_first is_line_feed source) (slice_split is_line_feed (after_first is_line_feed source))
     (omega (arith, length-slice_split is_line_feed (after_first is_line_feed source))))
+
+-- what has 80 columns already is as it stands
+pub columns_stay : (columns : List ℕ) → length columns ≡ 80 → columns_of columns ≡ columns
+unfolding columns_of
+columns_stay columns full = rw (take_all 80 columns (omega (arith, full)), full) (append-nil columns)

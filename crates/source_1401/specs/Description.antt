@@ -29,6 +29,7 @@ plain =
       next = next.Behind;
       areas = areas.Ends;
       contents = contents.Nothing;
+      is_remark = false;
     }
 
 -- the row of a statement
@@ -91,6 +92,8 @@ describe (bodies.End of) =
       addressing = addressing.Entry of;
       next = next.Literals;
     }
+describe (bodies.Heading is_well_formed) =
+    record plain { is_well_formed = is_well_formed; label = label.Forbidden; is_remark = true }
 
 abbrev pub is_required : LabelRule → Bool
 is_required label.Optional = false

@@ -2,7 +2,10 @@ pub mod Address
 pub mod Constant
 pub mod Description
 pub mod Flaw
+pub mod Heading
 pub mod Label
+pub mod Language
+pub mod LanguageFlaw
 pub mod Mnemonic
 pub mod Nearness
 pub mod Numbers
@@ -10,3 +13,6 @@ pub mod Operands
 pub mod Punctuation
 pub mod SourceLine
 pub mod Statement
+pub mod WideColumns
+pub mod WideMnemonic
+pub mod WideStatement

@@ -23,5 +23,8 @@ plus_sign = byte "+"
 abbrev pub minus_sign : ℕ
 minus_sign = byte "-"
 
+abbrev pub ampersand : ℕ
+ampersand = byte "&"
+
 abbrev pub letter_x : ℕ
 letter_x = byte "X"

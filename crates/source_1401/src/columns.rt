@@ -46,14 +46,14 @@ pub(crate) fn are_blank(text: &[u8]) -> bool
 }
 
 /// Whether the bytes can be printed: 32 to 126.
-fn are_printable(text: &[u8]) -> bool
+pub(crate) fn are_printable(text: &[u8]) -> bool
     ensures { result ≡ list_all is_printable text.now }
 {
     text.iter().all(|byte| *byte >= b' ' && *byte <= b'~')
 }
 
 /// Whether the bytes are graphics of characters.
-fn are_graphics(text: &[u8]) -> bool
+pub(crate) fn are_graphics(text: &[u8]) -> bool
     ensures { result ≡ list_all is_graphic text.now }
 {
     text.iter().all(|byte| Char::from_graphic(*byte).is_some())

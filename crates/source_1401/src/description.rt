@@ -108,6 +108,8 @@ pub struct Description {
     pub areas: AreaRole,
     /// What fills its places.
     pub contents: Contents,
+    /// Whether it is listed as a comment is, without an address and cells.
+    pub is_remark: bool,
 }
 
 /// What a row says in the columns that it doesn't name.
@@ -121,6 +123,7 @@ const PLAIN: Description = Description {
     next: Next::Behind,
     areas: AreaRole::Ends,
     contents: Contents::Nothing,
+    is_remark: false,
 };
 
 impl Body {
@@ -204,6 +207,12 @@ impl Body {
                 shows: Point::Value,
                 addressing: Addressing::Entry(operands),
                 next: Next::Literals,
+                ..PLAIN
+            },
+            Body::Heading(is_well_formed) => Description {
+                is_well_formed,
+                label: LabelRule::Forbidden,
+                is_remark: true,
                 ..PLAIN
             },
         }

@@ -46,6 +46,8 @@ pub enum OperandFlaw {
     CharacterMissing,
     /// Something that the operation doesn't take.
     TooMuch,
+    /// Not the name of this assembler: AUTOCODER.
+    NoAssembler,
 }
 
 /// What is wrong with columns for an operation that hold none.
@@ -67,7 +69,7 @@ pub struct Flaw {
 }
 
 /// How many blanks columns begin with.
-fn blanks_in_front(columns: &[u8]) -> usize
+pub(crate) fn blanks_in_front(columns: &[u8]) -> usize
     ensures value { result ≡ prefix_len is_blank columns.now }
     ensures bound { result ≤ length columns.now }
 {
@@ -159,7 +161,7 @@ fn graphics_in_front(columns: &[u8]) -> usize
 }
 
 /// The first of these columns, of which the first has this number, that holds a byte that can't be printed.
-fn first_unprintable(column: u8, columns: &[u8]) -> Option<u8>
+pub(crate) fn first_unprintable(column: u8, columns: &[u8]) -> Option<u8>
     requires { column + length columns.now ≤ 81 }
     ensures { result ≡ first_without is_printable column columns.now }
 {
@@ -172,7 +174,7 @@ fn first_unprintable(column: u8, columns: &[u8]) -> Option<u8>
 }
 
 /// The first of these columns, of which the first has this number, that holds no graphic of a character.
-fn first_no_graphic(column: u8, columns: &[u8]) -> Option<u8>
+pub(crate) fn first_no_graphic(column: u8, columns: &[u8]) -> Option<u8>
     requires { column + length columns.now ≤ 81 }
     ensures { result ≡ first_without is_graphic column columns.now }
 {
@@ -213,7 +215,7 @@ pub fn foreign_column(line: &[u8]) -> Option<u8>
 }
 
 /// A flaw of the columns for operands, this many columns after the first of them.
-fn flaw_after(skipped: usize, length: usize, kind: OperandFlaw) -> Flaw
+pub(crate) fn flaw_after(skipped: usize, length: usize, kind: OperandFlaw) -> Flaw
     requires start { skipped ≤ 54 }
     requires few { length ≤ 54 }
     ensures { result ≡ flaw_after skipped length kind }
@@ -252,7 +254,7 @@ fn without_first(text: &[u8]) -> &[u8]
 }
 
 /// What is wrong with the operands of this form.
-fn operands_flaw(form: Form, columns: &[u8]) -> Flaw
+pub(crate) fn operands_flaw(form: Form, columns: &[u8]) -> Flaw
     requires { length columns.now ≤ 52 }
     ensures { result ≡ operands_flaw form columns.now }
 {
@@ -320,7 +322,7 @@ fn value_flaw(columns: &[u8]) -> Flaw
 }
 
 /// What is wrong with the operands of an operation, if something is.
-fn flaw_with(operation: Operation, columns: &[u8]) -> Flaw
+pub(crate) fn flaw_with(operation: Operation, columns: &[u8]) -> Flaw
     requires { length columns.now ≤ 52 }
     ensures { result ≡ flaw_with operation columns.now }
 {

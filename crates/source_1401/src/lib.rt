@@ -21,8 +21,14 @@ pub mod address; // addresses, as they are written
 pub mod constant; // constants and literals
 pub mod operands; // columns 21 to 72
 pub mod statement; // what a line says
+pub mod wide_columns; // columns as the wider language reads them
+pub mod heading; // JOB and ENT
+pub mod wide_mnemonic; // columns 16 to 20 in the wider language
+pub mod wide_statement; // what a line says in the wider language
+pub mod language; // what a line says in each language
 pub mod description; // what each kind of statement asks of the assembler
 pub mod flaw; // which columns of a line are at fault
+pub mod language_flaw; // the same in each language
 
 pub use address::{Address, Base};
 pub use columns::COLUMNS;
@@ -33,6 +39,10 @@ pub use flaw::{
     operand_flaw, operation_flaw, operation_stretch, second_base, statement_stretch,
 };
 pub use label::{LABEL_LENGTH, Label, LabelField};
+pub use language::Language;
+pub use language_flaw::{
+    columns_in_language, foreign_column_in, operand_flaw_in, operation_flaw_in,
+};
 pub use lines::split_line;
 pub use mnemonic::{DCharacter, Form, Instruction, Operation};
 pub use nearness::{is_near, nearest_mnemonic, word_in};

@@ -4,7 +4,7 @@ ghost use Rattle.std.specs.List.{position_or_len};
 ghost use Rattle.source_1401.specs.Numbers.{number_between};
 ghost use Rattle.source_1401.specs.Statement.{most_places};
 ghost use Rattle.source_1401.specs.Statement.{is_x, areas_of, span_of, body_with, body_of, statement_of, bytes_with};
-ghost use Rattle.source_1401.specs.Statement.{line_of, has_bad_operands, has_bad_label};
+ghost use Rattle.source_1401.specs.Statement.{line_with, line_of, has_bad_operands, has_bad_label};
 ghost use Rattle.source_1401.specs.Statement.{label_of_line, is_end};
 
 use crate::columns::{COLUMNS, columns_in, columns_of, has_foreign_bytes, is_comment};
@@ -58,6 +58,9 @@ pub enum Body {
     Execute(Operands),
     /// END: the first instruction of the program.
     End(Operands),
+    /// JOB, or ENT with the assembler's name, in the wider language: it is listed, and does nothing. Whether its
+    /// operand is as it asks.
+    Heading(bool),
 }
 
 /// A label, and what a line asks for.
@@ -168,7 +171,7 @@ impl Body {
     }
 
     /// What the columns for an operation and those for its operands ask for.
-    fn from_columns(operation: &[u8], operands: &[u8]) -> Body
+    pub(crate) fn from_columns(operation: &[u8], operands: &[u8]) -> Body
         ensures { result ≡ body_of operation.now operands.now }
     {
         match Operation::from_columns(operation) {
@@ -213,19 +216,25 @@ impl Statement {
 }
 
 impl Line {
+    /// What these columns say, of a line of this length.
+    pub(crate) fn with_columns(len: usize, columns: &[u8; COLUMNS]) -> Line
+        ensures { result ≡ line_with len columns.now }
+    {
+        Line {
+            bytes: LineCheck::of(len, columns),
+            statement: if is_comment(columns) {
+                None
+            } else {
+                Some(Statement::from_columns(columns))
+            },
+        }
+    }
+
     /// What a line says by itself: its bytes, without the line feed that ends it.
     pub fn from_bytes(line: &[u8]) -> Line
         ensures { result ≡ line_of line.now }
     {
-        let columns = columns_of(line);
-        Line {
-            bytes: LineCheck::of(line.len(), &columns),
-            statement: if is_comment(&columns) {
-                None
-            } else {
-                Some(Statement::from_columns(&columns))
-            },
-        }
+        Line::with_columns(line.len(), &columns_of(line))
     }
 
     /// The label of the line, if it has a well-formed one, whatever else is wrong with it.

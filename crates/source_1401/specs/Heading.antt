@@ -1,0 +1,37 @@
+-- JOB and ENT, by which a source in the wider language is headed (Autocoder, "Assembler Control"; JOB's bytes own).
+use Rattle.std.specs.Prelude.{ℕ, nat_lt, Bool, not, ◌&&◌, ◌||◌, if◌then◌else◌, List, codes}
+use Rattle.std.specs.List.{list_all}
+use Rattle.std.specs.Str.{bytes_eq}
+use Rattle.source_1401.specs.Nearness.{word_in}
+use Rattle.source_1401.specs.SourceLine.{columns_in, is_comment, is_graphic, is_printable, has_foreign_bytes}
+use Rattle.source_1401.specs.declared.statement.LineCheck.{LineCheck}
+use Rattle.source_1401.specs.declared.statement.LineCheck.TheVariants as bytes
+
+-- columns 16 to 20 ask for a heading
+abbrev pub is_job : List ℕ → Bool
+is_job operation = bytes_eq operation (codes "JOB  ")
+
+-- columns 16 to 20 ask for an assembler
+abbrev pub is_ent : List ℕ → Bool
+is_ent operation = bytes_eq operation (codes "ENT  ")
+
+-- the one that there is
+abbrev pub names_autocoder : List ℕ → Bool
+names_autocoder columns = bytes_eq (word_in columns) (codes "AUTOCODER")
+
+abbrev pub is_job_line : List ℕ → Bool
+is_job_line columns = not (is_comment columns) && is_job (columns_in 16 20 columns)
+
+-- what a heading says is any bytes 32 to 126, where the columns for operands of other lines hold graphics
+abbrev pub has_wide_foreign_bytes : List ℕ → Bool
+has_wide_foreign_bytes columns =
+    if is_job_line columns
+    then not (list_all is_printable (columns_in 1 5 columns))
+    || not (list_all is_graphic (columns_in 6 20 columns))
+    || not (list_all is_printable (columns_in 21 80 columns))
+    else has_foreign_bytes columns
+
+-- whether a line of this length with these columns can be a line
+abbrev pub wide_bytes_with : ℕ → List ℕ → LineCheck
+wide_bytes_with len columns =
+    if nat_lt 80 len then bytes.Long else if has_wide_foreign_bytes columns then bytes.Foreign else bytes.Good

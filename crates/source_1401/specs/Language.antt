@@ -1,0 +1,39 @@
+-- What a line says in a language (Autocoder, C24-3258 and J24-1434, for the wider one; that both agree own).
+use Rattle.std.specs.Prelude.{ℕ, Bool, true, false, not, ◌&&◌, if◌then◌else◌, List, length, Option, None, Some}
+use Rattle.source_1401.specs.Description.{describe}
+use Rattle.source_1401.specs.SourceLine.{columns_of}
+use Rattle.source_1401.specs.Statement.{line_of, line_with, has_bad_label, has_bad_operands}
+use Rattle.source_1401.specs.WideColumns.{capitals, plus_signs}
+use Rattle.source_1401.specs.WideStatement.{wide_line_with}
+use Rattle.source_1401.specs.declared.language.Language.{Language}
+use Rattle.source_1401.specs.declared.language.Language.TheVariants as languages
+use Rattle.source_1401.specs.declared.statement.LineCheck.{LineCheck}
+use Rattle.source_1401.specs.declared.statement.LineCheck.TheVariants as bytes
+use Rattle.source_1401.specs.declared.statement.Statement.{Statement}
+use Rattle.source_1401.specs.declared.statement.Line.{Line}
+
+abbrev pub are_good : LineCheck → Bool
+are_good bytes.Good = true
+are_good bytes.Long = false
+are_good bytes.Foreign = false
+
+-- a comment, or a statement with a label, an operation and operands as it asks, whatever the other lines are
+abbrev pub is_sound_statement : Option Statement → Bool
+is_sound_statement None = true
+is_sound_statement (Some statement) =
+    not (has_bad_label statement) && (describe statement.body).is_known && not (has_bad_operands statement.body)
+
+-- a line with which nothing is wrong by itself
+abbrev pub is_sound : Line → Bool
+is_sound this = are_good this.bytes && is_sound_statement this.statement
+
+-- columns with capitals say what they say in the plain language, if nothing is wrong with that, and else what they
+-- say in the wider one
+unfoldable pub wider_line : ℕ → List ℕ → Line
+wider_line len columns =
+    if is_sound (line_with len columns) then line_with len columns else wide_line_with len (plus_signs columns)
+
+-- what a line says by itself in a language
+abbrev pub line_in : Language → List ℕ → Line
+line_in languages.Plain line = line_of line
+line_in languages.Ibm line = wider_line (length line) (capitals (columns_of line))

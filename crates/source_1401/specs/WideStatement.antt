@@ -1,0 +1,46 @@
+-- What the columns of a line say in the wider language (Autocoder, "Coding Sheet", "Operation").
+use Rattle.std.specs.Prelude.{ℕ, true, if◌then◌else◌, List, Option, None, Some}
+use Rattle.source_1401.specs.Heading.{is_job, is_ent, names_autocoder, wide_bytes_with}
+use Rattle.source_1401.specs.Label.{label_in}
+use Rattle.source_1401.specs.Operands.{operands_of}
+use Rattle.source_1401.specs.SourceLine.{columns_in, is_comment}
+use Rattle.source_1401.specs.Statement.{body_of}
+use Rattle.source_1401.specs.WideMnemonic.{AWideRow, form_by, wide_row_of}
+use Rattle.source_1401.specs.declared.statement.Body.{Body}
+use Rattle.source_1401.specs.declared.statement.Body.TheVariants as bodies
+use Rattle.source_1401.specs.declared.statement.Statement.{Statement}
+use Rattle.source_1401.specs.declared.statement.Line.{Line}
+
+-- the instruction of a row
+abbrev pub wide_instruction : AWideRow → List ℕ → Body
+wide_instruction row columns =
+    bodies.Instruction (record { operation = row.1; form = form_by row columns }) (operands_of (form_by row columns) columns)
+
+-- what isn't in the wider table is as in the plain language
+abbrev pub wide_body_by : Option AWideRow → List ℕ → List ℕ → Body
+wide_body_by None operation columns = body_of operation columns
+wide_body_by (Some row) operation columns = wide_instruction row columns
+
+-- what columns 16 to 20 and columns 21 to 72 ask for
+abbrev pub wide_body_of : List ℕ → List ℕ → Body
+wide_body_of operation columns =
+    if is_job operation then bodies.Heading true
+    else if is_ent operation then bodies.Heading (names_autocoder columns)
+    else wide_body_by (wide_row_of operation) operation columns
+
+-- what a line says that is no comment
+abbrev pub wide_statement_of : List ℕ → Statement
+wide_statement_of columns =
+    record {
+      label = label_in (columns_in 6 15 columns);
+      body = wide_body_of (columns_in 16 20 columns) (columns_in 21 72 columns);
+    }
+
+-- what a line with these columns says
+unfoldable pub wide_line_with : ℕ → List ℕ → Line
+wide_line_with len columns =
+    record {
+      bytes = wide_bytes_with len columns;
+      statement = if is_comment columns then None
+          else Some (wide_statement_of columns);
+    }

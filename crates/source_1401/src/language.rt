@@ -1,0 +1,56 @@
+//! The languages of a source, and what a line says in each.
+ghost use Rattle.std.specs.Prelude.{◌≡◌};
+ghost use Rattle.source_1401.specs.Language.{is_sound, wider_line, line_in};
+
+use crate::columns::{COLUMNS, columns_of};
+use crate::statement::{Line, LineCheck};
+use crate::wide_columns::{capitals, plus_signs};
+
+/// The language of a source.
+#[derive(Clone, Copy, Debug, PartialEq, Eq)]
+pub enum Language {
+    /// The plain language: capitals alone, and one form for each mnemonic.
+    Plain,
+    /// The wider Autocoder of C24-3258 and J24-1434. What the plain language takes says the same in it.
+    Ibm,
+}
+
+impl Line {
+    /// Whether nothing is wrong with the line, whatever the other lines are.
+    pub fn is_sound(&self) -> bool
+        ensures { result ≡ is_sound self.now }
+    {
+        match (self.bytes, self.statement) {
+            (LineCheck::Long | LineCheck::Foreign, _) => false,
+            (LineCheck::Good, None) => true,
+            (LineCheck::Good, Some(statement)) => {
+                !statement.has_bad_label()
+                    && statement.body.describe().is_known
+                    && !statement.has_bad_operands()
+            },
+        }
+    }
+
+    /// What these columns, which have capitals already, say in the wider language, of a line of this length.
+    #[tactic(auto, unfolding(crate::specs::Language::wider_line))]
+    fn wider(len: usize, columns: &[u8; COLUMNS]) -> Line
+        ensures { result ≡ wider_line len columns.now }
+    {
+        let plain = Line::with_columns(len, columns);
+        if plain.is_sound() {
+            plain
+        } else {
+            Line::with_wide_columns(len, &plus_signs(columns))
+        }
+    }
+
+    /// What a line says by itself in a language: its bytes, without the line feed that ends it.
+    pub fn in_language(language: Language, line: &[u8]) -> Line
+        ensures { result ≡ line_in language line.now }
+    {
+        match language {
+            Language::Plain => Line::from_bytes(line),
+            Language::Ibm => Line::wider(line.len(), &capitals(&columns_of(line))),
+        }
+    }
+}

@@ -1,0 +1,58 @@
+//! The columns of a line as the wider language reads them.
+ghost use Rattle.std.specs.Prelude.{◌≡◌, ◌==◌, false, true};
+ghost use Rattle.source_1401.specs.WideColumns.{is_word_end, is_separator, capitals, plus_signs_from, plus_signs};
+
+use crate::columns::{COLUMNS, is_comment};
+
+/// The columns with capitals for the small letters of columns 6 to 72; a comment stays as it is.
+pub(crate) fn capitals(columns: &[u8; COLUMNS]) -> [u8; COLUMNS]
+    ensures { result ≡ capitals columns.now }
+{
+    let mut read = *columns;
+    if !is_comment(columns) {
+        read[5..72].make_ascii_uppercase();
+    }
+    read
+}
+
+/// Whether a byte parts two words.
+fn is_separator(byte: u8) -> bool
+    ensures { result ≡ is_separator byte }
+{
+    byte == b',' || byte == b' '
+}
+
+/// Whether a word ends before this text.
+fn is_word_end(text: &[u8]) -> bool
+    ensures { result ≡ is_word_end text.now }
+{
+    match text {
+        [first, ..] => is_separator(*first),
+        [] => true,
+    }
+}
+
+/// Puts a plus sign for each `&` that no two at signs enclose and that isn't a word by itself.
+fn put_plus_signs(operands: &mut [u8])
+    ensures { operands.new ≡ plus_signs_from false true operands.old }
+{
+    let mut is_quoted = false;
+    let mut begins_word = true;
+    for i in 0..operands.len() {
+        let byte = operands[i];
+        if byte == b'&' && !is_quoted && !(begins_word && is_word_end(&operands[i + 1..])) {
+            operands[i] = b'+';
+        }
+        begins_word = !is_quoted && is_separator(byte);
+        is_quoted ^= byte == b'@';
+    }
+}
+
+/// The columns with a plus sign for each `&` of columns 21 to 72 that stands for one.
+pub(crate) fn plus_signs(columns: &[u8; COLUMNS]) -> [u8; COLUMNS]
+    ensures { result ≡ plus_signs columns.now }
+{
+    let mut read = *columns;
+    put_plus_signs(&mut read[20..72]);
+    read
+}

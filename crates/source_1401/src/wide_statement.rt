@@ -1,0 +1,72 @@
+//! What the columns of a line say in the wider language.
+ghost use Rattle.std.specs.Prelude.{◌≡◌};
+ghost use Rattle.source_1401.specs.WideStatement.{wide_instruction, wide_body_of, wide_statement_of, wide_line_with};
+
+use crate::columns::{COLUMNS, columns_in, is_comment};
+use crate::heading::{is_ent, is_job, names_autocoder};
+use crate::label::LabelField;
+use crate::mnemonic::Instruction;
+use crate::operands::Operands;
+use crate::statement::{Body, Line, LineCheck, Statement};
+use crate::wide_mnemonic::{WideRow, form_by, wide_row_of};
+
+impl Body {
+    /// The instruction of a row of the wider table.
+    fn wide_instruction(row: WideRow, columns: &[u8]) -> Body
+        ensures { result ≡ wide_instruction row columns.now }
+    {
+        let form = form_by(row, columns);
+        Body::Instruction(
+            Instruction {
+                operation: row.1,
+                form,
+            },
+            Operands::from_columns(form, columns),
+        )
+    }
+
+    /// What the columns for an operation and those for its operands ask for.
+    fn from_wide_columns(operation: &[u8], operands: &[u8]) -> Body
+        ensures { result ≡ wide_body_of operation.now operands.now }
+    {
+        if is_job(operation) {
+            return Body::Heading(true);
+        }
+        if is_ent(operation) {
+            return Body::Heading(names_autocoder(operands));
+        }
+        match wide_row_of(operation) {
+            Some(row) => Body::wide_instruction(row, operands),
+            None => Body::from_columns(operation, operands),
+        }
+    }
+}
+
+impl Statement {
+    /// What the columns of a line say that is no comment.
+    fn from_wide_columns(columns: &[u8; COLUMNS]) -> Statement
+        ensures { result ≡ wide_statement_of columns.now }
+    {
+        Statement {
+            label: LabelField::from_columns(columns_in(columns, 6, 15)),
+            body: Body::from_wide_columns(columns_in(columns, 16, 20), columns_in(columns, 21, 72)),
+        }
+    }
+}
+
+impl Line {
+    /// What these columns say, of a line of this length.
+    #[tactic(auto, unfolding(crate::specs::WideStatement::wide_line_with))]
+    pub(crate) fn with_wide_columns(len: usize, columns: &[u8; COLUMNS]) -> Line
+        ensures { result ≡ wide_line_with len columns.now }
+    {
+        Line {
+            bytes: LineCheck::of_wide(len, columns),
+            statement: if is_comment(columns) {
+                None
+            } else {
+                Some(Statement::from_wide_columns(columns))
+            },
+        }
+    }
+}
