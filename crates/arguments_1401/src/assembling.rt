@@ -1,6 +1,7 @@
 //! The words of the subcommand `assemble`.
 
 use crate::call::{Assembling, Call, Product, Tables, Told};
+use crate::languages::{language_arg, language_in};
 use crate::reading::{name_in, refusal, size_arg, size_in};
 use crate::sizes::SizeTexts;
 use clap::{Arg, ArgAction, ArgMatches, Command, Error};
@@ -51,6 +52,7 @@ pub(crate) fn assemble_command<'a>(
         .arg(xref)?
         .arg(deck)?
         .arg(all)?
+        .arg(language_arg(alloc))?
         .arg(size_arg(alloc, sizes))?
         .arg(file)
 }
@@ -92,6 +94,7 @@ pub(crate) fn assemble_call(
     }
     Ok(Call::Assemble(Assembling {
         file,
+        language: language_in(matches),
         size: size_in(matches),
         product: product_in(matches),
         out,

@@ -1,5 +1,7 @@
 //! What the command line asks for, as plain data.
 
+use source_1401::Language;
+
 /// What `assemble` writes.
 #[derive(Clone, Copy, Debug, PartialEq, Eq)]
 pub enum Product {
@@ -27,6 +29,8 @@ pub struct Tables {
 pub struct Assembling {
     /// The name of the source's file.
     pub file: String,
+    /// The language that it is written in.
+    pub language: Language,
     /// How many places core storage has.
     pub size: u16,
     /// What is written.
@@ -117,6 +121,8 @@ pub struct Job {
     pub paper: Option<String>,
     /// The name of the file of the trace; without one there is none.
     pub trace: Option<String>,
+    /// The language of the file, if it is a source.
+    pub language: Language,
     /// How many places core storage has, if the file is no image.
     pub size: u16,
     /// The most instructions that are carried out.

@@ -8,6 +8,7 @@
 mod assembling;
 pub mod call;
 mod journals;
+mod languages;
 pub mod reading;
 mod serving;
 mod sizes;

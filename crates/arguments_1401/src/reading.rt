@@ -6,6 +6,7 @@ use crate::journals::{
     journal_arg, journal_call, journal_command, new_journal_in, new_sync_arg, resume_call,
     resume_command,
 };
+use crate::languages::{language_arg, language_in};
 use crate::serving::{operators_in, serve_call, serve_command};
 use crate::sizes::{DEFAULT_SIZE, SizeTexts};
 use clap::error::ErrorKind;
@@ -122,6 +123,7 @@ fn run_command<'a>(alloc: Global, sizes: &'a SizeTexts) -> Result<Command<'a>, A
         .arg(punch)?
         .arg(paper)?
         .arg(trace)?
+        .arg(language_arg(alloc))?
         .arg(size_arg(alloc, sizes))?
         .arg(limit)?
         .arg(switches)?
@@ -182,6 +184,7 @@ fn run_call(alloc: Global, matches: &ArgMatches<'_>, file: &str) -> Result<Call,
         punch: name_in(alloc, matches, "punch")?,
         paper: name_in(alloc, matches, "paper")?,
         trace: name_in(alloc, matches, "trace")?,
+        language: language_in(matches),
         size: size_in(matches),
         limit: matches.get_one("limit").unwrap_or(DEFAULT_LIMIT),
         switches,
@@ -198,13 +201,9 @@ pub fn read_call(alloc: Global, words: &[impl AsStr]) -> Result<Call, Error> {
     call_with(alloc, words, &sizes)
 }
 
-/// The same, with the texts that the help takes from the sizes.
-fn call_with<'a, S: AsStr>(
-    alloc: Global,
-    words: &'a [S],
-    sizes: &'a SizeTexts,
-) -> Result<Call, Error> {
-    let program = Command::new(alloc, "ibm1401")
+/// The program with its subcommands.
+fn program_command<'a>(alloc: Global, sizes: &'a SizeTexts) -> Result<Command<'a>, AllocError> {
+    Command::new(alloc, "ibm1401")
         .about("An IBM 1401 card system, each operation of it proved")
         .subcommand_required(true)
         .subcommand(console_command(alloc, sizes)?)?
@@ -214,48 +213,50 @@ fn call_with<'a, S: AsStr>(
         .subcommand(run_command(alloc, sizes)?)?
         .subcommand(serve_command(alloc, sizes)?)?
         .subcommand(journal_command(alloc)?)?
-        .subcommand(resume_command(alloc)?)?;
-    let matches = program.try_get_matches_from(words)?;
-    if let Some(assemble) = matches.subcommand_matches("assemble") {
-        if let Some(file) = assemble.get_str("file") {
-            return assemble_call(alloc, assemble, file);
-        }
+        .subcommand(resume_command(alloc)?)
+}
+
+/// The same, with the texts that the help takes from the sizes.
+fn call_with<'a, S: AsStr>(
+    alloc: Global,
+    words: &'a [S],
+    sizes: &'a SizeTexts,
+) -> Result<Call, Error> {
+    let matches = program_command(alloc, sizes)?.try_get_matches_from(words)?;
+    call_of(alloc, &matches)
+}
+
+/// What a command line asks for that could be read.
+fn call_of(alloc: Global, matches: &ArgMatches<'_>) -> Result<Call, Error> {
+    let Some((name, options)) = matches.subcommand() else {
+        return Ok(Call::Console { size: DEFAULT_SIZE });
+    };
+    match name {
+        "console" => console_call(alloc, options),
+        "serve" => match operators_in(options) {
+            Some(operators) => serve_call(alloc, options, operators),
+            None => Ok(Call::Console { size: DEFAULT_SIZE }),
+        },
+        _ => file_call(alloc, name, options, options.get_str("file").unwrap_or("")),
     }
-    if let Some(load) = matches.subcommand_matches("load") {
-        if let Some(file) = load.get_str("file") {
-            return load_call(alloc, load, file);
-        }
-    }
-    if let Some(file) = matches
-        .subcommand_matches("disassemble")
-        .and_then(|disassemble| disassemble.get_str("file"))
-    {
-        let file = String::from_str(alloc, file)?;
-        return Ok(Call::Disassemble { file });
-    }
-    if let Some(run) = matches.subcommand_matches("run") {
-        if let Some(file) = run.get_str("file") {
-            return run_call(alloc, run, file);
-        }
-    }
-    if let Some(serve) = matches.subcommand_matches("serve") {
-        if let Some(operators) = operators_in(serve) {
-            return serve_call(alloc, serve, operators);
-        }
-    }
-    if let Some(journal) = matches.subcommand_matches("journal") {
-        if let Some(file) = journal.get_str("file") {
-            return journal_call(alloc, journal, file);
-        }
-    }
-    if let Some(resume) = matches.subcommand_matches("resume") {
-        if let Some(file) = resume.get_str("file") {
-            return resume_call(alloc, resume, file);
-        }
-    }
-    match matches.subcommand_matches("console") {
-        Some(console) => console_call(alloc, console),
-        None => Ok(Call::Console { size: DEFAULT_SIZE }),
+}
+
+/// What a subcommand with a file asks for.
+fn file_call(
+    alloc: Global,
+    name: &str,
+    options: &ArgMatches<'_>,
+    file: &str,
+) -> Result<Call, Error> {
+    match name {
+        "assemble" => assemble_call(alloc, options, file),
+        "load" => load_call(alloc, options, file),
+        "run" => run_call(alloc, options, file),
+        "journal" => journal_call(alloc, options, file),
+        "resume" => resume_call(alloc, options, file),
+        _ => Ok(Call::Disassemble {
+            file: String::from_str(alloc, file)?,
+        }),
     }
 }
 

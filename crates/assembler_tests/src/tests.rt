@@ -3,6 +3,7 @@
 mod assembly;
 mod faults;
 mod images;
+mod languages;
 mod lines;
 mod tables;
 mod warnings;

@@ -6,6 +6,7 @@ use Rattle.bcd_1401.specs.declared.cell.Cell.{Cell}
 use Rattle.bcd_1401.specs.Graphic.{graphics}
 use Rattle.source_1401.specs.SourceLine.{columns_of}
 use Rattle.source_1401.specs.Mnemonic.{instructions, assembler_operations}
+use Rattle.source_1401.specs.declared.language.Language.TheVariants.{Plain}
 use Rattle.autocoder_1401.specs.Assembly.{assembly_in}
 use Rattle.autocoder_1401.specs.Cells.{plain, marked}
 use Rattle.autocoder_1401.specs.Listing.{number_text, address_text, characters_text, without_last_blanks}
@@ -19,7 +20,7 @@ use Rattle.autocoder_1401.specs.declared.fault.AsmKind.TheVariants as kinds
 in_places : ℕ → List ℕ → Result Assembly AsmFault
 unfolding columns_of instructions assembler_operations graphics number_text address_text characters_text
     without_last_blanks listing_line spelling digits
-in_places size source = assembly_in size source
+in_places size source = assembly_in Plain size source
 
 -- the same in 4,000 places
 stands_for : List ℕ → Result Assembly AsmFault

@@ -5,6 +5,7 @@ use Rattle.bcd_1401.specs.Graphic.{graphics}
 use Rattle.source_1401.specs.Flaw.{stretch}
 use Rattle.source_1401.specs.Mnemonic.{instructions, assembler_operations}
 use Rattle.source_1401.specs.SourceLine.{columns_of, lines_of}
+use Rattle.source_1401.specs.declared.language.Language.TheVariants.{Plain}
 use Rattle.autocoder_1401.specs.Explanation.{all_explained}
 use Rattle.autocoder_1401.specs.declared.explanation.Cause.{Cause}
 use Rattle.autocoder_1401.specs.declared.explanation.Cause.TheVariants as causes
@@ -15,7 +16,7 @@ use Rattle.autocoder_1401.specs.declared.fault.AsmKind.TheVariants as kinds
 -- the faults of a source in 4,000 places, each with what is wrong, with all tables open
 wrong_in : List ℕ → List Explanation
 unfolding columns_of instructions assembler_operations graphics
-wrong_in source = all_explained 4000 (lines_of source)
+wrong_in source = all_explained Plain 4000 (lines_of source)
 
 wrong : ℕ → AsmKind → ℕ → ℕ → Cause → Explanation
 wrong line kind column length cause =

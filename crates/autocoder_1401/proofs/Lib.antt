@@ -9,8 +9,10 @@ mod ExplanationExamples
 pub mod ExplanationLemmas
 pub mod FillingLemmas
 pub mod FirstFaultLemmas
+mod FittedExamples
+pub mod FittedLemmas
+pub mod LanguageLemmas
 pub mod LawLemmas
-pub mod ListingLemmas
 pub mod LowestLemmas
 pub mod PlacementLawLemmas
 pub mod PlacingLemmas

@@ -5,6 +5,7 @@ use Rattle.std.specs.Fmt.{digits}
 use Rattle.bcd_1401.specs.Graphic.{graphics}
 use Rattle.source_1401.specs.SourceLine.{columns_of}
 use Rattle.source_1401.specs.Mnemonic.{instructions, assembler_operations}
+use Rattle.source_1401.specs.declared.language.Language.TheVariants.{Plain}
 use Rattle.autocoder_1401.specs.Assembly.{lines_in}
 use Rattle.autocoder_1401.specs.CrossReference.{reference_line, references_text}
 use Rattle.autocoder_1401.specs.Listing.{address_text}
@@ -13,12 +14,12 @@ use Rattle.autocoder_1401.specs.SymbolTable.{length_text, symbol_line, symbols_t
 -- the symbol table of a source, with all tables open
 symbols_of : List ℕ → List ℕ
 unfolding columns_of instructions assembler_operations graphics address_text length_text symbol_line digits
-symbols_of source = symbols_text (lines_in source)
+symbols_of source = symbols_text (lines_in Plain source)
 
 -- its cross-reference
 references_of : List ℕ → List ℕ
 unfolding columns_of instructions assembler_operations graphics reference_line digits
-references_of source = references_text (lines_in source)
+references_of source = references_text (lines_in Plain source)
 
 -- areas with two fields, a value, and an instruction that names itself and one label twice
 source : List ℕ

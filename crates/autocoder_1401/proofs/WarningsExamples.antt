@@ -4,6 +4,7 @@ use Rattle.std.specs.Prelude.{codes}
 use Rattle.bcd_1401.specs.Graphic.{graphics}
 use Rattle.source_1401.specs.Mnemonic.{instructions, assembler_operations}
 use Rattle.source_1401.specs.SourceLine.{columns_of}
+use Rattle.source_1401.specs.declared.language.Language.TheVariants.{Plain}
 use Rattle.autocoder_1401.specs.Assembly.{lines_in}
 use Rattle.autocoder_1401.specs.Warnings.{all_warnings}
 use Rattle.autocoder_1401.specs.declared.warning.Warning.{Warning}
@@ -13,7 +14,7 @@ use Rattle.autocoder_1401.specs.declared.warning.WarningKind.TheVariants as kind
 -- the warnings of a source in 350 places, with all tables open
 warned_of : List ℕ → List Warning
 unfolding columns_of instructions assembler_operations graphics
-warned_of source = all_warnings 350 (lines_in source)
+warned_of source = all_warnings 350 (lines_in Plain source)
 
 warned : ℕ → WarningKind → Warning
 warned line kind = record { line = line; kind = kind }

@@ -3,17 +3,18 @@ use Rattle.std.specs.Prelude.{◌⊎◌, ℕ, List, [], ◌∷◌, map, ℤ, pos
 use Rattle.bcd_1401.specs.declared.cell.Cell.{Cell}
 use Rattle.image_1401.specs.declared.image.Image.{Image}
 use Rattle.source_1401.specs.SourceLine.{lines_of}
-use Rattle.source_1401.specs.Statement.{line_of}
+use Rattle.source_1401.specs.Language.{line_in}
 use Rattle.source_1401.specs.Description.{describe}
 use Rattle.source_1401.specs.declared.description.Addressing.{Addressing}
 use Rattle.source_1401.specs.declared.description.Addressing.TheVariants as addressing
+use Rattle.source_1401.specs.declared.language.Language.{Language}
 use Rattle.source_1401.specs.declared.statement.Body.{Body}
 use Rattle.source_1401.specs.declared.statement.Statement.{Statement}
 use Rattle.source_1401.specs.declared.statement.Line.{Line}
 use Rattle.autocoder_1401.specs.Cells.{address_or_zero, cells_from}
 use Rattle.autocoder_1401.specs.FirstFault.{first_fault, IsFaultless, IsFirstFault}
 use Rattle.autocoder_1401.specs.Laws.{IsFirstOutside}
-use Rattle.autocoder_1401.specs.Listing.{listing_of}
+use Rattle.autocoder_1401.specs.Listing.{listing_with, listing_of}
 use Rattle.autocoder_1401.specs.Placement.{Placement, nothing_placed, value_so_far, placed}
 use Rattle.autocoder_1401.specs.Segments.{segments_of}
 use Rattle.autocoder_1401.specs.Symbols.{declared_at}
@@ -21,9 +22,9 @@ use Rattle.autocoder_1401.specs.Values.{first_outside}
 use Rattle.autocoder_1401.specs.declared.assembly.Assembly.{Assembly}
 use Rattle.autocoder_1401.specs.declared.fault.AsmFault.{AsmFault}
 
--- what the lines of a source say, each by itself
-abbrev pub lines_in : List ℕ → List Line
-lines_in source = map line_of (lines_of source)
+-- what the lines of a source in this language say, each by itself
+abbrev pub lines_in : Language → List ℕ → List Line
+lines_in language source = map (line_in language) (lines_of source)
 
 -- the value of END; of any other line, what is given for those after it
 abbrev pub entry_in_row : Placement → Addressing → ℤ → ℤ
@@ -58,9 +59,14 @@ image_of size lines =
       start = address_or_zero (entry_in (placed lines) lines);
     }
 
+-- the image and the listing of lines without a fault, of which this is the source
+abbrev pub assembly_with : ℕ → List Line → List ℕ → Assembly
+assembly_with size lines source =
+    record { image = image_of size lines; listing = listing_with lines (lines_of source) }
+
 -- an image with the listing of a source
-abbrev pub with_listing : List ℕ → Image → Assembly
-with_listing source image = record { image = image; listing = listing_of (lines_of source) }
+abbrev pub with_listing : Language → List ℕ → Image → Assembly
+with_listing language source image = record { image = image; listing = listing_of language (lines_of source) }
 
 -- the fault if there is one, and else the answer
 abbrev pub fault_or : {X : Type 0} → Option AsmFault → Result X AsmFault → Result X AsmFault
@@ -68,16 +74,16 @@ fault_or None answer = answer
 fault_or (Some fault) answer = Err fault
 
 -- the image and the listing of a source without a fault
-abbrev pub assembly_of : ℕ → List ℕ → Assembly
-assembly_of size source = with_listing source (image_of size (lines_in source))
+abbrev pub assembly_of : Language → ℕ → List ℕ → Assembly
+assembly_of language size source = assembly_with size (lines_in language source) source
 
 -- the first fault of lines, and else the answer
 abbrev pub unless_fault : {X : Type 0} → ℕ → List Line → X → Result X AsmFault
 unless_fault size lines answer = fault_or (first_fault lines) (fault_or (first_outside size lines) (Ok answer))
 
 -- the image and the listing of a source, or its fault
-abbrev pub assembly_in : ℕ → List ℕ → Result Assembly AsmFault
-assembly_in size source = unless_fault size (lines_in source) (assembly_of size source)
+abbrev pub assembly_in : Language → ℕ → List ℕ → Result Assembly AsmFault
+assembly_in language size source = unless_fault size (lines_in language source) (assembly_of language size source)
 
 -- a fault of lines: the first line that has one, and its lowest kind; or, of lines without a fault, the first of which
 -- something isn't in core

@@ -3,11 +3,12 @@ use Rattle.std.specs.Prelude.{ℕ, ◌-◌, Bool, false, not, ◌&&◌, ◌||◌
 use Rattle.std.specs.Prelude.{unwrap_or, slice_get, Option, None, Some}
 use Rattle.std.specs.Option.{option_map_or, option_or, option_and_then}
 use Rattle.source_1401.specs.Description.{describe}
-use Rattle.source_1401.specs.Flaw.{stretch, filled, foreign_column, operand_flaw, operation_flaw, first_base}
-use Rattle.source_1401.specs.Flaw.{second_base}
+use Rattle.source_1401.specs.Flaw.{stretch, filled, first_base, second_base}
+use Rattle.source_1401.specs.Language.{line_in}
+use Rattle.source_1401.specs.LanguageFlaw.{columns_in_language, foreign_column_in, operand_flaw_in, operation_flaw_in}
 use Rattle.source_1401.specs.Nearness.{is_near, word_in}
-use Rattle.source_1401.specs.SourceLine.{columns_of, columns_in}
-use Rattle.source_1401.specs.Statement.{line_of, label_of_line}
+use Rattle.source_1401.specs.SourceLine.{columns_in}
+use Rattle.source_1401.specs.Statement.{label_of_line}
 use Rattle.source_1401.specs.declared.description.Addressing.{Addressing}
 use Rattle.source_1401.specs.declared.description.Addressing.TheVariants as addressing
 use Rattle.source_1401.specs.declared.flaw.Flaw.{Flaw}
@@ -15,6 +16,7 @@ use Rattle.source_1401.specs.declared.flaw.OperationFlaw.{OperationFlaw}
 use Rattle.source_1401.specs.declared.flaw.OperationFlaw.TheVariants as operation_flaws
 use Rattle.source_1401.specs.declared.flaw.Stretch.{Stretch}
 use Rattle.source_1401.specs.declared.label.Label.{Label}
+use Rattle.source_1401.specs.declared.language.Language.{Language}
 use Rattle.source_1401.specs.declared.label.LabelField.{LabelField}
 use Rattle.source_1401.specs.declared.label.LabelField.TheVariants as labels
 use Rattle.source_1401.specs.declared.statement.Body.{Body}
@@ -72,9 +74,10 @@ operation_fault operation_flaws.Displaced = causes.OperationDisplaced
 operation_fault (operation_flaws.Unknown nearest) = causes.OperationUnknown nearest
 
 -- what is wrong with an operation: it isn't known, or there are no areas above a field
-abbrev pub operation_cause : List ℕ → Body → Cause
-operation_cause columns body =
-    if (describe body).is_known then causes.NoAreas else operation_fault (operation_flaw (columns_in 16 20 columns))
+abbrev pub operation_cause : Language → List ℕ → Body → Cause
+operation_cause language columns body =
+    if (describe body).is_known then causes.NoAreas
+    else operation_fault (operation_flaw_in language (columns_in 16 20 columns))
 
 -- it is the second operand that has no label: no line has it, or the first operand's is there
 abbrev pub is_second : Declared → Declared → Addressing → Bool
@@ -106,27 +109,32 @@ operand_cause None body = causes.PastArea
 operand_cause (Some flaw) body = if (describe body).is_well_formed then causes.PastArea else causes.BadOperand flaw.kind
 
 -- the byte of a line that can't be in its column
-abbrev pub foreign_byte : List ℕ → Option ℕ
-foreign_byte source = option_and_then (λ column. slice_get source (column - 1)) (foreign_column (columns_of source))
+abbrev pub foreign_byte : Language → List ℕ → Option ℕ
+foreign_byte language source =
+    option_and_then (λ column. slice_get source (column - 1))
+    (foreign_column_in language (columns_in_language language source))
 
 -- what is wrong with a statement of this line that has a fault of this kind
-abbrev pub statement_cause : Declared → Declared → List Line → List ℕ → Statement → AsmKind → Cause
-statement_cause declared anywhere lines source this kinds.Memory = causes.Memory
-statement_cause declared anywhere lines source this kinds.LongLine = causes.LongLine
-statement_cause declared anywhere lines source this kinds.Graphic = causes.ForeignByte (foreign_byte source)
-statement_cause declared anywhere lines source this kinds.Label = label_cause this.label
-statement_cause declared anywhere lines source this kinds.DoubleLabel = declared_before declared this.label
-statement_cause declared anywhere lines source this kinds.Operation = operation_cause (columns_of source) this.body
-statement_cause declared anywhere lines source this kinds.Undefined =
+abbrev pub statement_cause : Language → Declared → Declared → List Line → List ℕ → Statement → AsmKind → Cause
+statement_cause language declared anywhere lines source this kinds.Memory = causes.Memory
+statement_cause language declared anywhere lines source this kinds.LongLine = causes.LongLine
+statement_cause language declared anywhere lines source this kinds.Graphic =
+    causes.ForeignByte (foreign_byte language source)
+statement_cause language declared anywhere lines source this kinds.Label = label_cause this.label
+statement_cause language declared anywhere lines source this kinds.DoubleLabel = declared_before declared this.label
+statement_cause language declared anywhere lines source this kinds.Operation =
+    operation_cause language (columns_in_language language source) this.body
+statement_cause language declared anywhere lines source this kinds.Undefined =
     symbol_cause anywhere lines (undefined_operand declared anywhere (describe this.body).addressing)
-statement_cause declared anywhere lines source this kinds.Operand = operand_cause (operand_flaw (columns_of source)) this.body
-statement_cause declared anywhere lines source this kinds.OutOfCore = causes.OutOfCore
-statement_cause declared anywhere lines source this kinds.NoEnd = causes.NoEnd
-statement_cause declared anywhere lines source this kinds.AfterEnd = causes.AfterEnd
+statement_cause language declared anywhere lines source this kinds.Operand =
+    operand_cause (operand_flaw_in language (columns_in_language language source)) this.body
+statement_cause language declared anywhere lines source this kinds.OutOfCore = causes.OutOfCore
+statement_cause language declared anywhere lines source this kinds.NoEnd = causes.NoEnd
+statement_cause language declared anywhere lines source this kinds.AfterEnd = causes.AfterEnd
 
 -- the column of a byte that can't be there
-abbrev pub foreign_stretch : List ℕ → Stretch
-foreign_stretch columns = stretch (unwrap_or (foreign_column columns) 1) 1
+abbrev pub foreign_stretch : Language → List ℕ → Stretch
+foreign_stretch language columns = stretch (unwrap_or (foreign_column_in language columns) 1) 1
 
 -- the symbol of the second operand, or of the first
 abbrev pub base_stretch : Bool → List ℕ → Stretch
@@ -136,63 +144,66 @@ abbrev pub operand_stretch : Option Flaw → Stretch
 operand_stretch flaw = option_map_or (λ (found : Flaw). found.columns) flaw (stretch 21 0)
 
 -- the columns of a statement in which it has a fault of this kind
-abbrev pub statement_stretch : Declared → Declared → List ℕ → Statement → AsmKind → Stretch
-statement_stretch declared anywhere columns this kinds.Memory = stretch 1 0
-statement_stretch declared anywhere columns this kinds.LongLine = stretch 81 0
-statement_stretch declared anywhere columns this kinds.Graphic = foreign_stretch columns
-statement_stretch declared anywhere columns this kinds.Label = filled 6 (columns_in 6 15 columns)
-statement_stretch declared anywhere columns this kinds.DoubleLabel = filled 6 (columns_in 6 15 columns)
-statement_stretch declared anywhere columns this kinds.Operation = filled 16 (columns_in 16 20 columns)
-statement_stretch declared anywhere columns this kinds.Undefined =
+abbrev pub statement_stretch : Language → Declared → Declared → List ℕ → Statement → AsmKind → Stretch
+statement_stretch language declared anywhere columns this kinds.Memory = stretch 1 0
+statement_stretch language declared anywhere columns this kinds.LongLine = stretch 81 0
+statement_stretch language declared anywhere columns this kinds.Graphic = foreign_stretch language columns
+statement_stretch language declared anywhere columns this kinds.Label = filled 6 (columns_in 6 15 columns)
+statement_stretch language declared anywhere columns this kinds.DoubleLabel = filled 6 (columns_in 6 15 columns)
+statement_stretch language declared anywhere columns this kinds.Operation = filled 16 (columns_in 16 20 columns)
+statement_stretch language declared anywhere columns this kinds.Undefined =
     base_stretch (is_second declared anywhere (describe this.body).addressing) (columns_in 21 72 columns)
-statement_stretch declared anywhere columns this kinds.Operand = operand_stretch (operand_flaw columns)
-statement_stretch declared anywhere columns this kinds.OutOfCore = stretch 1 0
-statement_stretch declared anywhere columns this kinds.NoEnd = stretch 1 0
-statement_stretch declared anywhere columns this kinds.AfterEnd = filled 6 (columns_in 6 72 columns)
+statement_stretch language declared anywhere columns this kinds.Operand =
+    operand_stretch (operand_flaw_in language columns)
+statement_stretch language declared anywhere columns this kinds.OutOfCore = stretch 1 0
+statement_stretch language declared anywhere columns this kinds.NoEnd = stretch 1 0
+statement_stretch language declared anywhere columns this kinds.AfterEnd = filled 6 (columns_in 6 72 columns)
 
 -- a comment can only be too long, or hold a byte that can't be there
-abbrev pub comment_cause : LineCheck → List ℕ → Cause
-comment_cause bytes source = if is_long bytes then causes.LongLine else causes.ForeignByte (foreign_byte source)
+abbrev pub comment_cause : Language → LineCheck → List ℕ → Cause
+comment_cause language bytes source =
+    if is_long bytes then causes.LongLine else causes.ForeignByte (foreign_byte language source)
 
-abbrev pub comment_stretch : LineCheck → List ℕ → Stretch
-comment_stretch bytes columns = if is_long bytes then stretch 81 0 else foreign_stretch columns
+abbrev pub comment_stretch : Language → LineCheck → List ℕ → Stretch
+comment_stretch language bytes columns = if is_long bytes then stretch 81 0 else foreign_stretch language columns
 
 -- what is wrong with a line that has a fault of this kind, and in which columns
-abbrev pub explained_at : Declared → Declared → List Line → ℕ → List ℕ → AsmKind → Explanation
-explained_at declared anywhere lines number source kind =
-    let line = line_of source in
-    let columns = columns_of source in
+abbrev pub explained_at : Language → Declared → Declared → List Line → ℕ → List ℕ → AsmKind → Explanation
+explained_at language declared anywhere lines number source kind =
+    let line = line_in language source in
+    let columns = columns_in_language language source in
     record {
       fault = record { line = number; kind = kind };
       columns =
-          option_map_or (λ this. statement_stretch declared anywhere columns this kind) line.statement
-          (comment_stretch line.bytes columns);
+          option_map_or (λ this. statement_stretch language declared anywhere columns this kind) line.statement
+          (comment_stretch language line.bytes columns);
       cause =
-          option_map_or (λ this. statement_cause declared anywhere lines source this kind) line.statement
-          (comment_cause line.bytes source);
+          option_map_or (λ this. statement_cause language declared anywhere lines source this kind) line.statement
+          (comment_cause language line.bytes source);
     }
 
 -- a fault of this kind with what is wrong, if there is one
-abbrev pub explained : Declared → Declared → List Line → ℕ → List ℕ → Option AsmKind → List Explanation
-explained declared anywhere lines number source None = []
-explained declared anywhere lines number source (Some kind) =
-    explained_at declared anywhere lines number source kind ∷ []
+abbrev pub explained : Language → Declared → Declared → List Line → ℕ → List ℕ → Option AsmKind → List Explanation
+explained language declared anywhere lines number source None = []
+explained language declared anywhere lines number source (Some kind) =
+    explained_at language declared anywhere lines number source kind ∷ []
 
 -- a fault that no columns of a line show
 abbrev pub whole_line : Cause → AsmFault → Explanation
 whole_line cause fault = record { fault = fault; columns = stretch 1 0; cause = cause }
 
-abbrev pub explained_from : Declared → Declared → List Line → Before → List (List ℕ) → List Explanation
-explained_from declared anywhere lines this [] = map (whole_line causes.NoEnd) (told_end this)
-explained_from declared anywhere lines this (source ∷ sources) =
-    explained declared anywhere lines this.at.number source (told declared anywhere this (line_of source))
-    ++ explained_from declared anywhere lines (before_next declared this (line_of source)) sources
+abbrev pub explained_from : Language → Declared → Declared → List Line → Before → List (List ℕ) → List Explanation
+explained_from language declared anywhere lines this [] = map (whole_line causes.NoEnd) (told_end this)
+explained_from language declared anywhere lines this (source ∷ sources) =
+    let line = line_in language source in
+    explained language declared anywhere lines this.at.number source (told declared anywhere this line)
+    ++ explained_from language declared anywhere lines (before_next declared this line) sources
 
--- the faults of a source's lines, each with what is wrong, but for what isn't in core
-abbrev pub explained_lines : List (List ℕ) → List Explanation
-explained_lines sources =
-    let lines = map line_of sources in
-    explained_from (declared_at lines) (declared_anywhere lines) lines nothing_before sources
+-- the faults of a source's lines in this language, each with what is wrong, but for what isn't in core
+abbrev pub explained_lines : Language → List (List ℕ) → List Explanation
+explained_lines language sources =
+    let lines = map (line_in language) sources in
+    explained_from language (declared_at lines) (declared_anywhere lines) lines nothing_before sources
 
 -- the faults of lines; of lines without any, the first of which something isn't in core
 abbrev pub or_outside_explained : List Explanation → Option AsmFault → List Explanation
@@ -201,8 +212,9 @@ or_outside_explained [] (Some outside) = whole_line causes.OutOfCore outside ∷
 or_outside_explained (first ∷ more) outside = first ∷ more
 
 -- all faults of a source's lines, each with what is wrong
-abbrev pub all_explained : ℕ → List (List ℕ) → List Explanation
-all_explained size sources = or_outside_explained (explained_lines sources) (first_outside size (map line_of sources))
+abbrev pub all_explained : Language → ℕ → List (List ℕ) → List Explanation
+all_explained language size sources =
+    or_outside_explained (explained_lines language sources) (first_outside size (map (line_in language) sources))
 
 -- the faults alone
 abbrev pub faults_of : List Explanation → List AsmFault

@@ -8,7 +8,9 @@ pub mod Explanation
 pub mod Fault
 pub mod Filling
 pub mod FirstFault
+pub mod Fitted
 pub mod KeptLine
+pub mod Languages
 pub mod Laws
 pub mod Listing
 pub mod Noted

@@ -1,13 +1,13 @@
 -- The lines of a listing (Autocoder, "Assembler Control"; their columns own).
 use Rattle.std.specs.Prelude.{ℕ, ◌+◌, ◌-◌, List, [], ◌∷◌, ◌++◌, length, map, take, drop, slice_index}
-use Rattle.std.specs.Prelude.{ℤ, nat_abs, Option, Some, None, codes}
+use Rattle.std.specs.Prelude.{ℤ, nat_abs, if◌then◌else◌, Option, Some, None, codes}
 use Rattle.std.specs.List.{suffix_len}
 use Rattle.bcd_1401.specs.Graphic.{graphics}
 use Rattle.bcd_1401.specs.declared.cell.Cell.{Cell}
 use Rattle.notation_1401.specs.Digits.{digits_in}
 use Rattle.source_1401.specs.Constant.{bytes_of}
 use Rattle.source_1401.specs.SourceLine.{padded, is_blank}
-use Rattle.source_1401.specs.Statement.{line_of}
+use Rattle.source_1401.specs.Language.{line_in}
 use Rattle.source_1401.specs.declared.constant.Constant.{Constant}
 use Rattle.source_1401.specs.declared.constant.Constant.TheVariants as constants
 use Rattle.source_1401.specs.Description.{describe}
@@ -16,6 +16,7 @@ use Rattle.source_1401.specs.declared.description.Addressing.TheVariants as addr
 use Rattle.source_1401.specs.declared.description.Next.{Next}
 use Rattle.source_1401.specs.declared.description.Next.TheVariants as next
 use Rattle.source_1401.specs.declared.label.Label.{Label}
+use Rattle.source_1401.specs.declared.language.Language.{Language}
 use Rattle.source_1401.specs.declared.statement.Body.{Body}
 use Rattle.source_1401.specs.declared.statement.Statement.{Statement}
 use Rattle.source_1401.specs.declared.statement.Line.{Line}
@@ -89,6 +90,10 @@ abbrev pub address_at : Placement → Placement → Body → ℤ
 address_at all this body =
     let row = describe body in point_value (values_for all this row.addressing) this row row.shows
 
+-- the address that the line of a body shows; a remark, as a heading is, has none
+abbrev pub address_shown : Placement → Placement → Body → Option ℤ
+address_shown all this body = if (describe body).is_remark then None else Some (address_at all this body)
+
 -- the cells that the line of a body shows: those of an instruction, a constant or areas
 abbrev pub cells_at : Placement → Placement → Body → List Line → List Cell
 cells_at all this body lines = contents_cells all this (describe body).contents lines
@@ -102,17 +107,22 @@ literals_in this (Some statement) = literals_at this statement.body
 abbrev pub line_for : Placement → Placement → ℕ → List ℕ → Option Statement → List Line → List ℕ
 line_for all this number source None lines = listing_line (Some number) None [] source
 line_for all this number source (Some statement) lines =
-    listing_line (Some number) (Some (address_at all this statement.body))
+    listing_line (Some number) (address_shown all this statement.body)
     (cells_at all this statement.body lines) source
 
--- the listing from a line on that has this number
-abbrev pub listing_from : Placement → Placement → ℕ → List (List ℕ) → List (List ℕ)
-listing_from all this number [] = []
-listing_from all this number (source ∷ sources) =
-    literal_lines this.next (literals_in this (line_of source).statement)
-    ++ line_for all this number source (line_of source).statement (map line_of sources)
-    ∷ listing_from all (after_line this (line_of source)) (number + 1) sources
+-- the listing of lines, which have these texts, counting them from this number
+abbrev pub listing_from : Placement → Placement → ℕ → List Line → List (List ℕ) → List (List ℕ)
+listing_from all this number [] sources = []
+listing_from all this number (line ∷ lines) [] = []
+listing_from all this number (line ∷ lines) (source ∷ sources) =
+    literal_lines this.next (literals_in this line.statement)
+    ++ line_for all this number source line.statement lines
+    ∷ listing_from all (after_line this line) (number + 1) lines sources
 
--- the listing of a source's lines
-abbrev pub listing_of : List (List ℕ) → List (List ℕ)
-listing_of sources = listing_from (placed (map line_of sources)) nothing_placed 1 sources
+-- the listing of lines, each with its text
+abbrev pub listing_with : List Line → List (List ℕ) → List (List ℕ)
+listing_with lines sources = listing_from (placed lines) nothing_placed 1 lines sources
+
+-- the listing of a source's lines in this language
+abbrev pub listing_of : Language → List (List ℕ) → List (List ℕ)
+listing_of language sources = listing_with (map (line_in language) sources) sources

@@ -26,6 +26,7 @@ use Rattle.source_1401.specs.declared.statement.Statement.{Statement}
 use Rattle.autocoder_1401.specs.CrossReference.{is_named_in}
 use Rattle.autocoder_1401.specs.Filling.{filled, addresses_of}
 use Rattle.autocoder_1401.specs.FirstFault.{symbol_in, symbol_in_base}
+use Rattle.autocoder_1401.specs.Fitted.{is_fitted}
 use Rattle.autocoder_1401.specs.Placement.{instruction_length}
 use Rattle.autocoder_1401.specs.Symbols.{has_label}
 use Rattle.autocoder_1401.specs.declared.warning.Warning.{Warning}
@@ -146,6 +147,15 @@ known_in lines =
           list_any (has_operation (byte "A")) lines || list_any (has_operation (byte "S")) lines;
     }
 
+-- an instruction that the machine never carries out
+abbrev pub is_not_fitted : Contents → Bool
+is_not_fitted contents.Nothing = false
+is_not_fitted (contents.Instruction instruction of) = not (is_fitted instruction.operation (instruction_length of))
+is_not_fitted (contents.MarkedConstant constant) = false
+is_not_fitted (contents.Constant constant) = false
+is_not_fitted (contents.Space places) = false
+is_not_fitted (contents.Areas areas) = false
+
 -- a label that no operand names
 abbrev pub is_unused : Known → Option Label → Bool
 is_unused known None = false
@@ -248,7 +258,8 @@ warned_of (Some place) number = record { line = number; kind = warnings.ReadOn p
 -- the warnings of a statement on the line of this number, which begins at this address
 abbrev pub statement_warnings : Known → List Cell → ℕ → ℕ → Statement → List Warning
 statement_warnings known storage number address this =
-    warned_if (is_unused known (well_formed this.label)) number warnings.UnusedLabel
+    warned_if (is_not_fitted (describe this.body).contents) number warnings.NotFitted
+    ++ warned_if (is_unused known (well_formed this.label)) number warnings.UnusedLabel
     ++ warned_if (branches_unset known (describe this.body).contents) number warnings.UnsetIndicator
     ++ warned_if (compares_unlike known (describe this.body).contents) number warnings.UnlikeSigns
     ++ warned_of (read_on storage address (describe this.body).contents) number

@@ -5,6 +5,7 @@ ghost use Rattle.autocoder_1401.specs.AllFaults.{told_faults, told_end, faults_f
 ghost use Rattle.autocoder_1401.specs.AllFaults.{fault_in, IsTold};
 ghost use Rattle.autocoder_1401.specs.Assembly.{lines_in, assembly_in};
 ghost use Rattle.autocoder_1401.specs.Fault.{IsMemory};
+ghost use Rattle.autocoder_1401.specs.Languages.{AgreesWithPlain};
 ghost use Rattle.autocoder_1401.specs.OwnFault.{nothing_before};
 ghost use Rattle.autocoder_1401.specs.Symbols.{same_label};
 
@@ -15,6 +16,7 @@ use crate::kept_line::KeptLine;
 use crate::own_fault::{Before, told_of};
 use crate::reading::read_lines;
 use crate::symbols::{Labels, declared, declared_anywhere};
+use source_1401::Language;
 use std::alloc::Global;
 
 /// Adds what is told of a line.
@@ -83,11 +85,15 @@ fn line_faults(
 }
 
 /// The faults of a source, but for what isn't in core.
-fn source_faults(alloc: Global, source: &[u8]) -> Result<Vec<AsmFault>, AsmFault>
-    ensures ok { IfOk result (λ faults. faults.items ≡ line_faults (lines_in source.now)) }
+fn source_faults(
+    alloc: Global,
+    language: Language,
+    source: &[u8],
+) -> Result<Vec<AsmFault>, AsmFault>
+    ensures ok { IfOk result (λ faults. faults.items ≡ line_faults (lines_in language source.now)) }
     ensures err { IfErr result IsMemory }
 {
-    let lines = read_lines(alloc, source)?;
+    let lines = read_lines(alloc, language, source)?;
     let faults = line_faults(alloc, SourceHashing::from_source(source), &lines)?;
     Ok(faults)
 }
@@ -95,13 +101,14 @@ fn source_faults(alloc: Global, source: &[u8]) -> Result<Vec<AsmFault>, AsmFault
 /// The fault that the assembler tells.
 pub(crate) fn fault_of(
     alloc: Global,
+    language: Language,
     source: &[u8],
     size: u16,
 ) -> Result<Option<AsmFault>, AsmFault>
-    ensures ok { IfOk result (λ fault. fault ≡ fault_in (assembly_in size source.now)) }
+    ensures ok { IfOk result (λ fault. fault ≡ fault_in (assembly_in language size source.now)) }
     ensures err { IfErr result IsMemory }
 {
-    match assemble_image(alloc, source, size) {
+    match assemble_image(alloc, language, source, size) {
         Ok(_) => Ok(None),
         Err(fault) if matches!(fault.kind, AsmKind::Memory) => Err(AsmFault::MEMORY),
         Err(fault) => Ok(Some(fault)),
@@ -111,16 +118,17 @@ pub(crate) fn fault_of(
 /// Adds what isn't in core to a source's faults, if there are no others.
 fn add_outside(
     alloc: Global,
+    language: Language,
     source: &[u8],
     size: u16,
     faults: &mut Vec<AsmFault>,
 ) -> Result<(), AsmFault>
-    requires { faults.old.items ≡ line_faults (lines_in source.now) }
-    ensures ok { OnOk result (faults.new.items ≡ all_faults size (lines_in source.now)) }
+    requires { faults.old.items ≡ line_faults (lines_in language source.now) }
+    ensures ok { OnOk result (faults.new.items ≡ all_faults size (lines_in language source.now)) }
     ensures err { IfErr result IsMemory }
 {
     if faults.is_empty() {
-        let outside = fault_of(alloc, source, size)?;
+        let outside = fault_of(alloc, language, source, size)?;
         if let Some(fault) = outside {
             faults.push(fault)?;
         }
@@ -128,25 +136,34 @@ fn add_outside(
     Ok(())
 }
 
-/// All faults of a source for core storage of this size, in the order of its lines. A fault that only follows from one
-/// told before isn't told: fields under a DA that can't be read, a symbol that only lines after END declare, the second
-/// line after END and those below it, and that there is no END where the last statement's operation isn't known. What
-/// isn't in core is looked for in a source without other faults, and its first line told.
+/// All faults of a source in this language for core storage of this size, in the order of its lines. A fault that only
+/// follows from one told before isn't told: fields under a DA that can't be read, a symbol that only lines after END
+/// declare, the second line after END and those below it, and that there is no END where the last statement's operation
+/// isn't known. What isn't in core is looked for in a source without other faults, and its first line told.
 ///
 /// # Errors
 ///
 /// `Memory` if memory is refused or the source has too many lines.
-pub fn faults(alloc: Global, source: &[u8], size: u16) -> Result<Vec<AsmFault>, AsmFault>
-    ensures ok { IfOk result (λ faults. faults.items ≡ all_faults size (lines_in source.now)) }
+#[tactic(auto, using(crate::proofs::LanguageLemmas::agrees_with_plain))]
+pub fn faults(
+    alloc: Global,
+    language: Language,
+    source: &[u8],
+    size: u16,
+) -> Result<Vec<AsmFault>, AsmFault>
+    ensures ok { IfOk result (λ faults. faults.items ≡ all_faults size (lines_in language source.now)) }
 
     // The first of them is the fault that the assembler tells; there is none exactly if it assembles.
-    ensures first { IfOk result (λ faults. first_in faults.items ≡ fault_in (assembly_in size source.now)) }
+    ensures first { IfOk result (λ faults. first_in faults.items ≡ fault_in (assembly_in language size source.now)) }
+
+    // What the plain language takes has no fault in another.
+    ensures plain { AgreesWithPlain language size source.now }
 
     // Each is a fault of the line that it names.
-    ensures each { IfOk result (λ faults. All (IsTold size (lines_in source.now)) faults.items) }
+    ensures each { IfOk result (λ faults. All (IsTold size (lines_in language source.now)) faults.items) }
     ensures err { IfErr result IsMemory }
 {
-    let mut faults = source_faults(alloc, source)?;
-    add_outside(alloc, source, size, &mut faults)?;
+    let mut faults = source_faults(alloc, language, source)?;
+    add_outside(alloc, language, source, size, &mut faults)?;
     Ok(faults)
 }

@@ -5,10 +5,12 @@ ghost use Rattle.autocoder_1401.specs.Symbols.{declared_at};
 ghost use Rattle.autocoder_1401.specs.FirstFault.{first_fault, IsFaultless, IsFirstFault};
 ghost use Rattle.core_1401.specs.Storage.{is_core_size};
 ghost use Rattle.image_1401.specs.Image.{IsInCore};
+ghost use Rattle.source_1401.specs.SourceLine.{lines_of};
 ghost use Rattle.autocoder_1401.specs.Placement.{placed};
 ghost use Rattle.autocoder_1401.specs.Values.{first_outside};
-ghost use Rattle.autocoder_1401.specs.Assembly.{lines_in, entry_in, image_of, assembly_of, placed_cells};
+ghost use Rattle.autocoder_1401.specs.Assembly.{lines_in, entry_in, image_of, assembly_with, placed_cells};
 ghost use Rattle.autocoder_1401.specs.Assembly.{assembly_in, with_listing, IsFaultOf};
+ghost use Rattle.autocoder_1401.specs.Languages.{AgreesWithPlain};
 ghost use Rattle.autocoder_1401.specs.Laws.{IsFirstOutside, IsCutOf};
 ghost use Rattle.autocoder_1401.specs.PlacementLaws.{IsPlacedInTurn};
 ghost use Rattle.autocoder_1401.specs.View.{places_of};
@@ -24,7 +26,7 @@ use crate::placing::{Placing, place_all};
 use crate::reading::read_lines;
 use crate::symbols::declared;
 use image_1401::{Image, Segments};
-use source_1401::{Addressing, Statement};
+use source_1401::{Addressing, Language, Statement};
 use std::alloc::Global;
 
 /// The first line with a fault, and its lowest kind.
@@ -120,7 +122,7 @@ fn make_image(
     })
 }
 
-/// The image and the listing of a source, which says these lines, once all is placed.
+/// The image and the listing of lines, of which this is the source, once all is placed.
 ///
 /// # Errors
 ///
@@ -132,11 +134,11 @@ pub(crate) fn make_assembly(
     lines: &[KeptLine],
     size: u16,
 ) -> Result<Assembly, AsmFault>
-    requires lines { lines.now ≡ lines_in source.now }
+    requires as_many { length lines.now ≡ length (lines_of source.now) }
     requires few { length lines.now < 2 ^ 32 }
     requires placed { places_of all.now ≡ placed lines.now }
-    ensures ok { IfOk result (λ assembly. assembly ≡ assembly_of size source.now) }
-    ensures inside { OnOk result (first_outside size (lines_in source.now) ≡ None) }
+    ensures ok { IfOk result (λ assembly. assembly ≡ assembly_with size lines.now source.now) }
+    ensures inside { OnOk result (first_outside size lines.now ≡ None) }
     ensures outside { IfErr result (λ fault. IsMemory fault
         ⊎ ((first_outside size lines.now ≡ Some fault) × IsFirstOutside size lines.now fault)) }
 {
@@ -145,20 +147,30 @@ pub(crate) fn make_assembly(
     Ok(Assembly { image, listing })
 }
 
-/// The core image and the listing of a source, in core storage of this size.
+/// The core image and the listing of a source, in core storage of this size. Its lines are read in this language: the
+/// plain one, or the wider Autocoder, in which a source that the plain one takes means the same.
 ///
 /// # Errors
 ///
 /// `Memory` if memory is refused or the source has too many lines. Otherwise the lowest fault of the first line that
 /// has one of kinds 2 to 8, 10 and 11; if no line has one, `OutOfCore` for the first line of which something isn't in
 /// core.
-#[tactic(auto, using(crate::proofs::PlacementLawLemmas::placed_in_turn))]
-pub fn assemble(alloc: Global, source: &[u8], size: u16) -> Result<Assembly, AsmFault>
+#[tactic(auto, using(crate::proofs::PlacementLawLemmas::placed_in_turn, crate::proofs::LanguageLemmas::agrees_with_plain))]
+pub fn assemble(
+    alloc: Global,
+    language: Language,
+    source: &[u8],
+    size: u16,
+) -> Result<Assembly, AsmFault>
     // The image and the listing of the lines, or their first fault, unless memory is refused.
-    ensures exact { Gives (λ assembly. assembly) result (assembly_in size source.now) }
+    ensures exact { Gives (λ assembly. assembly) result (assembly_in language size source.now) }
+
+    // What the plain language takes means the same in each language.
+    ensures plain { AgreesWithPlain language size source.now }
 
     // Only a source without a fault has them.
-    ensures faultless { OnOk result (IsFaultless (declared_at (lines_in source.now)) (lines_in source.now)) }
+    ensures faultless { OnOk result
+        (IsFaultless (declared_at (lines_in language source.now)) (lines_in language source.now)) }
 
     // All of the image is in core.
     ensures in_core { is_core_size size ≡ true → IfOk result (λ assembly. IsInCore assembly.image) }
@@ -166,50 +178,59 @@ pub fn assemble(alloc: Global, source: &[u8], size: u16) -> Result<Assembly, Asm
     // The segments have the cells that the lines place, in their order: 1 to 40 each, and fewer than fit only before a
     // gap.
     ensures segments { is_core_size size ≡ true → IfOk result (λ assembly.
-        IsCutOf (placed_cells (lines_in source.now)) assembly.image.segments) }
+        IsCutOf (placed_cells (lines_in language source.now)) assembly.image.segments) }
 
     // Placement advance by the lengths of the lines, and from the value of an origin after one; literals are kept once
     // each in the order of their first use, and EX and END place them one after the other.
-    ensures placement { OnOk result (IsPlacedInTurn (lines_in source.now)) }
+    ensures placement { OnOk result (IsPlacedInTurn (lines_in language source.now)) }
 
     // A fault is the lowest of the first line that has one, or that something of a faultless source isn't in core.
-    ensures first { IfErr result (λ fault. IsMemory fault ⊎ IsFaultOf size (lines_in source.now) fault) }
+    ensures first { IfErr result (λ fault. IsMemory fault ⊎ IsFaultOf size (lines_in language source.now) fault) }
 {
-    let lines = read_lines(alloc, source)?;
+    let lines = read_lines(alloc, language, source)?;
     let hashing = SourceHashing::from_source(source);
     let all = place_lines(alloc, hashing, &lines)?;
     let assembly = make_assembly(alloc, &all, source, &lines, size)?;
     Ok(assembly)
 }
 
-/// The core image of a source, in core storage of this size: that of `assemble`, in less time and memory, since no
-/// listing is made.
+/// The core image of a source in this language, in core storage of this size: that of `assemble`, in less time and
+/// memory, since no listing is made.
 ///
 /// # Errors
 ///
 /// As `assemble`.
-#[tactic(auto, using(crate::proofs::PlacementLawLemmas::placed_in_turn))]
-pub fn assemble_image(alloc: Global, source: &[u8], size: u16) -> Result<Image, AsmFault>
+#[tactic(auto, using(crate::proofs::PlacementLawLemmas::placed_in_turn, crate::proofs::LanguageLemmas::agrees_with_plain))]
+pub fn assemble_image(
+    alloc: Global,
+    language: Language,
+    source: &[u8],
+    size: u16,
+) -> Result<Image, AsmFault>
     // With the listing of the source it is what `assemble` makes of it, or its first fault, unless memory is refused.
-    ensures exact { Gives (with_listing source.now) result (assembly_in size source.now) }
+    ensures exact { Gives (with_listing language source.now) result (assembly_in language size source.now) }
+
+    // What the plain language takes means the same in each language.
+    ensures plain { AgreesWithPlain language size source.now }
 
     // Only a source without a fault has one.
-    ensures faultless { OnOk result (IsFaultless (declared_at (lines_in source.now)) (lines_in source.now)) }
+    ensures faultless { OnOk result
+        (IsFaultless (declared_at (lines_in language source.now)) (lines_in language source.now)) }
 
     // All of it is in core.
     ensures in_core { is_core_size size ≡ true → IfOk result IsInCore }
 
     // The segments are cut as those of `assemble`.
     ensures segments { is_core_size size ≡ true → IfOk result (λ image.
-        IsCutOf (placed_cells (lines_in source.now)) image.segments) }
+        IsCutOf (placed_cells (lines_in language source.now)) image.segments) }
 
     // All is placed as by `assemble`.
-    ensures placement { OnOk result (IsPlacedInTurn (lines_in source.now)) }
+    ensures placement { OnOk result (IsPlacedInTurn (lines_in language source.now)) }
 
     // A fault is the lowest of the first line that has one, or that something of a faultless source isn't in core.
-    ensures first { IfErr result (λ fault. IsMemory fault ⊎ IsFaultOf size (lines_in source.now) fault) }
+    ensures first { IfErr result (λ fault. IsMemory fault ⊎ IsFaultOf size (lines_in language source.now) fault) }
 {
-    let lines = read_lines(alloc, source)?;
+    let lines = read_lines(alloc, language, source)?;
     let hashing = SourceHashing::from_source(source);
     let all = place_lines(alloc, hashing, &lines)?;
     let image = make_image(alloc, &all, &lines, size)?;

@@ -1,13 +1,14 @@
 //! All faults of a source, each with what is wrong and the columns in which it is.
 ghost use Rattle.std.specs.Prelude.{◌≡◌, ◌++◌, ◌<◌, ◌^◌, All, length, map, IfOk, IfErr, OnOk};
 ghost use Rattle.indexmap.specs.IndexMap.{get};
+ghost use Rattle.source_1401.specs.Language.{line_in};
 ghost use Rattle.source_1401.specs.SourceLine.{lines_of};
-ghost use Rattle.source_1401.specs.Statement.{line_of};
 ghost use Rattle.autocoder_1401.specs.AllFaults.{told_end, all_faults, first_in, fault_in, IsTold};
 ghost use Rattle.autocoder_1401.specs.Assembly.{lines_in, assembly_in};
 ghost use Rattle.autocoder_1401.specs.Explanation.{explained, explained_from, explained_lines, all_explained};
 ghost use Rattle.autocoder_1401.specs.Explanation.{whole_line, faults_of};
 ghost use Rattle.autocoder_1401.specs.Fault.{IsMemory};
+ghost use Rattle.autocoder_1401.specs.Languages.{AgreesWithPlain};
 ghost use Rattle.autocoder_1401.specs.OwnFault.{nothing_before, told};
 ghost use Rattle.autocoder_1401.specs.Symbols.{same_label};
 ghost use Rattle.autocoder_1401.specs.declared.explanation.Cause.TheVariants.{NoEnd, OutOfCore};
@@ -20,7 +21,7 @@ use crate::kept_line::KeptLine;
 use crate::own_fault::{Before, told_of};
 use crate::reading::read_lines;
 use crate::symbols::{Labels, declared, declared_anywhere};
-use source_1401::split_line;
+use source_1401::{Language, split_line};
 use std::alloc::Global;
 
 /// What declares labels: the lines, up to END or all of them.
@@ -34,6 +35,7 @@ struct Declarations {
 
 /// Adds the fault of a line with what is wrong, if one is told of it.
 fn put_explained(
+    language: Language,
     this: &Declarations,
     lines: &[KeptLine],
     before: Before,
@@ -41,10 +43,10 @@ fn put_explained(
     line: &KeptLine,
     explanations: &mut Vec<Explanation>,
 ) -> Result<(), AsmFault>
-    requires { line.now ≡ line_of source.now }
+    requires { line.now ≡ line_in language source.now }
     ensures ok { OnOk result (explanations.new.items ≡ explanations.old.items
-        ++ explained (get same_label this.now.labels) (get same_label this.now.anywhere) lines.now before.at.number
-        source.now (told (get same_label this.now.labels) (get same_label this.now.anywhere) before line.now)) }
+        ++ explained language (get same_label this.now.labels) (get same_label this.now.anywhere) lines.now
+        before.at.number source.now (told (get same_label this.now.labels) (get same_label this.now.anywhere) before line.now)) }
     ensures err { IfErr result IsMemory }
 {
     if let Some(kind) = told_of(&this.labels, &this.anywhere, before, line) {
@@ -52,7 +54,15 @@ fn put_explained(
             line: before.at.number,
             kind,
         };
-        let explanation = explain(&this.labels, &this.anywhere, lines, fault, source, line);
+        let explanation = explain(
+            language,
+            &this.labels,
+            &this.anywhere,
+            lines,
+            fault,
+            source,
+            line,
+        );
         explanations.push(explanation)?;
     }
     Ok(())
@@ -80,16 +90,17 @@ fn put_explained_end(before: Before, explanations: &mut Vec<Explanation>) -> Res
 
 /// Adds the faults of a source's lines, each with what is wrong.
 fn put_all_explained(
+    language: Language,
     this: &Declarations,
     source: &[u8],
     lines: &[KeptLine],
     explanations: &mut Vec<Explanation>,
 ) -> Result<(), AsmFault>
-    requires lines { lines.now ≡ map line_of (lines_of source.now) }
+    requires lines { lines.now ≡ map (line_in language) (lines_of source.now) }
     requires few { length lines.now < 2 ^ 32 }
     ensures ok { OnOk result (explanations.new.items ≡ explanations.old.items
-        ++ explained_from (get same_label this.now.labels) (get same_label this.now.anywhere) lines.now nothing_before
-        (lines_of source.now)) }
+        ++ explained_from language (get same_label this.now.labels) (get same_label this.now.anywhere) lines.now
+        nothing_before (lines_of source.now)) }
     ensures err { IfErr result IsMemory }
 {
     let mut before = Before::NOTHING;
@@ -98,7 +109,7 @@ fn put_all_explained(
         let Some((text, behind)) = split_line(sources) else {
             unreachable!()
         };
-        put_explained(this, lines, before, text, line, explanations)?;
+        put_explained(language, this, lines, before, text, line, explanations)?;
         before = before.next(&this.labels, line);
         sources = behind;
     }
@@ -110,31 +121,37 @@ fn put_all_explained(
 fn line_explanations(
     alloc: Global,
     hashing: SourceHashing,
+    language: Language,
     source: &[u8],
     lines: &[KeptLine],
 ) -> Result<Vec<Explanation>, AsmFault>
-    requires lines { lines.now ≡ map line_of (lines_of source.now) }
+    requires lines { lines.now ≡ map (line_in language) (lines_of source.now) }
     requires few { length lines.now < 2 ^ 32 }
-    ensures ok { IfOk result (λ v. v.items ≡ explained_lines (lines_of source.now)) }
+    ensures ok { IfOk result (λ v. v.items ≡ explained_lines language (lines_of source.now)) }
     ensures err { IfErr result IsMemory }
 {
     let labels = declared(alloc, hashing, lines)?;
     let anywhere = declared_anywhere(alloc, hashing, lines)?;
     let this = Declarations { labels, anywhere };
     let mut explanations = Vec::new(alloc);
-    put_all_explained(&this, source, lines, &mut explanations)?;
+    put_all_explained(language, &this, source, lines, &mut explanations)?;
     Ok(explanations)
 }
 
 /// The faults of a source, each with what is wrong, but for what isn't in core.
-fn source_explanations(alloc: Global, source: &[u8]) -> Result<Vec<Explanation>, AsmFault>
-    ensures ok { IfOk result (λ v. v.items ≡ explained_lines (lines_of source.now)) }
+fn source_explanations(
+    alloc: Global,
+    language: Language,
+    source: &[u8],
+) -> Result<Vec<Explanation>, AsmFault>
+    ensures ok { IfOk result (λ v. v.items ≡ explained_lines language (lines_of source.now)) }
     ensures err { IfErr result IsMemory }
 {
-    let lines = read_lines(alloc, source)?;
+    let lines = read_lines(alloc, language, source)?;
     let explanations = line_explanations(
         alloc,
         SourceHashing::from_source(source),
+        language,
         source,
         &lines,
     )?;
@@ -144,16 +161,17 @@ fn source_explanations(alloc: Global, source: &[u8]) -> Result<Vec<Explanation>,
 /// Adds what isn't in core, if there is no other fault.
 fn add_outside_explained(
     alloc: Global,
+    language: Language,
     source: &[u8],
     size: u16,
     explanations: &mut Vec<Explanation>,
 ) -> Result<(), AsmFault>
-    requires { explanations.old.items ≡ explained_lines (lines_of source.now) }
-    ensures ok { OnOk result (explanations.new.items ≡ all_explained size (lines_of source.now)) }
+    requires { explanations.old.items ≡ explained_lines language (lines_of source.now) }
+    ensures ok { OnOk result (explanations.new.items ≡ all_explained language size (lines_of source.now)) }
     ensures err { IfErr result IsMemory }
 {
     if explanations.is_empty() {
-        let outside = fault_of(alloc, source, size)?;
+        let outside = fault_of(alloc, language, source, size)?;
         if let Some(fault) = outside {
             explanations.push(Explanation {
                 fault,
@@ -165,32 +183,37 @@ fn add_outside_explained(
     Ok(())
 }
 
-/// All faults of a source for core storage of this size, as `faults` tells them, each with what is wrong and the
-/// columns of its line in which it is. For an unknown operation and for a symbol that no line declares there is the
-/// mnemonic or the label that may be meant: the first that differs by one letter, or else by two. A word may differ by a
-/// letter for each two that it has. Labels are looked for in a source of at most 4,000 lines.
+/// All faults of a source in this language for core storage of this size, as `faults` tells them, each with what is
+/// wrong and the columns of its line in which it is. For an unknown operation and for a symbol that no line declares
+/// there is the mnemonic or the label that may be meant: the first that differs by one letter, or else by two. A word
+/// may differ by a letter for each two that it has. Labels are looked for in a source of at most 4,000 lines.
 ///
 /// # Errors
 ///
 /// `Memory` if memory is refused or the source has too many lines.
+#[tactic(auto, using(crate::proofs::LanguageLemmas::agrees_with_plain))]
 pub fn explained_faults(
     alloc: Global,
+    language: Language,
     source: &[u8],
     size: u16,
 ) -> Result<Vec<Explanation>, AsmFault>
-    ensures ok { IfOk result (λ v. v.items ≡ all_explained size (lines_of source.now)) }
+    ensures ok { IfOk result (λ v. v.items ≡ all_explained language size (lines_of source.now)) }
 
     // They are all faults of the source.
-    ensures faults { IfOk result (λ v. faults_of v.items ≡ all_faults size (lines_in source.now)) }
+    ensures faults { IfOk result (λ v. faults_of v.items ≡ all_faults size (lines_in language source.now)) }
 
     // The first of them is the fault that the assembler tells; there is none exactly if it assembles.
-    ensures first { IfOk result (λ v. first_in (faults_of v.items) ≡ fault_in (assembly_in size source.now)) }
+    ensures first { IfOk result (λ v. first_in (faults_of v.items) ≡ fault_in (assembly_in language size source.now)) }
+
+    // What the plain language takes has no fault in another.
+    ensures plain { AgreesWithPlain language size source.now }
 
     // Each is a fault of the line that it names.
-    ensures each { IfOk result (λ v. All (IsTold size (lines_in source.now)) (faults_of v.items)) }
+    ensures each { IfOk result (λ v. All (IsTold size (lines_in language source.now)) (faults_of v.items)) }
     ensures err { IfErr result IsMemory }
 {
-    let mut explanations = source_explanations(alloc, source)?;
-    add_outside_explained(alloc, source, size, &mut explanations)?;
+    let mut explanations = source_explanations(alloc, language, source)?;
+    add_outside_explained(alloc, language, source, size, &mut explanations)?;
     Ok(explanations)
 }

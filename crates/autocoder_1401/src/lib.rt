@@ -1,7 +1,7 @@
 //! The Autocoder assembler: the core image and the listing of a source, or the first line with a fault.
 //!
 //! ```text
-//! let assembly = assemble(alloc, source, 4_000)?;
+//! let assembly = assemble(alloc, Language::Plain, source, 4_000)?;
 //! assembly.image                          // the size, the segments and the place where the program starts
 //! assembly.listing.as_slice()             // the lines of the source with their addresses and cells
 //! ```
@@ -33,6 +33,7 @@ pub mod all_faults; // all faults of a source
 pub mod explaining; // all faults of a source, each with what is wrong
 mod notes; // what lines say of labels, and which indicators they can set
 mod filling; // core storage as the cells of lines fill it
+mod fitted; // which instructions the machine carries out
 pub mod warning; // what a source without a fault says and hardly means
 pub mod fault; // the kinds of fault
 

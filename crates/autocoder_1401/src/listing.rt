@@ -7,6 +7,7 @@ ghost use Rattle.autocoder_1401.specs.Fault.{IsMemory};
 ghost use Rattle.autocoder_1401.specs.Cells.{literal_cells};
 ghost use Rattle.autocoder_1401.specs.Characters.{characters_of};
 ghost use Rattle.autocoder_1401.specs.Listing.{listing_line, spelling, literal_lines, literals_at, address_at};
+ghost use Rattle.autocoder_1401.specs.Listing.{address_shown};
 ghost use Rattle.autocoder_1401.specs.Listing.{cells_at};
 ghost use Rattle.autocoder_1401.specs.Listing.{literals_in, line_for, listing_from};
 ghost use Rattle.autocoder_1401.specs.Placement.{nothing_placed, after_line};
@@ -164,6 +165,18 @@ impl Placing {
         }
     }
 
+    /// The address that the line of a body here shows, if it shows one.
+    fn address_shown(&self, all: &Placing, body: Body) -> Result<Option<i64>, AsmFault>
+        ensures value { IfOk result (λ at. at ≡ address_shown (places_of all.now) (places_of self.now) body) }
+        ensures err { IfErr result IsMemory }
+    {
+        if body.describe().is_remark {
+            return Ok(None);
+        }
+        let address = self.address_at(all, body)?;
+        Ok(Some(address))
+    }
+
     /// The cells that the line of a body here shows, with these lines after it.
     fn cells_at(
         &self,
@@ -222,9 +235,9 @@ impl Placing {
     {
         match line.line().statement {
             Some(Statement { body, .. }) => {
-                let address = self.address_at(all, body)?;
+                let address = self.address_shown(all, body)?;
                 let cells = self.cells_at(alloc, all, body, behind)?;
-                listing_line(alloc, Some(number), Some(address), &cells, source)
+                listing_line(alloc, Some(number), address, &cells, source)
             },
             None => listing_line(alloc, Some(number), None, &[], source),
         }

@@ -1,9 +1,8 @@
 //! The segments and the listing of a source, each made line by line once all labels have their values.
-ghost use Rattle.std.specs.Prelude.{◌≡◌, ◌∷◌, ◌++◌, ◌+◌, ◌<◌, ◌^◌, ◌⊎◌, ℕ, List, [], length, map, Some, None, IfOk};
+ghost use Rattle.std.specs.Prelude.{◌≡◌, ◌∷◌, ◌++◌, ◌+◌, ◌<◌, ◌^◌, ◌⊎◌, ℕ, List, [], length, Some, None, IfOk};
 ghost use Rattle.std.specs.Prelude.{IfErr, OnOk};
 ghost use Rattle.bcd_1401.specs.declared.cell.Cell.{Cell as ACell};
 ghost use Rattle.source_1401.specs.SourceLine.{lines_of};
-ghost use Rattle.source_1401.specs.Statement.{line_of};
 ghost use Rattle.autocoder_1401.specs.Built.{built};
 ghost use Rattle.autocoder_1401.specs.Cells.{address_or_zero, numbered, statement_cells, cells_from};
 ghost use Rattle.autocoder_1401.specs.Fault.{IsMemory};
@@ -124,10 +123,10 @@ impl ListingSoFar {
         source: &[u8],
         lines: &[KeptLine],
     ) -> Result<(), AsmFault>
-        requires lines { lines.now ≡ map line_of (lines_of source.now) }
+        requires as_many { length lines.now ≡ length (lines_of source.now) }
         requires few { length lines.now < 2 ^ 32 }
         ensures listed { OnOk result (self.new.listing.items ≡ self.old.listing.items
-            ++ listing_from (places_of all.now) (places_of self.old.so_far) 1 (lines_of source.now)) }
+            ++ listing_from (places_of all.now) (places_of self.old.so_far) 1 lines.now (lines_of source.now)) }
         ensures err { IfErr result IsMemory }
     {
         let mut sources = source;
@@ -170,7 +169,7 @@ pub(crate) fn make_segments(
     Ok(segments)
 }
 
-/// The listing of a source, which says these lines, once all is placed.
+/// The listing of lines, of which this is the source, once all is placed.
 ///
 /// # Errors
 ///
@@ -181,10 +180,10 @@ pub(crate) fn make_listing(
     source: &[u8],
     lines: &[KeptLine],
 ) -> Result<Listing, AsmFault>
-    requires lines { lines.now ≡ map line_of (lines_of source.now) }
+    requires as_many { length lines.now ≡ length (lines_of source.now) }
     requires few { length lines.now < 2 ^ 32 }
     ensures listing { IfOk result (λ listing. listing
-        ≡ listing_from (places_of all.now) nothing_placed 1 (lines_of source.now)) }
+        ≡ listing_from (places_of all.now) nothing_placed 1 lines.now (lines_of source.now)) }
     ensures err { IfErr result IsMemory }
 {
     let mut made = ListingSoFar {

@@ -3,6 +3,7 @@ ghost use Rattle.std.specs.Prelude.{◌≡◌, ◌<◌, ◌^◌, length, IfOk, I
 ghost use Rattle.autocoder_1401.specs.Assembly.{lines_in, assembly_in};
 ghost use Rattle.autocoder_1401.specs.CrossReference.{references_text};
 ghost use Rattle.autocoder_1401.specs.Fault.{IsMemory, Gives};
+ghost use Rattle.autocoder_1401.specs.Languages.{AgreesWithPlain};
 ghost use Rattle.autocoder_1401.specs.Placement.{placed};
 ghost use Rattle.autocoder_1401.specs.SymbolTable.{symbols_text};
 ghost use Rattle.autocoder_1401.specs.View.{places_of};
@@ -16,6 +17,7 @@ use crate::kept_line::KeptLine;
 use crate::placing::Placing;
 use crate::reading::read_lines;
 use crate::symbol_table::{symbols_of, symbols_text};
+use source_1401::Language;
 use std::alloc::Global;
 
 /// An assembly, with its symbol table and its cross-reference as texts.
@@ -55,27 +57,32 @@ fn make_tables(
     })
 }
 
-/// The core image and the listing of a source, as `assemble` answers them, with its symbol table and its
-/// cross-reference. Each has a line for each label, in the order of the lines that declare them: the symbol table with
-/// its address, how many places it names, and the number of its line; the cross-reference with the number of its line
-/// and of each line that names it.
+/// The core image and the listing of a source in this language, as `assemble` answers them, with its symbol table and
+/// its cross-reference. Each has a line for each label, in the order of the lines that declare them: the symbol table
+/// with its address, how many places it names, and the number of its line; the cross-reference with the number of its
+/// line and of each line that names it.
 ///
 /// # Errors
 ///
 /// `Memory` if memory is refused or the source has too many lines; otherwise the fault that `assemble` tells.
+#[tactic(auto, using(crate::proofs::LanguageLemmas::agrees_with_plain))]
 pub fn assemble_with_tables(
     alloc: Global,
+    language: Language,
     source: &[u8],
     size: u16,
 ) -> Result<AssemblyTables, AsmFault>
     // The image and the listing of the lines, or their first fault, unless memory is refused.
-    ensures exact { Gives (λ (made : Made). made.assembly) result (assembly_in size source.now) }
+    ensures exact { Gives (λ (made : Made). made.assembly) result (assembly_in language size source.now) }
+
+    // What the plain language takes means the same in each language.
+    ensures plain { AgreesWithPlain language size source.now }
 
     // The tables of the lines.
-    ensures symbols { IfOk result (λ made. made.symbols.items ≡ symbols_text (lines_in source.now)) }
-    ensures references { IfOk result (λ made. made.references.items ≡ references_text (lines_in source.now)) }
+    ensures symbols { IfOk result (λ made. made.symbols.items ≡ symbols_text (lines_in language source.now)) }
+    ensures references { IfOk result (λ made. made.references.items ≡ references_text (lines_in language source.now)) }
 {
-    let lines = read_lines(alloc, source)?;
+    let lines = read_lines(alloc, language, source)?;
     let hashing = SourceHashing::from_source(source);
     let all = place_lines(alloc, hashing, &lines)?;
     let assembly = make_assembly(alloc, &all, source, &lines, size)?;

@@ -3,8 +3,9 @@ ghost use Rattle.std.specs.Prelude.{◌≡◌, ◌+◌, ◌<◌, ◌^◌, ◌++�
 ghost use Rattle.source_1401.specs.Statement.{well_formed};
 ghost use Rattle.autocoder_1401.specs.Assembly.{lines_in};
 ghost use Rattle.autocoder_1401.specs.Fault.{IsMemory};
+ghost use Rattle.autocoder_1401.specs.Languages.{AgreesWithPlain};
 ghost use Rattle.autocoder_1401.specs.Noted.{known_of};
-ghost use Rattle.autocoder_1401.specs.Warnings.{is_unused, tests_comparison, is_unset, branches_unset, has_sign};
+ghost use Rattle.autocoder_1401.specs.Warnings.{is_not_fitted, is_unused, tests_comparison, is_unset, branches_unset, has_sign};
 ghost use Rattle.autocoder_1401.specs.Warnings.{is_signed_literal, lone_symbol, stays_unsigned, are_unlike};
 ghost use Rattle.autocoder_1401.specs.Warnings.{compares_unlike, longest, ends, open_place, read_on, warned_if, warned_of};
 ghost use Rattle.autocoder_1401.specs.Warnings.{statement_warnings, line_warnings, warnings_from, all_warnings};
@@ -12,6 +13,7 @@ ghost use Rattle.autocoder_1401.specs.Placement.{instruction_length};
 
 use crate::fault::AsmFault;
 use crate::filling::{Filling, fill};
+use crate::fitted::is_fitted;
 use crate::hashing::SourceHashing;
 use crate::kept_line::KeptLine;
 use crate::notes::Notes;
@@ -19,14 +21,17 @@ use crate::placing::instruction_length;
 use crate::reading::read_lines;
 use bcd_1401::{Cell, Char};
 use source_1401::{
-    Base, Constant, Contents, Instruction, Label, LabelField, Operand, OperandField, Operands,
-    Statement,
+    Base, Constant, Contents, Instruction, Label, LabelField, Language, Operand, OperandField,
+    Operands, Statement,
 };
 use std::alloc::Global;
 
 /// What a line says and hardly means.
 #[derive(Clone, Copy, Debug, PartialEq, Eq)]
 pub enum WarningKind {
+    /// The machine never carries out the instruction: the operation belongs to a feature that it hasn't got, or has no
+    /// instructions of this length.
+    NotFitted,
     /// No operand names the label.
     UnusedLabel,
     /// A branch tests the last comparison or an overflow, and no instruction compares, or adds and subtracts.
@@ -45,6 +50,22 @@ pub struct Warning {
     pub line: u64,
     /// What it is about.
     pub kind: WarningKind,
+}
+
+/// Whether a statement is an instruction that the machine never carries out.
+fn is_not_fitted(contents: Contents) -> bool
+    ensures { result ≡ is_not_fitted contents }
+{
+    match contents {
+        Contents::Instruction(instruction, operands) => {
+            !is_fitted(instruction.operation, instruction_length(operands))
+        },
+        Contents::Nothing
+        | Contents::MarkedConstant(_)
+        | Contents::Constant(_)
+        | Contents::Space(_)
+        | Contents::Areas(_) => false,
+    }
 }
 
 /// Whether no operand names a label.
@@ -260,10 +281,12 @@ fn warn_of_statement(
     ensures err { IfErr result IsMemory }
 {
     let contents = statement.body.describe().contents;
+    let not_fitted = is_not_fitted(contents);
     let unused = is_unused(&this.notes, statement.label);
     let unset = branches_unset(&this.notes, contents);
     let unlike = compares_unlike(&this.notes, contents);
     let place = read_on(&this.filling.storage, address, contents);
+    warn_if(warnings, not_fitted, number, WarningKind::NotFitted)?;
     warn_if(warnings, unused, number, WarningKind::UnusedLabel)?;
     warn_if(warnings, unset, number, WarningKind::UnsetIndicator)?;
     warn_if(warnings, unlike, number, WarningKind::UnlikeSigns)?;
@@ -305,18 +328,27 @@ fn warnings_of(alloc: Global, this: &Context, lines: &[KeptLine]) -> Result<Vec<
     Ok(warnings)
 }
 
-/// The warnings of a source for core storage of this size, in the order of its lines, and those of a line in the order
-/// of the kinds. They speak of a source that assembles: in one with a fault they may only follow from it, as that of a
-/// label which a misspelled operand should name.
+/// The warnings of a source in this language for core storage of this size, in the order of its lines, and those of a
+/// line in the order of the kinds. They speak of a source that assembles: in one with a fault they may only follow from
+/// it, as that of a label which a misspelled operand should name.
 ///
 /// # Errors
 ///
 /// `Memory` if memory is refused or the source has too many lines.
-pub fn warnings(alloc: Global, source: &[u8], size: u16) -> Result<Vec<Warning>, AsmFault>
-    ensures ok { IfOk result (λ warnings. warnings.items ≡ all_warnings size (lines_in source.now)) }
+#[tactic(auto, using(crate::proofs::LanguageLemmas::agrees_with_plain))]
+pub fn warnings(
+    alloc: Global,
+    language: Language,
+    source: &[u8],
+    size: u16,
+) -> Result<Vec<Warning>, AsmFault>
+    ensures ok { IfOk result (λ warnings. warnings.items ≡ all_warnings size (lines_in language source.now)) }
+
+    // What the plain language takes says the same in each language, and so is warned of the same.
+    ensures plain { AgreesWithPlain language size source.now }
     ensures err { IfErr result IsMemory }
 {
-    let lines = read_lines(alloc, source)?;
+    let lines = read_lines(alloc, language, source)?;
     let hashing = SourceHashing::from_source(source);
     let notes = Notes::new(alloc, hashing, &lines)?;
     let filling = fill(alloc, hashing, size, &lines)?;

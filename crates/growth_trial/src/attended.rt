@@ -1,13 +1,16 @@
 //! Consoles, whose lines come from standard input, and whose replies go to standard output.
-ghost use Rattle.std.specs.Prelude.{◌≡◌};
+ghost use Rattle.std.specs.Prelude.{◌≡◌, IfOk};
+ghost use Rattle.image_1401.specs.Image.{IsInCore};
 
 use crate::recorded::{load, new_room};
 use crate::shared::open_room;
 use crate::shown::show_room;
 use crate::written::SOURCE;
-use autocoder_1401::assemble_image;
+use autocoder_1401::{AsmFault, assemble_image};
 use console_1401::{FromReader, OpenDoor, ToWriter};
+use image_1401::Image;
 use room_1401::{Opened, Room, RoomId};
+use source_1401::Language;
 use std::alloc::Global;
 use std::io;
 use std::marker::Brand;
@@ -30,10 +33,17 @@ pub fn session(rt: &(impl Input + Print), alloc: Global) -> io::Result<()> {
     }
 }
 
+/// The image of a source, in core storage of 4,000 places.
+fn assembled(alloc: Global, source: &[u8]) -> Result<Image, AsmFault>
+    ensures { IfOk result IsInCore }
+{
+    assemble_image(alloc, Language::Plain, source, 4_000)
+}
+
 /// A session at a machine into which a program was loaded as it came from the assembler.
 pub fn program(rt: &(impl Input + Print), alloc: Global) -> io::Result<()> {
     for _ in 0..2 {
-        match assemble_image(alloc, SOURCE, 4_000) {
+        match assembled(alloc, SOURCE) {
             Ok(image) => {
                 if let Some(mut room) = load(rt, alloc, &image)? {
                     return hold_session(rt, alloc, &mut room);

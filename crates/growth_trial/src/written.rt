@@ -6,6 +6,7 @@ use autocoder_1401::{AsmKind, assemble, assemble_image};
 use cpu_1401::Machine;
 use image_1401::{ImageFault, read_image, write_image};
 use room_1401::{Answer, carry_out};
+use source_1401::Language;
 use std::alloc::Global;
 use std::io;
 use text_1401::{Line, parse_line, reply_text};
@@ -36,7 +37,7 @@ const IMAGES: [&[u8]; 6] = [
 pub fn assembly(rt: &impl Print, alloc: Global) -> io::Result<()> {
     for source in SOURCES {
         for _ in 0..2 {
-            match assemble(alloc, source, 4_000) {
+            match assemble(alloc, Language::Plain, source, 4_000) {
                 Ok(assembly) => {
                     println!(rt; "{:?}", assembly.image)?;
                     for line in assembly.listing.as_slice() {
@@ -62,7 +63,7 @@ pub fn assembly(rt: &impl Print, alloc: Global) -> io::Result<()> {
 pub fn image_alone(rt: &impl Print, alloc: Global) -> io::Result<()> {
     for source in SOURCES {
         for _ in 0..2 {
-            match assemble_image(alloc, source, 4_000) {
+            match assemble_image(alloc, Language::Plain, source, 4_000) {
                 Ok(image) => {
                     println!(rt; "{image:?}")?;
                     break;

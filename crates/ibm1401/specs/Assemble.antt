@@ -10,6 +10,7 @@ use Rattle.autocoder_1401.specs.declared.assembly.Assembly.{Assembly}
 use Rattle.deck_1401.specs.Contents.{first_taken, storage_of}
 use Rattle.deck_1401.specs.Deck.{deck_text}
 use Rattle.deck_1401.specs.declared.fault.DeckFault.TheVariants.{Place}
+use Rattle.source_1401.specs.declared.language.Language.{Language}
 use Rattle.streams_1401.specs.Sink.{AppendsPart}
 use Rattle.image_1401.specs.ImageText.{IsTextOf, written_text}
 use Rattle.arguments_1401.specs.declared.call.Product.{Product}
@@ -42,61 +43,61 @@ tables_text asked listing symbols references =
 
 -- the text is what is written of a source and its assembly: that of its image in the newest version, its listing, or
 -- tables
-abbrev pub IsProduct : Product → List ℕ → Assembly → List ℕ → Type 0
-IsProduct product.Image source assembly text = (text ≡ written_text assembly.image) × IsTextOf text assembly.image
-IsProduct product.Listing source assembly text = text ≡ listing_text assembly.listing
-IsProduct (product.Tables asked) source assembly text =
+abbrev pub IsProduct : Language → Product → List ℕ → Assembly → List ℕ → Type 0
+IsProduct language product.Image source assembly text = (text ≡ written_text assembly.image) × IsTextOf text assembly.image
+IsProduct language product.Listing source assembly text = text ≡ listing_text assembly.listing
+IsProduct language (product.Tables asked) source assembly text =
     text
-    ≡ tables_text asked (listing_text assembly.listing) (symbols_text (lines_in source))
-    (references_text (lines_in source))
+    ≡ tables_text asked (listing_text assembly.listing) (symbols_text (lines_in language source))
+    (references_text (lines_in language source))
 
 -- why nothing was written: the source's own fault, or want of memory for it; or want of memory for the text
-abbrev pub IsWhyNotAssembled : ℕ → List ℕ → Fault → Type 0
-IsWhyNotAssembled size source fault.Text = ⊥
-IsWhyNotAssembled size source (fault.Usage refusal) = ⊥
-IsWhyNotAssembled size source fault.Output = ⊥
-IsWhyNotAssembled size source fault.Size = ⊥
-IsWhyNotAssembled size source (fault.Unread name) = ⊥
-IsWhyNotAssembled size source (fault.File name why) = ⊥
-IsWhyNotAssembled size source (fault.Image why) = ⊥
-IsWhyNotAssembled size source (fault.Faulty told) = ⊥
-IsWhyNotAssembled size source (fault.Deck why) = ⊥
-IsWhyNotAssembled size source (fault.Source why) = IsMemory why ⊎ (assembly_in size source ≡ Err why)
-IsWhyNotAssembled size source (fault.Unwritten name) = ⊥
-IsWhyNotAssembled size source (fault.Run why) = ⊥
-IsWhyNotAssembled size source (fault.Hopper name count) = ⊥
-IsWhyNotAssembled size source fault.JournalFull = ⊥
-IsWhyNotAssembled size source fault.Memory = IsOk (assembly_in size source)
-IsWhyNotAssembled size source fault.Read = ⊥
-IsWhyNotAssembled size source fault.Write = ⊥
-IsWhyNotAssembled size source fault.Bound = ⊥
-IsWhyNotAssembled size source fault.Reply = ⊥
-IsWhyNotAssembled size source fault.Unkept = ⊥
-IsWhyNotAssembled size source (fault.Kept why) = ⊥
-IsWhyNotAssembled size source fault.NoReader = ⊥
-IsWhyNotAssembled size source (fault.NoSeat seat) = ⊥
-IsWhyNotAssembled size source fault.Port = ⊥
-IsWhyNotAssembled size source fault.Accept = ⊥
-IsWhyNotAssembled size source fault.Thread = ⊥
-IsWhyNotAssembled size source (fault.Seats why) = ⊥
+abbrev pub IsWhyNotAssembled : Language → ℕ → List ℕ → Fault → Type 0
+IsWhyNotAssembled language size source fault.Text = ⊥
+IsWhyNotAssembled language size source (fault.Usage refusal) = ⊥
+IsWhyNotAssembled language size source fault.Output = ⊥
+IsWhyNotAssembled language size source fault.Size = ⊥
+IsWhyNotAssembled language size source (fault.Unread name) = ⊥
+IsWhyNotAssembled language size source (fault.File name why) = ⊥
+IsWhyNotAssembled language size source (fault.Image why) = ⊥
+IsWhyNotAssembled language size source (fault.Faulty told) = ⊥
+IsWhyNotAssembled language size source (fault.Deck why) = ⊥
+IsWhyNotAssembled language size source (fault.Source why) = IsMemory why ⊎ (assembly_in language size source ≡ Err why)
+IsWhyNotAssembled language size source (fault.Unwritten name) = ⊥
+IsWhyNotAssembled language size source (fault.Run why) = ⊥
+IsWhyNotAssembled language size source (fault.Hopper name count) = ⊥
+IsWhyNotAssembled language size source fault.JournalFull = ⊥
+IsWhyNotAssembled language size source fault.Memory = IsOk (assembly_in language size source)
+IsWhyNotAssembled language size source fault.Read = ⊥
+IsWhyNotAssembled language size source fault.Write = ⊥
+IsWhyNotAssembled language size source fault.Bound = ⊥
+IsWhyNotAssembled language size source fault.Reply = ⊥
+IsWhyNotAssembled language size source fault.Unkept = ⊥
+IsWhyNotAssembled language size source (fault.Kept why) = ⊥
+IsWhyNotAssembled language size source fault.NoReader = ⊥
+IsWhyNotAssembled language size source (fault.NoSeat seat) = ⊥
+IsWhyNotAssembled language size source fault.Port = ⊥
+IsWhyNotAssembled language size source fault.Accept = ⊥
+IsWhyNotAssembled language size source fault.Thread = ⊥
+IsWhyNotAssembled language size source (fault.Seats why) = ⊥
 
 -- the text is that of the deck of what the source stands for
-pub record IsDeckOf (size : ℕ) (source text : List ℕ) : Type 0 where
+pub record IsDeckOf (language : Language) (size : ℕ) (source text : List ℕ) : Type 0 where
   pub assembly : Assembly
-  pub stands_for : assembly_in size source ≡ Ok assembly
+  pub stands_for : assembly_in language size source ≡ Ok assembly
   pub text_is : text ≡ deck_text assembly.image
 
 -- the source is assembled, and its image has something in the places where the cards of a deck are read
-pub record HasNoDeck (size : ℕ) (source : List ℕ) (told : Fault) : Type 0 where
+pub record HasNoDeck (language : Language) (size : ℕ) (source : List ℕ) (told : Fault) : Type 0 where
   pub assembly : Assembly
-  pub stands_for : assembly_in size source ≡ Ok assembly
+  pub stands_for : assembly_in language size source ≡ Ok assembly
   pub place : ℕ
   pub told_is : told ≡ fault.Deck (Place place)
   pub taken : first_taken (storage_of assembly.image) ≡ Some place
 
 -- why no deck was made: as for an image, or its own reason
-abbrev pub IsWhyNoDeckOf : ℕ → List ℕ → Fault → Type 0
-IsWhyNoDeckOf size source told = IsWhyNotAssembled size source told ⊎ HasNoDeck size source told
+abbrev pub IsWhyNoDeckOf : Language → ℕ → List ℕ → Fault → Type 0
+IsWhyNoDeckOf language size source told = IsWhyNotAssembled language size source told ⊎ HasNoDeck language size source told
 
 -- what an output received of a text: all of it, or a beginning where a write to it has failed
 abbrev pub Wrote : List ℕ → Option (List ℕ) → Option (List ℕ) → Bool → Result ⊤ Fault → Type 0
@@ -105,27 +106,27 @@ Wrote text old new failed outcome =
     ⊎ ((outcome ≡ Err fault.Output) × AppendsPart old new text × IsTrue failed)
 
 -- the text is what is written of what the source stands for
-pub record IsProductOf (size : ℕ) (source : List ℕ) (product : Product) (text : List ℕ) : Type 0 where
+pub record IsProductOf (language : Language) (size : ℕ) (source : List ℕ) (product : Product) (text : List ℕ) : Type 0 where
   pub assembly : Assembly
-  pub stands_for : assembly_in size source ≡ Ok assembly
-  pub text_is : IsProduct product source assembly text
+  pub stands_for : assembly_in language size source ≡ Ok assembly
+  pub text_is : IsProduct language product source assembly text
 
 -- Nothing was written.
-pub record NotAssembled (size : ℕ) (source : List ℕ) (old new : Option (List ℕ))
+pub record NotAssembled (language : Language) (size : ℕ) (source : List ℕ) (old new : Option (List ℕ))
     (outcome : Result ⊤ Fault) : Type 0 where
   pub why : Fault
   pub told : outcome ≡ Err why
-  pub reason : IsWhyNotAssembled size source why
+  pub reason : IsWhyNotAssembled language size source why
   pub unwritten : new ≡ old
 
 -- What the source stands for was written, and nothing else.
-pub record WroteAssembly (size : ℕ) (source : List ℕ) (product : Product) (old new : Option (List ℕ))
+pub record WroteAssembly (language : Language) (size : ℕ) (source : List ℕ) (product : Product) (old new : Option (List ℕ))
     (failed : Bool) (outcome : Result ⊤ Fault) : Type 0 where
   pub text : List ℕ
-  pub text_is : IsProductOf size source product text
+  pub text_is : IsProductOf language size source product text
   pub written : Wrote text old new failed outcome
 
 -- what a call did
-abbrev pub AssembleDid : ℕ → List ℕ → Product → Option (List ℕ) → Option (List ℕ) → Bool → Result ⊤ Fault → Type 0
-AssembleDid size source product old new failed outcome =
-    NotAssembled size source old new outcome ⊎ WroteAssembly size source product old new failed outcome
+abbrev pub AssembleDid : Language → ℕ → List ℕ → Product → Option (List ℕ) → Option (List ℕ) → Bool → Result ⊤ Fault → Type 0
+AssembleDid language size source product old new failed outcome =
+    NotAssembled language size source old new outcome ⊎ WroteAssembly language size source product old new failed outcome

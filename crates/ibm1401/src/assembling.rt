@@ -14,6 +14,7 @@ use console_1401::{Sink, put_all};
 use core_1401::Core;
 use deck_1401::{DeckFault, write_deck};
 use image_1401::{Image, write_image};
+use source_1401::Language;
 use std::alloc::{AllocError, Global};
 
 /// What parts the listing and the tables.
@@ -43,16 +44,17 @@ pub fn check_size(size: u16) -> Result<(), Fault>
 /// then. `Output` where the text isn't written, or a part of it alone.
 pub fn write_assembly<W: Sink>(
     alloc: Global,
+    language: Language,
     source: &[u8],
     size: u16,
     product: Product,
     writer: &mut W,
 ) -> Result<(), Fault>
     requires { is_core_size size ≡ true }
-    ensures { AssembleDid size source.now product (W.received writer.old) (W.received writer.new)
+    ensures { AssembleDid language size source.now product (W.received writer.old) (W.received writer.new)
         (W.has_failed writer.new) result }
 {
-    let text = assembly_text(alloc, source, size, product)?;
+    let text = assembly_text(alloc, language, source, size, product)?;
     write_text(&text, writer)
 }
 
@@ -63,40 +65,41 @@ pub fn write_assembly<W: Sink>(
 /// `Source` where the source can't be assembled, and `Memory` where there is no room for the text.
 pub(crate) fn assembly_text(
     alloc: Global,
+    language: Language,
     source: &[u8],
     size: u16,
     product: Product,
 ) -> Result<Vec<u8>, Fault>
     requires { is_core_size size ≡ true }
-    ensures ok { IfOk result (λ text. IsProductOf size source.now product text.items) }
-    ensures err { IfErr result (IsWhyNotAssembled size source.now) }
+    ensures ok { IfOk result (λ text. IsProductOf language size source.now product text.items) }
+    ensures err { IfErr result (IsWhyNotAssembled language size source.now) }
 {
     match product {
-        Product::Image => image_text(alloc, source, size),
-        Product::Listing => source_listing(alloc, source, size),
-        Product::Tables(asked) => source_tables(alloc, source, size, asked),
+        Product::Image => image_text(alloc, language, source, size),
+        Product::Listing => source_listing(alloc, language, source, size),
+        Product::Tables(asked) => source_tables(alloc, language, source, size, asked),
     }
 }
 
 /// The image of a source.
-fn image_of(alloc: Global, source: &[u8], size: u16) -> Result<Image, Fault>
-    ensures ok { IfOk result (λ image. assembly_in size source.now ≡ Ok (with_listing source.now image)) }
+fn image_of(alloc: Global, language: Language, source: &[u8], size: u16) -> Result<Image, Fault>
+    ensures ok { IfOk result (λ image. assembly_in language size source.now ≡ Ok (with_listing language source.now image)) }
     ensures in_core { is_core_size size ≡ true → IfOk result IsInCore }
-    ensures err { IfErr result (IsWhyNotAssembled size source.now) }
+    ensures err { IfErr result (IsWhyNotAssembled language size source.now) }
 {
-    match assemble_image(alloc, source, size) {
+    match assemble_image(alloc, language, source, size) {
         Ok(image) => Ok(image),
         Err(fault) => Err(Fault::Source(fault)),
     }
 }
 
 /// The text of a source's image.
-fn image_text(alloc: Global, source: &[u8], size: u16) -> Result<Vec<u8>, Fault>
+fn image_text(alloc: Global, language: Language, source: &[u8], size: u16) -> Result<Vec<u8>, Fault>
     requires { is_core_size size ≡ true }
-    ensures ok { IfOk result (λ text. IsProductOf size source.now InImage text.items) }
-    ensures err { IfErr result (IsWhyNotAssembled size source.now) }
+    ensures ok { IfOk result (λ text. IsProductOf language size source.now InImage text.items) }
+    ensures err { IfErr result (IsWhyNotAssembled language size source.now) }
 {
-    let image = image_of(alloc, source, size)?;
+    let image = image_of(alloc, language, source, size)?;
     match write_image(alloc, &image) {
         Ok(text) => Ok(text),
         Err(_) => Err(Fault::Memory),
@@ -109,12 +112,17 @@ fn image_text(alloc: Global, source: &[u8], size: u16) -> Result<Vec<u8>, Fault>
 ///
 /// `Source` where the source can't be assembled, `Deck` where its image has something in the places where a deck's cards
 /// are read, and `Memory` where there is no room for the text.
-pub(crate) fn source_deck(alloc: Global, source: &[u8], size: u16) -> Result<Vec<u8>, Fault>
+pub(crate) fn source_deck(
+    alloc: Global,
+    language: Language,
+    source: &[u8],
+    size: u16,
+) -> Result<Vec<u8>, Fault>
     requires { is_core_size size ≡ true }
-    ensures ok { IfOk result (λ text. IsDeckOf size source.now text.items) }
-    ensures err { IfErr result (IsWhyNoDeckOf size source.now) }
+    ensures ok { IfOk result (λ text. IsDeckOf language size source.now text.items) }
+    ensures err { IfErr result (IsWhyNoDeckOf language size source.now) }
 {
-    let image = image_of(alloc, source, size)?;
+    let image = image_of(alloc, language, source, size)?;
     match write_deck(alloc, &image) {
         Ok(text) => Ok(text),
         Err(DeckFault::Memory) => Err(Fault::Memory),
@@ -123,11 +131,16 @@ pub(crate) fn source_deck(alloc: Global, source: &[u8], size: u16) -> Result<Vec
 }
 
 /// The text of a source's listing.
-fn source_listing(alloc: Global, source: &[u8], size: u16) -> Result<Vec<u8>, Fault>
-    ensures ok { IfOk result (λ text. IsProductOf size source.now Listing text.items) }
-    ensures err { IfErr result (IsWhyNotAssembled size source.now) }
+fn source_listing(
+    alloc: Global,
+    language: Language,
+    source: &[u8],
+    size: u16,
+) -> Result<Vec<u8>, Fault>
+    ensures ok { IfOk result (λ text. IsProductOf language size source.now Listing text.items) }
+    ensures err { IfErr result (IsWhyNotAssembled language size source.now) }
 {
-    let assembly = match assemble(alloc, source, size) {
+    let assembly = match assemble(alloc, language, source, size) {
         Ok(assembly) => assembly,
         Err(why) => return Err(Fault::Source(why)),
     };
@@ -138,11 +151,17 @@ fn source_listing(alloc: Global, source: &[u8], size: u16) -> Result<Vec<u8>, Fa
 }
 
 /// The text of a source's tables.
-fn source_tables(alloc: Global, source: &[u8], size: u16, asked: Tables) -> Result<Vec<u8>, Fault>
-    ensures ok { IfOk result (λ text. IsProductOf size source.now (InTables asked) text.items) }
-    ensures err { IfErr result (IsWhyNotAssembled size source.now) }
+fn source_tables(
+    alloc: Global,
+    language: Language,
+    source: &[u8],
+    size: u16,
+    asked: Tables,
+) -> Result<Vec<u8>, Fault>
+    ensures ok { IfOk result (λ text. IsProductOf language size source.now (InTables asked) text.items) }
+    ensures err { IfErr result (IsWhyNotAssembled language size source.now) }
 {
-    let made = match assemble_with_tables(alloc, source, size) {
+    let made = match assemble_with_tables(alloc, language, source, size) {
         Ok(made) => made,
         Err(why) => return Err(Fault::Source(why)),
     };

@@ -68,23 +68,10 @@ fn run<
 >(rt: &R, error_output: ErrorOutput) -> Result<(), Fault> {
     let words = command_line(rt)?;
     match read_call(rt.alloc(), words.as_slice()) {
-        Ok(Call::Console { size }) => {
-            let mut reader = FromReader::new(rt.reader());
-            let mut writer = ToWriter::new(io::writer(rt));
-            console(rt.alloc(), size, &mut reader, &mut writer)
-        }
+        Ok(Call::Console { size }) => hold_console(rt, size),
         Ok(Call::Assemble(asked)) => assemble_file(rt, asked),
-        Ok(Call::Load { file }) => {
-            let text = read_file(rt, file)?;
-            let mut reader = FromReader::new(rt.reader());
-            let mut writer = ToWriter::new(io::writer(rt));
-            load(rt.alloc(), text.as_slice(), &mut reader, &mut writer)
-        }
-        Ok(Call::Disassemble { file }) => {
-            let text = read_named_file(rt, file)?;
-            let mut writer = ToWriter::new(io::writer(rt));
-            write_disassembly(rt.alloc(), text.as_slice(), &mut writer)
-        }
+        Ok(Call::Load { file }) => hold_loaded(rt, file),
+        Ok(Call::Disassemble { file }) => disassemble_file(rt, file),
         Ok(Call::Run(job)) => run_file(rt, error_output, job).map_err(Fault::Run),
         Ok(Call::Serve(service)) => open_room(rt, service),
         Ok(Call::ServeSeats(asked)) => open_seats(rt, asked),
@@ -100,6 +87,34 @@ fn run<
         ) => resume_seats(rt, resuming, operators),
         Err(error) => tell(rt, error),
     }
+}
+
+/// Holds a session at standard input and output, with a machine of this size.
+fn hold_console<R: Input<Reader = StdinLock<'static>> + Print + AllocGlobal>(
+    rt: &R,
+    size: u16,
+) -> Result<(), Fault> {
+    let mut reader = FromReader::new(rt.reader());
+    let mut writer = ToWriter::new(io::writer(rt));
+    console(rt.alloc(), size, &mut reader, &mut writer)
+}
+
+/// Holds a session at standard input and output, with the image of a file loaded.
+fn hold_loaded<R: Files + Input<Reader = StdinLock<'static>> + Print + AllocGlobal>(
+    rt: &R,
+    file: String,
+) -> Result<(), Fault> {
+    let text = read_file(rt, file)?;
+    let mut reader = FromReader::new(rt.reader());
+    let mut writer = ToWriter::new(io::writer(rt));
+    load(rt.alloc(), text.as_slice(), &mut reader, &mut writer)
+}
+
+/// Writes the listing of the image of a file.
+fn disassemble_file<R: Files + Print + AllocGlobal>(rt: &R, file: String) -> Result<(), Fault> {
+    let text = read_named_file(rt, file)?;
+    let mut writer = ToWriter::new(io::writer(rt));
+    write_disassembly(rt.alloc(), text.as_slice(), &mut writer)
 }
 
 /// The words of the command line, the program's own name in front.

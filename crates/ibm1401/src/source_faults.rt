@@ -1,62 +1,133 @@
 //! The faults and the warnings of a source, as editors read them.
 
-use autocoder_1401::{AsmFault, AsmKind, Cause, Explanation, Warning, WarningKind};
+use autocoder_1401::{AsmFault, Cause, Explanation, Warning, WarningKind};
+use source_1401::{OperandFlaw, Stretch, split_line};
 use std::alloc::{AllocError, Global};
+use std::str;
 
-/// What a fault of the kind means, in a few words.
-fn kind_help(kind: AsmKind) -> &'static str {
-    match kind {
-        AsmKind::Memory => "memory was refused",
-        AsmKind::LongLine => "a line has at most 80 columns",
-        AsmKind::Graphic => "a byte can't stand in its column",
-        AsmKind::Label => {
-            "columns 6 to 15 hold no label, or lack one, or hold one where there is none"
+/// The column in which a label begins.
+const LABEL_COLUMN: u8 = 6;
+
+/// What stands in some columns of a line; nothing where the line ends before them.
+fn word_in(line: &[u8], columns: Stretch) -> &str {
+    let first = usize::from(columns.column).saturating_sub(1);
+    let word = line.get(first..).unwrap_or(&[]);
+    let length = word.len().min(usize::from(columns.length));
+    str::from_utf8(&word[..length]).unwrap_or("")
+}
+
+/// A mnemonic or a label as a source writes it, from its columns.
+fn name_in(columns: &[u8]) -> &str {
+    str::from_utf8(columns).unwrap_or("").trim_end()
+}
+
+/// What is wrong with an operand, which is this word.
+fn operand_help(alloc: Global, flaw: OperandFlaw, word: &str) -> Result<String, AllocError> {
+    match flaw {
+        OperandFlaw::AddressMissing => String::from_str(alloc, "an address is missing"),
+        OperandFlaw::CharacterMissing => String::from_str(alloc, "the d-character is missing"),
+        OperandFlaw::NoAssembler => String::from_str(alloc, "ENT takes AUTOCODER alone"),
+        OperandFlaw::TooMuch => format!(in alloc; "{word} is more than the operation takes"),
+        _ if word.is_empty() => String::from_str(alloc, "an operand is missing"),
+        OperandFlaw::NoAddress => format!(in alloc; "{word} is neither an address nor a literal"),
+        OperandFlaw::NoConstant => format!(in alloc; "{word} is no constant"),
+        OperandFlaw::NoCount => format!(in alloc; "{word} is no number of places"),
+        OperandFlaw::NoAreas => {
+            format!(in alloc; "{word} isn't a number of areas and their length, as 2X80 is")
         }
-        AsmKind::DoubleLabel => "an earlier line has the same label",
-        AsmKind::Operation => {
-            "columns 16 to 20 hold no operation, or a field has no areas above it"
+        OperandFlaw::NoSpan => format!(in alloc; "{word} is no place of a field"),
+        OperandFlaw::NoValue => {
+            format!(in alloc; "{word} says no value, as a number or a label does")
         }
-        AsmKind::Undefined => {
-            "a symbol is the label of no line, or for EQU and ORG of no earlier one"
-        }
-        AsmKind::Operand => "the operands aren't as the operation asks",
-        AsmKind::OutOfCore => "a place or an address isn't in core",
-        AsmKind::NoEnd => "the source ends without END",
-        AsmKind::AfterEnd => "only comments may follow END",
     }
 }
 
-/// What is wrong at a fault, in a few words.
-pub fn help_of(explanation: Explanation) -> &'static str {
-    let first = explanation.columns.column;
-    match explanation.cause {
+/// What is wrong with a label, which is this word and begins in this column.
+fn label_help(alloc: Global, first: u8, word: &str) -> Result<String, AllocError> {
+    if first > LABEL_COLUMN {
+        String::from_str(
+            alloc,
+            "a label begins in column 6, and an operation in column 16",
+        )
+    } else if word.contains(' ') {
+        String::from_str(
+            alloc,
+            "columns 6 to 15 hold more than a label, and an operation begins in column 16",
+        )
+    } else {
+        format!(in alloc; "{word} is no label")
+    }
+}
+
+/// What is wrong at a fault, in a few words; the columns at fault hold this word.
+fn help_of(alloc: Global, explanation: Explanation, word: &str) -> Result<String, AllocError> {
+    let help = match explanation.cause {
+        Cause::Memory => "memory was refused",
+        Cause::LongLine => "a line has at most 80 columns",
         Cause::ForeignByte(Some(b'a'..=b'z')) => "a small letter can't stand in its column",
         Cause::ForeignByte(Some(b'\t')) => "a tab can't stand in its column",
-        Cause::NoLabel if first > 6 => "a label begins in column 6, and an operation in column 16",
+        Cause::ForeignByte(_) => "a byte can't stand in its column",
+        Cause::LabelMissing => "the operation asks for a label",
+        Cause::NoLabel => return label_help(alloc, explanation.columns.column, word),
+        Cause::LabelUnwanted => "the operation takes no label",
+        Cause::DeclaredBefore(line) => {
+            return format!(in alloc; "line {line} has the label {word} already");
+        }
         Cause::OperationDisplaced => "the operation begins after column 16",
-        _ => kind_help(explanation.fault.kind),
-    }
+        Cause::OperationUnknown(None) => {
+            return format!(in alloc; "{word} is no operation");
+        }
+        Cause::OperationUnknown(Some(near)) => {
+            let near = name_in(&near);
+            return format!(in alloc; "{word} is no operation; did you mean {near}?");
+        }
+        Cause::NoAreas => "a line without an operation is a field, and no areas are above it",
+        Cause::Undeclared(None) => {
+            return format!(in alloc; "{word} is the label of no line");
+        }
+        Cause::Undeclared(Some(near)) => {
+            let near = name_in(&near.text);
+            return format!(in alloc; "{word} is the label of no line; did you mean {near}?");
+        }
+        Cause::DeclaredLate(line) => {
+            return format!(in alloc;
+                "{word} is the label of line {line}, and EQU and ORG take those of earlier lines"
+            );
+        }
+        Cause::BadOperand(flaw) => return operand_help(alloc, flaw, word),
+        Cause::PastArea => "the field ends after its area",
+        Cause::OutOfCore => "a place or an address isn't in core",
+        Cause::NoEnd => "the source ends without END",
+        Cause::AfterEnd => "only comments may follow END",
+    };
+    String::from_str(alloc, help)
 }
 
 /// A line for each fault of the source of this file: `sales.source:4:16: OPERATION: ..`.
 pub fn fault_lines(
     alloc: Global,
     file: &str,
+    source: &[u8],
     faults: &[Explanation],
 ) -> Result<String, AllocError> {
     let mut lines = String::new(alloc);
+    let (mut told, mut text, mut rest) = (0, source, source);
     for explanation in faults {
         let AsmFault { line, kind } = explanation.fault;
-        let column = explanation.columns.column;
+        for _ in told..line {
+            (text, rest) = split_line(rest).unwrap_or((&[], &[]));
+        }
+        told = line;
+        let Stretch { column, .. } = explanation.columns;
         // A kind is printed as its number and its name.
         let kind = format!(in alloc; "{kind}")?;
         let name = kind
             .as_str()
             .split_once(' ')
             .map_or(kind.as_str(), |(_, name)| name);
-        let help = help_of(*explanation);
-        let text = format!(in alloc; "{file}:{line}:{column}: {name}: {help}\n")?;
-        lines.push_str(text.as_str())?;
+        let help = help_of(alloc, *explanation, word_in(text, explanation.columns))?;
+        let shown = format!(in alloc; "{file}:{line}:{column}: {name}: {help}\n")?;
+        lines.push_str(shown.as_str())?;
     }
     Ok(lines)
 }
@@ -65,7 +136,7 @@ pub fn fault_lines(
 pub fn warning_column(kind: WarningKind) -> u8 {
     match kind {
         WarningKind::UnusedLabel => 6,
-        WarningKind::UnsetIndicator | WarningKind::ReadOn(_) => 16,
+        WarningKind::NotFitted | WarningKind::UnsetIndicator | WarningKind::ReadOn(_) => 16,
         WarningKind::UnlikeSigns => 21,
     }
 }
@@ -74,6 +145,7 @@ pub fn warning_column(kind: WarningKind) -> u8 {
 fn warning_help(alloc: Global, kind: WarningKind) -> Result<String, AllocError> {
     let help = match kind {
         WarningKind::UnusedLabel => "no operand names the label",
+        WarningKind::NotFitted => "this machine has no instruction of this operation and length",
         WarningKind::UnsetIndicator => "no instruction sets the indicator that the branch tests",
         WarningKind::UnlikeSigns => {
             "a literal with a sign is never equal to a number that has none"

@@ -7,6 +7,7 @@ use crate::source_faults::{fault_lines, warning_lines};
 use arguments_1401::{Assembling, Product, Told};
 use autocoder_1401::{AsmKind, explained_faults, warnings};
 use files_1401::{WriteFault, hold_closed_streams, write_whole};
+use source_1401::Language;
 use std::alloc::Global;
 use std::io;
 use std::rt::Files;
@@ -24,18 +25,20 @@ fn put_file(rt: &(impl Files + AllocGlobal), name: String, text: &[u8]) -> Resul
 /// Writes the deck of a source to the file of this name.
 fn put_deck(
     rt: &(impl Files + AllocGlobal),
+    language: Language,
     source: &[u8],
     size: u16,
     name: String,
 ) -> Result<(), Fault> {
     check_size(size)?;
-    let text = source_deck(rt.alloc(), source, size)?;
+    let text = source_deck(rt.alloc(), language, source, size)?;
     put_file(rt, name, text.as_slice())
 }
 
 /// Writes what a source stands for to standard output, or to the file of this name.
 fn write_product<R: Files + Print + AllocGlobal>(
     rt: &R,
+    language: Language,
     source: &[u8],
     size: u16,
     product: Product,
@@ -44,12 +47,12 @@ fn write_product<R: Files + Print + AllocGlobal>(
     check_size(size)?;
     match out {
         Some(name) => {
-            let text = assembly_text(rt.alloc(), source, size, product)?;
+            let text = assembly_text(rt.alloc(), language, source, size, product)?;
             put_file(rt, name, text.as_slice())
         }
         None => {
             let mut writer = ToWriter::new(io::writer(rt));
-            write_assembly(rt.alloc(), source, size, product, &mut writer)
+            write_assembly(rt.alloc(), language, source, size, product, &mut writer)
         }
     }
 }
@@ -58,6 +61,7 @@ fn write_product<R: Files + Print + AllocGlobal>(
 /// file for it is named.
 fn write_asked<R: Files + Print + AllocGlobal>(
     rt: &R,
+    language: Language,
     source: &[u8],
     size: u16,
     product: Product,
@@ -65,19 +69,26 @@ fn write_asked<R: Files + Print + AllocGlobal>(
     deck: Option<String>,
 ) -> Result<(), Fault> {
     let Some(name) = deck else {
-        return write_product(rt, source, size, product, out);
+        return write_product(rt, language, source, size, product, out);
     };
-    put_deck(rt, source, size, name)?;
+    put_deck(rt, language, source, size, name)?;
     if product == Product::Image && out.is_none() {
         return Ok(());
     }
-    write_product(rt, source, size, product, out)
+    write_product(rt, language, source, size, product, out)
 }
 
 /// The fault of a source of this name with each of its faults on a line of its own, in place of the first of them.
-fn all_told(alloc: Global, name: &str, source: &[u8], size: u16, first: Fault) -> Fault {
-    match explained_faults(alloc, source, size) {
-        Ok(found) if !found.is_empty() => match fault_lines(alloc, name, found.as_slice()) {
+fn all_told(
+    alloc: Global,
+    name: &str,
+    language: Language,
+    source: &[u8],
+    size: u16,
+    first: Fault,
+) -> Fault {
+    match explained_faults(alloc, language, source, size) {
+        Ok(found) if !found.is_empty() => match fault_lines(alloc, name, source, found.as_slice()) {
             Ok(lines) => Fault::Faulty(lines),
             Err(_) => Fault::Memory,
         },
@@ -94,10 +105,11 @@ fn all_told(alloc: Global, name: &str, source: &[u8], size: u16, first: Fault) -
 fn tell_warnings(
     rt: &(impl Eprint + AllocGlobal),
     name: &str,
+    language: Language,
     source: &[u8],
     size: u16,
 ) -> Result<(), Fault> {
-    let Ok(found) = warnings(rt.alloc(), source, size) else {
+    let Ok(found) = warnings(rt.alloc(), language, source, size) else {
         return Err(Fault::Memory);
     };
     let Ok(lines) = warning_lines(rt.alloc(), name, found.as_slice()) else {
@@ -121,6 +133,7 @@ pub fn assemble_file<R: Files + Print + Eprint + AllocGlobal>(
 ) -> Result<(), Fault> {
     let Assembling {
         file,
+        language,
         size,
         product,
         out,
@@ -135,17 +148,18 @@ pub fn assemble_file<R: Files + Print + Eprint + AllocGlobal>(
     };
     let source = read_file(rt, file)?;
     match (
-        write_asked(rt, source.as_slice(), size, product, out, deck),
+        write_asked(rt, language, source.as_slice(), size, product, out, deck),
         told,
     ) {
         (Err(Fault::Source(first)), Told::All) if first.kind != AsmKind::Memory => Err(all_told(
             rt.alloc(),
             name.as_str(),
+            language,
             source.as_slice(),
             size,
             Fault::Source(first),
         )),
-        (Ok(()), Told::All) => tell_warnings(rt, name.as_str(), source.as_slice(), size),
+        (Ok(()), Told::All) => tell_warnings(rt, name.as_str(), language, source.as_slice(), size),
         (outcome, Told::First | Told::All) => outcome,
     }
 }

@@ -12,6 +12,7 @@ use Rattle.image_1401.specs.declared.image.Segment.{Segment}
 use Rattle.image_1401.specs.ImageText.{IsTextOf}
 use Rattle.image_1401.specs.Refusal.{IsRefused}
 use Rattle.autocoder_1401.specs.declared.fault.AsmFault.{AsmFault}
+use Rattle.source_1401.specs.declared.language.Language.{Language}
 use Rattle.running_1401.specs.declared.programs.Program.{Program}
 use Rattle.running_1401.specs.declared.fault.RunFault.{RunFault}
 use Rattle.running_1401.specs.declared.fault.RunFault.TheVariants as fault
@@ -27,12 +28,12 @@ IsImageOf text (Ok program) = IsTextOf text program.image × (program.listing �
 IsImageOf text (Err told) = (why : ImageFault) × (told ≡ fault.Image why) × IsRefused text why
 
 -- what a source stands for in core storage of this size: the image and the listing, or its fault or want of memory
-abbrev pub IsAssembled : ℕ → List ℕ → Result Program RunFault → Type 0
-IsAssembled size source (Ok program) =
-    (assembly : Assembly) × (assembly_in size source ≡ Ok assembly) × (program.image ≡ assembly.image)
+abbrev pub IsAssembled : Language → ℕ → List ℕ → Result Program RunFault → Type 0
+IsAssembled language size source (Ok program) =
+    (assembly : Assembly) × (assembly_in language size source ≡ Ok assembly) × (program.image ≡ assembly.image)
     × (program.listing ≡ Some assembly.listing)
-IsAssembled size source (Err told) =
-    (why : AsmFault) × (told ≡ fault.Source why) × (IsMemory why ⊎ (assembly_in size source ≡ Err why))
+IsAssembled language size source (Err told) =
+    (why : AsmFault) × (told ≡ fault.Source why) × (IsMemory why ⊎ (assembly_in language size source ≡ Err why))
 
 -- the cells of a segment put at their places
 abbrev pub with_segment : State → Segment → State

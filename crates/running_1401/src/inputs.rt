@@ -12,6 +12,7 @@ use cpu_1401::Machine;
 use devices_1401::Card;
 use files_1401::{FileFault, read_whole};
 use job_1401::{DeckFault, read_deck};
+use source_1401::Language;
 use std::rt::Files;
 
 /// The bytes of a file.
@@ -76,13 +77,14 @@ pub(crate) struct Inputs {
 fn read_program(
     rt: &(impl Files + AllocGlobal),
     file: String,
+    language: Language,
     size: u16,
 ) -> Result<Inputs, RunFault>
     requires { is_core_size size ≡ true }
     ensures { IfErr result (IsUnread Start.Entry size (input_names (string_bytes file) None)) }
 {
     let text = read_file(rt, file)?;
-    let program = program_of(rt.alloc(), text.as_slice(), size)?;
+    let program = program_of(rt.alloc(), language, text.as_slice(), size)?;
     let Program { image, listing } = program;
     let machine = loaded_machine(rt.alloc(), &image)?;
     Ok(Inputs {
@@ -123,6 +125,7 @@ pub(crate) fn read_inputs(
     rt: &(impl Files + Eprint + AllocGlobal),
     file: String,
     start: Start,
+    language: Language,
     size: u16,
     cards: Option<String>,
 ) -> Result<Inputs, RunFault>
@@ -134,7 +137,7 @@ pub(crate) fn read_inputs(
         return Err(RunFault::Size);
     }
     let mut inputs = match start {
-        Start::Entry => read_program(rt, file, size)?,
+        Start::Entry => read_program(rt, file, language, size)?,
         Start::LoadKey => read_loader(rt, file, size)?,
     };
     if let Some(name) = cards {

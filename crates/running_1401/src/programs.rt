@@ -12,6 +12,7 @@ use command_1401::{Command, carry_out};
 use core_1401::CoreFault;
 use cpu_1401::Machine;
 use image_1401::{Image, Segment, read_image};
+use source_1401::Language;
 use std::alloc::Global;
 
 /// Whether a text is meant as that of an image.
@@ -31,15 +32,20 @@ pub struct Program {
     pub listing: Option<Listing>,
 }
 
-/// The program that a text is the image of, or the source.
+/// The program that a text is the image of, or the source in this language.
 ///
 /// # Errors
 ///
 /// `Image` or `Source` if it is none, or if memory is refused.
-pub fn program_of(alloc: Global, text: &[u8], size: u16) -> Result<Program, RunFault>
+pub fn program_of(
+    alloc: Global,
+    language: Language,
+    text: &[u8],
+    size: u16,
+) -> Result<Program, RunFault>
     requires { is_core_size size ≡ true }
     ensures image { is_meant_as_image text.now ≡ true → IsImageOf text.now result }
-    ensures source { is_meant_as_image text.now ≡ false → IsAssembled size text.now result }
+    ensures source { is_meant_as_image text.now ≡ false → IsAssembled language size text.now result }
     ensures in_core { IfOk result (λ program. IsInCore program.image) }
 {
     if is_image(text) {
@@ -51,7 +57,7 @@ pub fn program_of(alloc: Global, text: &[u8], size: u16) -> Result<Program, RunF
             Err(fault) => Err(RunFault::Image(fault)),
         };
     }
-    match assemble(alloc, text, size) {
+    match assemble(alloc, language, text, size) {
         Ok(assembly) => {
             let Assembly { image, listing } = assembly;
             Ok(Program {

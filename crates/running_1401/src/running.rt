@@ -163,12 +163,13 @@ pub fn run_file<R: Files + Print + Eprint + Clock + AllocGlobal>(
         punch,
         paper,
         trace,
+        language,
         size,
         limit,
         switches,
     } = job;
     let _held = hold_closed_streams(rt);
-    let inputs = match read_inputs(rt, file, start, size, cards) {
+    let inputs = match read_inputs(rt, file, start, language, size, cards) {
         Ok(inputs) => inputs,
         Err(fault) => return Err(fault),
     };

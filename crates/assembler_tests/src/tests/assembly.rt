@@ -2,11 +2,12 @@
 
 use autocoder_1401::{AsmFault, AsmKind, Assembly, assemble, assemble_image};
 use image_1401::Segment;
+use source_1401::Language;
 use std::test::Fail;
 
 /// The fault of a source.
 fn fault(rt: &HostRuntime, source: &[u8], size: u16) -> Option<(u64, AsmKind)> {
-    match assemble(rt.alloc(), source, size) {
+    match assemble(rt.alloc(), Language::Plain, source, size) {
         Ok(_) => None,
         Err(AsmFault { line, kind }) => Some((line, kind)),
     }
@@ -23,8 +24,8 @@ fn one_literal_is_placed_for_two_uses(rt: HostRuntime) -> Result<(), Fail> {
      * ONE LITERAL, TWO USES
                END  START
 ";
-    let Assembly { image, .. } = assemble(rt.alloc(), source, 4_000)?;
-    let alone = assemble_image(rt.alloc(), source, 4_000)?;
+    let Assembly { image, .. } = assemble(rt.alloc(), Language::Plain, source, 4_000)?;
+    let alone = assemble_image(rt.alloc(), Language::Plain, source, 4_000)?;
     assert_eq!(rt; (alone.size, alone.start), (4_000, 400));
     assert_eq!(rt; alone.segments.as_slice(), image.segments.as_slice());
     assert_eq!(rt; (image.size, image.start), (4_000, 400));
@@ -53,7 +54,7 @@ fn a_listing_has_the_source_beside_its_addresses(rt: HostRuntime) -> Result<(), 
      * ONE LITERAL
                END  START
      * BEHIND END  ";
-    let Assembly { listing, .. } = assemble(rt.alloc(), source, 4_000)?;
+    let Assembly { listing, .. } = assemble(rt.alloc(), Language::Plain, source, 4_000)?;
     let mut text = Vec::new(rt.alloc());
     for line in listing.as_slice() {
         text.extend_from_slice(line.as_slice())?;
@@ -81,7 +82,7 @@ fn areas_are_blanks_with_the_marks_of_their_fields(rt: HostRuntime) -> Result<()
      KEY            3,4
                END  KEY
 ";
-    let Assembly { image, .. } = assemble(rt.alloc(), source, 4_000)?;
+    let Assembly { image, .. } = assemble(rt.alloc(), Language::Plain, source, 4_000)?;
     assert_eq!(rt; image.start, 503);
     let [Segment { address, cells }] = image.segments.as_slice() else {
         panic!(rt; "not one segment");
@@ -102,7 +103,7 @@ fn a_segment_has_at_most_forty_cells(rt: HostRuntime) -> Result<(), Fail> {
                DCW  @B@
                END  0
 ";
-    let Assembly { image, .. } = assemble(rt.alloc(), source, 1_400)?;
+    let Assembly { image, .. } = assemble(rt.alloc(), Language::Plain, source, 1_400)?;
     let mut found = Vec::new(rt.alloc());
     for segment in image.segments.as_slice() {
         found.push((segment.address, segment.cells.as_slice().len()))?;
@@ -117,7 +118,7 @@ fn a_segment_has_at_most_forty_cells(rt: HostRuntime) -> Result<(), Fail> {
 #[test]
 fn an_index_register_is_a_zone_over_the_tens(rt: HostRuntime) -> Result<(), Fail> {
     let source = b"     A         MLC  15+X2,A+1000+X1\n               END  A\n";
-    let Assembly { image, .. } = assemble(rt.alloc(), source, 4_000)?;
+    let Assembly { image, .. } = assemble(rt.alloc(), Language::Plain, source, 4_000)?;
     let [Segment { address, cells }] = image.segments.as_slice() else {
         panic!(rt; "not one segment");
     };
@@ -195,7 +196,7 @@ fn the_first_line_with_a_fault_is_named(rt: HostRuntime) {
 
 /// The fault of a source of which the image alone is asked for.
 fn fault_of_image(rt: &HostRuntime, source: &[u8], size: u16) -> Option<(u64, AsmKind)> {
-    match assemble_image(rt.alloc(), source, size) {
+    match assemble_image(rt.alloc(), Language::Plain, source, size) {
         Ok(_) => None,
         Err(AsmFault { line, kind }) => Some((line, kind)),
     }
@@ -233,7 +234,7 @@ fn a_source_may_have_70_000_lines(rt: HostRuntime) -> Result<(), Fail> {
     }
     let comments = source.len();
     source.extend_from_slice(b"               END  0\n")?;
-    let Assembly { listing, .. } = assemble(rt.alloc(), source.as_slice(), 4_000)?;
+    let Assembly { listing, .. } = assemble(rt.alloc(), Language::Plain, source.as_slice(), 4_000)?;
     assert_eq!(rt; listing.as_slice().len(), 70_000);
     source.truncate(comments);
     source.extend_from_slice(b"               ZZZ\n")?;
@@ -318,7 +319,7 @@ fn comments_are_numbered_and_searched(rt: HostRuntime) -> Result<(), Fail> {
     }
     assert_eq!(rt; fault(&rt, &empty, 4_000), Some((10_001, AsmKind::NoEnd)));
     empty.extend_from_slice(b"               END  400")?;
-    let Assembly { image, listing } = assemble(rt.alloc(), &empty, 4_000)?;
+    let Assembly { image, listing } = assemble(rt.alloc(), Language::Plain, &empty, 4_000)?;
     assert_eq!(rt; (image.start, image.segments.as_slice().len()), (400, 0));
     let lines = listing.as_slice();
     assert_eq!(rt; lines.len(), 10_001);

@@ -2,6 +2,7 @@
 
 use autocoder_1401::AsmKind::{self, AfterEnd, NoEnd, Operand, Operation, OutOfCore, Undefined};
 use autocoder_1401::faults;
+use source_1401::Language;
 use std::process::Abort;
 use std::test::Fail;
 
@@ -12,7 +13,7 @@ fn expect_faults(
     wanted: &[(u64, AsmKind)],
 ) -> Result<(), Fail> {
     let mut told = Vec::new(rt.alloc());
-    for fault in faults(rt.alloc(), source, 4_000)? {
+    for fault in faults(rt.alloc(), Language::Plain, source, 4_000)? {
         told.push((fault.line, fault.kind))?;
     }
     assert_eq!(rt; told.as_slice(), wanted);

@@ -1,8 +1,9 @@
 //! Source lines, and what they say.
 
 use source_1401::{
-    Address, Addressing, Base, Body, Constant, Label, LabelField, LabelRule, Line, LineCheck, Next,
-    Operand, OperandField, Point, Statement, split_line,
+    Address, Addressing, Base, Body, Constant, Flaw, Label, LabelField, LabelRule, Language, Line,
+    LineCheck, Next, Operand, OperandField, OperandFlaw, OperationFlaw, Point, Statement, Stretch,
+    columns_in_language, foreign_column_in, operand_flaw_in, operation_flaw_in, split_line,
 };
 
 /// What a line says, and whether it has a bad label, an unknown operation, bad operands.
@@ -225,4 +226,195 @@ fn a_program_begins_at_the_operand_of_end(rt: HostRuntime) {
     };
     assert_eq!(rt; address.base, Base::Number(400));
     assert_eq!(rt; Addressing::Nothing.operands().a, OperandField::Absent);
+}
+
+#[test]
+fn small_letters_are_capitals_in_the_wider_language(rt: HostRuntime) {
+    let small = Line::in_language(Language::Ibm, b"     start     zs   x1tab  remark");
+    let capital = Line::from_bytes(b"     START     ZS   X1TAB  REMARK");
+    assert!(rt; small.is_sound());
+    assert_eq!(rt; small, capital);
+    let plain = Line::in_language(Language::Plain, b"     start     zs   x1tab");
+    assert_eq!(rt; plain.bytes, LineCheck::Foreign);
+}
+
+#[test]
+fn a_text_has_capitals_and_its_ampersands(rt: HostRuntime) {
+    let small = Line::in_language(Language::Ibm, b"     tab       dcw  @a&b c@");
+    let capital = Line::from_bytes(b"     TAB       DCW  @A&B C@");
+    assert!(rt; capital.is_sound());
+    assert_eq!(rt; small, capital);
+}
+
+#[test]
+fn an_ampersand_is_a_plus_sign_or_a_d_character(rt: HostRuntime) {
+    let line = Line::in_language(Language::Ibm, b"               A    &5,TAG&2&X1");
+    let plain = Line::from_bytes(b"               A    +5,TAG+2+X1");
+    assert!(rt; plain.is_sound());
+    assert_eq!(rt; line, plain);
+    let branch = b"               B    TAG,&";
+    assert_eq!(rt;
+        Line::in_language(Language::Ibm, branch),
+        Line::from_bytes(branch)
+    );
+}
+
+#[test]
+fn a_tab_stays_foreign(rt: HostRuntime) {
+    let line = b"     START\tNOP";
+    assert_eq!(rt;
+        Line::in_language(Language::Ibm, line).bytes,
+        LineCheck::Foreign
+    );
+    let columns = columns_in_language(Language::Ibm, line);
+    assert_eq!(rt; foreign_column_in(Language::Ibm, &columns), Some(11));
+}
+
+/// The operation, the most addresses and the d-character of an instruction with good operands in the wider language.
+fn wide(line: &[u8]) -> Option<(u8, u8, Option<u8>)> {
+    let line = Line::in_language(Language::Ibm, line);
+    let Some(
+        Statement {
+            body: Body::Instruction(instruction, operands),
+            ..
+        },
+    ) = line.statement
+    else {
+        return None;
+    };
+    if line.is_sound() {
+        Some((instruction.operation, instruction.form.most, operands.d))
+    } else {
+        None
+    }
+}
+
+#[test]
+fn each_wide_mnemonic_has_its_operation_character(rt: HostRuntime) {
+    for (name, operation) in [
+        (b"MLCWA", b'L'),
+        (b"MLNS ", b'D'),
+        (b"MLZS ", b'Y'),
+        (b"NOP  ", b'N'),
+        (b"H    ", b'.'),
+        (b"SAR  ", b'Q'),
+        (b"SBR  ", b'H'),
+        (b"M    ", b'@'),
+        (b"D    ", b'%'),
+        (b"MA   ", b'#'),
+        (b"MIZ  ", b'X'),
+        (b"MCM  ", b'P'),
+        (b"MRCM ", b'P'),
+    ] {
+        let mut line = *b"               ?????1,2";
+        line[15] = name[0];
+        line[16] = name[1];
+        line[17] = name[2];
+        line[18] = name[3];
+        line[19] = name[4];
+        assert_eq!(rt; wide(&line), Some((operation, 2, None)), "{operation}");
+    }
+}
+
+#[test]
+fn a_d_character_makes_another_form(rt: HostRuntime) {
+    for (line, read) in [
+        (b"               MLC  A,B,R".as_slice(), (b'M', 2, b'R')),
+        (b"               MCW  A,B,W", (b'M', 2, b'W')),
+        (b"               LCA  A,B,R", (b'L', 2, b'R')),
+        (b"               MLCWAA,B,R", (b'L', 2, b'R')),
+        (b"               NOP  A,B,R", (b'N', 2, b'R')),
+        (b"               B    A,*,C", (b'B', 2, b'C')),
+        (b"               B    A,@X@,,", (b'B', 2, b',')),
+        (b"               B    A,/", (b'B', 1, b'/')),
+        (b"               CC   A", (b'F', 0, b'A')),
+        (b"               CC   A,K", (b'F', 1, b'K')),
+        (b"               SS   A,4", (b'K', 1, b'4')),
+    ] {
+        let (operation, most, d) = read;
+        assert_eq!(rt; wide(line), Some((operation, most, Some(d))));
+    }
+}
+
+#[test]
+fn branches_of_the_wider_language_have_their_d_characters(rt: HostRuntime) {
+    for (line, read) in [
+        (b"               BM   A,B".as_slice(), (b'V', 2, b'K')),
+        (b"               BBE  A,B,1", (b'W', 2, b'1')),
+        (b"               BIN  A,S", (b'B', 1, b'S')),
+        (b"               BEF  A", (b'B', 1, b'K')),
+        (b"               BER  A", (b'B', 1, b'L')),
+        (b"               BPB  A", (b'B', 1, b'P')),
+        (b"               BPCB A", (b'B', 1, b'R')),
+        (b"               CCB  A,1", (b'F', 1, b'1')),
+        (b"               SSB  A,4", (b'K', 1, b'4')),
+    ] {
+        let (operation, most, d) = read;
+        assert_eq!(rt; wide(line), Some((operation, most, Some(d))));
+    }
+}
+
+#[test]
+fn some_instructions_stand_alone(rt: HostRuntime) {
+    for (line, operation) in [
+        (b"               BCE".as_slice(), b'B'),
+        (b"               BWZ", b'V'),
+        (b"               BBE", b'W'),
+    ] {
+        assert_eq!(rt; wide(line), Some((operation, 0, None)));
+    }
+    assert_eq!(rt; wide(b"               SRF  A"), Some((b'8', 1, None)));
+    assert_eq!(rt; wide(b"               SPF"), Some((b'9', 1, None)));
+}
+
+#[test]
+fn a_heading_says_anything(rt: HostRuntime) {
+    let line = Line::in_language(Language::Ibm, b"               job  Wages, {March} 1962");
+    assert_eq!(rt; line.bytes, LineCheck::Good);
+    let Some(
+        Statement {
+            label: LabelField::Absent,
+            body,
+        },
+    ) = line.statement
+    else {
+        panic!(rt; "no statement");
+    };
+    assert_eq!(rt; body, Body::Heading(true));
+    let row = body.describe();
+    assert_eq!(rt; (row.label, row.is_remark), (LabelRule::Forbidden, true));
+    let plain = Line::from_bytes(b"               JOB  WAGES");
+    assert!(rt;
+        plain
+            .statement
+            .is_some_and(|statement| statement.body == Body::Unknown)
+    );
+}
+
+#[test]
+fn an_assembler_is_this_one(rt: HostRuntime) {
+    assert!(rt; Line::in_language(Language::Ibm, b"               ENT  AUTOCODER").is_sound());
+    let other = b"               ENT  SPS";
+    assert!(rt; !Line::in_language(Language::Ibm, other).is_sound());
+    let columns = columns_in_language(Language::Ibm, other);
+    let flaw = Flaw {
+        columns: Stretch {
+            column: 21,
+            length: 3,
+        },
+        kind: OperandFlaw::NoAssembler,
+    };
+    assert_eq!(rt; operand_flaw_in(Language::Ibm, &columns), Some(flaw));
+}
+
+#[test]
+fn a_wide_mnemonic_may_be_nearly_there(rt: HostRuntime) {
+    let columns = columns_in_language(Language::Ibm, b"                job wages");
+    assert_eq!(rt;
+        operation_flaw_in(Language::Ibm, &columns),
+        OperationFlaw::Displaced
+    );
+    let columns = columns_in_language(Language::Ibm, b"               mrcn 1,2");
+    let near = OperationFlaw::Unknown(Some(*b"MRCM "));
+    assert_eq!(rt; operation_flaw_in(Language::Ibm, &columns), near);
 }

@@ -2,6 +2,7 @@
 
 use autocoder_1401::AsmKind::{OutOfCore, Undefined};
 use autocoder_1401::{AssemblyTables, assemble, assemble_with_tables};
+use source_1401::Language;
 use std::process::Abort;
 use std::test::Fail;
 
@@ -12,7 +13,7 @@ fn expect_tables(
     symbols: &[u8],
     references: &[u8],
 ) -> Result<(), Fail> {
-    let made = assemble_with_tables(rt.alloc(), source, 4_000)?;
+    let made = assemble_with_tables(rt.alloc(), Language::Plain, source, 4_000)?;
     assert_eq!(rt; made.symbols.as_slice(), symbols);
     assert_eq!(rt; made.references.as_slice(), references);
     Ok(())
@@ -105,8 +106,13 @@ fn a_source_without_labels_has_empty_tables(rt: HostRuntime) -> Result<(), Fail>
 #[test]
 fn the_assembly_beside_them_is_that_of_the_source(rt: HostRuntime) -> Result<(), Fail> {
     let source = b"     A         MLC  +5,A\n               END  A\n";
-    let alone = assemble(rt.alloc(), source, 4_000)?;
-    let AssemblyTables { assembly, .. } = assemble_with_tables(rt.alloc(), source, 4_000)?;
+    let alone = assemble(rt.alloc(), Language::Plain, source, 4_000)?;
+    let AssemblyTables { assembly, .. } = assemble_with_tables(
+        rt.alloc(),
+        Language::Plain,
+        source,
+        4_000,
+    )?;
     assert_eq!(rt; assembly.image.start, alone.image.start);
     assert_eq!(rt; assembly.image.segments.as_slice().len(), 1);
     assert_eq!(rt;
@@ -130,11 +136,11 @@ fn a_source_with_a_fault_has_none(rt: HostRuntime) {
             OutOfCore,
         ),
     ] {
-        let told = match assemble_with_tables(rt.alloc(), source, 4_000) {
+        let told = match assemble_with_tables(rt.alloc(), Language::Plain, source, 4_000) {
             Ok(_) => None,
             Err(fault) => Some((fault.line, fault.kind)),
         };
         assert_eq!(rt; told, Some((line, kind)));
     }
-    assert!(rt; assemble_with_tables(rt.alloc(), b"", 4_000).is_err());
+    assert!(rt; assemble_with_tables(rt.alloc(), Language::Plain, b"", 4_000).is_err());
 }

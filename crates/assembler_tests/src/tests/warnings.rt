@@ -2,6 +2,7 @@
 
 use autocoder_1401::WarningKind::{self, ReadOn, UnlikeSigns, UnsetIndicator, UnusedLabel};
 use autocoder_1401::warnings;
+use source_1401::Language;
 use std::process::Abort;
 use std::test::Fail;
 
@@ -12,7 +13,7 @@ fn expect_warnings(
     wanted: &[(u64, WarningKind)],
 ) -> Result<(), Fail> {
     let mut told = Vec::new(rt.alloc());
-    for warning in warnings(rt.alloc(), source, 4_000)? {
+    for warning in warnings(rt.alloc(), Language::Plain, source, 4_000)? {
         told.push((warning.line, warning.kind))?;
     }
     assert_eq!(rt; told.as_slice(), wanted);

@@ -10,7 +10,8 @@ use Rattle.autocoder_1401.proofs.explaining.add_outside_explained.Goals as goal
 pub returns-in_ok-push-clause-ok : goal.returns-in_ok-push-clause-ok
 returns-in_ok-push-clause-ok c =
     c.in_ok-push.ensures.items
-    ∙ outside_explained c.args.size (lines_of c.args.source.now) (assembly_of c.args.size c.args.source.now)
+    ∙ outside_explained c.args.language c.args.size (lines_of c.args.source.now)
+    (assembly_of c.args.language c.args.size c.args.source.now)
     c.args.explanations.now.items c.in-Some.fault c.requires
     (nil_from_length c.args.explanations.now.items
     (sym c.args.explanations.now.ok.0 ∙ eqb-true c.args.explanations.now.len 0 (sym c.if-is_empty.ensures)))

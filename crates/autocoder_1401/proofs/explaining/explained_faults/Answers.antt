@@ -11,16 +11,19 @@ use Rattle.autocoder_1401.proofs.explaining.explained_faults.Goals as goal
 
 pub returns-clause-faults : goal.returns-clause-faults
 returns-clause-faults c =
-    ap faults_of c.in_ok-add_outside_explained.ensures.ok ∙ told_all c.args.size (lines_of c.args.source.now)
+    ap faults_of c.in_ok-add_outside_explained.ensures.ok
+    ∙ told_all c.args.language c.args.size (lines_of c.args.source.now)
 
 pub returns-clause-first : goal.returns-clause-first
 returns-clause-first c =
     ap (λ explanations. first_in (faults_of explanations)) c.in_ok-add_outside_explained.ensures.ok
-    ∙ ap first_in (told_all c.args.size (lines_of c.args.source.now))
-    ∙ first_of_all c.args.size (lines_in c.args.source.now) (assembly_of c.args.size c.args.source.now)
+    ∙ ap first_in (told_all c.args.language c.args.size (lines_of c.args.source.now))
+    ∙ first_of_all c.args.size (lines_in c.args.language c.args.source.now)
+    (assembly_of c.args.language c.args.size c.args.source.now)
 
 pub returns-clause-each : goal.returns-clause-each
 returns-clause-each c =
-    subst (λ (told : List AsmFault). All (IsTold c.args.size (lines_in c.args.source.now)) told)
-    (sym (ap faults_of c.in_ok-add_outside_explained.ensures.ok ∙ told_all c.args.size (lines_of c.args.source.now)))
-    (each_of_all c.args.size (lines_in c.args.source.now))
+    subst (λ (told : List AsmFault). All (IsTold c.args.size (lines_in c.args.language c.args.source.now)) told)
+    (sym (ap faults_of c.in_ok-add_outside_explained.ensures.ok
+    ∙ told_all c.args.language c.args.size (lines_of c.args.source.now)))
+    (each_of_all c.args.size (lines_in c.args.language c.args.source.now))

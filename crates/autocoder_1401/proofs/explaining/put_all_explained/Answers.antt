@@ -11,8 +11,8 @@ pub returns-clause-ok : goal.returns-clause-ok
 returns-clause-ok c =
     c.in_ok-put_explained_end.ensures.ok
     ∙ ap (λ sources. c.loop-line.explanations.items
-    ++ explained_from (get same_label c.args.this.now.labels) (get same_label c.args.this.now.anywhere)
+    ++ explained_from c.args.language (get same_label c.args.this.now.labels) (get same_label c.args.this.now.anywhere)
     c.args.lines.now c.loop-line.before sources)
-    (sym (nothing_left c.args.lines.now c.loop-line.line-index (lines_of c.loop-line.sources.now)
+    (sym (nothing_left c.args.language c.args.lines.now c.loop-line.line-index (lines_of c.loop-line.sources.now)
     (omega (arith, c.loop-line-test.false)) c.loop-line.invariant.left))
     ∙ c.loop-line.invariant.explained

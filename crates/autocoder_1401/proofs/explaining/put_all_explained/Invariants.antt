@@ -1,8 +1,8 @@
 -- What is explained, with what is explained of the lines that are left, is what is explained of all lines.
 use Rattle.std.proofs.Common.{◌≡◌, ◌+◌, ◌++◌, drop, map}
 use Rattle.indexmap.specs.IndexMap.{get}
+use Rattle.source_1401.specs.Language.{line_in}
 use Rattle.source_1401.specs.SourceLine.{lines_of}
-use Rattle.source_1401.specs.Statement.{line_of}
 use Rattle.autocoder_1401.specs.Explanation.{explained_from}
 use Rattle.autocoder_1401.specs.OwnFault.{nothing_before}
 use Rattle.autocoder_1401.specs.Symbols.{same_label}
@@ -11,11 +11,11 @@ use Rattle.autocoder_1401.proofs.explaining.put_all_explained.Given as goal
 abbrev pub invariant-loop-line : goal.invariant-loop-line
 invariant-loop-line l = record {
   explained : l.explanations.items
-      ++ explained_from (get same_label l.this.labels) (get same_label l.this.anywhere) l.lines l.before
+      ++ explained_from l.language (get same_label l.this.labels) (get same_label l.this.anywhere) l.lines l.before
       (lines_of l.sources)
       ≡ l.initial.explanations.items
-      ++ explained_from (get same_label l.this.labels) (get same_label l.this.anywhere) l.lines nothing_before
+      ++ explained_from l.language (get same_label l.this.labels) (get same_label l.this.anywhere) l.lines nothing_before
       (lines_of l.source);
   number : l.before.at.number ≡ l.line-index + 1;
-  left : drop l.line-index l.lines ≡ map line_of (lines_of l.sources);
+  left : drop l.line-index l.lines ≡ map (line_in l.language) (lines_of l.sources);
 }

@@ -1,7 +1,6 @@
 -- What is listed, with what the lines that are left stand for, is the whole.
-use Rattle.std.proofs.Common.{◌≡◌, ◌+◌, ◌++◌, drop, map}
+use Rattle.std.proofs.Common.{◌≡◌, ◌+◌, ◌++◌, length, drop}
 use Rattle.source_1401.specs.SourceLine.{lines_of}
-use Rattle.source_1401.specs.Statement.{line_of}
 use Rattle.autocoder_1401.specs.Listing.{listing_from}
 use Rattle.autocoder_1401.specs.View.{places_of}
 use Rattle.autocoder_1401.proofs.outputs.ListingSoFar.put_lines.Given as goal
@@ -9,8 +8,9 @@ use Rattle.autocoder_1401.proofs.outputs.ListingSoFar.put_lines.Given as goal
 abbrev pub invariant-loop-i : goal.invariant-loop-i
 invariant-loop-i l = record {
   listed : l.self.listing.items
-      ++ listing_from (places_of l.all) (places_of l.self.so_far) (l.i + 1) (lines_of l.sources)
+      ++ listing_from (places_of l.all) (places_of l.self.so_far) (l.i + 1) (drop l.i l.lines)
+      (lines_of l.sources)
       ≡ l.initial.self.listing.items
-      ++ listing_from (places_of l.all) (places_of l.initial.self.so_far) 1 (lines_of l.source);
-  left : drop l.i l.lines ≡ map line_of (lines_of l.sources);
+      ++ listing_from (places_of l.all) (places_of l.initial.self.so_far) 1 l.lines (lines_of l.source);
+  left : length (drop l.i l.lines) ≡ length (lines_of l.sources);
 }

@@ -1,0 +1,114 @@
+-- What the plain language takes means the same in each language.
+use Rattle.std.proofs.Common.{◌≡◌, ℕ, Bool, true, false, not, ◌&&◌, List, [], ◌∷◌, map, Option, None, Some, Result, Ok, Err}
+use Rattle.std.proofs.Common.{IfOk, refl, sym, ap, ◌∙◌}
+use Rattle.std.proofs.lemmas.Bool.{and_parts, or_parts, not-false, true≢false}
+use Rattle.std.specs.List.{list_all}
+use Rattle.source_1401.specs.Description.{describe}
+use Rattle.source_1401.specs.Language.{is_sound, is_sound_statement, line_in}
+use Rattle.source_1401.specs.SourceLine.{lines_of}
+use Rattle.source_1401.specs.Statement.{has_bad_label, has_bad_operands, line_of}
+use Rattle.source_1401.specs.declared.language.Language.{Language}
+use Rattle.source_1401.specs.declared.language.Language.TheVariants.{Plain, Ibm}
+use Rattle.source_1401.specs.declared.statement.Line.{Line}
+use Rattle.source_1401.specs.declared.statement.LineCheck.{LineCheck}
+use Rattle.source_1401.specs.declared.statement.LineCheck.TheVariants as bytes
+use Rattle.source_1401.specs.declared.statement.Statement.{Statement}
+use Rattle.source_1401.proofs.LanguageLemmas.{sound_lines_agree}
+use Rattle.autocoder_1401.specs.Assembly.{lines_in, assembly_with, assembly_in, fault_or, unless_fault}
+use Rattle.autocoder_1401.specs.FirstFault.{bad_label, bad_operation, bad_operands, lowest, or_behind}
+use Rattle.autocoder_1401.specs.FirstFault.{place_behind, first_place, first_fault_from, first_fault, IsClean}
+use Rattle.autocoder_1401.specs.Languages.{MeansTheSame, AgreesWithPlain}
+use Rattle.autocoder_1401.specs.Symbols.{Declared, declared_at}
+use Rattle.autocoder_1401.specs.Values.{first_outside}
+use Rattle.autocoder_1401.specs.declared.assembly.Assembly.{Assembly}
+use Rattle.autocoder_1401.specs.declared.fault.AsmFault.{AsmFault}
+use Rattle.autocoder_1401.specs.declared.fault.AsmKind.{AsmKind}
+use Rattle.autocoder_1401.specs.declared.fault.AsmKind.TheVariants as kinds
+use Rattle.autocoder_1401.specs.declared.first_fault.LineContext.{LineContext}
+use Rattle.autocoder_1401.proofs.LowestLemmas.{clean_line}
+
+all_three : (bad_label known bad_operands : Bool) → bad_label ≡ false → known ≡ true → bad_operands ≡ false
+    → (not bad_label && known && not bad_operands) ≡ true
+all_three bad_label known bad_operands label operation operands = rw (label, operation, operands) refl
+
+-- a statement without a fault has none by itself
+sound_statement : (declared : Declared) (at : LineContext) (this : Statement)
+    → IsClean declared at (record { bytes = bytes.Good; statement = Some this }) → is_sound_statement (Some this) ≡ true
+sound_statement declared at this clean = by at.is_ended refl
+  where
+    by : (ended : Bool) → at.is_ended ≡ ended → is_sound_statement (Some this) ≡ true
+    by true e = absurd (true≢false (sym (ap (λ ended. ended && true) e) ∙ clean kinds.AfterEnd))
+    by false e =
+        let label : bad_label at.areas this ≡ false =
+        sym (ap (λ ended. not ended && bad_label at.areas this) e) ∙ clean kinds.Label in
+        let operation : bad_operation at.areas this.body ≡ false =
+        sym (ap (λ ended. not ended && bad_operation at.areas this.body) e) ∙ clean kinds.Operation in
+        let operands : bad_operands at.areas this.body ≡ false =
+        sym (ap (λ ended. not ended && bad_operands at.areas this.body) e) ∙ clean kinds.Operand in
+        all_three (has_bad_label this) (describe this.body).is_known (has_bad_operands this.body)
+        (or_parts (has_bad_label this) _ label).0
+        (not-false (describe this.body).is_known (or_parts (not (describe this.body).is_known) _ operation).0)
+        (or_parts (has_bad_operands this.body) _ operands).0
+
+sound_by : (declared : Declared) (at : LineContext) (check : LineCheck) (statement : Option Statement)
+    → IsClean declared at (record { bytes = check; statement = statement })
+    → is_sound (record { bytes = check; statement = statement }) ≡ true
+sound_by declared at bytes.Long statement clean = absurd (true≢false (clean kinds.LongLine))
+sound_by declared at bytes.Foreign statement clean = absurd (true≢false (clean kinds.Graphic))
+sound_by declared at bytes.Good None clean = refl
+sound_by declared at bytes.Good (Some this) clean = sound_statement declared at this clean
+
+-- a source without a fault has only sound lines
+all_sound : (declared : Declared) (at : LineContext) (lines : List Line) → first_fault_from declared at lines ≡ None
+    → list_all is_sound lines ≡ true
+all_sound declared at [] none = refl
+all_sound declared at (line ∷ lines) none =
+    by (lowest declared at line) refl none (all_sound declared (place_behind at line) lines)
+  where
+    by : (kind : Option AsmKind) → lowest declared at line ≡ kind
+        → or_behind at.number kind (first_fault_from declared (place_behind at line) lines) ≡ None
+        → (first_fault_from declared (place_behind at line) lines ≡ None → list_all is_sound lines ≡ true)
+        → list_all is_sound (line ∷ lines) ≡ true
+    by None e behind rest =
+        rw (sound_by declared at line.bytes line.statement (clean_line declared at line None (sym e))) (rest behind)
+    by (Some kind) e behind rest = cc
+
+-- sound lines say the same in the wider language
+same_lines : (texts : List (List ℕ)) → list_all is_sound (map line_of texts) ≡ true
+    → map (line_in Ibm) texts ≡ map line_of texts
+same_lines [] all = refl
+same_lines (text ∷ texts) all =
+    let parts = and_parts (is_sound (line_of text)) (list_all is_sound (map line_of texts)) all in
+    rw (sound_lines_agree text parts.0, same_lines texts parts.1) refl
+
+-- a source in which the plain language finds no fault says the same in each language
+pub lines_alike : (language : Language) (source : List ℕ) → first_fault (lines_in Plain source) ≡ None
+    → lines_in language source ≡ lines_in Plain source
+lines_alike Plain source none = refl
+lines_alike Ibm source none =
+    same_lines (lines_of source) (all_sound (declared_at (lines_in Plain source)) first_place (lines_in Plain source) none)
+
+-- lines that stand for anything have no fault
+none_found : {X : Type 0} (size : ℕ) (lines : List Line) (answer value : X) → unless_fault size lines answer ≡ Ok value
+    → first_fault lines ≡ None
+none_found {X} size lines answer value e = by (first_fault lines) refl e
+  where
+    by : (found : Option AsmFault) → first_fault lines ≡ found
+        → fault_or found (fault_or (first_outside size lines) (Ok answer)) ≡ Ok value → first_fault lines ≡ None
+    by None none rest = none
+    by (Some fault) some rest = cc
+
+-- the law of the languages
+pub agrees_with_plain : (language : Language) (size : ℕ) (source : List ℕ) → AgreesWithPlain language size source
+agrees_with_plain language size source = by (assembly_in Plain size source) refl
+  where
+    by : (answer : Result Assembly AsmFault) → assembly_in Plain size source ≡ answer
+        → IfOk answer (MeansTheSame language size source)
+    by (Err fault) e = tt
+    by (Ok plain) e =
+        let none = none_found size (lines_in Plain source) (assembly_with size (lines_in Plain source) source) plain e in
+        let alike = lines_alike language source none in
+        record {
+          lines = alike;
+          assembly = ap (λ (lines : List Line). unless_fault size lines (assembly_with size lines source)) alike ∙ e;
+        }

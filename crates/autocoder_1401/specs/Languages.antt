@@ -1,0 +1,16 @@
+-- What a source means that the plain language takes (own).
+use Rattle.std.specs.Prelude.{◌≡◌, ℕ, List, Ok, IfOk}
+use Rattle.source_1401.specs.declared.language.Language.{Language}
+use Rattle.source_1401.specs.declared.language.Language.TheVariants.{Plain}
+use Rattle.autocoder_1401.specs.Assembly.{lines_in, assembly_in}
+use Rattle.autocoder_1401.specs.declared.assembly.Assembly.{Assembly}
+
+-- A source means in a language what it means in the plain one, where this is its image and its listing: each line says the
+-- same, and the image and the listing are the same. So are its tables and its warnings, which are those of the lines.
+pub record MeansTheSame (language : Language) (size : ℕ) (source : List ℕ) (plain : Assembly) : Type 0 where
+  pub lines : lines_in language source ≡ lines_in Plain source
+  pub assembly : assembly_in language size source ≡ Ok plain
+
+-- what the plain language takes means the same in this one
+abbrev pub AgreesWithPlain : Language → ℕ → List ℕ → Type 0
+AgreesWithPlain language size source = IfOk (assembly_in Plain size source) (MeansTheSame language size source)
