@@ -27,10 +27,10 @@ FAULTY_SOURCES = [
 ]
 
 TOLD = [
-    "1:16: OPERATION: columns 16 to 20 hold no operation, or a field has no areas above it",
-    "2:6: DOUBLE LABEL: an earlier line has the same label",
-    "3:21: UNDEFINED: a symbol is the label of no line, or for EQU and ORG of no earlier one",
-    "4:21: OPERAND: the operands aren't as the operation asks",
+    "1:16: OPERATION: QQ is no operation",
+    "2:6: DOUBLE LABEL: line 1 has the label A already",
+    "3:21: UNDEFINED: Q is the label of no line",
+    "4:21: OPERAND: 2Y4 isn't a number of areas and their length, as 2X80 is",
 ]
 
 
@@ -43,13 +43,28 @@ FAULTS_OF_A_KIND = [
      ["1:16: GRAPHIC: a byte can't stand in its column", "2:8: GRAPHIC: a tab can't stand in its column"]),
     ("                H\n" + GOOD, ["1:17: OPERATION: the operation begins after column 16"]),
     ("     A        MLC  A,A\n" + GOOD,
-     ["1:6: LABEL: columns 6 to 15 hold no label, or lack one, or hold one where there is none"]),
+     ["1:6: LABEL: columns 6 to 15 hold more than a label, and an operation begins in column 16"]),
     ("              MLC  1,2\n" + GOOD, ["1:15: LABEL: a label begins in column 6, and an operation in column 16"]),
-    ("     X1        DCW  #1\n" + GOOD,
-     ["1:6: LABEL: columns 6 to 15 hold no label, or lack one, or hold one where there is none"]),
+    ("     X1        DCW  #1\n               EQU  5\n     LABEL     ORG  5\n" + GOOD,
+     ["1:6: LABEL: X1 is no label", "2:6: LABEL: the operation asks for a label",
+      "3:6: LABEL: the operation takes no label"]),
+    ("               MLL  TOTL,5\n     TOTAL     EQU  LAST\n     LAST      DCW  #1\n     F              1,2\n" + GOOD,
+     ["1:16: OPERATION: MLL is no operation; did you mean MLC?",
+      "2:21: UNDEFINED: LAST is the label of line 3, and EQU and ORG take those of earlier lines",
+      "4:16: OPERATION: a line without an operation is a field, and no areas are above it"]),
+    ("     TOTAL     DCW  #1\n               MLC  TOTL,5\n               B    Q\n" + GOOD,
+     ["2:21: UNDEFINED: TOTL is the label of no line; did you mean TOTAL?", "3:21: UNDEFINED: Q is the label of no line"]),
+    ("               MLC  5,&6\n               SAR\n               BCE  1,2\n               H    1,2\n" + GOOD,
+     ["1:23: OPERAND: &6 is neither an address nor a literal", "2:21: OPERAND: an address is missing",
+      "3:24: OPERAND: the d-character is missing", "4:22: OPERAND: ,2 is more than the operation takes"]),
+    ("               DCW  X\n               DCW\n               DS   #4\n     A         EQU  *\n" + GOOD,
+     ["1:21: OPERAND: X is no constant", "2:21: OPERAND: an operand is missing", "3:21: OPERAND: #4 is no number of places",
+      "4:21: OPERAND: * says no value, as a number or a label does"]),
+    ("     REC       DA   2X4\n     F              3,2\n" + GOOD, ["2:23: OPERAND: 2 is no place of a field"]),
+    ("     REC       DA   2X4\n     F              3,5\n" + GOOD, ["2:23: OPERAND: the field ends after its area"]),
     ("     *\n" * 9, ["10:1: NO END: the source ends without END"]),
     (GOOD + "     *\n               H\n", ["3:16: AFTER END: only comments may follow END"]),
-    ("               ZZZ\n" + " " * 81 + "\n" + GOOD, [TOLD[0], "2:81: LONG LINE: a line has at most 80 columns"]),
+    ("               ZZZ\n" + " " * 81 + "\n" + GOOD, ["1:16: OPERATION: ZZZ is no operation", "2:81: LONG LINE: a line has at most 80 columns"]),
 ]
 
 
@@ -343,6 +358,98 @@ def warnings():
         expect("assemble --all: a long source", ran, 0, "...", f"{source}:1:6: {NO_OPERAND}\n")
 
 
+# Sources of the wider language, each with its image, and with the lines that are warned of.
+OF_OLD_DECKS = [
+    (
+        "               job  Wages, March 1962: 100 $ [x] {y} ~\n               ent  autocoder  of 1962\n"
+        "               org  500\n     start     zs   tab\n               mcw  &1,tab&1&x2\n"
+        "     tab       dcw  @a&b@\n               end  start\n",
+        "00500 15 ~!513~M5145J4~A&B~A\nEND 00500\n",
+        [],
+    ),
+    (
+        "               ORG  500\n     A         B    A,*,C\n               B    A,/\n               BM   A,B\n"
+        "               BIN  A,S\n     B         CC   A,K\n               CCB  A,1\n               SSB  A,4\n"
+        "               MLNS A,B\n               MLZS A,B\n               MLCWAA,B\n               B    A,@X@,,\n"
+        "               BPCB A\n               C    A,B\n               END  A\n",
+        "00500 40 ~B500507C~B500/~V500526K~B500S~F500K~F5001~K500\n"
+        "00540 40 4~D500526~Y500526~L500526~B500582,~B500R~C5005\n00580 03 26~X\nEND 00500\n",
+        [],
+    ),
+    (
+        "               ORG  500\n     AREA      EQU  700\n               M    +5,AREA\n               SBR  89,AREA\n"
+        "     SW        NOP  AREA\n               H    1,AREA\n               BCE  SW,AREA,A\n               BCE\n"
+        "               MCM  AREA,201\n               END  500\n",
+        "00500 40 ~@541700~H089700~N700~.001700~B514700A~B~P70020\n00540 02 1~E\nEND 00500\n",
+        [3, 4, 6, 8, 9],
+    ),
+]
+
+# What a warning of an instruction says that this machine hasn't got.
+NOT_FITTED = "16: WARNING: this machine has no instruction of this operation and length"
+
+# Statements that the wider language doesn't take, each with what is told.
+NOT_OF_OLD_DECKS = [
+    ("     L         JOB  X", "4 LABEL", "6: LABEL: the operation takes no label"),
+    ("               ENT  SPS", "8 OPERAND", "21: OPERAND: ENT takes AUTOCODER alone"),
+    ("               MLC  A,B,XY", "7 UNDEFINED", "21: UNDEFINED: A is the label of no line"),
+    ("               mlc  1,2,xy", "8 OPERAND", "24: OPERAND: ,xy is more than the operation takes"),
+    ("               bcx  1", "6 OPERATION", "16: OPERATION: bcx is no operation; did you mean BCE?"),
+    ("               m\t  1", "3 GRAPHIC", "17: GRAPHIC: a tab can't stand in its column"),
+    ("     x1        dcw  #1", "4 LABEL", "6: LABEL: x1 is no label"),
+]
+
+
+def languages():
+    """Sources of the wider language; what it refuses; and that the plain language takes none of them as before."""
+    with tempfile.TemporaryDirectory() as folder:
+        source = Path(folder) / "old.source"
+        call = [PROGRAM, "assemble", "--language", "ibm"]
+        for lines, image, warned in OF_OLD_DECKS:
+            source.write_text(lines)
+            expect("a source of an old deck", run([*call, source]), 0, f"IMAGE2 04000\n{image}")
+            told = "".join(f"old.source:{line}:{NOT_FITTED}\n" for line in warned)
+            expect("its warnings", run([*call, "--all", "old.source"], cwd=folder), 0, f"IMAGE2 04000\n{image}", told)
+            listing = run([*call, "--list", source])
+            shown = [line[20:] for line in listing.stdout.decode().splitlines() if line[:4] != "    "]
+            tell("its listing has the lines as they are", "" if shown == lines.splitlines() else "others")
+            expect("the plain language doesn't take it", run([PROGRAM, "assemble", source]), 1, "", "...")
+        for statement, fault, told in NOT_OF_OLD_DECKS:
+            source.write_text(f"{statement}\n               END  0\n")
+            expect(f"{statement.strip()}: refused", run([*call, source]), 1, "", f"ibm1401: line 1: {fault}\n")
+            all_told = run([*call, "--all", "old.source"], cwd=folder)
+            expect(f"{statement.strip()}: told", all_told, 1, "", f"old.source:1:{told}\n")
+        for example in sorted((TOP / "examples").glob("*.source")):
+            for words in [], ["--list"], ["--symbols", "--xref"], ["--all"]:
+                plain = run([PROGRAM, "assemble", *words, example])
+                ran = run([*call, *words, example])
+                expect(f"{example.name} {' '.join(words)}: the same in both languages", ran, 0, plain.stdout, plain.stderr)
+        source.write_text("     START     H    start\n     AFTER     dcw  #1\n               end  START\n")
+        plain = Path(folder) / "plain.source"
+        plain.write_text(source.read_text().upper())
+        decks = [run([PROGRAM, "assemble", *words, "--deck", "/dev/stdout"]) for words in
+                 (["--language", "ibm", source], [plain])]
+        expect("assemble --language ibm --deck", decks[0], 0, decks[1].stdout)
+        out = Path(folder) / "out"
+        expect("assemble --language ibm -o", run([*call, source, "-o", out]))
+        holds("assemble --language ibm -o: the image", out, run([PROGRAM, "assemble", plain]).stdout)
+        for output in ">&-", ">/dev/full":
+            for words in "", "--list":
+                closed = run(["bash", "-c", f'"$0" assemble --language ibm {words} "$1" {output}', PROGRAM, source])
+                expect(f"assemble --language ibm {words} {output}", closed, 1, "", "ibm1401: cannot write\n")
+        ran = run([PROGRAM, "run", "--language", "ibm", source])
+        expect("run --language ibm", ran, 0, "", "...")
+        expect("run of a source in small letters", run([PROGRAM, "run", source]), 1, "", "ibm1401: line 1: 3 GRAPHIC\n")
+        for program in "assemble", "run":
+            for word, error in ("IBM", "invalid value 'IBM' for"), ("autocoder", "invalid value 'autocoder' for"), ("", ""):
+                told = f"error: {error}..."
+                expect(f"{program} --language '{word}'", run([PROGRAM, program, "--language", word, source]), 2, "", told)
+            needed = "a value is required for '--language <LANGUAGE>' but none was supplied..."
+            expect(f"{program} --language alone", run([PROGRAM, program, source, "--language"]), 2, "", f"error: {needed}")
+            twice = [PROGRAM, program, "--language", "ibm", "--language", "plain", source]
+            expect(f"{program} --language twice", run(twice), 2, "", "error: ...")
+
+
 # What stands below a statement of OLD_DECKS: the labels that it names.
 LABELS = "     TAG       DCW  #3\n     AREA      DCW  #9\n               END  TAG\n"
 
@@ -351,7 +458,8 @@ OPERATION = re.compile(r"`((?:MN|MZ|LCA|B|BWZ|BCE|CC|SS|NOP|H|MLC|ZS|DCW|DC|EX|O
 
 
 def old_decks():
-    """Each statement of OLD_DECKS that isn't taken is refused as the page says, and what it writes instead is taken."""
+    """Each statement of OLD_DECKS is refused as the page says, or taken in the wider language, and what it writes instead is
+    taken."""
     page = (TOP / "docs/OLD_DECKS.md").read_text()
     rows = re.findall(r"^\| `(.*?)` \| (\d+ [A-Z ]+) \| (.*) \|$", page, re.MULTILINE)
     count("statements of old decks", len(rows), 29)
@@ -359,7 +467,13 @@ def old_decks():
         source = Path(folder) / "old.source"
         for statement, told, instead in rows:
             source.write_text(f"{'':15}{statement}\n{LABELS}")
-            expect(f"an old {statement}", run([PROGRAM, "assemble", source]), 1, "", f"ibm1401: line 1: {told}\n")
+            refused = f"ibm1401: line 1: {told}\n"
+            expect(f"an old {statement}", run([PROGRAM, "assemble", source]), 1, "", refused)
+            wider = run([PROGRAM, "assemble", "--language", "ibm", source])
+            if instead.startswith("*taken*"):
+                expect(f"an old {statement} --language ibm", wider, 0, "...")
+            else:
+                expect(f"an old {statement} --language ibm", wider, 1, "", refused)
             for taken in OPERATION.findall(instead):
                 source.write_text(f"{'':15}{taken}\n{LABELS}")
                 expect(f"{taken}, which is in its place", run([PROGRAM, "assemble", source]), 0, "...")

@@ -156,15 +156,15 @@ def all_faults(refusing):
             return "without an effect", "" if (ran.returncode, ran.stdout, ran.stderr) == (1, b"", whole) else f"{ran}"
 
         number = refusing.each("assemble --all", assemble, ["memory refused", "line 0: 1 MEMORY"])
-    return number + warnings(refusing)
+    return number + warnings(refusing, "plain") + warnings(refusing, "ibm")
 
 
-def warnings(refusing):
-    """The warnings of a source: each of them is told, or that memory was refused, which leaves the image whole."""
+def warnings(refusing, language):
+    """The warnings of a source in a language: each is told, or that memory was refused, which leaves the image whole."""
     with tempfile.NamedTemporaryFile() as source:
         source.write(b"     A         BE   A\n     B         C    +5,C\n     C         DCW  0\n               END  A\n")
         source.flush()
-        words = [PROGRAM, "assemble", "--all", source.name]
+        words = [PROGRAM, "assemble", "--all", "--language", language, source.name]
         whole = run(words)
 
         def assemble(how):
@@ -174,7 +174,7 @@ def warnings(refusing):
             ended = (ran.returncode, ran.stdout, ran.stderr) == (0, whole.stdout, whole.stderr)
             return "without an effect", "" if ended else f"{ran}"
 
-        return refusing.each("assemble --all, warnings", assemble, ["memory refused", "line 0: 1 MEMORY"])
+        return refusing.each(f"assemble --all --language {language}", assemble, ["memory refused", "line 0: 1 MEMORY"])
 
 
 def disassemblies(refusing):
