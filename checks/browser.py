@@ -270,7 +270,7 @@ def two_pages(browser, room, first):
     count = after(room)
     window.value("window.outcome = inTurn(() => { view.made -= 1; return send('START 0001'); })")
     window.expect("a count from before is told in words", "outcome.then(told => told.failed === TEXTS.outcomes[409])")
-    tell("and its line isn't carried out", "" if after(room) == count else "it was")
+    expect_unchanged("and its line isn't carried out", room, count)
     window.expect("a line with the count of a picture is", "say('START 0001').then(outcome => outcome.reply)", "OK")
     first.value("inTurn(look)")
     first.expect("the first window of the seat goes on too", "say('START 0002').then(outcome => outcome.reply)", "OK")
@@ -335,7 +335,7 @@ def looks_alone(page, room):
         for (let n = 0; n < {LOOKS}; n++) if (!(await inTurn(look))) return n;
         return true;
     }})()""")
-    tell("they leave the journal as it was", "" if after(room) == count else f"{count} commands became {after(room)}")
+    expect_unchanged("they leave the journal as it was", room, count)
 
 
 def full_hopper(page):
@@ -381,7 +381,7 @@ def foreign_pages(browser, room):
         found = page.value(f"fetch('{room.address()}/picture?core=0&paper=0').then(r => r.text(), () => 'refused')")
         tell("a foreign page doesn't read a picture", "" if found == "refused" else f"{found!r}")
         other.shutdown()
-    tell("a foreign page's lines aren't carried out", "" if after(room) == count else "they were")
+    expect_unchanged("a foreign page's lines aren't carried out", room, count)
     named = Page(browser, f"http://{OTHER_NAME}:{room.port}/")
     named.until("document.readyState", "complete")
     named.expect("the page isn't served by another name", "typeof TEXTS", "undefined")

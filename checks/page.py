@@ -18,6 +18,9 @@ SEED = 1401
 # How many connections stay silent while a request is answered, and within how many seconds it has to be.
 SILENT = 40
 PROMPT = 1.0
+# How many times a picture is asked for before it counts as missing: a page closes a connection of which nothing comes
+# within a second, and then the machine may be what it was all the same.
+ASKED = 5
 # How much more memory the program may have after the damaged requests, in kilobytes.
 MORE_KILOBYTES = 4_096
 
@@ -128,10 +131,20 @@ def field(response, name):
 
 
 def after(room, seat=1):
-    """After how many commands the machine is, as a picture tells."""
-    shown = body(get(room.port + seat - 1, "/picture?core=0&paper=0"))
-    found = re.search(rb"^AFTER (\d+)$", shown, re.M)
-    return int(found[1]) if found else None
+    """After how many commands the machine is, as a picture tells; or what was answered in its place, time and again."""
+    for _ in range(ASKED):
+        response = get(room.port + seat - 1, "/picture?core=0&paper=0")
+        found = re.search(rb"^AFTER (\d+)$", body(response), re.M)
+        if found:
+            return int(found[1])
+        time.sleep(PROMPT)
+    return response[:80]
+
+
+def expect_unchanged(name, room, before):
+    """Tells whether the machine is still after so many commands."""
+    now = after(room)
+    tell(name, "" if now == before else f"after {before} commands, and now {now}")
 
 
 def expect_status(name, response, wanted):
@@ -244,7 +257,7 @@ def refused_lines(room):
         ("a line of more than 1,024 bytes", post(port, "X" * 1_025, count), 413),
     ]:
         expect_status(f"a line is refused: {name}", response, wanted)
-    tell("the refused lines leave the machine as it was", "" if after(room) == before else "it has changed")
+    expect_unchanged("the refused lines leave the machine as it was", room, before)
     tell("and the seat's count", "" if made(room) == count else "it has changed")
     answer("a line that goes on is taken", body(post(port, "START 1", count)), "OK\n")
     expect_status("and refused when it comes again", post(port, "START 1", count), 409)
@@ -304,7 +317,7 @@ def hostile_requests(room):
     for name, request, statuses in hostile(room.port):
         found = status(exchange(room.port, request.encode("latin-1")))
         tell(f"a hostile request: {name}", "" if found in statuses else f"status {found}, not of {statuses}")
-    tell("the hostile requests leave the machine as it was", "" if after(room) == before else "it has changed")
+    expect_unchanged("the hostile requests leave the machine as it was", room, before)
 
 
 def damaged(chance, request):
@@ -342,7 +355,7 @@ def damaged_requests(room):
     known = {0, 200, 204, 400, 403, 404, 405, 409, 413, 414, 431, 501, 505}
     wrong = sorted(str(kind) for kind in found if kind not in known)
     tell(f"{DAMAGED} damaged requests get {len(found)} kinds of answers", ", ".join(wrong))
-    tell("they leave the machine as it was", "" if after(room) == before else "it has changed")
+    expect_unchanged("they leave the machine as it was", room, before)
     more = room.memory() - memory
     tell("and the program's memory", "" if more <= MORE_KILOBYTES else f"{more} kilobytes more")
 
