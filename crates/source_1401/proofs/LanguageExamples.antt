@@ -1,12 +1,12 @@
 -- Lines in the wider language, computed.
-use Rattle.std.proofs.Common.{◌≡◌, ℕ, true, false, List, [], ◌∷◌, ◌++◌, map, refl}
+use Rattle.std.proofs.Common.{◌≡◌, ℕ, true, false, List, [], ◌∷◌, ◌++◌, map, replicate, refl}
 use Rattle.std.specs.Prelude.{Bool, codes}
 use Rattle.bcd_1401.specs.Graphic.{graphics}
 use Rattle.source_1401.specs.Language.{is_sound, wider_line, line_in}
 use Rattle.source_1401.specs.Mnemonic.{instructions, assembler_operations}
 use Rattle.source_1401.specs.SourceLine.{columns_of}
 use Rattle.source_1401.specs.WideColumns.{capitals, plus_signs_from}
-use Rattle.source_1401.specs.WideMnemonic.{wide_instructions}
+use Rattle.source_1401.specs.WideMnemonic.{wide_instructions, wide_operations}
 use Rattle.source_1401.specs.WideStatement.{wide_line_with}
 use Rattle.source_1401.specs.declared.language.Language.TheVariants as languages
 use Rattle.source_1401.specs.declared.statement.Line.{Line}
@@ -39,7 +39,8 @@ one_in_a_text_stays = refl
 
 -- what a line says in the wider language, and in the plain one, with all tables open
 wide : List ℕ → Line
-unfolding columns_of instructions assembler_operations wide_instructions graphics wider_line wide_line_with
+unfolding columns_of instructions assembler_operations wide_instructions wide_operations graphics wider_line
+    wide_line_with
 wide text = line_in languages.Ibm text
 
 plain : List ℕ → Line
@@ -79,6 +80,31 @@ a_tab_stays_foreign = refl
 a_heading_has_bytes_that_are_no_graphics : sound (codes "               job  wages {march}") ≡ true
 unfolding sound
 a_heading_has_bytes_that_are_no_graphics = refl
+
+-- labels of lines that had none, and one that is missing
+lines_with_labels_and_without : map sound (codes "     BACK      ORG  *&X00" ∷ codes "                    5,5"
+    ∷ codes "                    4" ∷ codes "     LOW            4" ∷ codes "     TAG       DSA  TAB+X3"
+    ∷ codes "               DCW  &TAB" ∷ codes "               END" ∷ [])
+    ≡ replicate 7 true
+unfolding sound
+lines_with_labels_and_without = refl
+
+labels_that_may_not_be : map sound (codes "               EQU  *" ∷ codes "     L         EX   *"
+    ∷ codes "     L         END" ∷ [])
+    ≡ replicate 3 false
+unfolding sound
+labels_that_may_not_be = refl
+
+-- in the plain language a field needs a label, and the next place has none
+plain_sound : List ℕ → Bool
+unfolding plain
+plain_sound text = is_sound (plain text)
+
+labels_of_the_plain_language : map plain_sound (codes "     KEY            5,5" ∷ codes "                    5,5"
+    ∷ codes "     BACK      ORG  500" ∷ [])
+    ≡ true ∷ false ∷ false ∷ []
+unfolding plain_sound
+labels_of_the_plain_language = refl
 
 a_heading_has_no_label : sound (codes "     HEAD      JOB  WAGES") ≡ false
 unfolding sound

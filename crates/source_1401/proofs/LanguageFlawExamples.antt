@@ -3,11 +3,11 @@ use Rattle.std.proofs.Common.{◌≡◌, ℕ, List, [], ◌∷◌, ◌++◌, Opt
 use Rattle.std.specs.Prelude.{codes}
 use Rattle.bcd_1401.specs.Graphic.{graphics}
 use Rattle.source_1401.specs.Flaw.{stretch}
-use Rattle.source_1401.specs.LanguageFlaw.{headings, is_wide_operation, nearest_wide_mnemonic, columns_in_language}
+use Rattle.source_1401.specs.LanguageFlaw.{is_wide_operation, nearest_wide_mnemonic, columns_in_language}
 use Rattle.source_1401.specs.LanguageFlaw.{wider_columns, wide_flaw_of, wide_foreign_column, wide_operation_flaw}
 use Rattle.source_1401.specs.Mnemonic.{instructions, assembler_operations}
 use Rattle.source_1401.specs.SourceLine.{columns_of}
-use Rattle.source_1401.specs.WideMnemonic.{wide_instructions}
+use Rattle.source_1401.specs.WideMnemonic.{wide_instructions, wide_operations}
 use Rattle.source_1401.specs.declared.flaw.Flaw.{Flaw}
 use Rattle.source_1401.specs.declared.flaw.OperandFlaw.{OperandFlaw}
 use Rattle.source_1401.specs.declared.flaw.OperandFlaw.TheVariants as flaws
@@ -30,7 +30,7 @@ others_have_plus_signs = refl
 
 -- what is wrong with an operation and its operands
 flaw : List ℕ → List ℕ → Option Flaw
-unfolding instructions assembler_operations wide_instructions
+unfolding instructions assembler_operations wide_instructions wide_operations
 flaw operation operands = wide_flaw_of operation operands
 
 at : ℕ → ℕ → OperandFlaw → Option Flaw
@@ -48,9 +48,97 @@ no_second_address : flaw (codes "BBE  ") (codes "A ") ≡ at 22 0 flaws.AddressM
 unfolding flaw at
 no_second_address = refl
 
+no_tape : flaw (codes "RT   ") (codes "%B1,AREA ") ≡ at 21 3 flaws.NoTape
+unfolding flaw at
+no_tape = refl
+
+no_tape_at_all : flaw (codes "WTM  ") (codes "   ") ≡ at 21 0 flaws.NoTape
+unfolding flaw at
+no_tape_at_all = refl
+
+no_unit : flaw (codes "CU   ") (codes "2,R ") ≡ at 21 1 flaws.NoUnit
+unfolding flaw at
+no_unit = refl
+
+no_address_behind_a_tape : flaw (codes "RT   ") (codes "1,2X ") ≡ at 23 2 flaws.NoAddress
+unfolding flaw at
+no_address_behind_a_tape = refl
+
+no_address_at_all_behind_a_tape : flaw (codes "WT   ") (codes "1 ") ≡ at 22 0 flaws.AddressMissing
+unfolding flaw at
+no_address_at_all_behind_a_tape = refl
+
+a_unit_without_d_character : flaw (codes "MCW  ") (codes "%U1,AREA ") ≡ at 29 0 flaws.CharacterMissing
+unfolding flaw at
+a_unit_without_d_character = refl
+
+a_unit_in_place_of_an_address : flaw (codes "A    ") (codes "%U1,5 ") ≡ at 21 3 flaws.NoAddress
+unfolding flaw at
+a_unit_in_place_of_an_address = refl
+
+no_size : flaw (codes "CTL  ") (codes "37 ") ≡ at 22 1 flaws.NoSize
+unfolding flaw at
+no_size = refl
+
+no_suffix : flaw (codes "SFX  ") (codes "AB ") ≡ at 21 2 flaws.NoSuffix
+unfolding flaw at
+no_suffix = refl
+
+two_suffixes : flaw (codes "SFX  ") (codes "A,B ") ≡ at 22 2 flaws.TooMuch
+unfolding flaw at
+two_suffixes = refl
+
+no_times : flaw (codes "CHAIN") (codes "100 ") ≡ at 21 3 flaws.NoTimes
+unfolding flaw at
+no_times = refl
+
+an_entry_with_an_index_register : flaw (codes "XFR  ") (codes "GO+X1 ") ≡ at 21 5 flaws.NoValue
+unfolding flaw at
+an_entry_with_an_index_register = refl
+
+options_twice : flaw (codes "DA   ") (codes "2X5,G,G ") ≡ at 25 3 flaws.NoOptions
+unfolding flaw at
+options_twice = refl
+
+options_without_areas : flaw (codes "DA   ") (codes "X5,G ") ≡ at 21 2 flaws.NoAreas
+unfolding flaw at
+options_without_areas = refl
+
+something_behind_the_next_hundred : flaw (codes "ORG  ") (codes "*+X00,5 ") ≡ at 26 2 flaws.TooMuch
+unfolding flaw at
+something_behind_the_next_hundred = refl
+
+a_next_place_with_an_index_register : flaw (codes "ORG  ") (codes "*+X1 ") ≡ at 21 4 flaws.NoValue
+unfolding flaw at
+a_next_place_with_an_index_register = refl
+
+a_hundred_for_a_label : flaw (codes "EQU  ") (codes "*+X00 ") ≡ at 21 5 flaws.NoAddress
+unfolding flaw at
+a_hundred_for_a_label = refl
+
+two_ends : flaw (codes "END  ") (codes "5,6 ") ≡ at 22 2 flaws.TooMuch
+unfolding flaw at
+two_ends = refl
+
+a_literal_as_an_address : flaw (codes "DSA  ") (codes "+5 ") ≡ at 21 2 flaws.Literal
+unfolding flaw at
+a_literal_as_an_address = refl
+
+two_addresses_in_a_constant : flaw (codes "DSA  ") (codes "UNDEF,1 ") ≡ at 26 2 flaws.TooMuch
+unfolding flaw at
+two_addresses_in_a_constant = refl
+
+a_number_with_an_index_register : flaw (codes "DCW  ") (codes "+5+X1 ") ≡ at 21 5 flaws.NoConstant
+unfolding flaw at
+a_number_with_an_index_register = refl
+
+something_behind_an_address : flaw (codes "DC   ") (codes "-TAB,1 ") ≡ at 25 2 flaws.TooMuch
+unfolding flaw at
+something_behind_an_address = refl
+
 -- what is wrong with columns for an operation
 operation_at : List ℕ → OperationFlaw
-unfolding instructions assembler_operations wide_instructions headings is_wide_operation nearest_wide_mnemonic
+unfolding instructions assembler_operations wide_instructions wide_operations is_wide_operation nearest_wide_mnemonic
 operation_at columns = wide_operation_flaw columns
 
 a_heading_in_the_next_column : operation_at (codes " JOB ") ≡ operation_flaws.Displaced
@@ -60,6 +148,10 @@ a_heading_in_the_next_column = refl
 two_are_near_and_the_first_is_told : operation_at (codes "MLCW ") ≡ operation_flaws.Unknown (Some (codes "MLC  "))
 unfolding operation_at
 two_are_near_and_the_first_is_told = refl
+
+nearly_a_chain : operation_at (codes "CHAN ") ≡ operation_flaws.Unknown (Some (codes "CHAIN"))
+unfolding operation_at
+nearly_a_chain = refl
 
 nearly_another_row : operation_at (codes "MRCN ") ≡ operation_flaws.Unknown (Some (codes "MRCM "))
 unfolding operation_at

@@ -1,3 +1,5 @@
+mod ContextExamples
+pub mod ContextLemmas
 mod FlawExamples
 pub mod FlawLemmas
 mod LanguageExamples
@@ -6,7 +8,10 @@ pub mod LanguageFlawLemmas
 pub mod LanguageLemmas
 pub mod NumbersLemmas
 mod OperandExamples
+pub mod SizeLemmas
 mod SourceLineExamples
 pub mod SourceLineLemmas
 mod StatementExamples
+pub mod WideAreasLemmas
+mod WideBodyExamples
 mod WideExamples

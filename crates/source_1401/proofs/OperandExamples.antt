@@ -11,6 +11,7 @@ use Rattle.source_1401.specs.Address.{address_of}
 use Rattle.source_1401.specs.Operands.{operand_of, operand_in, operands_of}
 use Rattle.source_1401.specs.declared.label.Label.{Label}
 use Rattle.source_1401.specs.declared.label.LabelField.TheVariants as labels
+use Rattle.source_1401.specs.declared.language.Language.TheVariants.{Plain}
 use Rattle.source_1401.specs.declared.mnemonic.DCharacter.{DCharacter}
 use Rattle.source_1401.specs.declared.mnemonic.DCharacter.TheVariants as d
 use Rattle.source_1401.specs.declared.mnemonic.Operation.{Operation}
@@ -27,18 +28,18 @@ use Rattle.source_1401.specs.declared.operands.Operands.{Operands}
 abbrev named : List ℕ → Label
 named word = record { text = padded 6 word }
 
-a_label_is_a_letter_and_up_to_five_more : map label_in (codes "START     " ∷ codes "A1        " ∷ codes "ABCDEF    "
-    ∷ codes "          " ∷ [])
+a_label_is_a_letter_and_up_to_five_more : map (label_in Plain) (codes "START     " ∷ codes "A1        "
+    ∷ codes "ABCDEF    " ∷ codes "          " ∷ [])
     ≡ labels.Label (named (codes "START")) ∷ labels.Label (named (codes "A1")) ∷ labels.Label (named (codes "ABCDEF"))
     ∷ labels.Absent ∷ []
 a_label_is_a_letter_and_up_to_five_more = refl
 
-these_are_no_labels : map label_in (codes "ABCDEFG   " ∷ codes " A        " ∷ codes "1A        " ∷ codes "A B       "
-    ∷ codes "A-B       " ∷ codes "X1        " ∷ codes "X3        " ∷ [])
+these_are_no_labels : map (label_in Plain) (codes "ABCDEFG   " ∷ codes " A        " ∷ codes "1A        "
+    ∷ codes "A B       " ∷ codes "A-B       " ∷ codes "X1        " ∷ codes "X3        " ∷ [])
     ≡ replicate 7 labels.Malformed
 these_are_no_labels = refl
 
-x4_is_a_label : label_of (codes "X4") ≡ Some (named (codes "X4"))
+x4_is_a_label : label_of Plain (codes "X4") ≡ Some (named (codes "X4"))
 x4_is_a_label = refl
 
 -- what columns 16 to 20 ask for
@@ -85,8 +86,8 @@ these_are_no_constants = refl
 abbrev address : Base → Rattle.std.specs.Prelude.ℤ → ℕ → Option Address
 address base adjustment index = Some (record { base = base; adjustment = adjustment; index = index })
 
-addresses_have_a_base_an_adjustment_and_an_index_register : map address_of (codes "5" ∷ codes "00015" ∷ codes "TOTAL"
-    ∷ codes "*" ∷ codes "*-3" ∷ codes "TABLE+10+X2" ∷ codes "0+X1" ∷ codes "A-99999" ∷ [])
+addresses_have_a_base_an_adjustment_and_an_index_register : map (address_of Plain) (codes "5" ∷ codes "00015"
+    ∷ codes "TOTAL" ∷ codes "*" ∷ codes "*-3" ∷ codes "TABLE+10+X2" ∷ codes "0+X1" ∷ codes "A-99999" ∷ [])
     ≡ address (bases.Number 5) (pos 0) 0 ∷ address (bases.Number 15) (pos 0) 0
     ∷ address (bases.Symbol (named (codes "TOTAL"))) (pos 0) 0 ∷ address bases.Here (pos 0) 0
     ∷ address bases.Here (negsuc 2) 0
@@ -94,7 +95,7 @@ addresses_have_a_base_an_adjustment_and_an_index_register : map address_of (code
     ∷ address (bases.Symbol (named (codes "A"))) (negsuc 99998) 0 ∷ []
 addresses_have_a_base_an_adjustment_and_an_index_register = refl
 
-these_are_no_addresses : map operand_of ([] ∷ codes "FOO-X1" ∷ codes "FOO+X1+5" ∷ codes "FOO+X4" ∷ codes "FOO+"
+these_are_no_addresses : map (operand_of Plain) ([] ∷ codes "FOO-X1" ∷ codes "FOO+X1+5" ∷ codes "FOO+X4" ∷ codes "FOO+"
     ∷ codes "X1" ∷ codes "X1+5" ∷ codes "+5+X1" ∷ codes "@A@+1" ∷ codes "123456" ∷ codes "ABCDEFG" ∷ codes "5A"
     ∷ codes "A+123456" ∷ codes "**" ∷ codes "#3" ∷ [])
     ≡ replicate 15 None
@@ -110,7 +111,7 @@ number n = fields.Operand (operands.Address (record { base = bases.Number n; adj
 
 -- the operands of a form
 abbrev read : ℕ → ℕ → DCharacter → List ℕ → Operands
-read least most d columns = operands_of (record { least = least; most = most; d = d }) columns
+read least most d columns = operands_of Plain (record { least = least; most = most; d = d }) columns
 
 abbrev whole : OperandField → OperandField → Option ℕ → Operands
 whole a b d = record { a = a; b = b; d = d; is_whole = true }

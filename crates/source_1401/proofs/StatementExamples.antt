@@ -73,8 +73,10 @@ unfolding says
 a_constant_has_a_word_mark_or_none = refl
 
 areas_and_a_field_of_them : map says (codes "     REC       DA   2X4" ∷ codes "     KEY            3,4" ∷ [])
-    ≡ good (labels.Label (named (codes "REC"))) (bodies.Areas (Some (record { count = 2; length = 4 })))
-    ∷ good (labels.Label (named (codes "KEY"))) (bodies.Field (Some (record { first = 3; last = 4 }))) ∷ []
+    ≡ good (labels.Label (named (codes "REC")))
+    (bodies.Areas (Some (record { count = 2; length = 4; has_group_mark = false })))
+    ∷ good (labels.Label (named (codes "KEY")))
+    (bodies.Field (Some (record { first = 3; last = 4; is_marked = true }))) ∷ []
 unfolding says
 areas_and_a_field_of_them = refl
 

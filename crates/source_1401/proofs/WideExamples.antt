@@ -1,22 +1,31 @@
 -- Mnemonics of the wider language and their forms, computed.
-use Rattle.std.proofs.Common.{◌≡◌, ℕ, true, false, List, [], ◌∷◌, map, replicate, None, Some, refl}
-use Rattle.std.specs.Prelude.{Option, codes}
+use Rattle.std.proofs.Common.{◌≡◌, ℕ, true, false, List, [], ◌∷◌, map, replicate, None, Some, pos, negsuc, refl}
+use Rattle.std.specs.Prelude.{Bool, ℤ, Option, codes}
 use Rattle.std.specs.Str.{byte}
+use Rattle.source_1401.specs.Label.{label_in}
 use Rattle.source_1401.specs.Mnemonic.{instructions, assembler_operations}
 use Rattle.source_1401.specs.Operands.{field_of}
-use Rattle.source_1401.specs.WideMnemonic.{wide_instructions}
+use Rattle.source_1401.specs.Statement.{has_bad_operands}
+use Rattle.source_1401.specs.WideMnemonic.{wide_instructions, wide_operations}
 use Rattle.source_1401.specs.WideStatement.{wide_body_of}
+use Rattle.source_1401.specs.declared.address.Base.{Base}
+use Rattle.source_1401.specs.declared.address.Base.TheVariants as bases
+use Rattle.source_1401.specs.declared.label.LabelField.TheVariants as labels
+use Rattle.source_1401.specs.declared.language.Language.TheVariants.{Ibm}
 use Rattle.source_1401.specs.declared.mnemonic.DCharacter.{DCharacter}
 use Rattle.source_1401.specs.declared.mnemonic.DCharacter.TheVariants as d
 use Rattle.source_1401.specs.declared.mnemonic.Form.{Form}
+use Rattle.source_1401.specs.declared.operands.Operand.TheVariants as operands
 use Rattle.source_1401.specs.declared.operands.OperandField.{OperandField}
 use Rattle.source_1401.specs.declared.operands.OperandField.TheVariants as fields
 use Rattle.source_1401.specs.declared.statement.Body.{Body}
 use Rattle.source_1401.specs.declared.statement.Body.TheVariants as bodies
+use Rattle.source_1401.specs.declared.statement.SizeField.TheVariants as sizes
+use Rattle.source_1401.specs.declared.statement.SuffixField.TheVariants as suffixes
 
 -- what columns for an operation and for its operands ask for
 asks : List ℕ → List ℕ → Body
-unfolding instructions assembler_operations wide_instructions
+unfolding instructions assembler_operations wide_instructions wide_operations
 asks operation operands = wide_body_of operation operands
 
 abbrev form : ℕ → ℕ → DCharacter → Form
@@ -30,7 +39,7 @@ whole operation form a b d =
 
 -- the address or literal that a word is
 abbrev the : List ℕ → OperandField
-the word = field_of word
+the word = field_of Ibm word
 
 abbrev up_to_two : Form
 up_to_two = form 0 2 d.Never
@@ -209,7 +218,7 @@ an_addition_as_ever : asks (codes "A    ") (codes "+5,AREA ")
 unfolding asks
 an_addition_as_ever = refl
 
-an_unknown_operation : asks (codes "MU   ") (codes "A,B,R ") ≡ bodies.Unknown
+an_unknown_operation : asks (codes "MBC  ") (codes "A,B ") ≡ bodies.Unknown
 unfolding asks
 an_unknown_operation = refl
 
@@ -236,3 +245,106 @@ an_assembler_is_this_one : map (asks (codes "ENT  ")) (codes "AUTOCODER " ∷ co
     ≡ bodies.Heading true ∷ bodies.Heading true ∷ replicate 3 (bodies.Heading false)
 unfolding asks
 an_assembler_is_this_one = refl
+
+-- an address with X1 to X3 as its base or without index register
+abbrev address : Base → ℤ → ℕ → OperandField
+address base adjustment index =
+    fields.Operand (operands.Address (record { base = base; adjustment = adjustment; index = index }))
+
+registers_are_symbols : map (field_of Ibm) (codes "X1" ∷ codes "X1+5" ∷ codes "X1+X2" ∷ codes "X3-1+X1" ∷ codes "5+X0"
+    ∷ codes "*+X0" ∷ [])
+    ≡ address (bases.Register 1) (pos 0) 0 ∷ address (bases.Register 1) (pos 5) 0 ∷ address (bases.Register 1) (pos 0) 2
+    ∷ address (bases.Register 3) (negsuc 0) 1 ∷ address (bases.Number 5) (pos 0) 0 ∷ address bases.Here (pos 0) 0 ∷ []
+registers_are_symbols = refl
+
+a_register_may_be_a_label : map (label_in Ibm) (codes "X1        " ∷ codes "X3        " ∷ codes "X1,       " ∷ [])
+    ≡ labels.Label (record { text = codes "X1    " }) ∷ labels.Label (record { text = codes "X3    " })
+    ∷ labels.Malformed ∷ []
+a_register_may_be_a_label = refl
+
+-- a unit as it is written
+abbrev unit : List ℕ → OperandField
+unit graphics = fields.Operand (operands.Unit (record { graphics = graphics }))
+
+a_move_from_a_unit : asks (codes "MCW  ") (codes "%U1,AREA,R ")
+    ≡ whole (byte "M") two_and_d (unit (codes "%U1")) (the (codes "AREA")) (Some (byte "R"))
+unfolding asks
+a_move_from_a_unit = refl
+
+a_load_from_a_unit : asks (codes "LU   ") (codes "%B2,AREA,W ")
+    ≡ whole (byte "L") two_and_d (unit (codes "%B2")) (the (codes "AREA")) (Some (byte "W"))
+unfolding asks
+a_load_from_a_unit = refl
+
+a_unit_is_controlled : asks (codes "CU   ") (codes "%U2,R ")
+    ≡ whole (byte "U") one_and_d (unit (codes "%U2")) fields.Absent (Some (byte "R"))
+unfolding asks
+a_unit_is_controlled = refl
+
+a_tape_is_read : map (asks (codes "RT   ")) (codes "1,AREA " ∷ codes "%U1,AREA " ∷ [])
+    ≡ replicate 2
+    (whole (byte "M") (form 2 2 (d.Fixed (byte "R"))) (unit (codes "%U1")) (the (codes "AREA")) (Some (byte "R")))
+unfolding asks
+a_tape_is_read = refl
+
+a_tape_is_written_with_word_marks : asks (codes "WTW  ") (codes "6,AREA ")
+    ≡ whole (byte "L") (form 2 2 (d.Fixed (byte "W"))) (unit (codes "%U6")) (the (codes "AREA")) (Some (byte "W"))
+unfolding asks
+a_tape_is_written_with_word_marks = refl
+
+a_tape_is_read_in_binary : asks (codes "RTB  ") (codes "3,AREA ")
+    ≡ whole (byte "M") (form 2 2 (d.Fixed (byte "R"))) (unit (codes "%B3")) (the (codes "AREA")) (Some (byte "R"))
+unfolding asks
+a_tape_is_read_in_binary = refl
+
+a_tape_is_moved : map (λ (mnemonic : List ℕ). asks mnemonic (codes "2 ")) (codes "BSP  " ∷ codes "SKP  " ∷ codes "RWD  "
+    ∷ codes "RWU  " ∷ codes "WTM  " ∷ [])
+    ≡ map (λ (graphic : ℕ).
+    whole (byte "U") (form 1 1 (d.Fixed graphic)) (unit (codes "%U2")) fields.Absent (Some graphic)) (codes "BERUM")
+unfolding asks
+a_tape_is_moved = refl
+
+a_program_is_entered : asks (codes "XFR  ") (codes "GO ") ≡ bodies.Transfer (record {
+  a = the (codes "GO");
+  b = fields.Absent;
+  d = None;
+  is_whole = true;
+})
+unfolding asks
+a_program_is_entered = refl
+
+-- column 21 is of the machine that assembles
+sizes_of_core : map (asks (codes "CTL  ")) (codes "61 " ∷ codes " 2 " ∷ codes "33,1 " ∷ codes "  4" ∷ codes "37 " ∷ [])
+    ≡ map bodies.Control (sizes.Size 1400 ∷ sizes.Size 2000 ∷ sizes.Size 4000 ∷ sizes.Absent ∷ sizes.Malformed ∷ [])
+unfolding asks
+sizes_of_core = refl
+
+suffixes_of_symbols : map (asks (codes "SFX  ")) (codes "A " ∷ codes "7" ∷ codes " A" ∷ codes "AB"
+    ∷ codes "A,B" ∷ codes "," ∷ [])
+    ≡ map bodies.Suffix (suffixes.Suffix (byte "A") ∷ suffixes.Suffix (byte "7") ∷ suffixes.Absent
+    ∷ replicate 3 suffixes.Malformed)
+unfolding asks
+suffixes_of_symbols = refl
+
+how_often_an_operation_is_repeated : map (asks (codes "CHAIN")) (codes "1 " ∷ codes "99 again" ∷ codes "0 "
+    ∷ codes "100 " ∷ codes "2,2 " ∷ codes "  " ∷ [])
+    ≡ map (λ (count : Option ℕ). bodies.Chain (record { operation = None; count = count }))
+    (Some 1 ∷ Some 99 ∷ replicate 4 None)
+unfolding asks
+how_often_an_operation_is_repeated = refl
+
+-- whether the operands of an operation aren't as it asks
+bad : List ℕ → List ℕ → Bool
+unfolding asks
+bad operation columns = has_bad_operands (asks operation columns)
+
+-- a unit stands where the mnemonic has one, and first of all
+no_units_here : bad (codes "A    ") (codes "%U1,5 ") ∷ bad (codes "MCW  ") (codes "%U1,AREA ")
+    ∷ bad (codes "MCW  ") (codes "AREA,%U1,R ") ∷ bad (codes "NOP  ") (codes "%U1,AREA,R ")
+    ∷ bad (codes "MU   ") (codes "AREA,AREA,R ") ∷ bad (codes "CU   ") (codes "1,R ")
+    ∷ bad (codes "RT   ") (codes "%B1,AREA ")
+    ∷ bad (codes "RTB  ") (codes "%U1,AREA ") ∷ bad (codes "BSP  ") (codes "12 ") ∷ bad (codes "WTM  ") (codes "  ")
+    ∷ bad (codes "RT   ") (codes "1 ") ∷ bad (codes "EQU  ") (codes "%U1 ") ∷ []
+    ≡ replicate 12 true
+unfolding bad
+no_units_here = refl

@@ -1,15 +1,19 @@
 -- Addresses as the source writes them (Autocoder, "Operand", "Address Adjustment", "Indexing").
-use Rattle.std.specs.Prelude.{ℕ, ◌==◌, Bool, ◌&&◌, ◌||◌, if◌then◌else◌, List, length, take, drop, slice_index, ℤ, pos}
+use Rattle.std.specs.Prelude.{ℕ, ◌==◌, Bool, false, ◌&&◌, ◌||◌, if◌then◌else◌, List, length, take, drop, slice_index, ℤ}
+use Rattle.std.specs.Prelude.{pos}
 use Rattle.std.specs.Prelude.{neg_ℤ, Option, None, Some, codes}
 use Rattle.std.specs.Option.{option_map, option_and_then}
 use Rattle.std.specs.List.{prefix_len}
 use Rattle.std.specs.Str.{bytes_eq}
-use Rattle.source_1401.specs.Label.{is_digit, is_letter_or_digit, label_of}
+use Rattle.source_1401.specs.Label.{is_digit, is_letter_or_digit, label_of, register_of}
 use Rattle.source_1401.specs.Numbers.{short_number}
 use Rattle.source_1401.specs.Punctuation.{asterisk, plus_sign, minus_sign}
 use Rattle.source_1401.specs.declared.address.Address.{Address}
 use Rattle.source_1401.specs.declared.address.Base.{Base}
 use Rattle.source_1401.specs.declared.address.Base.TheVariants as bases
+use Rattle.source_1401.specs.declared.label.Label.{Label}
+use Rattle.source_1401.specs.declared.language.Language.{Language}
+use Rattle.source_1401.specs.declared.language.Language.TheVariants as languages
 
 abbrev pub begins_with_asterisk : List ℕ → Bool
 begins_with_asterisk text = slice_index text 0 == asterisk
@@ -18,27 +22,43 @@ begins_with_asterisk text = slice_index text 0 == asterisk
 abbrev pub base_len : List ℕ → ℕ
 base_len text = if begins_with_asterisk text then 1 else prefix_len is_letter_or_digit text
 
--- a word that is no number is a symbol
-abbrev pub number_or_symbol : Option ℕ → List ℕ → Option Base
-number_or_symbol (Some number) word = Some (bases.Number number)
-number_or_symbol None word = option_map bases.Symbol (label_of word)
+-- X1 to X3 are index registers before they are symbols
+abbrev pub register_or_symbol : Option ℕ → Option Label → Option Base
+register_or_symbol (Some number) label = Some (bases.Register number)
+register_or_symbol None label = option_map bases.Symbol label
+
+-- the base that a name is: an index register in the wider language alone
+abbrev pub named_base : Language → List ℕ → Option Base
+named_base languages.Plain word = option_map bases.Symbol (label_of languages.Plain word)
+named_base languages.Ibm word = register_or_symbol (register_of word) (label_of languages.Ibm word)
+
+-- a word that is no number is a name
+abbrev pub number_or_name : Language → Option ℕ → List ℕ → Option Base
+number_or_name language (Some number) word = Some (bases.Number number)
+number_or_name language None word = named_base language word
 
 -- what an address is counted from
-abbrev pub base_of : List ℕ → Option Base
-base_of word = if bytes_eq word (codes "*") then Some bases.Here else number_or_symbol (short_number word) word
+abbrev pub base_of : Language → List ℕ → Option Base
+base_of language word =
+    if bytes_eq word (codes "*") then Some bases.Here else number_or_name language (short_number word) word
+
+-- that there is no index register may be written in the wider language
+abbrev pub is_no_index : Language → List ℕ → Bool
+is_no_index languages.Plain rest = false
+is_no_index languages.Ibm rest = bytes_eq rest (codes "+X0")
 
 -- the index register that an address ends with
-abbrev pub index_of : List ℕ → Option ℕ
-index_of rest =
-    if length rest == 0 then Some 0
+abbrev pub index_of : Language → List ℕ → Option ℕ
+index_of language rest =
+    if (length rest == 0) || is_no_index language rest then Some 0
     else if bytes_eq rest (codes "+X1") then Some 1
     else if bytes_eq rest (codes "+X2") then Some 2
     else if bytes_eq rest (codes "+X3") then Some 3
     else None
 
-abbrev pub indexed : Base → ℤ → List ℕ → Option Address
-indexed base adjustment rest =
-    option_map (λ index. record { base = base; adjustment = adjustment; index = index }) (index_of rest)
+abbrev pub indexed : Language → Base → ℤ → List ℕ → Option Address
+indexed language base adjustment rest =
+    option_map (λ index. record { base = base; adjustment = adjustment; index = index }) (index_of language rest)
 
 -- an adjustment is a sign and a number
 abbrev pub is_adjusted : List ℕ → Bool
@@ -48,18 +68,20 @@ abbrev pub adjustment_of : ℕ → ℕ → ℤ
 adjustment_of sign number = if sign == minus_sign then neg_ℤ (pos number) else pos number
 
 -- the number follows the sign, and the index register the number
-abbrev pub adjusted_by : Base → ℕ → List ℕ → Option Address
-adjusted_by base sign text =
+abbrev pub adjusted_by : Language → Base → ℕ → List ℕ → Option Address
+adjusted_by language base sign text =
     let n = prefix_len is_digit text in
-    option_and_then (λ number. indexed base (adjustment_of sign number) (drop n text)) (short_number (take n text))
+    option_and_then (λ number. indexed language base (adjustment_of sign number) (drop n text))
+    (short_number (take n text))
 
 -- what follows the base: an adjustment or none, and an index register or none
-abbrev pub adjusted : Base → List ℕ → Option Address
-adjusted base rest =
-    if is_adjusted rest then adjusted_by base (slice_index rest 0) (drop 1 rest) else indexed base (pos 0) rest
+abbrev pub adjusted : Language → Base → List ℕ → Option Address
+adjusted language base rest =
+    if is_adjusted rest then adjusted_by language base (slice_index rest 0) (drop 1 rest)
+    else indexed language base (pos 0) rest
 
 -- the address that a word is
-abbrev pub address_of : List ℕ → Option Address
-address_of word =
+abbrev pub address_of : Language → List ℕ → Option Address
+address_of language word =
     let n = base_len word in
-    option_and_then (λ base. adjusted base (drop n word)) (base_of (take n word))
+    option_and_then (λ base. adjusted language base (drop n word)) (base_of language (take n word))

@@ -1,7 +1,8 @@
 -- The table of the kinds of statement: a row for each kind, a column for each thing that the assembler asks of one
 -- (Autocoder, "Declarative Operations", "Assembler Control").
-use Rattle.std.specs.Prelude.{Bool, true, false, not, None, Some, is_some}
-use Rattle.source_1401.specs.Operands.{has_malformed, is_value}
+use Rattle.std.specs.Prelude.{Bool, true, false, not, Option, None, Some, is_some}
+use Rattle.source_1401.specs.LoneAddress.{is_one_address, is_value, is_wide_entry, is_wide_origin, is_wide_value}
+use Rattle.source_1401.specs.Operands.{has_malformed}
 use Rattle.source_1401.specs.declared.description.Addressing.{Addressing}
 use Rattle.source_1401.specs.declared.description.Addressing.TheVariants as addressing
 use Rattle.source_1401.specs.declared.description.AreaRole.TheVariants as areas
@@ -15,6 +16,11 @@ use Rattle.source_1401.specs.declared.operands.OperandField.TheVariants as field
 use Rattle.source_1401.specs.declared.operands.Operands.{Operands}
 use Rattle.source_1401.specs.declared.statement.Body.{Body}
 use Rattle.source_1401.specs.declared.statement.Body.TheVariants as bodies
+use Rattle.source_1401.specs.declared.statement.SizeField.{SizeField}
+use Rattle.source_1401.specs.declared.statement.SizeField.TheVariants as sizes
+use Rattle.source_1401.specs.declared.statement.SuffixField.{SuffixField}
+use Rattle.source_1401.specs.declared.statement.SuffixField.TheVariants as suffixes
+use Rattle.source_1401.specs.declared.statement.Span.{Span}
 
 -- what a row says in the columns that it doesn't name
 abbrev pub plain : Description
@@ -30,6 +36,63 @@ plain =
       areas = areas.Ends;
       contents = contents.Nothing;
       is_remark = false;
+    }
+
+-- what the row of a remark says in the columns that it doesn't name: it has no label, and areas go on below it
+abbrev pub remark : Description
+remark = record plain { label = label.Forbidden; areas = areas.Keeps; is_remark = true }
+
+abbrev pub is_malformed_size : SizeField → Bool
+is_malformed_size sizes.Absent = false
+is_malformed_size sizes.Malformed = true
+is_malformed_size (sizes.Size size) = false
+
+abbrev pub is_malformed_suffix : SuffixField → Bool
+is_malformed_suffix suffixes.Absent = false
+is_malformed_suffix suffixes.Malformed = true
+is_malformed_suffix (suffixes.Suffix graphic) = false
+
+-- the row of a field of areas with this rule of its label
+abbrev pub field_row : LabelRule → Option Span → Description
+field_row rule None = record plain { is_well_formed = false; label = rule; areas = areas.Divides None }
+field_row rule (Some span) =
+    record plain {
+      label = rule;
+      names = point.InArea span.last;
+      shows = point.InArea span.first;
+      areas = areas.Divides (Some span);
+    }
+
+-- the rows of EQU, ORG, EX and END whose operands are as they ask, of ORG where it may have a label
+abbrev pub equate_row : Operands → Description
+equate_row of =
+    record plain {
+      label = label.Required;
+      names = point.Value;
+      shows = point.Value;
+      addressing = addressing.EarlierValue of;
+    }
+
+abbrev pub origin_row : Operands → Description
+origin_row of =
+    record plain { shows = point.Value; addressing = addressing.EarlierValue of; next = next.Value }
+
+abbrev pub execute_row : Operands → Description
+execute_row of =
+    record plain {
+      label = label.Forbidden;
+      shows = point.Value;
+      addressing = addressing.Value of;
+      next = next.Literals;
+    }
+
+abbrev pub end_row : Operands → Description
+end_row of =
+    record plain {
+      label = label.Forbidden;
+      shows = point.Value;
+      addressing = addressing.Entry of;
+      next = next.Literals;
     }
 
 -- the row of a statement
@@ -53,57 +116,58 @@ describe (bodies.Space places) =
     record plain { is_well_formed = is_some places; names = point.Last; contents = contents.Space places }
 describe (bodies.Areas made) =
     record plain { is_well_formed = is_some made; areas = areas.Makes made; contents = contents.Areas made }
-describe (bodies.Field None) = record plain { is_well_formed = false; areas = areas.Divides None }
-describe (bodies.Field (Some span)) =
+describe (bodies.Field span) = field_row label.OfField span
+describe (bodies.WideField span) = field_row label.Optional span
+describe (bodies.Equate of) = record (equate_row of) { is_well_formed = is_value of }
+describe (bodies.WideEquate of) = record (equate_row of) { is_well_formed = is_wide_value of }
+describe (bodies.Origin of) = record (origin_row of) { is_well_formed = is_value of; label = label.Forbidden }
+describe (bodies.LabelledOrigin of) = record (origin_row of) { is_well_formed = is_wide_origin of }
+describe (bodies.Execute of) = record (execute_row of) { is_well_formed = is_value of }
+describe (bodies.WideExecute of) = record (execute_row of) { is_well_formed = is_wide_value of }
+describe (bodies.End of) = record (end_row of) { is_well_formed = is_value of }
+describe (bodies.WideEnd of) = record (end_row of) { is_well_formed = is_wide_entry of }
+describe (bodies.Heading is_well_formed) = record remark { is_well_formed = is_well_formed }
+describe (bodies.Control size) = record remark { is_well_formed = not (is_malformed_size size) }
+describe bodies.SecondControl = record remark { is_known = false }
+describe (bodies.Suffix suffix) = record remark { is_well_formed = not (is_malformed_suffix suffix) }
+describe (bodies.Transfer of) =
     record plain {
-      names = point.InArea span.last;
-      shows = point.InArea span.first;
-      areas = areas.Divides (Some span);
-    }
-describe (bodies.Equate of) =
-    record plain {
-      is_well_formed = is_value of;
-      label = label.Required;
-      names = point.Value;
-      shows = point.Value;
-      addressing = addressing.EarlierValue of;
-    }
-describe (bodies.Origin of) =
-    record plain {
-      is_well_formed = is_value of;
-      label = label.Forbidden;
-      shows = point.Value;
-      addressing = addressing.EarlierValue of;
-      next = next.Value;
-    }
-describe (bodies.Execute of) =
-    record plain {
-      is_well_formed = is_value of;
+      is_well_formed = is_wide_value of;
       label = label.Forbidden;
       shows = point.Value;
       addressing = addressing.Value of;
-      next = next.Literals;
     }
-describe (bodies.End of) =
+describe (bodies.Chain chain) =
     record plain {
-      is_well_formed = is_value of;
-      label = label.Forbidden;
-      shows = point.Value;
-      addressing = addressing.Entry of;
-      next = next.Literals;
+      is_known = is_some chain.operation;
+      is_well_formed = is_some chain.count;
+      contents = contents.Chain chain;
     }
-describe (bodies.Heading is_well_formed) =
-    record plain { is_well_formed = is_well_formed; label = label.Forbidden; is_remark = true }
+describe (bodies.AddressConstant constant) =
+    record plain {
+      is_well_formed = is_one_address constant.operands;
+      names = point.Last;
+      addressing = addressing.Addresses constant.operands;
+      contents = contents.AddressConstant constant;
+    }
 
 abbrev pub is_required : LabelRule → Bool
 is_required label.Optional = false
 is_required label.Required = true
 is_required label.Forbidden = false
+is_required label.OfField = false
 
 abbrev pub is_forbidden : LabelRule → Bool
 is_forbidden label.Optional = false
 is_forbidden label.Required = false
 is_forbidden label.Forbidden = true
+is_forbidden label.OfField = false
+
+abbrev pub is_of_field : LabelRule → Bool
+is_of_field label.Optional = false
+is_of_field label.Required = false
+is_of_field label.Forbidden = false
+is_of_field label.OfField = true
 
 -- the operands in which a label may stand
 abbrev pub operands_in : Addressing → Operands

@@ -11,11 +11,7 @@ use Rattle.source_1401.specs.declared.statement.LineCheck.TheVariants as bytes
 abbrev pub is_job : List ℕ → Bool
 is_job operation = bytes_eq operation (codes "JOB  ")
 
--- columns 16 to 20 ask for an assembler
-abbrev pub is_ent : List ℕ → Bool
-is_ent operation = bytes_eq operation (codes "ENT  ")
-
--- the one that there is
+-- the operand of ENT names the assembler that there is
 abbrev pub names_autocoder : List ℕ → Bool
 names_autocoder columns = bytes_eq (word_in columns) (codes "AUTOCODER")
 

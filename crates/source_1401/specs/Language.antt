@@ -2,7 +2,7 @@
 use Rattle.std.specs.Prelude.{ℕ, Bool, true, false, not, ◌&&◌, if◌then◌else◌, List, length, Option, None, Some}
 use Rattle.source_1401.specs.Description.{describe}
 use Rattle.source_1401.specs.SourceLine.{columns_of}
-use Rattle.source_1401.specs.Statement.{line_of, line_with, has_bad_label, has_bad_operands}
+use Rattle.source_1401.specs.Statement.{line_of, line_with, has_bad_label, has_bad_operands, lacks_field_label}
 use Rattle.source_1401.specs.WideColumns.{capitals, plus_signs}
 use Rattle.source_1401.specs.WideStatement.{wide_line_with}
 use Rattle.source_1401.specs.declared.language.Language.{Language}
@@ -17,11 +17,13 @@ are_good bytes.Good = true
 are_good bytes.Long = false
 are_good bytes.Foreign = false
 
--- a comment, or a statement with a label, an operation and operands as it asks, whatever the other lines are
+-- a comment, or a statement with a label, an operation and operands as it asks, whatever the other lines are; a field
+-- has a label
 abbrev pub is_sound_statement : Option Statement → Bool
 is_sound_statement None = true
 is_sound_statement (Some statement) =
-    not (has_bad_label statement) && (describe statement.body).is_known && not (has_bad_operands statement.body)
+    not (has_bad_label statement) && not (lacks_field_label statement) && (describe statement.body).is_known
+    && not (has_bad_operands statement.body)
 
 -- a line with which nothing is wrong by itself
 abbrev pub is_sound : Line → Bool

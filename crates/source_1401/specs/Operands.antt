@@ -5,8 +5,7 @@ use Rattle.std.specs.Option.{option_map}
 use Rattle.source_1401.specs.Address.{address_of}
 use Rattle.source_1401.specs.Constant.{constant_of}
 use Rattle.source_1401.specs.Punctuation.{blank, comma, at_sign, plus_sign, minus_sign}
-use Rattle.source_1401.specs.declared.address.Base.{Base}
-use Rattle.source_1401.specs.declared.address.Base.TheVariants as bases
+use Rattle.source_1401.specs.declared.language.Language.{Language}
 use Rattle.source_1401.specs.declared.mnemonic.DCharacter.{DCharacter}
 use Rattle.source_1401.specs.declared.mnemonic.DCharacter.TheVariants as d
 use Rattle.source_1401.specs.declared.mnemonic.Form.{Form}
@@ -49,36 +48,37 @@ abbrev pub begins_literal : ℕ → Bool
 begins_literal byte = (byte == at_sign) || (byte == plus_sign) || (byte == minus_sign)
 
 -- the address or the literal that a word is
-abbrev pub operand_of : List ℕ → Option Operand
-operand_of [] = None
-operand_of (byte ∷ more) =
+abbrev pub operand_of : Language → List ℕ → Option Operand
+operand_of language [] = None
+operand_of language (byte ∷ more) =
     if begins_literal byte then option_map operands.Literal (constant_of (byte ∷ more))
-    else option_map operands.Address (address_of (byte ∷ more))
+    else option_map operands.Address (address_of language (byte ∷ more))
 
 -- a word that should be an address or a literal
 abbrev pub field_with : Option Operand → OperandField
 field_with None = fields.Malformed
 field_with (Some operand) = fields.Operand operand
 
-abbrev pub field_of : List ℕ → OperandField
-field_of word = field_with (operand_of word)
+abbrev pub field_of : Language → List ℕ → OperandField
+field_of language word = field_with (operand_of language word)
 
 -- an operand, and what follows it
 abbrev pub OperandAndRest : Type 0
 OperandAndRest = OperandField × List ℕ
 
-abbrev pub read_operand : List ℕ → OperandAndRest
-read_operand text = (field_of (operand_in text), behind_operand text)
+abbrev pub read_operand : Language → List ℕ → OperandAndRest
+read_operand language text = (field_of language (operand_in text), behind_operand text)
 
 -- the first address, if the operation can have one, unless the first column is blank
-abbrev pub first_operand : ℕ → List ℕ → OperandAndRest
-first_operand most text = if (most == 0) || is_ended text then (fields.Absent, text) else read_operand text
+abbrev pub first_operand : Language → ℕ → List ℕ → OperandAndRest
+first_operand language most text =
+    if (most == 0) || is_ended text then (fields.Absent, text) else read_operand language text
 
 -- the second follows a comma
-abbrev pub second_operand : ℕ → List ℕ → OperandAndRest
-second_operand most [] = (fields.Absent, [])
-second_operand most (byte ∷ more) =
-    if (byte == comma) && nat_lt 1 most then read_operand more else (fields.Absent, byte ∷ more)
+abbrev pub second_operand : Language → ℕ → List ℕ → OperandAndRest
+second_operand language most [] = (fields.Absent, [])
+second_operand language most (byte ∷ more) =
+    if (byte == comma) && nat_lt 1 most then read_operand language more else (fields.Absent, byte ∷ more)
 
 -- a d-character is any graphic in one column, and nothing follows it
 abbrev pub lone_d : List ℕ → Option ℕ
@@ -125,32 +125,15 @@ abbrev pub operands_with : ℕ → OperandField → OperandField → Read → Op
 operands_with least a b read =
     record { a = a; b = b; d = read.0; is_whole = read.1 && nat_le least (count_of a + count_of b) }
 
-abbrev pub operands_of : Form → List ℕ → Operands
-operands_of form columns =
-    let first = first_operand form.most columns in
-    let second = second_operand form.most first.1 in
+-- the operands of a form, of which the first was read
+abbrev pub operands_after : Language → Form → OperandAndRest → Operands
+operands_after language form first =
+    let second = second_operand language form.most first.1 in
     operands_with form.least first.0 second.0 (d_of form second.1)
+
+abbrev pub operands_of : Language → Form → List ℕ → Operands
+operands_of language form columns = operands_after language form (first_operand language form.most columns)
 
 -- operands that aren't as the instruction asks
 abbrev pub has_malformed : Operands → Bool
 has_malformed this = not this.is_whole || is_malformed this.a || is_malformed this.b
-
--- an asterisk is no value
-abbrev pub is_here : Base → Bool
-is_here (bases.Number number) = false
-is_here (bases.Symbol label) = false
-is_here bases.Here = true
-
--- an address without asterisk and index register
-abbrev pub is_plain : Operand → Bool
-is_plain (operands.Address address) = (address.index == 0) && not (is_here address.base)
-is_plain (operands.Literal constant) = false
-
-abbrev pub is_plain_field : OperandField → Bool
-is_plain_field fields.Absent = false
-is_plain_field fields.Malformed = false
-is_plain_field (fields.Operand operand) = is_plain operand
-
--- operands that are one such address
-abbrev pub is_value : Operands → Bool
-is_value this = this.is_whole && is_plain_field this.a

@@ -26,5 +26,8 @@ minus_sign = byte "-"
 abbrev pub ampersand : ℕ
 ampersand = byte "&"
 
+abbrev pub percent_sign : ℕ
+percent_sign = byte "%"
+
 abbrev pub letter_x : ℕ
 letter_x = byte "X"

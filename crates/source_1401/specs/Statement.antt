@@ -1,5 +1,5 @@
 -- What a line says, without its neighbours (Autocoder, "Coding Sheet", "Declarative Operations", "Assembler Control").
-use Rattle.std.specs.Prelude.{ℕ, ◌==◌, nat_lt, Bool, true, false, not, if◌then◌else◌, List, length, take, drop}
+use Rattle.std.specs.Prelude.{ℕ, ◌==◌, nat_lt, Bool, true, false, not, ◌&&◌, if◌then◌else◌, List, length, take, drop}
 use Rattle.std.specs.Prelude.{Option, None, Some}
 use Rattle.std.specs.Option.{option_map, option_and_then}
 use Rattle.std.specs.List.{position_or_len}
@@ -9,11 +9,12 @@ use Rattle.source_1401.specs.Mnemonic.{operation_of}
 use Rattle.source_1401.specs.Numbers.{number_between}
 use Rattle.source_1401.specs.Constant.{constant_of}
 use Rattle.source_1401.specs.Operands.{operand_in, behind_operand, lone_operand, operand_behind_comma, operands_of}
-use Rattle.source_1401.specs.Description.{describe, is_required, is_forbidden, is_entry}
+use Rattle.source_1401.specs.Description.{describe, is_required, is_forbidden, is_of_field, is_entry}
 use Rattle.source_1401.specs.Punctuation.{letter_x}
 use Rattle.source_1401.specs.declared.label.Label.{Label}
 use Rattle.source_1401.specs.declared.label.LabelField.{LabelField}
 use Rattle.source_1401.specs.declared.label.LabelField.TheVariants as labels
+use Rattle.source_1401.specs.declared.language.Language.TheVariants as languages
 use Rattle.source_1401.specs.declared.mnemonic.DCharacter.TheVariants as d
 use Rattle.source_1401.specs.declared.mnemonic.Form.{Form}
 use Rattle.source_1401.specs.declared.mnemonic.Operation.{Operation}
@@ -40,7 +41,8 @@ areas_of word =
     let n = position_or_len is_x word in
     option_and_then
     (λ count.
-    option_map (λ length. record { count = count; length = length }) (number_between 1 999 (drop 1 (drop n word))))
+    option_map (λ length. record { count = count; length = length; has_group_mark = false })
+    (number_between 1 999 (drop 1 (drop n word))))
     (number_between 1 99 (take n word))
 
 -- the first place of a field and its last, with a comma between them
@@ -48,7 +50,7 @@ abbrev pub span_of : List ℕ → Option Span
 span_of columns =
     option_and_then
     (λ first.
-    option_map (λ last. record { first = first; last = last })
+    option_map (λ last. record { first = first; last = last; is_marked = true })
     (number_between first 999 (operand_behind_comma (behind_operand columns))))
     (number_between 1 999 (operand_in columns))
 
@@ -56,33 +58,33 @@ span_of columns =
 abbrev pub most_places : ℕ
 most_places = 15999
 
--- what an operation with these columns for its operands asks for
+-- what an operation with these columns for its operands asks for in the plain language
 abbrev pub body_with : Operation → List ℕ → Body
 body_with (operations.Instruction instruction) columns =
-    bodies.Instruction instruction (operands_of instruction.form columns)
+    bodies.Instruction instruction (operands_of languages.Plain instruction.form columns)
 body_with operations.MarkedConstant columns = bodies.MarkedConstant (constant_of (lone_operand columns))
 body_with operations.Constant columns = bodies.Constant (constant_of (lone_operand columns))
 body_with operations.Space columns = bodies.Space (number_between 1 most_places (lone_operand columns))
 body_with operations.Areas columns = bodies.Areas (areas_of (lone_operand columns))
 body_with operations.Field columns = bodies.Field (span_of columns)
-body_with operations.Equate columns = bodies.Equate (operands_of one_address columns)
-body_with operations.Origin columns = bodies.Origin (operands_of one_address columns)
-body_with operations.Execute columns = bodies.Execute (operands_of one_address columns)
-body_with operations.End columns = bodies.End (operands_of one_address columns)
+body_with operations.Equate columns = bodies.Equate (operands_of languages.Plain one_address columns)
+body_with operations.Origin columns = bodies.Origin (operands_of languages.Plain one_address columns)
+body_with operations.Execute columns = bodies.Execute (operands_of languages.Plain one_address columns)
+body_with operations.End columns = bodies.End (operands_of languages.Plain one_address columns)
 
 abbrev pub body_by : Option Operation → List ℕ → Body
 body_by None columns = bodies.Unknown
 body_by (Some operation) columns = body_with operation columns
 
--- what columns 16 to 20 and columns 21 to 72 ask for
+-- what columns 16 to 20 and columns 21 to 72 ask for in the plain language
 abbrev pub body_of : List ℕ → List ℕ → Body
 body_of operation columns = body_by (operation_of operation) columns
 
--- what a line says that is no comment
+-- what a line of the plain language says that is no comment
 abbrev pub statement_of : List ℕ → Statement
 statement_of columns =
     record {
-      label = label_in (columns_in 6 15 columns);
+      label = label_in languages.Plain (columns_in 6 15 columns);
       body = body_of (columns_in 16 20 columns) (columns_in 21 72 columns);
     }
 
@@ -123,6 +125,15 @@ is_bad_label (labels.Label label) body = not (takes_label body)
 
 abbrev pub has_bad_label : Statement → Bool
 has_bad_label this = is_bad_label this.label this.body
+
+abbrev pub is_unlabelled : LabelField → Bool
+is_unlabelled labels.Absent = true
+is_unlabelled labels.Malformed = false
+is_unlabelled (labels.Label label) = false
+
+-- no label, where a field of areas needs one
+abbrev pub lacks_field_label : Statement → Bool
+lacks_field_label this = is_unlabelled this.label && is_of_field (describe this.body).label
 
 -- a well-formed label
 abbrev pub well_formed : LabelField → Option Label

@@ -3,10 +3,11 @@ ghost use Rattle.std.specs.Prelude.{◌≡◌, ◌<◌, ◌≤◌, ◌+ℤ◌, l
 ghost use Rattle.std.specs.List.{prefix_len};
 ghost use Rattle.source_1401.specs.Numbers.{greatest_number};
 ghost use Rattle.source_1401.specs.Label.{is_digit, is_letter_or_digit};
-ghost use Rattle.source_1401.specs.Address.{begins_with_asterisk, is_adjusted, adjustment_of, index_of, base_len};
-ghost use Rattle.source_1401.specs.Address.{base_of, indexed, adjusted_by, adjusted, address_of};
+ghost use Rattle.source_1401.specs.Address.{begins_with_asterisk, is_adjusted, adjustment_of, is_no_index, index_of};
+ghost use Rattle.source_1401.specs.Address.{base_len, named_base, base_of, indexed, adjusted_by, adjusted, address_of};
 
-use crate::label::{Label, is_digit, is_letter_or_digit};
+use crate::label::{Label, is_digit, is_letter_or_digit, register_of};
+use crate::language::Language;
 use crate::numbers::short_number;
 
 /// What an address is counted from.
@@ -18,6 +19,11 @@ pub enum Base {
     Symbol(Label),
     /// An asterisk: the last place of the instruction itself.
     Here,
+    /// X1, X2 or X3, by its number, in the wider language: the units place of that index register, unless a line has
+    /// the name as its label.
+    Register(u8),
+    /// `*+X00`, of ORG in the wider language: the next place whose number ends in 00.
+    NextHundred,
 }
 
 /// An address as the source writes it.
@@ -71,9 +77,21 @@ pub(crate) fn base_len(text: &[u8]) -> usize
     }
 }
 
+/// The base that a name is, if it is one.
+fn named_base(language: Language, word: &[u8]) -> Option<Base>
+    ensures { result ≡ named_base language word.now }
+{
+    if language == Language::Ibm {
+        if let Some(number) = register_of(word) {
+            return Some(Base::Register(number));
+        }
+    }
+    Label::from_word(language, word).map(Base::Symbol)
+}
+
 /// The base that a word is, if it is one.
-fn base_of(word: &[u8]) -> Option<Base>
-    ensures { result ≡ base_of word.now }
+fn base_of(language: Language, word: &[u8]) -> Option<Base>
+    ensures { result ≡ base_of language word.now }
 {
     if word == b"*".as_slice() {
         return Some(Base::Here);
@@ -81,14 +99,24 @@ fn base_of(word: &[u8]) -> Option<Base>
     if let Some(number) = short_number(word) {
         return Some(Base::Number(number));
     }
-    Label::from_word(word).map(Base::Symbol)
+    named_base(language, word)
 }
 
-/// The index register at the end of an address: 0 if nothing is there, none if it is something else.
-fn index_of(rest: &[u8]) -> Option<u8>
-    ensures { result ≡ index_of rest.now }
+/// Whether the end of an address says that there is no index register.
+fn is_no_index(language: Language, rest: &[u8]) -> bool
+    ensures { result ≡ is_no_index language rest.now }
 {
-    if rest.is_empty() {
+    match language {
+        Language::Plain => false,
+        Language::Ibm => rest == b"+X0".as_slice(),
+    }
+}
+
+/// The index register at the end of an address: 0 if there is none, nothing if it is something else.
+fn index_of(language: Language, rest: &[u8]) -> Option<u8>
+    ensures { result ≡ index_of language rest.now }
+{
+    if rest.is_empty() || is_no_index(language, rest) {
         Some(0)
     } else if rest == b"+X1".as_slice() {
         Some(1)
@@ -102,10 +130,10 @@ fn index_of(rest: &[u8]) -> Option<u8>
 }
 
 /// An address, if what follows its base and adjustment is an index register or nothing.
-fn indexed(base: Base, adjustment: i32, rest: &[u8]) -> Option<Address>
-    ensures { result ≡ indexed base adjustment rest.now }
+fn indexed(language: Language, base: Base, adjustment: i32, rest: &[u8]) -> Option<Address>
+    ensures { result ≡ indexed language base adjustment rest.now }
 {
-    match index_of(rest) {
+    match index_of(language, rest) {
         Some(index) => Some(Address {
             base,
             adjustment,
@@ -138,34 +166,34 @@ fn adjustment_of(sign: u8, number: u32) -> i32
 }
 
 /// An address with the adjustment of a sign and the digits after it.
-fn adjusted_by(base: Base, sign: u8, text: &[u8]) -> Option<Address>
-    ensures { result ≡ adjusted_by base sign text.now }
+fn adjusted_by(language: Language, base: Base, sign: u8, text: &[u8]) -> Option<Address>
+    ensures { result ≡ adjusted_by language base sign text.now }
 {
     let (digits, rest) = text.split_at(digits_in_front(text));
     let number = short_number(digits)?;
-    indexed(base, adjustment_of(sign, number), rest)
+    indexed(language, base, adjustment_of(sign, number), rest)
 }
 
 /// An address by its base and what follows that.
-fn adjusted(base: Base, rest: &[u8]) -> Option<Address>
-    ensures { result ≡ adjusted base rest.now }
+fn adjusted(language: Language, base: Base, rest: &[u8]) -> Option<Address>
+    ensures { result ≡ adjusted language base rest.now }
 {
     if !is_adjusted(rest) {
-        return indexed(base, 0, rest);
+        return indexed(language, base, 0, rest);
     }
     match rest {
-        [sign, digits @ ..] => adjusted_by(base, *sign, digits),
+        [sign, digits @ ..] => adjusted_by(language, base, *sign, digits),
         [] => None,
     }
 }
 
 impl Address {
     /// The address that a word is, if it is one.
-    pub(crate) fn from_word(word: &[u8]) -> Option<Address>
-        ensures { result ≡ address_of word.now }
+    pub(crate) fn from_word(language: Language, word: &[u8]) -> Option<Address>
+        ensures { result ≡ address_of language word.now }
     {
         let (front, rest) = word.split_at(base_len(word));
-        let base = base_of(front)?;
-        adjusted(base, rest)
+        let base = base_of(language, front)?;
+        adjusted(language, base, rest)
     }
 }

@@ -2,22 +2,25 @@
 //!
 //! A new kind of statement is a new row. What the assembler does with a statement, it does by the columns.
 ghost use Rattle.std.specs.Prelude.{◌≡◌};
+ghost use Rattle.source_1401.specs.Description.{field_row, equate_row, origin_row, execute_row, end_row};
 ghost use Rattle.source_1401.specs.Description.{describe, operands_in};
 
 use crate::constant::Constant;
 use crate::mnemonic::Instruction;
 use crate::operands::{OperandField, Operands};
-use crate::statement::{Areas, Body, Span};
+use crate::statement::{AddressConstant, Areas, Body, Chain, SizeField, Span, SuffixField};
 
 /// Whether a statement has a label.
 #[derive(Clone, Copy, Debug, PartialEq, Eq)]
 pub enum LabelRule {
-    /// It may have one. Whether a field of areas has one is checked once it is known to be one.
+    /// It may have one.
     Optional,
     /// It must have one.
     Required,
     /// It must not.
     Forbidden,
+    /// It must have one if it is a field of areas, which the lines above it say.
+    OfField,
 }
 
 /// A place or a value that a statement has.
@@ -64,6 +67,8 @@ pub enum Next {
 pub enum AreaRole {
     /// Below it there are no fields of areas.
     Ends,
+    /// It is as a comment is: below it there are fields of areas if there are above it.
+    Keeps,
     /// It makes areas. Without a value its operands don't say them.
     Makes(Option<Areas>),
     /// It is a field of the areas above it. Without a value its operands don't say its places.
@@ -85,6 +90,10 @@ pub enum Contents {
     Space(Option<u16>),
     /// Blanks, with the word marks of areas and their fields.
     Areas(Option<Areas>),
+    /// Instructions of one character each, which are all the same one.
+    Chain(Chain),
+    /// An address, as an instruction has it.
+    AddressConstant(AddressConstant),
 }
 
 /// What the assembler asks of a statement: a row of the table.
@@ -126,6 +135,86 @@ const PLAIN: Description = Description {
     is_remark: false,
 };
 
+/// What the row of a remark says in the columns that it doesn't name.
+const REMARK: Description = Description {
+    label: LabelRule::Forbidden,
+    areas: AreaRole::Keeps,
+    is_remark: true,
+    ..PLAIN
+};
+
+/// The row of a field of areas with this rule of its label.
+fn field_row(label: LabelRule, span: Option<Span>) -> Description
+    ensures { result ≡ field_row label span }
+{
+    match span {
+        None => Description {
+            is_well_formed: false,
+            label,
+            areas: AreaRole::Divides(None),
+            ..PLAIN
+        },
+        Some(span) => Description {
+            label,
+            names: Point::InArea(span.last),
+            shows: Point::InArea(span.first),
+            areas: AreaRole::Divides(Some(span)),
+            ..PLAIN
+        },
+    }
+}
+
+/// The row of EQU, if its operands are as it asks.
+fn equate_row(operands: Operands) -> Description
+    ensures { result ≡ equate_row operands }
+{
+    Description {
+        label: LabelRule::Required,
+        names: Point::Value,
+        shows: Point::Value,
+        addressing: Addressing::EarlierValue(operands),
+        ..PLAIN
+    }
+}
+
+/// The row of ORG, if its operands are as it asks, and it may have a label.
+fn origin_row(operands: Operands) -> Description
+    ensures { result ≡ origin_row operands }
+{
+    Description {
+        shows: Point::Value,
+        addressing: Addressing::EarlierValue(operands),
+        next: Next::Value,
+        ..PLAIN
+    }
+}
+
+/// The row of EX, if its operands are as it asks.
+fn execute_row(operands: Operands) -> Description
+    ensures { result ≡ execute_row operands }
+{
+    Description {
+        label: LabelRule::Forbidden,
+        shows: Point::Value,
+        addressing: Addressing::Value(operands),
+        next: Next::Literals,
+        ..PLAIN
+    }
+}
+
+/// The row of END, if its operands are as it asks.
+fn end_row(operands: Operands) -> Description
+    ensures { result ≡ end_row operands }
+{
+    Description {
+        label: LabelRule::Forbidden,
+        shows: Point::Value,
+        addressing: Addressing::Entry(operands),
+        next: Next::Literals,
+        ..PLAIN
+    }
+}
+
 impl Body {
     /// The row of the statement.
     pub fn describe(self) -> Description
@@ -166,53 +255,75 @@ impl Body {
                 contents: Contents::Areas(areas),
                 ..PLAIN
             },
-            Body::Field(None) => Description {
-                is_well_formed: false,
-                areas: AreaRole::Divides(None),
-                ..PLAIN
-            },
-            Body::Field(Some(span)) => Description {
-                names: Point::InArea(span.last),
-                shows: Point::InArea(span.first),
-                areas: AreaRole::Divides(Some(span)),
-                ..PLAIN
-            },
+            Body::Field(span) => field_row(LabelRule::OfField, span),
+            Body::WideField(span) => field_row(LabelRule::Optional, span),
             Body::Equate(operands) => Description {
                 is_well_formed: operands.are_value(),
-                label: LabelRule::Required,
-                names: Point::Value,
-                shows: Point::Value,
-                addressing: Addressing::EarlierValue(operands),
-                ..PLAIN
+                ..equate_row(operands)
+            },
+            Body::WideEquate(operands) => Description {
+                is_well_formed: operands.are_wide_value(),
+                ..equate_row(operands)
             },
             Body::Origin(operands) => Description {
                 is_well_formed: operands.are_value(),
                 label: LabelRule::Forbidden,
-                shows: Point::Value,
-                addressing: Addressing::EarlierValue(operands),
-                next: Next::Value,
-                ..PLAIN
+                ..origin_row(operands)
+            },
+            Body::LabelledOrigin(operands) => Description {
+                is_well_formed: operands.are_wide_origin(),
+                ..origin_row(operands)
             },
             Body::Execute(operands) => Description {
                 is_well_formed: operands.are_value(),
-                label: LabelRule::Forbidden,
-                shows: Point::Value,
-                addressing: Addressing::Value(operands),
-                next: Next::Literals,
-                ..PLAIN
+                ..execute_row(operands)
+            },
+            Body::WideExecute(operands) => Description {
+                is_well_formed: operands.are_wide_value(),
+                ..execute_row(operands)
             },
             Body::End(operands) => Description {
                 is_well_formed: operands.are_value(),
-                label: LabelRule::Forbidden,
-                shows: Point::Value,
-                addressing: Addressing::Entry(operands),
-                next: Next::Literals,
-                ..PLAIN
+                ..end_row(operands)
+            },
+            Body::WideEnd(operands) => Description {
+                is_well_formed: operands.are_wide_entry(),
+                ..end_row(operands)
             },
             Body::Heading(is_well_formed) => Description {
                 is_well_formed,
+                ..REMARK
+            },
+            Body::Control(size) => Description {
+                is_well_formed: !matches!(size, SizeField::Malformed),
+                ..REMARK
+            },
+            Body::SecondControl => Description {
+                is_known: false,
+                ..REMARK
+            },
+            Body::Suffix(suffix) => Description {
+                is_well_formed: !matches!(suffix, SuffixField::Malformed),
+                ..REMARK
+            },
+            Body::Transfer(operands) => Description {
+                is_well_formed: operands.are_wide_value(),
                 label: LabelRule::Forbidden,
-                is_remark: true,
+                shows: Point::Value,
+                addressing: Addressing::Value(operands),
+                ..PLAIN
+            },
+            Body::Chain(chain) => Description {
+                is_known: chain.operation.is_some(),
+                is_well_formed: chain.count.is_some(),
+                contents: Contents::Chain(chain),
+                ..PLAIN
+            },
+            Body::AddressConstant(constant) => Description {
+                is_well_formed: constant.operands.are_one_address(),
+                names: Point::Last,
+                addressing: Addressing::Addresses(constant.operands),
+                contents: Contents::AddressConstant(constant),
                 ..PLAIN
             },
         }

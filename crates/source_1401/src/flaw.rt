@@ -1,19 +1,17 @@
 //! Which columns of a line are at fault.
 ghost use Rattle.std.specs.Prelude.{◌≡◌, ◌+◌, ◌-◌, ◌≤◌, length, drop, is_some};
-ghost use Rattle.std.specs.List.{suffix_len, prefix_len, position_or_len};
-ghost use Rattle.source_1401.specs.Flaw.{filled, first_without, foreign_column, flaw_after};
-ghost use Rattle.source_1401.specs.Flaw.{flaw_behind, operands_flaw, lone_flaw, span_flaw, value_flaw, flaw_with};
-ghost use Rattle.source_1401.specs.Flaw.{operand_flaw, first_base, second_base, operation_flaw};
-ghost use Rattle.source_1401.specs.SourceLine.{is_blank, is_graphic, is_printable, columns_of, columns_in, has_foreign_bytes};
+ghost use Rattle.std.specs.List.{suffix_len, prefix_len};
+ghost use Rattle.source_1401.specs.Flaw.{filled, first_without, foreign_column, sign_len};
+ghost use Rattle.source_1401.specs.Flaw.{first_base, second_base, operation_flaw};
+ghost use Rattle.source_1401.specs.SourceLine.{is_blank, is_graphic, is_printable, columns_of, columns_in};
+ghost use Rattle.source_1401.specs.SourceLine.{has_foreign_bytes};
 
 use crate::address::base_len;
 use crate::columns::{COLUMNS, are_blank, columns_in, columns_of, is_comment, padded};
-use crate::label::bytes_before_blank;
-use crate::mnemonic::{Form, Operation};
+use crate::mnemonic::Operation;
 use crate::nearness::{nearest_mnemonic, word_in};
-use crate::numbers::number_between;
-use crate::operands::{Operands, first_operand, is_ended, operand_len, second_operand};
-use crate::statement::ONE_ADDRESS;
+use crate::operands::operand_len;
+use crate::wide_constant::is_sign;
 use bcd_1401::Char;
 
 /// Columns of a line next to each other.
@@ -38,7 +36,7 @@ pub enum OperandFlaw {
     NoAreas,
     /// No places of a field.
     NoSpan,
-    /// An address that says no value: with an asterisk or an index register, or a literal.
+    /// An address that says no value: with an index register, or with an asterisk in the plain language, or a literal.
     NoValue,
     /// An address is missing.
     AddressMissing,
@@ -48,6 +46,20 @@ pub enum OperandFlaw {
     TooMuch,
     /// Not the name of this assembler: AUTOCODER.
     NoAssembler,
+    /// No size of core storage: a digit 1 to 6.
+    NoSize,
+    /// No suffix: one letter or digit.
+    NoSuffix,
+    /// No unit: a percent sign, a letter and a digit.
+    NoUnit,
+    /// No tape: a digit, or its unit.
+    NoTape,
+    /// No number of times, 1 to 99.
+    NoTimes,
+    /// No options of areas: G and C, each once, with a comma between them.
+    NoOptions,
+    /// A literal, where the operation takes an address alone.
+    Literal,
 }
 
 /// What is wrong with columns for an operation that hold none.
@@ -214,36 +226,8 @@ pub fn foreign_column(line: &[u8]) -> Option<u8>
     column
 }
 
-/// A flaw of the columns for operands, this many columns after the first of them.
-pub(crate) fn flaw_after(skipped: usize, length: usize, kind: OperandFlaw) -> Flaw
-    requires start { skipped ≤ 54 }
-    requires few { length ≤ 54 }
-    ensures { result ≡ flaw_after skipped length kind }
-{
-    Flaw {
-        columns: Stretch {
-            column: 21 + skipped as u8,
-            length: length as u8,
-        },
-        kind,
-    }
-}
-
-/// What is wrong after the operands that an operation has.
-fn flaw_behind(skipped: usize, rest: &[u8]) -> Flaw
-    requires start { skipped ≤ 54 }
-    requires few { length rest.now ≤ 54 }
-    ensures { result ≡ flaw_behind skipped rest.now }
-{
-    if is_ended(rest) {
-        flaw_after(skipped, 0, OperandFlaw::CharacterMissing)
-    } else {
-        flaw_after(skipped, bytes_before_blank(rest), OperandFlaw::TooMuch)
-    }
-}
-
 /// A text without its first byte.
-fn without_first(text: &[u8]) -> &[u8]
+pub(crate) fn without_first(text: &[u8]) -> &[u8]
     ensures value { result.now ≡ drop 1 text.now }
     ensures bound { length result.now ≤ length text.now }
 {
@@ -253,112 +237,27 @@ fn without_first(text: &[u8]) -> &[u8]
     }
 }
 
-/// What is wrong with the operands of this form.
-pub(crate) fn operands_flaw(form: Form, columns: &[u8]) -> Flaw
-    requires { length columns.now ≤ 52 }
-    ensures { result ≡ operands_flaw form columns.now }
+/// How many columns a sign before an address has: one, or none without a sign.
+fn sign_len(columns: &[u8]) -> usize
+    ensures value { result ≡ sign_len columns.now }
+    ensures bound { result ≤ length columns.now }
 {
-    let (a, behind_a) = first_operand(form.most, columns);
-    let (b, rest) = second_operand(form.most, behind_a);
-    let words = without_first(behind_a);
-    if a.is_malformed() {
-        return flaw_after(0, operand_len(columns), OperandFlaw::NoAddress);
-    }
-    if b.is_malformed() {
-        let skipped = columns.len().saturating_sub(words.len());
-        return flaw_after(skipped, operand_len(words), OperandFlaw::NoAddress);
-    }
-    let skipped = columns.len().saturating_sub(rest.len());
-    if a.count() + b.count() < form.least {
-        return flaw_after(skipped, 0, OperandFlaw::AddressMissing);
-    }
-    flaw_behind(skipped, rest)
-}
-
-/// What is wrong with one operand, this many columns after the first of them, or with what follows it.
-fn lone_flaw(kind: OperandFlaw, skipped: usize, columns: &[u8]) -> Flaw
-    requires { skipped + length columns.now ≤ 54 }
-    ensures { result ≡ lone_flaw kind skipped columns.now }
-{
-    let count = operand_len(columns);
-    let behind = &columns[count..];
-    if is_ended(behind) {
-        flaw_after(skipped, count, kind)
-    } else {
-        flaw_after(
-            skipped + count,
-            bytes_before_blank(behind),
-            OperandFlaw::TooMuch,
-        )
+    match columns {
+        [first, ..] if is_sign(*first) => 1,
+        _ => 0,
     }
 }
 
-/// What is wrong with the first place of a field, or with its last.
-fn span_flaw(columns: &[u8]) -> Flaw
-    requires { length columns.now ≤ 52 }
-    ensures { result ≡ span_flaw columns.now }
-{
-    let count = operand_len(columns);
-    if number_between(1, 999, &columns[..count]).is_none() {
-        return flaw_after(0, count, OperandFlaw::NoSpan);
-    }
-    lone_flaw(
-        OperandFlaw::NoSpan,
-        count + 1,
-        without_first(&columns[count..]),
-    )
-}
-
-/// What is wrong with an address that is to say a value.
-fn value_flaw(columns: &[u8]) -> Flaw
-    requires { length columns.now ≤ 52 }
-    ensures { result ≡ value_flaw columns.now }
-{
-    if Operands::from_columns(ONE_ADDRESS, columns).are_malformed() {
-        operands_flaw(ONE_ADDRESS, columns)
-    } else {
-        flaw_after(0, operand_len(columns), OperandFlaw::NoValue)
-    }
-}
-
-/// What is wrong with the operands of an operation, if something is.
-pub(crate) fn flaw_with(operation: Operation, columns: &[u8]) -> Flaw
-    requires { length columns.now ≤ 52 }
-    ensures { result ≡ flaw_with operation columns.now }
-{
-    match operation {
-        Operation::Instruction(instruction) => operands_flaw(instruction.form, columns),
-        Operation::MarkedConstant | Operation::Constant => {
-            lone_flaw(OperandFlaw::NoConstant, 0, columns)
-        },
-        Operation::Space => lone_flaw(OperandFlaw::NoCount, 0, columns),
-        Operation::Areas => lone_flaw(OperandFlaw::NoAreas, 0, columns),
-        Operation::Field => span_flaw(columns),
-        Operation::Equate | Operation::Origin | Operation::Execute | Operation::End => {
-            value_flaw(columns)
-        },
-    }
-}
-
-/// What is wrong with the operands of a line, if something is; none if its operation isn't known.
-pub fn operand_flaw(line: &[u8]) -> Option<Flaw>
-    ensures { result ≡ operand_flaw (columns_of line.now) }
-{
-    let columns = columns_of(line);
-    match Operation::from_columns(columns_in(&columns, 16, 20)) {
-        Some(operation) => Some(flaw_with(operation, columns_in(&columns, 21, 72))),
-        None => None,
-    }
-}
-
-/// The symbol or the number that the first operand of a line begins with.
+/// The symbol or the number that the first operand of a line begins with, behind the sign of a constant.
 pub fn first_base(line: &[u8]) -> Stretch
     ensures { result ≡ first_base (columns_in 21 72 (columns_of line.now)) }
 {
     let columns = columns_of(line);
+    let operands = columns_in(&columns, 21, 72);
+    let skipped = sign_len(operands);
     Stretch {
-        column: 21,
-        length: base_len(columns_in(&columns, 21, 72)) as u8,
+        column: 21 + skipped as u8,
+        length: base_len(&operands[skipped..]) as u8,
     }
 }
 

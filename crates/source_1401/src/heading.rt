@@ -1,6 +1,6 @@
 //! JOB and ENT, by which a source in the wider language is headed.
 ghost use Rattle.std.specs.Prelude.{◌≡◌};
-ghost use Rattle.source_1401.specs.Heading.{is_job, is_ent, names_autocoder, is_job_line, has_wide_foreign_bytes};
+ghost use Rattle.source_1401.specs.Heading.{is_job, names_autocoder, is_job_line, has_wide_foreign_bytes};
 ghost use Rattle.source_1401.specs.Heading.{wide_bytes_with};
 
 use crate::columns::{
@@ -10,20 +10,13 @@ use crate::nearness::word_in;
 use crate::statement::LineCheck;
 
 /// Whether the columns for an operation ask for a heading.
-pub(crate) fn is_job(operation: &[u8]) -> bool
+fn is_job(operation: &[u8]) -> bool
     ensures { result ≡ is_job operation.now }
 {
     operation == b"JOB  ".as_slice()
 }
 
-/// Whether the columns for an operation ask for an assembler.
-pub(crate) fn is_ent(operation: &[u8]) -> bool
-    ensures { result ≡ is_ent operation.now }
-{
-    operation == b"ENT  ".as_slice()
-}
-
-/// Whether the columns for operands name the assembler that there is.
+/// Whether the operand of ENT names the assembler that there is.
 pub(crate) fn names_autocoder(operands: &[u8]) -> bool
     ensures { result ≡ names_autocoder operands.now }
 {

@@ -1,16 +1,17 @@
 //! Labels.
 ghost use Rattle.std.specs.Prelude.{◌≡◌, ◌≤◌, length, slice_index};
 ghost use Rattle.std.specs.List.{position_or_len, list_all};
-ghost use Rattle.source_1401.specs.Label.{is_letter, is_digit, is_letter_or_digit, is_index_register, is_label};
+ghost use Rattle.source_1401.specs.Label.{is_letter, is_digit, is_letter_or_digit, register_of, may_be_label, is_label};
 ghost use Rattle.source_1401.specs.Label.{label_of, label_in};
 ghost use Rattle.source_1401.specs.SourceLine.{is_blank};
 
 use crate::columns::{are_blank, padded};
+use crate::language::Language;
 
 /// The most letters and digits that a label may have.
 pub const LABEL_LENGTH: usize = 6;
 
-/// A label: a letter and up to five letters or digits, but not the name of an index register.
+/// A label: a letter and up to five letters or digits; in the plain language not the name of an index register.
 #[derive(Clone, Copy, Debug, PartialEq, Eq, Hash)]
 pub struct Label {
     /// The letters and digits, filled up with blanks.
@@ -29,7 +30,7 @@ pub enum LabelField {
 }
 
 /// Whether a byte is a letter.
-fn is_letter(byte: u8) -> bool
+pub(crate) fn is_letter(byte: u8) -> bool
     ensures { result ≡ is_letter byte }
 {
     byte >= b'A' && byte <= b'Z'
@@ -49,11 +50,29 @@ pub(crate) fn is_letter_or_digit(byte: u8) -> bool
     is_letter(byte) || is_digit(byte)
 }
 
-/// Whether a word is the name of an index register.
-fn is_index_register(word: &[u8]) -> bool
-    ensures { result ≡ is_index_register word.now }
+/// The number of the index register that a word names, if it names one.
+pub(crate) fn register_of(word: &[u8]) -> Option<u8>
+    ensures { result ≡ register_of word.now }
 {
-    word == b"X1".as_slice() || word == b"X2".as_slice() || word == b"X3".as_slice()
+    if word == b"X1".as_slice() {
+        Some(1)
+    } else if word == b"X2".as_slice() {
+        Some(2)
+    } else if word == b"X3".as_slice() {
+        Some(3)
+    } else {
+        None
+    }
+}
+
+/// Whether a language lets a word be a label that has the form of one.
+fn may_be_label(language: Language, word: &[u8]) -> bool
+    ensures { result ≡ may_be_label language word.now }
+{
+    match language {
+        Language::Plain => register_of(word).is_none(),
+        Language::Ibm => true,
+    }
 }
 
 /// Whether a text begins with a letter.
@@ -74,10 +93,10 @@ fn are_letters_and_digits(text: &[u8]) -> bool
 }
 
 /// Whether a word is a label.
-fn is_label(word: &[u8]) -> bool
-    ensures { result ≡ is_label word.now }
+fn is_label(language: Language, word: &[u8]) -> bool
+    ensures { result ≡ is_label language word.now }
 {
-    if word.len() > LABEL_LENGTH || is_index_register(word) {
+    if word.len() > LABEL_LENGTH || !may_be_label(language, word) {
         return false;
     }
     begins_with_letter(word) && are_letters_and_digits(word)
@@ -85,10 +104,10 @@ fn is_label(word: &[u8]) -> bool
 
 impl Label {
     /// The label that a word is, if it is one.
-    pub(crate) fn from_word(word: &[u8]) -> Option<Label>
-        ensures { result ≡ label_of word.now }
+    pub(crate) fn from_word(language: Language, word: &[u8]) -> Option<Label>
+        ensures { result ≡ label_of language word.now }
     {
-        if is_label(word) {
+        if is_label(language, word) {
             Some(Label { text: padded(word) })
         } else {
             None
@@ -106,8 +125,8 @@ pub(crate) fn bytes_before_blank(text: &[u8]) -> usize
 
 impl LabelField {
     /// What the columns for a label say.
-    pub(crate) fn from_columns(columns: &[u8]) -> LabelField
-        ensures { result ≡ label_in columns.now }
+    pub(crate) fn from_columns(language: Language, columns: &[u8]) -> LabelField
+        ensures { result ≡ label_in language columns.now }
     {
         let (word, behind) = columns.split_at(bytes_before_blank(columns));
         if !are_blank(behind) {
@@ -116,7 +135,7 @@ impl LabelField {
         if word.is_empty() {
             return LabelField::Absent;
         }
-        match Label::from_word(word) {
+        match Label::from_word(language, word) {
             Some(label) => LabelField::Label(label),
             None => LabelField::Malformed,
         }

@@ -25,6 +25,7 @@ impl Line {
             (LineCheck::Good, None) => true,
             (LineCheck::Good, Some(statement)) => {
                 !statement.has_bad_label()
+                    && !statement.lacks_field_label()
                     && statement.body.describe().is_known
                     && !statement.has_bad_operands()
             },

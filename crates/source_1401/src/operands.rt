@@ -2,12 +2,20 @@
 ghost use Rattle.std.specs.Prelude.{◌≡◌, ◌≤◌, false, length};
 ghost use Rattle.source_1401.specs.Operands.{is_ended, operand_len, operand_in, behind_operand, lone_operand};
 ghost use Rattle.source_1401.specs.Operands.{operand_behind_comma, operand_of, field_of, first_operand, second_operand};
-ghost use Rattle.source_1401.specs.Operands.{lone_d, d_at, d_of, count_of, is_malformed, operands_of, has_malformed};
-ghost use Rattle.source_1401.specs.Operands.{is_plain, is_value};
+ghost use Rattle.source_1401.specs.Operands.{lone_d, d_at, d_of, count_of, is_malformed, operands_after, operands_of};
+ghost use Rattle.source_1401.specs.Operands.{has_malformed};
 
-use crate::address::{Address, Base};
+use crate::address::Address;
 use crate::constant::Constant;
+use crate::language::Language;
 use crate::mnemonic::{DCharacter, Form};
+
+/// An input-output unit, as it stands in an instruction: a percent sign, a letter and a digit.
+#[derive(Clone, Copy, Debug, PartialEq, Eq)]
+pub struct Unit {
+    /// The three graphics.
+    pub graphics: [u8; 3],
+}
 
 /// An operand that gives an address.
 #[derive(Clone, Copy, Debug, PartialEq, Eq)]
@@ -16,6 +24,8 @@ pub enum Operand {
     Address(Address),
     /// A literal: the address of a constant that the assembler places.
     Literal(Constant),
+    /// A unit, which stands in the place of an address, in the wider language.
+    Unit(Unit),
 }
 
 /// The place of an operand in an instruction, and what is there.
@@ -68,7 +78,7 @@ pub(crate) fn operand_len(text: &[u8]) -> usize
 }
 
 /// An operand and what follows it.
-fn split_operand(text: &[u8]) -> (&[u8], &[u8])
+pub(crate) fn split_operand(text: &[u8]) -> (&[u8], &[u8])
     ensures operand { result.0.now ≡ operand_in text.now }
     ensures behind { result.1.now ≡ behind_operand text.now }
 {
@@ -97,47 +107,47 @@ pub(crate) fn two_operands(text: &[u8]) -> (&[u8], &[u8])
 
 impl Operand {
     /// The address or the literal that a word is, if it is one.
-    fn from_word(word: &[u8]) -> Option<Operand>
-        ensures { result ≡ operand_of word.now }
+    pub(crate) fn from_word(language: Language, word: &[u8]) -> Option<Operand>
+        ensures { result ≡ operand_of language word.now }
     {
         match word {
             [b'@' | b'+' | b'-', ..] => Constant::from_word(word).map(Operand::Literal),
-            _ => Address::from_word(word).map(Operand::Address),
+            _ => Address::from_word(language, word).map(Operand::Address),
         }
     }
 }
 
 /// An operand, and what follows it.
-fn read_operand(text: &[u8]) -> (OperandField, &[u8])
-    ensures field { result.0 ≡ field_of (operand_in text.now) }
+fn read_operand(language: Language, text: &[u8]) -> (OperandField, &[u8])
+    ensures field { result.0 ≡ field_of language (operand_in text.now) }
     ensures behind { result.1.now ≡ behind_operand text.now }
 {
     let (word, behind) = split_operand(text);
-    match Operand::from_word(word) {
+    match Operand::from_word(language, word) {
         Some(operand) => (OperandField::Operand(operand), behind),
         None => (OperandField::Malformed, behind),
     }
 }
 
 /// The first address, if the operation can have one, and what follows it.
-pub(crate) fn first_operand(most: u8, text: &[u8]) -> (OperandField, &[u8])
-    ensures field { result.0 ≡ (first_operand most text.now).0 }
-    ensures behind { result.1.now ≡ (first_operand most text.now).1 }
+pub(crate) fn first_operand(language: Language, most: u8, text: &[u8]) -> (OperandField, &[u8])
+    ensures field { result.0 ≡ (first_operand language most text.now).0 }
+    ensures behind { result.1.now ≡ (first_operand language most text.now).1 }
 {
     if most == 0 || is_ended(text) {
         (OperandField::Absent, text)
     } else {
-        read_operand(text)
+        read_operand(language, text)
     }
 }
 
 /// The second address, after a comma, if the operation can have two, and what follows it.
-pub(crate) fn second_operand(most: u8, rest: &[u8]) -> (OperandField, &[u8])
-    ensures field { result.0 ≡ (second_operand most rest.now).0 }
-    ensures behind { result.1.now ≡ (second_operand most rest.now).1 }
+pub(crate) fn second_operand(language: Language, most: u8, rest: &[u8]) -> (OperandField, &[u8])
+    ensures field { result.0 ≡ (second_operand language most rest.now).0 }
+    ensures behind { result.1.now ≡ (second_operand language most rest.now).1 }
 {
     match rest {
-        [b',', more @ ..] if most > 1 => read_operand(more),
+        [b',', more @ ..] if most > 1 => read_operand(language, more),
         _ => (OperandField::Absent, rest),
     }
 }
@@ -202,11 +212,23 @@ impl OperandField {
 
 impl Operands {
     /// The operands of this form from the first column for operands on.
-    pub(crate) fn from_columns(form: Form, columns: &[u8]) -> Operands
-        ensures { result ≡ operands_of form columns.now }
+    pub(crate) fn from_columns(language: Language, form: Form, columns: &[u8]) -> Operands
+        ensures { result ≡ operands_of language form columns.now }
     {
-        let (a, rest) = first_operand(form.most, columns);
-        let (b, rest) = second_operand(form.most, rest);
+        let (a, rest) = first_operand(language, form.most, columns);
+        Operands::after_first(language, form, a, rest)
+    }
+
+    /// The operands of this form, of which the first was read, with what follows it.
+    pub(crate) fn after_first(
+        language: Language,
+        form: Form,
+        a: OperandField,
+        rest: &[u8],
+    ) -> Operands
+        ensures { result ≡ operands_after language form (a, rest.now) }
+    {
+        let (b, rest) = second_operand(language, form.most, rest);
         let (d, is_alone) = d_of(form, rest);
         Operands {
             a,
@@ -221,29 +243,5 @@ impl Operands {
         ensures { result ≡ has_malformed self }
     {
         !self.is_whole || self.a.is_malformed() || self.b.is_malformed()
-    }
-
-    /// Whether they are one address that says a value: no literal, no asterisk, no index register.
-    pub(crate) fn are_value(self) -> bool
-        ensures { result ≡ is_value self }
-    {
-        match self.a {
-            OperandField::Operand(operand) => self.is_whole && operand.is_plain(),
-            OperandField::Absent | OperandField::Malformed => false,
-        }
-    }
-}
-
-impl Operand {
-    /// Whether it is an address without an asterisk and an index register.
-    fn is_plain(self) -> bool
-        ensures { result ≡ is_plain self }
-    {
-        match self {
-            Operand::Address(Address { base, index, .. }) => {
-                index == 0 && !matches!(base, Base::Here)
-            },
-            Operand::Literal(_) => false,
-        }
     }
 }

@@ -2,15 +2,18 @@
 ghost use Rattle.std.specs.Prelude.{◌≡◌, ◌≤◌, length};
 ghost use Rattle.std.specs.List.{position_or_len};
 ghost use Rattle.source_1401.specs.Numbers.{number_between};
-ghost use Rattle.source_1401.specs.Statement.{most_places};
+ghost use Rattle.source_1401.specs.Operands.{operands_of};
+ghost use Rattle.source_1401.specs.Statement.{most_places, one_address};
 ghost use Rattle.source_1401.specs.Statement.{is_x, areas_of, span_of, body_with, body_of, statement_of, bytes_with};
 ghost use Rattle.source_1401.specs.Statement.{line_with, line_of, has_bad_operands, has_bad_label};
+ghost use Rattle.source_1401.specs.Statement.{lacks_field_label};
 ghost use Rattle.source_1401.specs.Statement.{label_of_line, is_end};
 
 use crate::columns::{COLUMNS, columns_in, columns_of, has_foreign_bytes, is_comment};
 use crate::constant::Constant;
 use crate::description::{Addressing, LabelRule};
 use crate::label::{Label, LabelField};
+use crate::language::Language;
 use crate::mnemonic::{DCharacter, Form, Instruction, Operation};
 use crate::numbers::number_between;
 use crate::operands::{Operands, lone_operand, two_operands};
@@ -22,6 +25,8 @@ pub struct Areas {
     pub count: u8,
     /// How many places each has, 1 to 999.
     pub length: u16,
+    /// Whether a group mark with a word mark stands behind the last, in the wider language.
+    pub has_group_mark: bool,
 }
 
 /// The places of a field in each area.
@@ -31,6 +36,50 @@ pub struct Span {
     pub first: u16,
     /// The last, no less than the first, and at most 999.
     pub last: u16,
+    /// Whether the first has a word mark.
+    pub is_marked: bool,
+}
+
+/// DSA, or DCW or DC of an address, in the wider language: a constant of three places.
+#[derive(Clone, Copy, Debug, PartialEq, Eq)]
+pub struct AddressConstant {
+    /// Whether there is a word mark at its high place.
+    pub is_marked: bool,
+    /// Whether the address has a minus sign in front.
+    pub is_negative: bool,
+    /// The address, as the only operand.
+    pub operands: Operands,
+}
+
+/// What CTL says of the machine that a program is for.
+#[derive(Clone, Copy, Debug, PartialEq, Eq)]
+pub enum SizeField {
+    /// Nothing.
+    Absent,
+    /// Something that is no size.
+    Malformed,
+    /// The size of its core storage, one of 1,400 to 16,000 places.
+    Size(u16),
+}
+
+/// What SFX makes of the symbols below it.
+#[derive(Clone, Copy, Debug, PartialEq, Eq)]
+pub enum SuffixField {
+    /// They have no suffix.
+    Absent,
+    /// Something that is no suffix: they go on as above it.
+    Malformed,
+    /// Those of fewer than six characters have this one, a letter or a digit.
+    Suffix(u8),
+}
+
+/// CHAIN: an operation, time and again.
+#[derive(Clone, Copy, Debug, PartialEq, Eq)]
+pub struct Chain {
+    /// The graphic of the operation character of the instruction above it, if there is one.
+    pub operation: Option<u8>,
+    /// How many times, 1 to 99, if its operand says it.
+    pub count: Option<u8>,
 }
 
 /// What a line asks for; without a value if its operands don't say one.
@@ -61,6 +110,28 @@ pub enum Body {
     /// JOB, or ENT with the assembler's name, in the wider language: it is listed, and does nothing. Whether its
     /// operand is as it asks.
     Heading(bool),
+    /// CTL, in the wider language: the size of core storage.
+    Control(SizeField),
+    /// A second CTL, which isn't known as an operation.
+    SecondControl,
+    /// SFX, in the wider language: the suffix of the symbols below it.
+    Suffix(SuffixField),
+    /// XFR, in the wider language: the program that was loaded so far would be entered here, and nothing is placed.
+    Transfer(Operands),
+    /// CHAIN, in the wider language: the operation above it, time and again.
+    Chain(Chain),
+    /// DSA, DCW and DC of an address, in the wider language.
+    AddressConstant(AddressConstant),
+    /// ORG, in the wider language: the next place, which it may give a label before.
+    LabelledOrigin(Operands),
+    /// A field of areas, in the wider language: with a label or without.
+    WideField(Option<Span>),
+    /// EQU, in the wider language: the value may be counted from an asterisk.
+    WideEquate(Operands),
+    /// EX, in the wider language, likewise.
+    WideExecute(Operands),
+    /// END, in the wider language, likewise, or without an address: the program begins at its first instruction.
+    WideEnd(Operands),
 }
 
 /// A label, and what a line asks for.
@@ -100,7 +171,7 @@ pub(crate) const ONE_ADDRESS: Form = Form {
 };
 
 /// How many places there can be in an area.
-const AREA_LENGTH: u32 = 999;
+pub(crate) const AREA_LENGTH: u32 = 999;
 
 /// How many bytes of a text stand before its first X.
 fn bytes_before_x(text: &[u8]) -> usize
@@ -111,7 +182,7 @@ fn bytes_before_x(text: &[u8]) -> usize
 }
 
 /// The areas that a word asks for: their number, an X, and their length.
-fn areas_of(word: &[u8]) -> Option<Areas>
+pub(crate) fn areas_of(word: &[u8]) -> Option<Areas>
     ensures { result ≡ areas_of word.now }
 {
     let (count, behind) = word.split_at(bytes_before_x(word));
@@ -120,11 +191,12 @@ fn areas_of(word: &[u8]) -> Option<Areas>
     Some(Areas {
         count: count as u8,
         length: length as u16,
+        has_group_mark: false,
     })
 }
 
 /// The span that two operands ask for: its first place, and its last.
-fn span_of(columns: &[u8]) -> Option<Span>
+pub(crate) fn span_of(columns: &[u8]) -> Option<Span>
     ensures { result ≡ span_of columns.now }
 {
     let (first, last) = two_operands(columns);
@@ -133,11 +205,12 @@ fn span_of(columns: &[u8]) -> Option<Span>
     Some(Span {
         first: first as u16,
         last: last as u16,
+        is_marked: true,
     })
 }
 
 /// How many places a word asks for.
-fn space_of(word: &[u8]) -> Option<u16>
+pub(crate) fn space_of(word: &[u8]) -> Option<u16>
     ensures { result ≡ number_between 1 most_places word.now }
 {
     match number_between(1, 15_999, word) {
@@ -146,15 +219,24 @@ fn space_of(word: &[u8]) -> Option<u16>
     }
 }
 
+impl Operands {
+    /// One address, without a d-character.
+    pub(crate) fn one_address(language: Language, columns: &[u8]) -> Operands
+        ensures { result ≡ operands_of language one_address columns.now }
+    {
+        Operands::from_columns(language, ONE_ADDRESS, columns)
+    }
+}
+
 impl Body {
-    /// What an operation with these columns for its operands asks for.
+    /// What an operation with these columns for its operands asks for in the plain language.
     fn with_operation(operation: Operation, columns: &[u8]) -> Body
         ensures { result ≡ body_with operation columns.now }
     {
         match operation {
             Operation::Instruction(instruction) => Body::Instruction(
                 instruction,
-                Operands::from_columns(instruction.form, columns),
+                Operands::from_columns(Language::Plain, instruction.form, columns),
             ),
             Operation::MarkedConstant => {
                 Body::MarkedConstant(Constant::from_word(lone_operand(columns)))
@@ -163,15 +245,15 @@ impl Body {
             Operation::Space => Body::Space(space_of(lone_operand(columns))),
             Operation::Areas => Body::Areas(areas_of(lone_operand(columns))),
             Operation::Field => Body::Field(span_of(columns)),
-            Operation::Equate => Body::Equate(Operands::from_columns(ONE_ADDRESS, columns)),
-            Operation::Origin => Body::Origin(Operands::from_columns(ONE_ADDRESS, columns)),
-            Operation::Execute => Body::Execute(Operands::from_columns(ONE_ADDRESS, columns)),
-            Operation::End => Body::End(Operands::from_columns(ONE_ADDRESS, columns)),
+            Operation::Equate => Body::Equate(Operands::one_address(Language::Plain, columns)),
+            Operation::Origin => Body::Origin(Operands::one_address(Language::Plain, columns)),
+            Operation::Execute => Body::Execute(Operands::one_address(Language::Plain, columns)),
+            Operation::End => Body::End(Operands::one_address(Language::Plain, columns)),
         }
     }
 
-    /// What the columns for an operation and those for its operands ask for.
-    pub(crate) fn from_columns(operation: &[u8], operands: &[u8]) -> Body
+    /// What the columns for an operation and those for its operands ask for in the plain language.
+    fn from_columns(operation: &[u8], operands: &[u8]) -> Body
         ensures { result ≡ body_of operation.now operands.now }
     {
         match Operation::from_columns(operation) {
@@ -182,18 +264,18 @@ impl Body {
 }
 
 impl Statement {
-    /// What the columns of a line say that is no comment.
+    /// What the columns of a line of the plain language say that is no comment.
     fn from_columns(columns: &[u8; COLUMNS]) -> Statement
         ensures { result ≡ statement_of columns.now }
     {
         Statement {
-            label: LabelField::from_columns(columns_in(columns, 6, 15)),
+            label: LabelField::from_columns(Language::Plain, columns_in(columns, 6, 15)),
             body: Body::from_columns(columns_in(columns, 16, 20), columns_in(columns, 21, 72)),
         }
     }
 
-    /// Whether the columns for a label hold something else, or EQU has no label, or ORG, EX or END has one. Whether a
-    /// field of areas has a label is checked once it is known to be one.
+    /// Whether the columns for a label hold something else, or EQU has no label, or a statement that takes none, as EX,
+    /// has one. Whether a field of areas has a label is checked once it is known to be one.
     pub fn has_bad_label(self) -> bool
         ensures { result ≡ has_bad_label self }
     {
@@ -201,9 +283,22 @@ impl Statement {
             (LabelField::Malformed, _)
             | (LabelField::Absent, LabelRule::Required)
             | (LabelField::Label(_), LabelRule::Forbidden) => true,
-            (LabelField::Absent, LabelRule::Optional | LabelRule::Forbidden)
-            | (LabelField::Label(_), LabelRule::Optional | LabelRule::Required) => false,
+            (LabelField::Absent, LabelRule::Optional | LabelRule::Forbidden | LabelRule::OfField)
+            | (
+                LabelField::Label(_),
+                LabelRule::Optional | LabelRule::Required | LabelRule::OfField,
+            ) => false,
         }
+    }
+
+    /// Whether there is no label, and yet it needs one if it is a field of areas.
+    pub fn lacks_field_label(self) -> bool
+        ensures { result ≡ lacks_field_label self }
+    {
+        matches!(
+            (self.label, self.body.describe().label),
+            (LabelField::Absent, LabelRule::OfField)
+        )
     }
 
     /// Whether the operands aren't as the operation asks. Whether a field lies in its area is checked once the area

@@ -1,16 +1,42 @@
-//! The mnemonics of instructions in the wider language.
-ghost use Rattle.std.specs.Prelude.{◌≡◌};
+//! The mnemonics of the wider language.
+ghost use Rattle.std.specs.Prelude.{◌≡◌, find};
+ghost use Rattle.std.specs.Str.{bytes_eq};
 ghost use Rattle.std.specs.Option.{option_map};
-ghost use Rattle.source_1401.specs.WideMnemonic.{wide_instructions, wide_row_of, form_in, form_among, form_by};
+ghost use Rattle.source_1401.specs.WideMnemonic.{AWideOwnRow, wide_instructions, wide_operations, wide_row_of};
+ghost use Rattle.source_1401.specs.WideMnemonic.{wide_operation_of, form_in, form_among, form_by};
 
-use crate::mnemonic::{DCharacter, Form};
+use crate::mnemonic::DCharacter::{self, Fixed};
+use crate::mnemonic::Form;
 use crate::operands::Operands;
+use crate::units::FirstOperand::{self, Address, Tape, Unit, UnitOrAddress};
+
+/// What columns 16 to 20 of a line ask for of the assembler itself, beside what they ask for in the plain language.
+#[derive(Clone, Copy, Debug, PartialEq, Eq)]
+pub enum WideOperation {
+    /// JOB: a heading.
+    Heading,
+    /// ENT: the name of an assembler.
+    Assembler,
+    /// CTL: the size of core storage.
+    Control,
+    /// SFX: the suffix of symbols.
+    Suffix,
+    /// XFR: a program that was loaded so far would be entered.
+    Transfer,
+    /// CHAIN: an operation, time and again.
+    Chain,
+    /// DSA: an address as a constant.
+    Address,
+}
 
 /// A form in the table: how many addresses the source writes at least and at most, and the d-character.
 pub(crate) type FormRow = (u8, u8, DCharacter);
 
 /// A row of the table.
-pub(crate) type WideRow = ([u8; 5], u8, FormRow, Option<FormRow>);
+pub(crate) type WideRow = ([u8; 5], u8, FirstOperand, FormRow, Option<FormRow>);
+
+/// A row of the table of the assembler's own operations.
+pub(crate) type WideOwnRow = ([u8; 5], WideOperation);
 
 /// No address, one or two.
 const TO_TWO: FormRow = (0, 2, DCharacter::Never);
@@ -27,46 +53,68 @@ const D_ALONE: FormRow = (0, 0, DCharacter::Required);
 /// Nothing.
 const ALONE: FormRow = (0, 0, DCharacter::Never);
 
+/// A tape.
+const TAPE: FirstOperand = Tape(b'U');
+
+/// A tape that is read or written in binary.
+const BINARY_TAPE: FirstOperand = Tape(b'B');
+
 /// The mnemonics that the plain language hasn't, or of which it has fewer forms: the columns 16 to 20, the graphic
-/// of the operation character, the form that is tried first, and the one that is tried after it.
-static WIDE_INSTRUCTIONS: [WideRow; 32] = [
-    (*b"MLC  ", b'M', TO_TWO, Some(TWO_AND_D)),
-    (*b"MCW  ", b'M', TO_TWO, Some(TWO_AND_D)),
-    (*b"LCA  ", b'L', TO_TWO, Some(TWO_AND_D)),
-    (*b"MLCWA", b'L', TO_TWO, Some(TWO_AND_D)),
-    (*b"MLNS ", b'D', TO_TWO, None),
-    (*b"MLZS ", b'Y', TO_TWO, None),
+/// of the operation character, what the first operand is, the form that is tried first, and the one that is tried
+/// after it.
+static WIDE_INSTRUCTIONS: [WideRow; 46] = [
+    (*b"MLC  ", b'M', UnitOrAddress, TO_TWO, Some(TWO_AND_D)),
+    (*b"MCW  ", b'M', UnitOrAddress, TO_TWO, Some(TWO_AND_D)),
+    (*b"LCA  ", b'L', UnitOrAddress, TO_TWO, Some(TWO_AND_D)),
+    (*b"MLCWA", b'L', UnitOrAddress, TO_TWO, Some(TWO_AND_D)),
+    (*b"MLNS ", b'D', Address, TO_TWO, None),
+    (*b"MLZS ", b'Y', Address, TO_TWO, None),
     (
         *b"B    ",
         b'B',
+        Address,
         (1, 1, DCharacter::Optional),
         Some(TWO_AND_D),
     ),
-    (*b"BCE  ", b'B', TWO_AND_D, Some(ALONE)),
-    (*b"BWZ  ", b'V', TWO_AND_D, Some(ALONE)),
-    (*b"BBE  ", b'W', TWO_AND_D, Some(ALONE)),
-    (*b"BM   ", b'V', (2, 2, DCharacter::Fixed(b'K')), None),
-    (*b"BIN  ", b'B', ONE_AND_D, None),
-    (*b"BEF  ", b'B', (1, 1, DCharacter::Fixed(b'K')), None),
-    (*b"BER  ", b'B', (1, 1, DCharacter::Fixed(b'L')), None),
-    (*b"BPB  ", b'B', (1, 1, DCharacter::Fixed(b'P')), None),
-    (*b"BPCB ", b'B', (1, 1, DCharacter::Fixed(b'R')), None),
-    (*b"CC   ", b'F', D_ALONE, Some(ONE_AND_D)),
-    (*b"SS   ", b'K', D_ALONE, Some(ONE_AND_D)),
-    (*b"CCB  ", b'F', ONE_AND_D, None),
-    (*b"SSB  ", b'K', ONE_AND_D, None),
-    (*b"NOP  ", b'N', TO_TWO, Some(TWO_AND_D)),
-    (*b"H    ", b'.', TO_TWO, None),
-    (*b"SAR  ", b'Q', (1, 2, DCharacter::Never), None),
-    (*b"SBR  ", b'H', (1, 2, DCharacter::Never), None),
-    (*b"M    ", b'@', TO_TWO, None),
-    (*b"D    ", b'%', TO_TWO, None),
-    (*b"MA   ", b'#', TO_TWO, None),
-    (*b"MIZ  ", b'X', TO_TWO, None),
-    (*b"MCM  ", b'P', TO_TWO, None),
-    (*b"MRCM ", b'P', TO_TWO, None),
-    (*b"SRF  ", b'8', (0, 1, DCharacter::Never), None),
-    (*b"SPF  ", b'9', (0, 1, DCharacter::Never), None),
+    (*b"BCE  ", b'B', Address, TWO_AND_D, Some(ALONE)),
+    (*b"BWZ  ", b'V', Address, TWO_AND_D, Some(ALONE)),
+    (*b"BBE  ", b'W', Address, TWO_AND_D, Some(ALONE)),
+    (*b"BM   ", b'V', Address, (2, 2, Fixed(b'K')), None),
+    (*b"BIN  ", b'B', Address, ONE_AND_D, None),
+    (*b"BEF  ", b'B', Address, (1, 1, Fixed(b'K')), None),
+    (*b"BER  ", b'B', Address, (1, 1, Fixed(b'L')), None),
+    (*b"BPB  ", b'B', Address, (1, 1, Fixed(b'P')), None),
+    (*b"BPCB ", b'B', Address, (1, 1, Fixed(b'R')), None),
+    (*b"CC   ", b'F', Address, D_ALONE, Some(ONE_AND_D)),
+    (*b"SS   ", b'K', Address, D_ALONE, Some(ONE_AND_D)),
+    (*b"CCB  ", b'F', Address, ONE_AND_D, None),
+    (*b"SSB  ", b'K', Address, ONE_AND_D, None),
+    (*b"NOP  ", b'N', Address, TO_TWO, Some(TWO_AND_D)),
+    (*b"H    ", b'.', Address, TO_TWO, None),
+    (*b"SAR  ", b'Q', Address, (1, 2, DCharacter::Never), None),
+    (*b"SBR  ", b'H', Address, (1, 2, DCharacter::Never), None),
+    (*b"M    ", b'@', Address, TO_TWO, None),
+    (*b"D    ", b'%', Address, TO_TWO, None),
+    (*b"MA   ", b'#', Address, TO_TWO, None),
+    (*b"MIZ  ", b'X', Address, TO_TWO, None),
+    (*b"MCM  ", b'P', Address, TO_TWO, None),
+    (*b"MRCM ", b'P', Address, TO_TWO, None),
+    (*b"SRF  ", b'8', Address, (0, 1, DCharacter::Never), None),
+    (*b"SPF  ", b'9', Address, (0, 1, DCharacter::Never), None),
+    (*b"MU   ", b'M', Unit, TWO_AND_D, None),
+    (*b"LU   ", b'L', Unit, TWO_AND_D, None),
+    (*b"CU   ", b'U', Unit, ONE_AND_D, None),
+    (*b"RT   ", b'M', TAPE, (2, 2, Fixed(b'R')), None),
+    (*b"WT   ", b'M', TAPE, (2, 2, Fixed(b'W')), None),
+    (*b"RTW  ", b'L', TAPE, (2, 2, Fixed(b'R')), None),
+    (*b"WTW  ", b'L', TAPE, (2, 2, Fixed(b'W')), None),
+    (*b"RTB  ", b'M', BINARY_TAPE, (2, 2, Fixed(b'R')), None),
+    (*b"WTB  ", b'M', BINARY_TAPE, (2, 2, Fixed(b'W')), None),
+    (*b"BSP  ", b'U', TAPE, (1, 1, Fixed(b'B')), None),
+    (*b"SKP  ", b'U', TAPE, (1, 1, Fixed(b'E')), None),
+    (*b"RWD  ", b'U', TAPE, (1, 1, Fixed(b'R')), None),
+    (*b"RWU  ", b'U', TAPE, (1, 1, Fixed(b'U')), None),
+    (*b"WTM  ", b'U', TAPE, (1, 1, Fixed(b'M')), None),
 ];
 
 /// The table of the wider language.
@@ -75,6 +123,42 @@ pub(crate) fn wide_instructions() -> &'static [WideRow]
     ensures { result.now ≡ wide_instructions }
 {
     &WIDE_INSTRUCTIONS
+}
+
+/// The mnemonics of the assembler's own operations that the plain language hasn't.
+static WIDE_OPERATIONS: [WideOwnRow; 7] = [
+    (*b"JOB  ", WideOperation::Heading),
+    (*b"ENT  ", WideOperation::Assembler),
+    (*b"CTL  ", WideOperation::Control),
+    (*b"SFX  ", WideOperation::Suffix),
+    (*b"XFR  ", WideOperation::Transfer),
+    (*b"CHAIN", WideOperation::Chain),
+    (*b"DSA  ", WideOperation::Address),
+];
+
+/// The table of the assembler's own operations that the plain language hasn't.
+#[tactic(auto, unfolding(crate::specs::WideMnemonic::wide_operations))]
+pub(crate) fn wide_operations() -> &'static [WideOwnRow]
+    ensures { result.now ≡ wide_operations }
+{
+    &WIDE_OPERATIONS
+}
+
+/// The row of these columns among the assembler's own operations.
+fn wide_own_row_of(rows: &[WideOwnRow], columns: &[u8]) -> Option<WideOwnRow>
+    ensures { result ≡ find (λ (row : AWideOwnRow). bytes_eq row.0 columns.now) rows.now }
+{
+    rows.iter().copied().find(|row| row.0.as_slice() == columns)
+}
+
+/// What the columns ask for of the assembler itself, beside what they ask for in the plain language.
+pub(crate) fn wide_operation_of(columns: &[u8]) -> Option<WideOperation>
+    ensures { result ≡ wide_operation_of columns.now }
+{
+    match wide_own_row_of(wide_operations(), columns) {
+        Some((_, operation)) => Some(operation),
+        None => None,
+    }
 }
 
 /// The row of these columns.
@@ -96,16 +180,18 @@ fn form_in(row: FormRow) -> Form
 }
 
 /// The form by which operands are read: the first that they fit, or else the one with more addresses.
-fn form_among(first: Form, second: Option<Form>, columns: &[u8]) -> Form
-    ensures { result ≡ form_among first second columns.now }
+fn form_among(operand: FirstOperand, first: Form, second: Option<Form>, columns: &[u8]) -> Form
+    ensures { result ≡ form_among operand first second columns.now }
 {
     let Some(second) = second else {
         return first;
     };
-    if !Operands::from_columns(first, columns).are_malformed() {
+    if !Operands::from_wide_columns(operand, first, columns).are_malformed() {
         return first;
     }
-    if Operands::from_columns(second, columns).are_malformed() && second.most < first.most {
+    if Operands::from_wide_columns(operand, second, columns).are_malformed()
+        && second.most < first.most
+    {
         first
     } else {
         second
@@ -116,9 +202,9 @@ fn form_among(first: Form, second: Option<Form>, columns: &[u8]) -> Form
 pub(crate) fn form_by(row: WideRow, columns: &[u8]) -> Form
     ensures { result ≡ form_by row columns.now }
 {
-    let second = match row.3 {
+    let second = match row.4 {
         Some(form) => Some(form_in(form)),
         None => None,
     };
-    form_among(form_in(row.2), second, columns)
+    form_among(row.2, form_in(row.3), second, columns)
 }

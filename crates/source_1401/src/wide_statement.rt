@@ -1,14 +1,18 @@
 //! What the columns of a line say in the wider language.
 ghost use Rattle.std.specs.Prelude.{◌≡◌};
-ghost use Rattle.source_1401.specs.WideStatement.{wide_instruction, wide_body_of, wide_statement_of, wide_line_with};
+ghost use Rattle.source_1401.specs.WideStatement.{wide_instruction, wide_body_with, wide_body_of, wide_statement_of};
+ghost use Rattle.source_1401.specs.WideStatement.{wide_line_with};
 
 use crate::columns::{COLUMNS, columns_in, is_comment};
-use crate::heading::{is_ent, is_job, names_autocoder};
+use crate::heading::names_autocoder;
 use crate::label::LabelField;
+use crate::language::Language;
 use crate::mnemonic::Instruction;
 use crate::operands::Operands;
-use crate::statement::{Body, Line, LineCheck, Statement};
-use crate::wide_mnemonic::{WideRow, form_by, wide_row_of};
+use crate::statement::{
+    AddressConstant, Body, Chain, Line, LineCheck, SizeField, Statement, SuffixField,
+};
+use crate::wide_mnemonic::{WideOperation, WideRow, form_by, wide_operation_of, wide_row_of};
 
 impl Body {
     /// The instruction of a row of the wider table.
@@ -21,23 +25,38 @@ impl Body {
                 operation: row.1,
                 form,
             },
-            Operands::from_columns(form, columns),
+            Operands::from_wide_columns(row.2, form, columns),
         )
+    }
+
+    /// What an operation of the assembler itself with these columns for its operands asks for.
+    fn with_wide_operation(operation: WideOperation, columns: &[u8]) -> Body
+        ensures { result ≡ wide_body_with operation columns.now }
+    {
+        match operation {
+            WideOperation::Heading => Body::Heading(true),
+            WideOperation::Assembler => Body::Heading(names_autocoder(columns)),
+            WideOperation::Control => Body::Control(SizeField::from_columns(columns)),
+            WideOperation::Suffix => Body::Suffix(SuffixField::from_columns(columns)),
+            WideOperation::Transfer => Body::Transfer(Operands::one_address(
+                Language::Ibm,
+                columns,
+            )),
+            WideOperation::Chain => Body::Chain(Chain::from_columns(columns)),
+            WideOperation::Address => Body::AddressConstant(AddressConstant::from_columns(columns)),
+        }
     }
 
     /// What the columns for an operation and those for its operands ask for.
     fn from_wide_columns(operation: &[u8], operands: &[u8]) -> Body
         ensures { result ≡ wide_body_of operation.now operands.now }
     {
-        if is_job(operation) {
-            return Body::Heading(true);
-        }
-        if is_ent(operation) {
-            return Body::Heading(names_autocoder(operands));
+        if let Some(known) = wide_operation_of(operation) {
+            return Body::with_wide_operation(known, operands);
         }
         match wide_row_of(operation) {
             Some(row) => Body::wide_instruction(row, operands),
-            None => Body::from_columns(operation, operands),
+            None => Body::from_shared_columns(operation, operands),
         }
     }
 }
@@ -48,7 +67,7 @@ impl Statement {
         ensures { result ≡ wide_statement_of columns.now }
     {
         Statement {
-            label: LabelField::from_columns(columns_in(columns, 6, 15)),
+            label: LabelField::from_columns(Language::Ibm, columns_in(columns, 6, 15)),
             body: Body::from_wide_columns(columns_in(columns, 16, 20), columns_in(columns, 21, 72)),
         }
     }

@@ -1,0 +1,153 @@
+-- What operations of both languages ask for in the wider one, computed.
+use Rattle.std.proofs.Common.{◌≡◌, ℕ, true, false, List, [], ◌∷◌, ◌++◌, map, replicate, Some, None, pos, refl}
+use Rattle.std.specs.Prelude.{Bool, Option, codes}
+use Rattle.source_1401.specs.Constant.{text_of}
+use Rattle.source_1401.specs.Mnemonic.{instructions, assembler_operations}
+use Rattle.source_1401.specs.Operands.{field_of}
+use Rattle.source_1401.specs.Statement.{has_bad_operands}
+use Rattle.source_1401.specs.WideMnemonic.{wide_instructions, wide_operations}
+use Rattle.source_1401.specs.WideStatement.{wide_body_of}
+use Rattle.source_1401.specs.declared.address.Base.TheVariants as bases
+use Rattle.source_1401.specs.declared.constant.Constant.TheVariants as constants
+use Rattle.source_1401.specs.declared.language.Language.TheVariants.{Ibm}
+use Rattle.source_1401.specs.declared.operands.Operand.TheVariants as operands
+use Rattle.source_1401.specs.declared.operands.OperandField.{OperandField}
+use Rattle.source_1401.specs.declared.operands.OperandField.TheVariants as fields
+use Rattle.source_1401.specs.declared.operands.Operands.{Operands}
+use Rattle.source_1401.specs.declared.statement.Areas.{Areas}
+use Rattle.source_1401.specs.declared.statement.Body.{Body}
+use Rattle.source_1401.specs.declared.statement.Body.TheVariants as bodies
+use Rattle.source_1401.specs.declared.statement.Span.{Span}
+
+-- what columns for an operation and for its operands ask for
+asks : List ℕ → List ℕ → Body
+unfolding instructions assembler_operations wide_instructions wide_operations
+asks operation operands = wide_body_of operation operands
+
+-- whether the operands of an operation aren't as it asks
+bad : List ℕ → List ℕ → Bool
+unfolding asks
+bad operation columns = has_bad_operands (asks operation columns)
+
+-- the address or literal that a word is
+abbrev the : List ℕ → OperandField
+the word = field_of Ibm word
+
+-- one operand, and nothing else or something
+abbrev one : OperandField → Bool → Operands
+one operand is_whole = record { a = operand; b = fields.Absent; d = None; is_whole = is_whole }
+
+abbrev address_constant : Bool → Bool → Operands → Body
+address_constant is_marked is_negative of =
+    bodies.AddressConstant (record { is_marked = is_marked; is_negative = is_negative; operands = of })
+
+addresses_are_constants : map (asks (codes "DSA  ")) (codes "TAB+X3 " ∷ codes "*" ∷ codes "500 and a remark"
+    ∷ codes "X1+5 " ∷ codes "UNDEF,1 " ∷ codes "+5 " ∷ [])
+    ≡ map (address_constant true false) (one (the (codes "TAB+X3")) true ∷ one (the (codes "*")) true
+    ∷ one (the (codes "500")) true ∷ one (the (codes "X1+5")) true ∷ one (the (codes "UNDEF")) false
+    ∷ one (the (codes "+5")) true ∷ [])
+unfolding asks
+addresses_are_constants = refl
+
+a_sign_before_a_symbol : asks (codes "DC   ") (codes "-TAB ") ∷ asks (codes "DCW  ") (codes "+TAG-2+X1 ")
+    ∷ asks (codes "DCW  ") (codes "+X1+X2 ") ∷ asks (codes "DCW  ") (codes "-TAG,1 ") ∷ []
+    ≡ address_constant false true (one (the (codes "TAB")) true)
+    ∷ address_constant true false (one (the (codes "TAG-2+X1")) true)
+    ∷ address_constant true false (one (the (codes "X1+X2")) true)
+    ∷ address_constant true true (one (the (codes "TAG")) false) ∷ []
+unfolding asks
+a_sign_before_a_symbol = refl
+
+-- digits behind a sign are what they are in the plain language
+other_constants_stay : map (asks (codes "DCW  ")) (codes "+5 " ∷ codes "-12345678901234567890 " ∷ codes "+TAG+X4 "
+    ∷ codes "+5+X1 " ∷ codes "-*" ∷ codes "TAG " ∷ codes "+@A@ " ∷ codes "5,6 " ∷ [])
+    ≡ map bodies.MarkedConstant (Some (constants.Plus (text_of (codes "5")))
+    ∷ Some (constants.Minus (text_of (codes "12345678901234567890"))) ∷ replicate 6 None)
+unfolding asks
+other_constants_stay = refl
+
+not_one_address : map (bad (codes "DSA  ")) (codes "+5 " ∷ codes "@A@ " ∷ codes "TAB,1 " ∷ codes "%U1 "
+    ∷ codes "*+X00 " ∷ codes " TAB" ∷ [])
+    ≡ replicate 6 true
+unfolding bad
+not_one_address = refl
+
+abbrev next_hundred : OperandField
+next_hundred = fields.Operand (operands.Address (record { base = bases.NextHundred; adjustment = pos 0; index = 0 }))
+
+abbrev here : OperandField
+here = fields.Operand (operands.Address (record { base = bases.Here; adjustment = pos 20; index = 0 }))
+
+the_next_place : map (asks (codes "ORG  ")) (codes "*+X00 " ∷ codes "*+20" ∷ codes "X1 " ∷ codes "*+X00,5 " ∷ [])
+    ≡ map bodies.LabelledOrigin (one next_hundred true ∷ one here true ∷ one (the (codes "X1")) true
+    ∷ one next_hundred false ∷ [])
+unfolding asks
+the_next_place = refl
+
+no_next_place : map (bad (codes "ORG  ")) (codes "*+X1 " ∷ codes "*+X00+5 " ∷ codes "*+X00,5 "
+    ∷ codes "TAB+X00 " ∷ codes "+5 " ∷ codes " *" ∷ codes "TAB+X2 " ∷ [])
+    ≡ replicate 7 true
+unfolding bad
+no_next_place = refl
+
+-- an asterisk says a value, but the next hundred is for ORG alone
+values : List Bool
+unfolding bad
+values = bad (codes "EQU  ") (codes "*+1 ") ∷ bad (codes "EX   ") (codes "* ") ∷ bad (codes "XFR  ") (codes "*-3 ")
+    ∷ bad (codes "END  ") (codes "* ") ∷ bad (codes "ORG  ") (codes "* ") ∷ bad (codes "ORG  ") (codes "*+X00 ") ∷ []
+
+no_values : List Bool
+unfolding bad
+no_values = bad (codes "EQU  ") (codes "*+X00 ") ∷ bad (codes "EX   ") (codes "*+X00 ")
+    ∷ bad (codes "XFR  ") (codes "*+X00 ") ∷ bad (codes "END  ") (codes "*+X00 ")
+    ∷ bad (codes "EQU  ") (codes "TAB+X2 ")
+    ∷ bad (codes "EX   ") (codes "5+X1 ") ∷ bad (codes "XFR  ") (codes "*+X3 ") ∷ bad (codes "END  ") (codes "*+X1 ")
+    ∷ bad (codes "EQU  ") (codes "+5 ") ∷ bad (codes "EX   ") (codes "   ") ∷ bad (codes "XFR  ") (codes "1,2 ") ∷ []
+
+an_asterisk_is_a_value : values ≡ replicate 6 false
+unfolding values
+an_asterisk_is_a_value = refl
+
+these_are_no_values : no_values ≡ replicate 11 true
+unfolding no_values
+these_are_no_values = refl
+
+an_end_without_operand : asks (codes "END  ") (codes "   ") ≡ bodies.WideEnd (one fields.Absent true)
+unfolding asks
+an_end_without_operand = refl
+
+ends_good_and_bad : map (bad (codes "END  ")) (codes "   " ∷ codes " GO" ∷ codes "GO " ∷ codes "1,2 " ∷ codes ",1 "
+    ∷ codes "+5 " ∷ [])
+    ≡ replicate 3 false ++ replicate 3 true
+unfolding bad
+ends_good_and_bad = refl
+
+abbrev areas : Bool → Option Areas
+areas has_group_mark = Some (record { count = 2; length = 5; has_group_mark = has_group_mark })
+
+options_of_areas : map (asks (codes "DA   ")) (codes "2X5 " ∷ codes "2X5,C " ∷ codes "2X5 ,G " ∷ codes "2X5,G "
+    ∷ codes "2X5,G,C a remark" ∷ codes "2X5,C,G" ∷ [])
+    ≡ map bodies.Areas (replicate 3 (areas false) ++ replicate 3 (areas true))
+unfolding asks
+options_of_areas = refl
+
+no_options_of_areas : map (bad (codes "DA   ")) (codes "1X5,G,G " ∷ codes "1X5,C,G,C " ∷ codes "1X5, " ∷ codes "1X5,,G "
+    ∷ codes "1X5,GC " ∷ codes "1X5,X " ∷ codes "G,1X5 " ∷ codes "1X5G " ∷ [])
+    ≡ replicate 8 true
+unfolding bad
+no_options_of_areas = refl
+
+-- a place alone sets no mark
+abbrev span : ℕ → ℕ → Bool → Option Span
+span first last is_marked = Some (record { first = first; last = last; is_marked = is_marked })
+
+places_of_fields : map (asks (codes "     ")) (codes "1,2 " ∷ codes "4 " ∷ codes "5,5" ∷ codes "999" ∷ [])
+    ≡ map bodies.WideField (span 1 2 true ∷ span 4 4 false ∷ span 5 5 true ∷ span 999 999 false ∷ [])
+unfolding asks
+places_of_fields = refl
+
+no_places_of_fields : map (bad (codes "     ")) (codes "0 " ∷ codes "1000 " ∷ codes "4, " ∷ codes "2,1 "
+    ∷ codes "1,2,3 " ∷ codes "   " ∷ codes "A " ∷ [])
+    ≡ replicate 7 true
+unfolding bad
+no_places_of_fields = refl

@@ -1,0 +1,108 @@
+-- What is wrong with operands, and in which columns (own).
+use Rattle.std.specs.Prelude.{ℕ, ◌+◌, ◌-◌, nat_lt, false, if◌then◌else◌, List, length, drop, Option, is_none}
+use Rattle.std.specs.Option.{option_map}
+use Rattle.std.specs.List.{position_or_len}
+use Rattle.source_1401.specs.Flaw.{stretch}
+use Rattle.source_1401.specs.Mnemonic.{operation_of}
+use Rattle.source_1401.specs.Numbers.{number_between}
+use Rattle.source_1401.specs.Operands.{is_ended, operand_len, operand_in, behind_operand, first_operand, second_operand}
+use Rattle.source_1401.specs.Operands.{OperandAndRest, count_of, is_malformed, operands_of, has_malformed}
+use Rattle.source_1401.specs.SourceLine.{columns_in, is_blank}
+use Rattle.source_1401.specs.Statement.{areas_of, one_address}
+use Rattle.source_1401.specs.WideOrigin.{is_hundred}
+use Rattle.source_1401.specs.declared.flaw.Flaw.{Flaw}
+use Rattle.source_1401.specs.declared.flaw.OperandFlaw.{OperandFlaw}
+use Rattle.source_1401.specs.declared.flaw.OperandFlaw.TheVariants as flaws
+use Rattle.source_1401.specs.declared.language.Language.{Language}
+use Rattle.source_1401.specs.declared.language.Language.TheVariants as languages
+use Rattle.source_1401.specs.declared.mnemonic.Form.{Form}
+use Rattle.source_1401.specs.declared.mnemonic.Operation.{Operation}
+use Rattle.source_1401.specs.declared.mnemonic.Operation.TheVariants as operations
+
+-- a flaw of the columns for operands, this many columns after the first of them
+abbrev pub flaw_after : ℕ → ℕ → OperandFlaw → Flaw
+flaw_after skipped length kind = record { columns = stretch (21 + skipped) length; kind = kind }
+
+-- what is wrong after the operands that an operation has
+abbrev pub flaw_behind : ℕ → List ℕ → Flaw
+flaw_behind skipped rest =
+    if is_ended rest then flaw_after skipped 0 flaws.CharacterMissing
+    else flaw_after skipped (position_or_len is_blank rest) flaws.TooMuch
+
+-- what is wrong with the operands of this form after the first, which was read: a second that is no address, or one
+-- that is missing, or what follows them
+abbrev pub flaw_after_first : Language → Form → OperandAndRest → List ℕ → Flaw
+flaw_after_first language form first columns =
+    let second = second_operand language form.most first.1 in
+    let words = drop 1 first.1 in
+    if is_malformed second.0
+    then flaw_after (length columns - length words) (operand_len false words) flaws.NoAddress
+    else if nat_lt (count_of first.0 + count_of second.0) form.least
+    then flaw_after (length columns - length second.1) 0 flaws.AddressMissing
+    else flaw_behind (length columns - length second.1) second.1
+
+-- what is wrong with the operands of this form: with the first, or after it
+abbrev pub operands_flaw : Language → Form → List ℕ → Flaw
+operands_flaw language form columns =
+    let first = first_operand language form.most columns in
+    if is_malformed first.0 then flaw_after 0 (operand_len false columns) flaws.NoAddress
+    else flaw_after_first language form first columns
+
+-- what is wrong with one operand, this many columns after the first of them, or with what follows it
+abbrev pub lone_flaw : OperandFlaw → ℕ → List ℕ → Flaw
+lone_flaw kind skipped columns =
+    if is_ended (behind_operand columns) then flaw_after skipped (operand_len false columns) kind
+    else flaw_after (skipped + operand_len false columns) (position_or_len is_blank (behind_operand columns)) flaws.TooMuch
+
+-- what is wrong with the first place of a field, or with its last
+abbrev pub span_flaw : List ℕ → Flaw
+span_flaw columns =
+    if is_none (number_between 1 999 (operand_in columns))
+    then flaw_after 0 (operand_len false columns) flaws.NoSpan
+    else lone_flaw flaws.NoSpan (operand_len false columns + 1) (drop 1 (behind_operand columns))
+
+-- what is wrong with an address that is to say a value
+abbrev pub value_flaw : Language → List ℕ → Flaw
+value_flaw language columns =
+    if has_malformed (operands_of language one_address columns) then operands_flaw language one_address columns
+    else flaw_after 0 (operand_len false columns) flaws.NoValue
+
+-- what is wrong with areas, or with the options behind them
+abbrev pub areas_flaw : Language → List ℕ → Flaw
+areas_flaw languages.Plain columns = lone_flaw flaws.NoAreas 0 columns
+areas_flaw languages.Ibm columns =
+    let behind = drop 1 (behind_operand columns) in
+    if is_none (areas_of (operand_in columns)) then flaw_after 0 (operand_len false columns) flaws.NoAreas
+    else flaw_after (operand_len false columns + 1) (position_or_len is_blank behind) flaws.NoOptions
+
+-- what is wrong with the next place that ORG says
+abbrev pub origin_flaw : Language → List ℕ → Flaw
+origin_flaw languages.Plain columns = value_flaw languages.Plain columns
+origin_flaw languages.Ibm columns =
+    if is_hundred columns then flaw_behind (operand_len false columns) (behind_operand columns)
+    else value_flaw languages.Ibm columns
+
+-- what is wrong with an address that is to be a constant
+abbrev pub address_flaw : List ℕ → Flaw
+address_flaw columns =
+    if has_malformed (operands_of languages.Ibm one_address columns)
+    then operands_flaw languages.Ibm one_address columns
+    else flaw_after 0 (operand_len false columns) flaws.Literal
+
+-- what is wrong with the operands of an operation, if something is
+abbrev pub flaw_with : Language → Operation → List ℕ → Flaw
+flaw_with language (operations.Instruction instruction) columns = operands_flaw language instruction.form columns
+flaw_with language operations.MarkedConstant columns = lone_flaw flaws.NoConstant 0 columns
+flaw_with language operations.Constant columns = lone_flaw flaws.NoConstant 0 columns
+flaw_with language operations.Space columns = lone_flaw flaws.NoCount 0 columns
+flaw_with language operations.Areas columns = areas_flaw language columns
+flaw_with language operations.Field columns = span_flaw columns
+flaw_with language operations.Equate columns = value_flaw language columns
+flaw_with language operations.Origin columns = origin_flaw language columns
+flaw_with language operations.Execute columns = value_flaw language columns
+flaw_with language operations.End columns = value_flaw language columns
+
+abbrev pub operand_flaw : List ℕ → Option Flaw
+operand_flaw columns =
+    option_map (λ operation. flaw_with languages.Plain operation (columns_in 21 72 columns))
+    (operation_of (columns_in 16 20 columns))

@@ -1,0 +1,121 @@
+-- Symbols below SFX, and X1 to X3 as symbols (Autocoder, "Suffix", "Index Registers"; that these have no suffix own).
+use Rattle.std.specs.Prelude.{ℕ, ◌==◌, Bool, false, not, ◌&&◌, ◌||◌, if◌then◌else◌, slice_index, slice_set, Option}
+use Rattle.std.specs.Prelude.{None, Some, codes}
+use Rattle.std.specs.Option.{option_map}
+use Rattle.std.specs.Str.{bytes_eq}
+use Rattle.source_1401.specs.Punctuation.{blank}
+use Rattle.source_1401.specs.declared.address.Address.{Address}
+use Rattle.source_1401.specs.declared.address.Base.{Base}
+use Rattle.source_1401.specs.declared.address.Base.TheVariants as bases
+use Rattle.source_1401.specs.declared.label.Label.{Label}
+use Rattle.source_1401.specs.declared.label.LabelField.{LabelField}
+use Rattle.source_1401.specs.declared.label.LabelField.TheVariants as labels
+use Rattle.source_1401.specs.declared.operands.Operand.{Operand}
+use Rattle.source_1401.specs.declared.operands.Operand.TheVariants as operands
+use Rattle.source_1401.specs.declared.operands.OperandField.{OperandField}
+use Rattle.source_1401.specs.declared.operands.OperandField.TheVariants as fields
+use Rattle.source_1401.specs.declared.operands.Operands.{Operands}
+use Rattle.source_1401.specs.declared.statement.Body.{Body}
+use Rattle.source_1401.specs.declared.statement.Body.TheVariants as bodies
+use Rattle.source_1401.specs.declared.statement.Line.{Line}
+use Rattle.source_1401.specs.declared.statement.Statement.{Statement}
+use Rattle.source_1401.specs.declared.symbols.Registers.{Registers}
+use Rattle.source_1401.specs.declared.symbols.SymbolRule.{SymbolRule}
+
+-- the name of an index register as a symbol
+abbrev pub register_name : ℕ → Label
+register_name number =
+    record { text = if number == 1 then codes "X1    " else if number == 2 then codes "X2    " else codes "X3    " }
+
+abbrev pub names_register : ℕ → Label → Bool
+names_register number label = bytes_eq label.text (register_name number).text
+
+-- X1 to X3
+abbrev pub is_register : Label → Bool
+is_register label = names_register 1 label || names_register 2 label || names_register 3 label
+
+-- a symbol of fewer than six characters has the suffix in the place of the sixth; X1 to X3 have none
+abbrev pub suffixed : Option ℕ → Label → Label
+suffixed None label = label
+suffixed (Some suffix) label =
+    if not (is_register label) && (slice_index label.text 5 == blank)
+    then record { text = slice_set label.text 5 suffix }
+    else label
+
+-- no line has X1 to X3 as its label
+abbrev pub no_registers : Registers
+no_registers = record { one = false; two = false; three = false }
+
+-- some line has one of them as its label
+abbrev pub is_any : Registers → Bool
+is_any this = this.one || this.two || this.three
+
+-- some line has the name of this index register as its label
+abbrev pub is_labelled : Registers → ℕ → Bool
+is_labelled this number = if number == 1 then this.one else if number == 2 then this.two else this.three
+
+-- X1 to X3 are index registers where they aren't labels
+abbrev pub base_under : SymbolRule → Base → Base
+base_under rule (bases.Number number) = bases.Number number
+base_under rule (bases.Symbol label) = bases.Symbol (suffixed rule.suffix label)
+base_under rule bases.Here = bases.Here
+base_under rule (bases.Register number) =
+    if is_labelled rule.registers number then bases.Symbol (register_name number) else bases.Register number
+base_under rule bases.NextHundred = bases.NextHundred
+
+abbrev pub address_under : SymbolRule → Address → Address
+address_under rule this =
+    record { base = base_under rule this.base; adjustment = this.adjustment; index = this.index }
+
+abbrev pub operand_under : SymbolRule → Operand → Operand
+operand_under rule (operands.Address address) = operands.Address (address_under rule address)
+operand_under rule (operands.Literal constant) = operands.Literal constant
+operand_under rule (operands.Unit unit) = operands.Unit unit
+
+abbrev pub field_under : SymbolRule → OperandField → OperandField
+field_under rule fields.Absent = fields.Absent
+field_under rule fields.Malformed = fields.Malformed
+field_under rule (fields.Operand operand) = fields.Operand (operand_under rule operand)
+
+abbrev pub operands_under : SymbolRule → Operands → Operands
+operands_under rule this =
+    record { a = field_under rule this.a; b = field_under rule this.b; d = this.d; is_whole = this.is_whole }
+
+-- the symbols of an operation's operands
+abbrev pub body_under : SymbolRule → Body → Body
+body_under rule bodies.Unknown = bodies.Unknown
+body_under rule (bodies.Instruction instruction of) = bodies.Instruction instruction (operands_under rule of)
+body_under rule (bodies.MarkedConstant constant) = bodies.MarkedConstant constant
+body_under rule (bodies.Constant constant) = bodies.Constant constant
+body_under rule (bodies.Space places) = bodies.Space places
+body_under rule (bodies.Areas areas) = bodies.Areas areas
+body_under rule (bodies.Field span) = bodies.Field span
+body_under rule (bodies.Equate of) = bodies.Equate (operands_under rule of)
+body_under rule (bodies.Origin of) = bodies.Origin (operands_under rule of)
+body_under rule (bodies.Execute of) = bodies.Execute (operands_under rule of)
+body_under rule (bodies.End of) = bodies.End (operands_under rule of)
+body_under rule (bodies.Heading is_well_formed) = bodies.Heading is_well_formed
+body_under rule (bodies.Control size) = bodies.Control size
+body_under rule bodies.SecondControl = bodies.SecondControl
+body_under rule (bodies.Suffix suffix) = bodies.Suffix suffix
+body_under rule (bodies.Transfer of) = bodies.Transfer (operands_under rule of)
+body_under rule (bodies.Chain chain) = bodies.Chain chain
+body_under rule (bodies.AddressConstant constant) =
+    bodies.AddressConstant (record constant { operands = operands_under rule constant.operands })
+body_under rule (bodies.LabelledOrigin of) = bodies.LabelledOrigin (operands_under rule of)
+body_under rule (bodies.WideField span) = bodies.WideField span
+body_under rule (bodies.WideEquate of) = bodies.WideEquate (operands_under rule of)
+body_under rule (bodies.WideExecute of) = bodies.WideExecute (operands_under rule of)
+body_under rule (bodies.WideEnd of) = bodies.WideEnd (operands_under rule of)
+
+abbrev pub label_under : SymbolRule → LabelField → LabelField
+label_under rule labels.Absent = labels.Absent
+label_under rule labels.Malformed = labels.Malformed
+label_under rule (labels.Label label) = labels.Label (suffixed rule.suffix label)
+
+abbrev pub statement_under : SymbolRule → Statement → Statement
+statement_under rule this = record { label = label_under rule this.label; body = body_under rule this.body }
+
+-- what a line says with its symbols under a rule
+abbrev pub line_under : SymbolRule → Line → Line
+line_under rule this = record { bytes = this.bytes; statement = option_map (statement_under rule) this.statement }

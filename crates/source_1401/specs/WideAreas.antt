@@ -1,0 +1,50 @@
+-- The options of DA, and fields of areas (Autocoder, "Define Area", C24-3258 and J24-1434; that C changes nothing own).
+use Rattle.std.specs.Prelude.{ℕ, ◌==◌, true, false, not, ◌&&◌, if◌then◌else◌, List, [], ◌∷◌, Option, None, Some}
+use Rattle.std.specs.Option.{option_map, option_and_then, option_or}
+use Rattle.std.specs.Str.{byte}
+use Rattle.source_1401.specs.Numbers.{number_between}
+use Rattle.source_1401.specs.Operands.{behind_operand, lone_operand, operand_in}
+use Rattle.source_1401.specs.Punctuation.{blank, comma}
+use Rattle.source_1401.specs.Statement.{areas_of, span_of}
+use Rattle.source_1401.specs.declared.statement.Areas.{Areas}
+use Rattle.source_1401.specs.declared.statement.Span.{Span}
+use Rattle.source_1401.specs.declared.wide_areas.AreaOptions.{AreaOptions}
+
+abbrev pub no_options : AreaOptions
+no_options = record { has_group_mark = false; is_cleared = false }
+
+-- these options and one more, if it isn't among them
+abbrev pub option_and : AreaOptions → ℕ → Option AreaOptions
+option_and these letter =
+    if (letter == byte "G") && not these.has_group_mark then Some (record these { has_group_mark = true })
+    else if (letter == byte "C") && not these.is_cleared then Some (record these { is_cleared = true })
+    else None
+
+-- these options, and those that a text has, each behind a comma
+abbrev pub options_and : AreaOptions → List ℕ → Option AreaOptions
+options_and these [] = Some these
+options_and these (parting ∷ []) = if parting == blank then Some these else None
+options_and these (parting ∷ letter ∷ more) =
+    if parting == blank then Some these
+    else if parting == comma then option_and_then (λ those. options_and those more) (option_and these letter)
+    else None
+
+-- areas with their options; they are cleared in any case
+abbrev pub areas_with : Areas → AreaOptions → Areas
+areas_with areas options = record areas { has_group_mark = options.has_group_mark }
+
+-- what DA asks for
+abbrev pub wide_areas_of : List ℕ → Option Areas
+wide_areas_of columns =
+    option_and_then
+    (λ areas. option_map (areas_with areas) (options_and no_options (behind_operand columns)))
+    (areas_of (operand_in columns))
+
+-- a place by itself sets no mark
+abbrev pub place_alone : ℕ → Span
+place_alone place = record { first = place; last = place; is_marked = false }
+
+-- the places of a field, or its last alone
+abbrev pub wide_span_of : List ℕ → Option Span
+wide_span_of columns =
+    option_or (span_of columns) (option_map place_alone (number_between 1 999 (lone_operand columns)))

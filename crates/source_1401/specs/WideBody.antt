@@ -1,0 +1,37 @@
+-- What the operations that both languages have ask for in the wider one (Autocoder, "Declarative Operations",
+-- "Assembler Control", C24-3258 and J24-1434).
+use Rattle.std.specs.Prelude.{ℕ, true, false, List, Option, None, Some}
+use Rattle.source_1401.specs.Mnemonic.{operation_of}
+use Rattle.source_1401.specs.Numbers.{number_between}
+use Rattle.source_1401.specs.Operands.{lone_operand, operands_of}
+use Rattle.source_1401.specs.Statement.{most_places, one_address}
+use Rattle.source_1401.specs.WideAreas.{wide_areas_of, wide_span_of}
+use Rattle.source_1401.specs.WideConstant.{wide_constant}
+use Rattle.source_1401.specs.WideOrigin.{entry_in, origin_in}
+use Rattle.source_1401.specs.declared.language.Language.TheVariants as languages
+use Rattle.source_1401.specs.declared.mnemonic.Operation.{Operation}
+use Rattle.source_1401.specs.declared.mnemonic.Operation.TheVariants as operations
+use Rattle.source_1401.specs.declared.statement.Body.{Body}
+use Rattle.source_1401.specs.declared.statement.Body.TheVariants as bodies
+
+-- what an operation with these columns for its operands asks for
+abbrev pub shared_body_with : Operation → List ℕ → Body
+shared_body_with (operations.Instruction instruction) columns =
+    bodies.Instruction instruction (operands_of languages.Ibm instruction.form columns)
+shared_body_with operations.MarkedConstant columns = wide_constant true columns
+shared_body_with operations.Constant columns = wide_constant false columns
+shared_body_with operations.Space columns = bodies.Space (number_between 1 most_places (lone_operand columns))
+shared_body_with operations.Areas columns = bodies.Areas (wide_areas_of columns)
+shared_body_with operations.Field columns = bodies.WideField (wide_span_of columns)
+shared_body_with operations.Equate columns = bodies.WideEquate (operands_of languages.Ibm one_address columns)
+shared_body_with operations.Origin columns = bodies.LabelledOrigin (origin_in columns)
+shared_body_with operations.Execute columns = bodies.WideExecute (operands_of languages.Ibm one_address columns)
+shared_body_with operations.End columns = bodies.WideEnd (entry_in columns)
+
+abbrev pub shared_body_by : Option Operation → List ℕ → Body
+shared_body_by None columns = bodies.Unknown
+shared_body_by (Some operation) columns = shared_body_with operation columns
+
+-- what columns 16 to 20 and columns 21 to 72 ask for
+abbrev pub shared_body_of : List ℕ → List ℕ → Body
+shared_body_of operation columns = shared_body_by (operation_of operation) columns

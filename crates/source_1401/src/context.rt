@@ -1,0 +1,295 @@
+//! What lines say with their neighbours: below SFX, below CTL, below the operation that CHAIN repeats, and in a source
+//! whose lines have X1 to X3 as labels or not.
+//!
+//! ```text
+//! let mut context = Context::NOTHING;
+//! let mut registers = Registers::NONE;
+//! for line in &mut lines {
+//!     let alone = *line;                 // what the line says by itself in the wider language
+//!     *line = context.line(alone);       // what it says below the lines above it
+//!     context = context.below(&alone);
+//!     registers = registers.and(line);
+//! }
+//! for line in &mut lines {
+//!     *line = registers.line(*line);     // what it says among all lines
+//! }
+//! ```
+ghost use Rattle.std.specs.Prelude.{◌≡◌, true, map, IfSome};
+ghost use Rattle.source_1401.specs.Context.{nothing_above, body_below, statement_in, in_context, suffix_by, below_body};
+ghost use Rattle.source_1401.specs.Context.{below, registers_with, registers_and, with_registers, size_of, control_of};
+ghost use Rattle.source_1401.specs.Context.{control_in, first_size, size_asked};
+ghost use Rattle.source_1401.specs.Control.{is_control_size};
+ghost use Rattle.source_1401.specs.Language.{line_in};
+ghost use Rattle.source_1401.specs.SourceLine.{lines_of};
+ghost use Rattle.source_1401.specs.declared.language.Language.TheVariants as languages;
+
+use crate::label::Label;
+use crate::language::Language;
+use crate::lines::split_line;
+use crate::statement::{Body, Chain, Line, SizeField, Statement, SuffixField};
+use crate::symbols::{Registers, SymbolRule};
+
+/// What the lines above say of a line.
+#[derive(Clone, Copy, Debug, PartialEq, Eq)]
+pub struct Context {
+    /// The suffix of its symbols, a letter or a digit, if they get one.
+    pub suffix: Option<u8>,
+    /// Whether there is a CTL.
+    pub is_controlled: bool,
+    /// The graphic of the operation character of the instruction directly above, which CHAIN repeats, if there is one.
+    pub above: Option<u8>,
+}
+
+impl Context {
+    /// What is said of the first line.
+    pub const NOTHING: Context = Context {
+        suffix: None,
+        is_controlled: false,
+        above: None,
+    };
+
+    /// What a body says here, but for its symbols.
+    fn body(self, body: Body) -> Body
+        ensures { result ≡ body_below self body }
+    {
+        match body {
+            Body::Control(_) if self.is_controlled => Body::SecondControl,
+            Body::Chain(chain) => Body::Chain(Chain {
+                operation: self.above,
+                ..chain
+            }),
+            Body::Unknown
+            | Body::Instruction(_, _)
+            | Body::MarkedConstant(_)
+            | Body::Constant(_)
+            | Body::Space(_)
+            | Body::Areas(_)
+            | Body::Field(_)
+            | Body::Equate(_)
+            | Body::Origin(_)
+            | Body::Execute(_)
+            | Body::End(_)
+            | Body::Heading(_)
+            | Body::Control(_)
+            | Body::SecondControl
+            | Body::Suffix(_)
+            | Body::Transfer(_)
+            | Body::AddressConstant(_)
+            | Body::LabelledOrigin(_)
+            | Body::WideField(_)
+            | Body::WideEquate(_)
+            | Body::WideExecute(_)
+            | Body::WideEnd(_) => body,
+        }
+    }
+
+    /// What a statement says here.
+    fn statement(self, statement: Statement) -> Statement
+        ensures { result ≡ statement_in self statement }
+    {
+        let rule = SymbolRule {
+            suffix: self.suffix,
+            registers: Registers::NONE,
+        };
+        let statement = statement.under(rule);
+        Statement {
+            body: self.body(statement.body),
+            ..statement
+        }
+    }
+
+    /// What a line says here that says this by itself.
+    pub fn line(self, line: Line) -> Line
+        ensures { result ≡ in_context self line }
+    {
+        Line {
+            statement: match line.statement {
+                Some(statement) => Some(self.statement(statement)),
+                None => None,
+            },
+            ..line
+        }
+    }
+
+    /// What is said of the line below one with this body.
+    fn below_body(self, body: Body) -> Context
+        ensures { result ≡ below_body self body }
+    {
+        let apart = Context {
+            above: None,
+            ..self
+        };
+        match body {
+            Body::Instruction(instruction, _) => Context {
+                above: Some(instruction.operation),
+                ..self
+            },
+            Body::Control(_) | Body::SecondControl => Context {
+                is_controlled: true,
+                ..apart
+            },
+            Body::Suffix(suffix) => Context {
+                suffix: suffix.below(self.suffix),
+                ..apart
+            },
+            Body::Chain(_) => self,
+            Body::Unknown
+            | Body::MarkedConstant(_)
+            | Body::Constant(_)
+            | Body::Space(_)
+            | Body::Areas(_)
+            | Body::Field(_)
+            | Body::Equate(_)
+            | Body::Origin(_)
+            | Body::Execute(_)
+            | Body::End(_)
+            | Body::Heading(_)
+            | Body::Transfer(_)
+            | Body::AddressConstant(_)
+            | Body::LabelledOrigin(_)
+            | Body::WideField(_)
+            | Body::WideEquate(_)
+            | Body::WideExecute(_)
+            | Body::WideEnd(_) => apart,
+        }
+    }
+
+    /// What is said of the line below this one, which stands here. It may be the line by itself, or what it says here.
+    pub fn below(self, line: &Line) -> Context
+        ensures { result ≡ below self line.now }
+    {
+        match line.statement {
+            Some(statement) => self.below_body(statement.body),
+            None => self,
+        }
+    }
+}
+
+impl SuffixField {
+    /// The suffix below SFX, where there was this one above it.
+    fn below(self, above: Option<u8>) -> Option<u8>
+        ensures { result ≡ suffix_by self above }
+    {
+        match self {
+            SuffixField::Absent => None,
+            SuffixField::Malformed => above,
+            SuffixField::Suffix(graphic) => Some(graphic),
+        }
+    }
+}
+
+impl Registers {
+    /// These, and the one that a label names.
+    fn and_label(self, label: Label) -> Registers
+        ensures { result ≡ registers_with self (Some label) }
+    {
+        Registers {
+            one: self.one || label.names_register(1),
+            two: self.two || label.names_register(2),
+            three: self.three || label.names_register(3),
+        }
+    }
+
+    /// These, and the one that a line has as its label.
+    pub fn and(self, line: &Line) -> Registers
+        ensures { result ≡ registers_and self line.now }
+    {
+        match line.label() {
+            Some(label) => self.and_label(label),
+            None => self,
+        }
+    }
+
+    /// What a line says, which has its suffix already, where these are labels.
+    pub fn line(self, line: Line) -> Line
+        ensures { result ≡ with_registers self line }
+    {
+        line.under(SymbolRule {
+            suffix: None,
+            registers: self,
+        })
+    }
+}
+
+impl SizeField {
+    /// The size, if it is one.
+    fn size(self) -> Option<u16>
+        ensures { result ≡ size_of self }
+    {
+        match self {
+            SizeField::Absent | SizeField::Malformed => None,
+            SizeField::Size(size) => Some(size),
+        }
+    }
+}
+
+impl Body {
+    /// What CTL says of the size of core storage.
+    fn control(self) -> Option<SizeField>
+        ensures { result ≡ control_of self }
+    {
+        match self {
+            Body::Control(size) => Some(size),
+            Body::Unknown
+            | Body::Instruction(_, _)
+            | Body::MarkedConstant(_)
+            | Body::Constant(_)
+            | Body::Space(_)
+            | Body::Areas(_)
+            | Body::Field(_)
+            | Body::Equate(_)
+            | Body::Origin(_)
+            | Body::Execute(_)
+            | Body::End(_)
+            | Body::Heading(_)
+            | Body::SecondControl
+            | Body::Suffix(_)
+            | Body::Transfer(_)
+            | Body::Chain(_)
+            | Body::AddressConstant(_)
+            | Body::LabelledOrigin(_)
+            | Body::WideField(_)
+            | Body::WideEquate(_)
+            | Body::WideExecute(_)
+            | Body::WideEnd(_) => None,
+        }
+    }
+}
+
+impl Line {
+    /// What CTL says of the size of core storage.
+    fn control(&self) -> Option<SizeField>
+        ensures { result ≡ control_in self.now.statement }
+    {
+        match self.statement {
+            Some(statement) => statement.body.control(),
+            None => None,
+        }
+    }
+}
+
+/// The size that the first CTL of a source in the wider language asks for.
+fn first_size(source: &[u8]) -> Option<u16>
+    ensures { result ≡ first_size (map (line_in languages.Ibm) (lines_of source.now)) }
+{
+    let mut rest = source;
+    while let Some((line, behind)) = split_line(rest) {
+        if let Some(size) = Line::in_language(Language::Ibm, line).control() {
+            return size.size();
+        }
+        rest = behind;
+    }
+    None
+}
+
+/// The size of core storage that the first CTL of a source asks for, in places, whatever is wrong with the line; none
+/// if it asks for none, if there is no CTL, and in the plain language.
+pub fn size_asked(language: Language, source: &[u8]) -> Option<u16>
+    ensures value { result ≡ size_asked language source.now }
+    ensures size { IfSome result (λ size. is_control_size size ≡ true) }
+{
+    match language {
+        Language::Plain => None,
+        Language::Ibm => first_size(source),
+    }
+}

@@ -1,0 +1,110 @@
+//! Input-output units and tapes in the place of an address.
+ghost use Rattle.std.specs.Prelude.{◌≡◌};
+ghost use Rattle.source_1401.specs.Units.{unit_of, tape_of, is_written, unit_or_address, first_in, wide_first};
+ghost use Rattle.source_1401.specs.Units.{wide_operands};
+
+use crate::label::{is_digit, is_letter};
+use crate::language::Language;
+use crate::mnemonic::{DCharacter, Form};
+use crate::operands::{Operand, OperandField, Operands, Unit, is_ended, split_operand};
+
+/// What the first operand of an instruction is.
+#[derive(Clone, Copy, Debug, PartialEq, Eq)]
+pub enum FirstOperand {
+    /// An address.
+    Address,
+    /// An address, or a unit if the source writes a d-character.
+    UnitOrAddress,
+    /// A unit.
+    Unit,
+    /// A tape: a unit with this letter, or its digit alone.
+    Tape(u8),
+}
+
+/// The unit that a word is, if it is one.
+fn unit_of(word: &[u8]) -> Option<Unit>
+    ensures { result ≡ unit_of word.now }
+{
+    match word {
+        [b'%', letter, digit] if is_letter(*letter) && is_digit(*digit) => Some(Unit {
+            graphics: [b'%', *letter, *digit],
+        }),
+        _ => None,
+    }
+}
+
+/// The tape with this letter that a word is, if it is one.
+fn tape_of(letter: u8, word: &[u8]) -> Option<Unit>
+    ensures { result ≡ tape_of letter word.now }
+{
+    match word {
+        [digit] if is_digit(*digit) => Some(Unit {
+            graphics: [b'%', letter, *digit],
+        }),
+        [_, written, ..] if *written == letter => unit_of(word),
+        _ => None,
+    }
+}
+
+impl DCharacter {
+    /// Whether the source writes one in any case.
+    fn is_written(self) -> bool
+        ensures { result ≡ is_written self }
+    {
+        match self {
+            DCharacter::Required => true,
+            DCharacter::Never | DCharacter::Fixed(_) | DCharacter::Optional => false,
+        }
+    }
+}
+
+/// The operand that a word is where a unit may stand, if it is one.
+fn unit_or_address(word: &[u8]) -> Option<Operand>
+    ensures { result ≡ unit_or_address word.now }
+{
+    match unit_of(word) {
+        Some(unit) => Some(Operand::Unit(unit)),
+        None => Operand::from_word(Language::Ibm, word),
+    }
+}
+
+impl FirstOperand {
+    /// The first operand of this form that a word is, if it is one.
+    fn in_word(self, form: Form, word: &[u8]) -> Option<Operand>
+        ensures { result ≡ first_in self form word.now }
+    {
+        match self {
+            FirstOperand::UnitOrAddress if form.d.is_written() => unit_or_address(word),
+            FirstOperand::Address | FirstOperand::UnitOrAddress => {
+                Operand::from_word(Language::Ibm, word)
+            },
+            FirstOperand::Unit => unit_of(word).map(Operand::Unit),
+            FirstOperand::Tape(letter) => tape_of(letter, word).map(Operand::Unit),
+        }
+    }
+
+    /// The first operand of this form, if the operation can have one, and what follows it.
+    pub(crate) fn split(self, form: Form, text: &[u8]) -> (OperandField, &[u8])
+        ensures field { result.0 ≡ (wide_first self form text.now).0 }
+        ensures behind { result.1.now ≡ (wide_first self form text.now).1 }
+    {
+        if form.most == 0 || is_ended(text) {
+            return (OperandField::Absent, text);
+        }
+        let (word, behind) = split_operand(text);
+        match self.in_word(form, word) {
+            Some(operand) => (OperandField::Operand(operand), behind),
+            None => (OperandField::Malformed, behind),
+        }
+    }
+}
+
+impl Operands {
+    /// The operands of this form, with this first operand, from the first column for operands on.
+    pub(crate) fn from_wide_columns(first: FirstOperand, form: Form, columns: &[u8]) -> Operands
+        ensures { result ≡ wide_operands first form columns.now }
+    {
+        let (a, behind) = first.split(form, columns);
+        Operands::after_first(Language::Ibm, form, a, behind)
+    }
+}

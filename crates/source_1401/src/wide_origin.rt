@@ -1,0 +1,51 @@
+//! The operands of ORG and END in the wider language.
+ghost use Rattle.std.specs.Prelude.{◌≡◌};
+ghost use Rattle.source_1401.specs.WideOrigin.{is_hundred, origin_in, entry_in};
+
+use crate::address::{Address, Base};
+use crate::language::Language;
+use crate::mnemonic::{DCharacter, Form};
+use crate::operands::{Operand, OperandField, Operands, is_ended, split_operand};
+
+/// An address or none, without a d-character.
+const UP_TO_ONE: Form = Form {
+    least: 0,
+    most: 1,
+    d: DCharacter::Never,
+};
+
+/// Whether the first operand is the next place whose number ends in 00.
+pub(crate) fn is_hundred(columns: &[u8]) -> bool
+    ensures { result ≡ is_hundred columns.now }
+{
+    split_operand(columns).0 == b"*+X00".as_slice()
+}
+
+impl Operands {
+    /// The operand of ORG: an address, or the next place whose number ends in 00.
+    pub(crate) fn origin(columns: &[u8]) -> Operands
+        ensures { result ≡ origin_in columns.now }
+    {
+        if !is_hundred(columns) {
+            return Operands::one_address(Language::Ibm, columns);
+        }
+        let (_, behind) = split_operand(columns);
+        Operands {
+            a: OperandField::Operand(Operand::Address(Address {
+                base: Base::NextHundred,
+                adjustment: 0,
+                index: 0,
+            })),
+            b: OperandField::Absent,
+            d: None,
+            is_whole: is_ended(behind),
+        }
+    }
+
+    /// The operand of END: an address, or nothing.
+    pub(crate) fn entry(columns: &[u8]) -> Operands
+        ensures { result ≡ entry_in columns.now }
+    {
+        Operands::from_columns(Language::Ibm, UP_TO_ONE, columns)
+    }
+}
