@@ -23,11 +23,11 @@ use Rattle.source_1401.specs.declared.operands.Operand.TheVariants as operands
 use Rattle.source_1401.specs.declared.operands.OperandField.{OperandField}
 use Rattle.source_1401.specs.declared.operands.OperandField.TheVariants as fields
 use Rattle.source_1401.specs.declared.operands.Operands.{Operands}
+use Rattle.source_1401.specs.declared.statement.AddressConstant.{AddressConstant}
 use Rattle.source_1401.specs.declared.statement.Areas.{Areas}
+use Rattle.source_1401.specs.declared.statement.Chain.{Chain}
 use Rattle.source_1401.specs.declared.statement.Span.{Span}
 use Rattle.source_1401.specs.Description.{describe}
-use Rattle.source_1401.specs.declared.address.Base.{Base}
-use Rattle.source_1401.specs.declared.address.Base.TheVariants as bases
 use Rattle.source_1401.specs.declared.description.Addressing.{Addressing}
 use Rattle.source_1401.specs.declared.description.Addressing.TheVariants as addressing
 use Rattle.source_1401.specs.declared.description.Contents.{Contents}
@@ -40,21 +40,22 @@ use Rattle.source_1401.specs.declared.statement.Statement.{Statement}
 use Rattle.source_1401.specs.declared.statement.Line.{Line}
 use Rattle.source_1401.specs.Operands.{count_of}
 use Rattle.autocoder_1401.specs.Assembly.{entry_in_row, entry_by, entry_with, entry_in, image_of}
-use Rattle.autocoder_1401.specs.Cells.{address_or_zero, plain, with_word_mark, operand_codes, d_codes, instruction_cells}
+use Rattle.autocoder_1401.specs.Cells.{address_or_zero, plain, marked, with_word_mark, operand_codes, d_codes}
 use Rattle.autocoder_1401.specs.Cells.{constant_codes, constant_cells, literal_cells, with_mark_at, with_field}
-use Rattle.autocoder_1401.specs.Cells.{area_cells}
+use Rattle.autocoder_1401.specs.Cells.{area_cells, chain_cells, instruction_cells, signed_codes, field_cells}
+use Rattle.autocoder_1401.specs.Cells.{address_constant_cells, group_mark}
 use Rattle.autocoder_1401.specs.Cells.{repeated, areas_cells, contents_cells, row_cells, body_cells, statement_cells}
 use Rattle.autocoder_1401.specs.Cells.{numbered, cells_from}
 use Rattle.autocoder_1401.specs.Cells.{fields_behind}
-use Rattle.autocoder_1401.specs.Characters.{char_with, characters_of, codes_in}
+use Rattle.autocoder_1401.specs.Characters.{char_of, char_with, characters_of, codes_in}
 use Rattle.autocoder_1401.specs.declared.characters.Characters.{Characters}
 use Rattle.autocoder_1401.specs.declared.fault.AsmKind.TheVariants as kinds
 use Rattle.autocoder_1401.specs.Placement.{Placement, nothing_placed, instruction_length, constant_length, areas_length}
-use Rattle.autocoder_1401.specs.Placement.{contents_length, base_so_far, value_so_far, pending, behind_literals}
-use Rattle.autocoder_1401.specs.Placement.{after_line, placed}
+use Rattle.autocoder_1401.specs.Placement.{chain_length, contents_length, entry_value, pending}
+use Rattle.autocoder_1401.specs.Placement.{behind_literals, after_line, placed}
 use Rattle.autocoder_1401.specs.PlacementLaws.{total}
 use Rattle.autocoder_1401.specs.Segments.{start_or_zero, closed, goes_on, cut}
-use Rattle.autocoder_1401.specs.Values.{base_value, address_value, is_in_core, are_in_core, operand_outside}
+use Rattle.autocoder_1401.specs.Values.{is_in_core, are_in_core}
 use Rattle.autocoder_1401.specs.Values.{places_outside, literals_outside, next_outside, addresses_outside}
 use Rattle.autocoder_1401.specs.Values.{body_outside, line_outside, first_outside_from, first_outside, last_place}
 
@@ -107,6 +108,7 @@ operand_length all here fields.Absent = omega arith
 operand_length all here fields.Malformed = omega arith
 operand_length all here (fields.Operand (operands.Address address)) = omega arith
 operand_length all here (fields.Operand (operands.Literal constant)) = omega arith
+operand_length all here (fields.Operand (operands.Unit unit)) = omega arith
 
 d_length : (d : Option ℕ) → length (d_codes d) ≡ option_map_or (λ (graphic : ℕ). 1) d 0
 d_length None = refl
@@ -148,10 +150,35 @@ constant_few true (Some constant) =
 constant_few false (Some constant) =
     omega (arith, length-map (constant_codes (Some constant)) plain, codes_few (characters_of constant))
 
+field_length : (is_marked : Bool) (characters : List ℕ) → length (field_cells is_marked characters) ≡ length characters
+field_length true characters = marked_length characters
+field_length false characters = length-map characters plain
+
+signed_length : (all : Placement) (here : ℤ) (is_negative : Bool) (field : OperandField)
+    → length (signed_codes all here is_negative field) ≤ 3
+signed_length all here is_negative fields.Absent = omega arith
+signed_length all here is_negative fields.Malformed = omega arith
+signed_length all here is_negative (fields.Operand (operands.Address address)) = omega arith
+signed_length all here is_negative (fields.Operand (operands.Literal constant)) = omega arith
+signed_length all here is_negative (fields.Operand (operands.Unit unit)) = omega arith
+
+address_constant_few : (all : Placement) (here : ℤ) (constant : AddressConstant)
+    → length (address_constant_cells all here constant) ≤ 3
+address_constant_few all here constant =
+    omega (
+      arith,
+      field_length constant.is_marked (signed_codes all here constant.is_negative constant.operands.a),
+      signed_length all here constant.is_negative constant.operands.a,
+    )
+
 fields_length : (area : List Cell) (spans : List Span) → length (fold with_field area spans) ≡ length area
 fields_length area [] = refl
-fields_length area (span ∷ spans) =
-    fields_length (with_field area span) spans ∙ length-set area (span.first - 1) (record { char = 0; mark = true })
+fields_length area (span ∷ spans) = fields_length (with_field area span) spans ∙ by span.is_marked
+  where
+    by : (is_marked : Bool)
+        → length (if is_marked then with_mark_at area (span.first - 1) else area) ≡ length area
+    by true = length-set area (span.first - 1) (record { char = 0; mark = true })
+    by false = refl
 
 area_length : (length_is : ℕ) (spans : List Span) → length (area_cells length_is spans) ≡ length_is
 area_length length_is spans =
@@ -164,13 +191,28 @@ repeated_length (suc n) area =
     length-append area (repeated n area) ∙ ap (λ (behind : ℕ). length area + behind) (repeated_length n area)
     ∙ omega (arith, suc-mul n (length area))
 
+group_mark_length : (is_asked : Bool) → length (group_mark is_asked) ≡ (if is_asked then 1 else 0)
+group_mark_length true = refl
+group_mark_length false = refl
+
 areas_few : (areas : Option Areas) (lines : List Line) → length (areas_cells areas lines) ≤ areas_length areas
 areas_few None lines = omega arith
 areas_few (Some areas) lines =
     let one = area_length areas.length (fields_behind lines) in
-    let all : length (areas_cells (Some areas) lines) ≡ areas.count * areas.length =
+    let marked = repeated areas.count (area_cells areas.length (fields_behind lines)) in
+    let all : length marked ≡ areas.count * areas.length =
     repeated_length areas.count (area_cells areas.length (fields_behind lines)) ∙ ap (λ (n : ℕ). areas.count * n) one in
-    omega (arith, all)
+    omega (arith, all, length-append marked (group_mark areas.has_group_mark), group_mark_length areas.has_group_mark)
+
+chain_few : (chain : Chain) → length (chain_cells chain) ≤ chain_length chain
+chain_few chain = by chain.operation refl
+  where
+    by : (operation : Option ℕ) → chain.operation ≡ operation → length (chain_cells chain) ≤ chain_length chain
+    by None e = rw e (omega arith)
+    by (Some operation) e =
+        let all : length (repeated (chain_length chain) (marked (char_of operation) ∷ [])) ≡ chain_length chain * 1 =
+        repeated_length (chain_length chain) (marked (char_of operation) ∷ []) in
+        rw e (omega (arith, all))
 
 -- what literals take, one after the other
 pub behind_total : (from : ℤ) (literals : List Characters) → behind_literals from literals
@@ -246,6 +288,12 @@ contents_below size all this (contents.Constant constant) lines small inside =
 contents_below size all this (contents.Space places) lines small inside = refl
 contents_below size all this (contents.Areas made) lines small inside =
     placed_below size this.next (areas_length made) (areas_cells made lines) small inside (areas_few made lines)
+contents_below size all this (contents.Chain chain) lines small inside =
+    placed_below size this.next (chain_length chain) (chain_cells chain) small inside (chain_few chain)
+contents_below size all this (contents.AddressConstant constant) lines small inside =
+    let last = last_place this.next 3 in
+    placed_below size this.next 3 (address_constant_cells all last constant) small inside
+    (address_constant_few all last constant)
 
 row_below : (size : ℕ) (all this : Placement) (row : Description) (step : Next) (lines : List Line) → size ≤ 16000
     → places_outside size this.next (contents_length row.contents) ≡ false → next_outside size this step ≡ false
@@ -343,25 +391,6 @@ cut_inside size at cells (next ∷ more) small inside below =
         (list_all (is_inside size) (cut next.0 (next.1 ∷ []) more))
         (closed_inside size at cells small inside) (anew (λ some. omega (arith, low)) rest)
 
--- an asterisk has no value if it is no place
-base_same : (all : Placement) (base : Base) → base_value all (pos 0) base ≡ base_so_far all.values base
-base_same all (bases.Number number) = refl
-base_same all (bases.Symbol label) = refl
-base_same all bases.Here = refl
-
--- the operand of END is in core
-entry_inside : (size : ℕ) (all : Placement) (field : OperandField) → (0 < size) × (size ≤ 16000)
-    → operand_outside size all (pos 0) field ≡ false → address_or_zero (value_so_far all.values field) < size
-entry_inside size all fields.Absent bounds h = omega (arith, bounds.0)
-entry_inside size all fields.Malformed bounds h = omega (arith, bounds.0)
-entry_inside size all (fields.Operand (operands.Address address)) bounds h =
-    let value = value_so_far all.values (fields.Operand (operands.Address address)) in
-    let same : address_value all (pos 0) address ≡ value =
-    ap (λ (base : ℤ). base +ℤ address.adjustment) (base_same all address.base) in
-    value_inside size value bounds.1
-    (ap (is_in_core size) (sym same) ∙ not-false (is_in_core size (address_value all (pos 0) address)) h)
-entry_inside size all (fields.Operand (operands.Literal constant)) bounds h = omega (arith, bounds.0)
-
 row_entry : (size : ℕ) (all this : Placement) (row : Description) (asked : Addressing) (behind : ℤ)
     → (0 < size) × (size ≤ 16000) → addresses_outside size all this row asked ≡ false → address_or_zero behind < size
     → address_or_zero (entry_in_row all asked behind) < size
@@ -369,7 +398,9 @@ row_entry size all this row addressing.Nothing behind bounds h low = low
 row_entry size all this row (addressing.Addresses of) behind bounds h low = low
 row_entry size all this row (addressing.EarlierValue of) behind bounds h low = low
 row_entry size all this row (addressing.Value of) behind bounds h low = low
-row_entry size all this row (addressing.Entry of) behind bounds h low = entry_inside size all of.a bounds h
+row_entry size all this row (addressing.Entry of) behind bounds h low =
+    let value = entry_value all of.a in
+    value_inside size value bounds.1 (not-false (is_in_core size value) h)
 
 body_entry : (size : ℕ) (all this : Placement) (body : Body) (behind : ℤ) → (0 < size) × (size ≤ 16000)
     → body_outside size all this body ≡ false → address_or_zero behind < size → address_or_zero (entry_by all body behind) < size

@@ -1,8 +1,8 @@
 -- What is explained is what is told.
-use Rattle.std.proofs.Common.{◌≡◌, ℕ, ◌≤◌, List, [], ◌∷◌, ◌++◌, length, map, drop, Option, None, Some, refl, sym, ap}
+use Rattle.std.proofs.Common.{◌≡◌, ℕ, List, [], ◌∷◌, ◌++◌, length, map, Option, None, Some, refl, sym, ap}
 use Rattle.std.proofs.Common.{◌∙◌, arith}
-use Rattle.std.proofs.lemmas.List.{map-append, length-drop}
-use Rattle.source_1401.specs.Language.{line_in}
+use Rattle.std.proofs.lemmas.List.{map-append}
+use Rattle.source_1401.specs.Context.{lines_said}
 use Rattle.source_1401.specs.SourceLine.{columns_of}
 use Rattle.source_1401.specs.declared.language.Language.{Language}
 use Rattle.source_1401.specs.declared.statement.Line.{Line}
@@ -22,41 +22,43 @@ use Rattle.autocoder_1401.specs.declared.fault.AsmFault.{AsmFault}
 use Rattle.autocoder_1401.specs.declared.fault.AsmKind.{AsmKind}
 use Rattle.autocoder_1401.specs.declared.own_fault.Before.{Before}
 use Rattle.autocoder_1401.proofs.AllFaultsLemmas.{only_outside}
+use Rattle.autocoder_1401.proofs.ReadingLemmas.{as_many_said}
 
 -- what has 80 columns already is as it stands
 pub columns_stay : (columns : List ℕ) → length columns ≡ 80 → columns_of columns ≡ columns
 columns_stay columns full = SourceLineLemmas.columns_stay columns full
 
 one_told : (language : Language) (declared anywhere : Declared) (lines : List Line) (number : ℕ) (source : List ℕ)
-    (kind : Option AsmKind) → faults_of (explained language declared anywhere lines number source kind) ≡ told_faults number kind
-one_told language declared anywhere lines number source None = refl
-one_told language declared anywhere lines number source (Some kind) = refl
+    (line : Line) (kind : Option AsmKind)
+    → faults_of (explained language declared anywhere lines number source line kind) ≡ told_faults number kind
+one_told language declared anywhere lines number source line None = refl
+one_told language declared anywhere lines number source line (Some kind) = refl
 
 faults_alone : (cause : Cause) (faults : List AsmFault) → faults_of (map (whole_line cause) faults) ≡ faults
 faults_alone cause [] = refl
 faults_alone cause (fault ∷ faults) = ap (λ more. fault ∷ more) (faults_alone cause faults)
 
-told_from : (language : Language) (declared anywhere : Declared) (lines : List Line) (this : Before)
-    (sources : List (List ℕ)) → faults_of (explained_from language declared anywhere lines this sources)
-    ≡ faults_from declared anywhere this (map (line_in language) sources)
-told_from language declared anywhere lines this [] = faults_alone causes.NoEnd (told_end this)
-told_from language declared anywhere lines this (source ∷ sources) =
+told_from : (language : Language) (declared anywhere : Declared) (all : List Line) (this : Before) (lines : List Line)
+    (sources : List (List ℕ)) → length lines ≡ length sources
+    → faults_of (explained_from language declared anywhere all this lines sources)
+    ≡ faults_from declared anywhere this lines
+told_from language declared anywhere all this [] sources as_many = faults_alone causes.NoEnd (told_end this)
+told_from language declared anywhere all this (line ∷ lines) [] as_many = absurd (omega (arith, as_many))
+told_from language declared anywhere all this (line ∷ lines) (source ∷ sources) as_many =
+    let kind = told declared anywhere this line in
+    let behind = explained_from language declared anywhere all (before_next declared this line) lines sources in
     map-append (λ (each : Explanation). each.fault)
-    (explained language declared anywhere lines this.at.number source
-    (told declared anywhere this (line_in language source)))
-    (explained_from language declared anywhere lines (before_next declared this (line_in language source)) sources)
-    ∙ ap (λ first. first ++ faults_of
-    (explained_from language declared anywhere lines (before_next declared this (line_in language source)) sources))
-    (one_told language declared anywhere lines this.at.number source
-    (told declared anywhere this (line_in language source)))
-    ∙ ap (λ more. told_faults this.at.number (told declared anywhere this (line_in language source)) ++ more)
-    (told_from language declared anywhere lines (before_next declared this (line_in language source)) sources)
+    (explained language declared anywhere all this.at.number source line kind) behind
+    ∙ ap (λ first. first ++ faults_of behind) (one_told language declared anywhere all this.at.number source line kind)
+    ∙ ap (λ more. told_faults this.at.number kind ++ more)
+    (told_from language declared anywhere all (before_next declared this line) lines sources (omega (arith, as_many)))
 
 pub told_lines : (language : Language) (sources : List (List ℕ)) → faults_of (explained_lines language sources)
-    ≡ line_faults (map (line_in language) sources)
+    ≡ line_faults (lines_said language sources)
 told_lines language sources =
-    let lines = map (line_in language) sources in
-    told_from language (declared_at lines) (declared_anywhere lines) lines nothing_before sources
+    let lines = lines_said language sources in
+    told_from language (declared_at lines) (declared_anywhere lines) lines nothing_before lines sources
+    (as_many_said language sources)
 
 with_outside : (explanations : List Explanation) (outside : Option AsmFault)
     → faults_of (or_outside_explained explanations outside) ≡ or_outside (faults_of explanations) outside
@@ -65,44 +67,35 @@ with_outside [] (Some outside) = refl
 with_outside (first ∷ more) outside = refl
 
 pub told_all : (language : Language) (size : ℕ) (sources : List (List ℕ)) → faults_of (all_explained language size sources)
-    ≡ all_faults size (map (line_in language) sources)
+    ≡ all_faults size (lines_said language sources)
 told_all language size sources =
-    with_outside (explained_lines language sources) (first_outside size (map (line_in language) sources))
-    ∙ ap (λ faults. or_outside faults (first_outside size (map (line_in language) sources)))
+    with_outside (explained_lines language sources) (first_outside size (lines_said language sources))
+    ∙ ap (λ faults. or_outside faults (first_outside size (lines_said language sources)))
     (told_lines language sources)
 
 -- if no line has a fault, none is told
 pub none_told : (language : Language) (sources : List (List ℕ)) → explained_lines language sources ≡ []
-    → line_faults (map (line_in language) sources) ≡ []
+    → line_faults (lines_said language sources) ≡ []
 none_told language sources none = sym (told_lines language sources) ∙ ap faults_of none
 
 -- of a source whose lines have no fault, what the assembler tells
 pub outside_explained : {X : Type 0} (language : Language) (size : ℕ) (sources : List (List ℕ)) (answer : X)
     (told : List Explanation) (fault : AsmFault) → told ≡ explained_lines language sources → told ≡ []
-    → Some fault ≡ fault_in (unless_fault size (map (line_in language) sources) answer)
+    → Some fault ≡ fault_in (unless_fault size (lines_said language sources) answer)
     → told ++ whole_line causes.OutOfCore fault ∷ [] ≡ all_explained language size sources
 outside_explained {X} language size sources answer told fault same empty tells =
     let none : explained_lines language sources ≡ [] = sym same ∙ empty in
-    let outside : first_outside size (map (line_in language) sources) ≡ Some fault =
-    sym (only_outside size (map (line_in language) sources) answer (none_told language sources none)) ∙ sym tells in
+    let outside : first_outside size (lines_said language sources) ≡ Some fault =
+    sym (only_outside size (lines_said language sources) answer (none_told language sources none)) ∙ sym tells in
     rw (empty, none, outside) refl
 
 -- and that it tells nothing
 pub nothing_explained : {X : Type 0} (language : Language) (size : ℕ) (sources : List (List ℕ)) (answer : X)
     (told : List Explanation) → told ≡ explained_lines language sources → told ≡ []
-    → None ≡ fault_in (unless_fault size (map (line_in language) sources) answer)
+    → None ≡ fault_in (unless_fault size (lines_said language sources) answer)
     → told ≡ all_explained language size sources
 nothing_explained {X} language size sources answer told same empty tells =
     let none : explained_lines language sources ≡ [] = sym same ∙ empty in
-    let inside : first_outside size (map (line_in language) sources) ≡ None =
-    sym (only_outside size (map (line_in language) sources) answer (none_told language sources none)) ∙ sym tells in
+    let inside : first_outside size (lines_said language sources) ≡ None =
+    sym (only_outside size (lines_said language sources) answer (none_told language sources none)) ∙ sym tells in
     rw (empty, none, inside) refl
-
--- if no line is left, no byte of the source is
-pub nothing_left : (language : Language) (lines : List Line) (i : ℕ) (sources : List (List ℕ)) → length lines ≤ i
-    → drop i lines ≡ map (line_in language) sources → sources ≡ []
-nothing_left language lines i [] past left = refl
-nothing_left language lines i (source ∷ sources) past left =
-    let some : length (drop i lines) ≡ length (line_in language source ∷ map (line_in language) sources) =
-    ap length left in
-    absurd (omega (arith, length-drop i lines, past, some))

@@ -6,17 +6,26 @@ use Rattle.std.specs.Prelude.{find, is_some}
 use Rattle.std.specs.List.{list_all}
 use Rattle.std.specs.Option.{option_map, option_map_or}
 use Rattle.std.specs.Str.{bytes_eq}
+use Rattle.source_1401.specs.Address.{address_of}
+use Rattle.source_1401.specs.Constant.{constant_of}
 use Rattle.source_1401.specs.Description.{describe}
 use Rattle.source_1401.specs.Mnemonic.{ARow, AnOwnRow, instructions, assembler_operations, instruction_in, either_operation}
 use Rattle.source_1401.specs.Operands.{count_of, d_at, d_by, d_of, first_operand, second_operand, is_ended, is_malformed, operands_of}
-use Rattle.source_1401.specs.Operands.{has_malformed, read_operand}
+use Rattle.source_1401.specs.Operands.{has_malformed, read_operand, operand_in, operand_of, field_of}
+use Rattle.source_1401.specs.Operands.{field_with, begins_literal}
 use Rattle.source_1401.specs.Punctuation.{comma}
 use Rattle.source_1401.specs.Statement.{body_by, body_of, body_with, has_bad_operands, span_of}
+use Rattle.source_1401.specs.declared.address.Address.{Address}
+use Rattle.source_1401.specs.declared.constant.Constant.{Constant}
+use Rattle.source_1401.specs.declared.language.Language.TheVariants.{Plain}
 use Rattle.source_1401.specs.declared.mnemonic.DCharacter.{DCharacter}
 use Rattle.source_1401.specs.declared.mnemonic.DCharacter.TheVariants as d
 use Rattle.source_1401.specs.declared.mnemonic.Form.{Form}
+use Rattle.source_1401.specs.declared.mnemonic.Instruction.{Instruction}
 use Rattle.source_1401.specs.declared.mnemonic.Operation.{Operation}
 use Rattle.source_1401.specs.declared.mnemonic.Operation.TheVariants as operations
+use Rattle.source_1401.specs.declared.operands.Operand.{Operand}
+use Rattle.source_1401.specs.declared.operands.Operand.TheVariants as operands
 use Rattle.source_1401.specs.declared.operands.OperandField.{OperandField}
 use Rattle.source_1401.specs.declared.operands.OperandField.TheVariants as fields
 use Rattle.source_1401.specs.declared.statement.Body.{Body}
@@ -24,7 +33,7 @@ use Rattle.source_1401.specs.declared.statement.Body.TheVariants as bodies
 use Rattle.source_1401.specs.declared.statement.Span.{Span}
 use Rattle.autocoder_1401.specs.Fitted.{is_fitted}
 use Rattle.autocoder_1401.specs.Placement.{instruction_length}
-use Rattle.autocoder_1401.specs.Warnings.{is_not_fitted}
+use Rattle.autocoder_1401.specs.Warnings.{is_unit, is_unfitted, is_not_fitted}
 
 -- what is found has what each row has
 found_has : {X : Type 0} (test has : X → Bool) (rows : List X) (row : X) → list_all has rows ≡ true
@@ -78,16 +87,16 @@ has_counts form a b n =
     && (cond (nat_lt 1 form.most) true (b == 0) && (nat_le form.least (a + b) && has_d form.d n))
 
 first_is_had : (most : ℕ) (columns : List ℕ)
-    → cond (most == 0) (count_of (first_operand most columns).0 == 0) true ≡ true
+    → cond (most == 0) (count_of (first_operand Plain most columns).0 == 0) true ≡ true
 first_is_had most columns = by (most == 0) (is_ended columns)
   where
     by : (none ended : Bool)
-        → cond none (count_of (cond (none || ended) (fields.Absent, columns) (read_operand columns)).0 == 0) true ≡ true
+        → cond none (count_of (cond (none || ended) (fields.Absent, columns) (read_operand Plain columns)).0 == 0) true ≡ true
     by true ended = refl
     by false ended = refl
 
 second_is_had : (most : ℕ) (columns : List ℕ)
-    → cond (nat_lt 1 most) true (count_of (second_operand most columns).0 == 0) ≡ true
+    → cond (nat_lt 1 most) true (count_of (second_operand Plain most columns).0 == 0) ≡ true
 second_is_had most [] = by (nat_lt 1 most)
   where
     by : (two : Bool) → cond two true true ≡ true
@@ -96,7 +105,7 @@ second_is_had most [] = by (nat_lt 1 most)
 second_is_had most (byte ∷ more) = by (byte == comma) (nat_lt 1 most)
   where
     by : (follows two : Bool)
-        → cond two true (count_of (cond (follows && two) (read_operand more) (fields.Absent, byte ∷ more)).0 == 0) ≡ true
+        → cond two true (count_of (cond (follows && two) (read_operand Plain more) (fields.Absent, byte ∷ more)).0 == 0) ≡ true
     by follows true = refl
     by true false = refl
     by false false = refl
@@ -106,12 +115,12 @@ all_true : (first second third fourth : Bool) → first ≡ true → second ≡ 
 all_true first second third fourth a b c e = rw (a, b, c, e) refl
 
 -- operands of a form have its counts
-counts_of_form : (form : Form) (columns : List ℕ) → has_malformed (operands_of form columns) ≡ false
-    → has_counts form (count_of (operands_of form columns).a) (count_of (operands_of form columns).b)
-    (d_count (operands_of form columns).d) ≡ true
+counts_of_form : (form : Form) (columns : List ℕ) → has_malformed (operands_of Plain form columns) ≡ false
+    → has_counts form (count_of (operands_of Plain form columns).a) (count_of (operands_of Plain form columns).b)
+    (d_count (operands_of Plain form columns).d) ≡ true
 counts_of_form form columns good =
-    let first = first_operand form.most columns in
-    let second = second_operand form.most first.1 in
+    let first = first_operand Plain form.most columns in
+    let second = second_operand Plain form.most first.1 in
     let read = d_of form second.1 in
     let enough = nat_le form.least (count_of first.0 + count_of second.0) in
     let whole : (read.1 && enough) ≡ true =
@@ -152,10 +161,10 @@ implied true false e h = absurd (true≢false (sym h))
 implied false follows e h = absurd (true≢false (sym e))
 
 row_is_fitted : (row : ARow) (columns : List ℕ) → fits_all row ≡ true
-    → has_malformed (operands_of (instruction_in row).form columns) ≡ false
-    → not (is_fitted row.1 (instruction_length (operands_of (instruction_in row).form columns))) ≡ false
+    → has_malformed (operands_of Plain (instruction_in row).form columns) ≡ false
+    → not (is_fitted row.1 (instruction_length (operands_of Plain (instruction_in row).form columns))) ≡ false
 row_is_fitted row columns all good =
-    let of = operands_of (instruction_in row).form columns in
+    let of = operands_of Plain (instruction_in row).form columns in
     let a = count_of of.a in
     let b = count_of of.b in
     let n = d_count of.d in
@@ -164,6 +173,67 @@ row_is_fitted row columns all good =
     let third = of_two (λ n. fits row a b n) n (zero_or_one_d of.d) second in
     implied (has_counts (instruction_in row).form a b n) (is_fitted row.1 (1 + 3 * a + 3 * b + n))
     (counts_of_form (instruction_in row).form columns good) third
+
+-- the plain language has no units
+abbrev is_no_unit : Operand → Bool
+is_no_unit (operands.Address address) = true
+is_no_unit (operands.Literal constant) = true
+is_no_unit (operands.Unit unit) = false
+
+no_unit_in : (operand : Option Operand) → option_map_or is_no_unit operand true ≡ true
+    → is_unit (field_with operand) ≡ false
+no_unit_in None e = refl
+no_unit_in (Some (operands.Address address)) e = refl
+no_unit_in (Some (operands.Literal constant)) e = refl
+no_unit_in (Some (operands.Unit unit)) e = absurd (true≢false (sym e))
+
+literal_is_no_unit : (constant : Option Constant)
+    → option_map_or is_no_unit (option_map operands.Literal constant) true ≡ true
+literal_is_no_unit None = refl
+literal_is_no_unit (Some constant) = refl
+
+address_is_no_unit : (address : Option Address)
+    → option_map_or is_no_unit (option_map operands.Address address) true ≡ true
+address_is_no_unit None = refl
+address_is_no_unit (Some address) = refl
+
+word_is_no_unit : (word : List ℕ) → is_unit (field_of Plain word) ≡ false
+word_is_no_unit [] = refl
+word_is_no_unit (byte ∷ more) =
+    no_unit_in (operand_of Plain (byte ∷ more)) (by (begins_literal byte))
+  where
+    by : (is_literal : Bool)
+        → option_map_or is_no_unit (cond is_literal (option_map operands.Literal (constant_of (byte ∷ more)))
+        (option_map operands.Address (address_of Plain (byte ∷ more)))) true
+        ≡ true
+    by true = literal_is_no_unit (constant_of (byte ∷ more))
+    by false = address_is_no_unit (address_of Plain (byte ∷ more))
+
+first_is_no_unit : (most : ℕ) (columns : List ℕ) → is_unit (first_operand Plain most columns).0 ≡ false
+first_is_no_unit most columns = by ((most == 0) || is_ended columns)
+  where
+    by : (is_absent : Bool) → is_unit (cond is_absent (fields.Absent, columns) (read_operand Plain columns)).0 ≡ false
+    by true = refl
+    by false = word_is_no_unit (operand_in columns)
+
+second_is_no_unit : (most : ℕ) (rest : List ℕ) → is_unit (second_operand Plain most rest).0 ≡ false
+second_is_no_unit most [] = refl
+second_is_no_unit most (byte ∷ more) = by ((byte == comma) && nat_lt 1 most)
+  where
+    by : (is_there : Bool)
+        → is_unit (cond is_there (read_operand Plain more) (fields.Absent, byte ∷ more)).0 ≡ false
+    by true = word_is_no_unit (operand_in more)
+    by false = refl
+
+operands_are_fitted : (instruction : Instruction) (columns : List ℕ)
+    → not (is_fitted instruction.operation (instruction_length (operands_of Plain instruction.form columns))) ≡ false
+    → is_unfitted instruction (operands_of Plain instruction.form columns) ≡ false
+operands_are_fitted instruction columns fitted =
+    rw (
+      first_is_no_unit instruction.form.most columns,
+      second_is_no_unit instruction.form.most (first_operand Plain instruction.form.most columns).1,
+    )
+    fitted
 
 -- the assembler's own operations are no instructions
 abbrev is_own : Operation → Bool
@@ -219,9 +289,10 @@ plain_is_fitted operation columns good =
         → (own : Option AnOwnRow) → find (λ (row : AnOwnRow). bytes_eq row.0 operation) assembler_operations ≡ own
         → has_bad_operands (found_body row own columns) ≡ false → is_not_fitted (describe (found_body row own columns)).contents ≡ false
     by (Some row) found own e good =
-        row_is_fitted row columns
+        operands_are_fitted (instruction_in row) columns
+        (row_is_fitted row columns
         (found_has (λ (row : ARow). bytes_eq row.0 operation) fits_all instructions row each_row_fits found)
-        (twice (has_malformed (operands_of (instruction_in row).form columns)) good)
+        (twice (has_malformed (operands_of Plain (instruction_in row).form columns)) good))
     by None none (Some own) found good =
         own_is_fitted own.1 columns
         (found_has (λ (row : AnOwnRow). bytes_eq row.0 operation) (λ (row : AnOwnRow). is_own row.1) assembler_operations

@@ -11,11 +11,13 @@ pub mod FillingLemmas
 pub mod FirstFaultLemmas
 mod FittedExamples
 pub mod FittedLemmas
+mod LanguageExamples
 pub mod LanguageLemmas
 pub mod LawLemmas
 pub mod LowestLemmas
 pub mod PlacementLawLemmas
 pub mod PlacingLemmas
+pub mod ReadingLemmas
 pub mod StandingLemmas
 mod TablesExamples
 mod WarningsExamples

@@ -53,10 +53,12 @@ operand_next this fields.Absent = refl
 operand_next this fields.Malformed = refl
 operand_next this (fields.Operand (operands.Address address)) = refl
 operand_next this (fields.Operand (operands.Literal constant)) = literal_next this constant
+operand_next this (fields.Operand (operands.Unit unit)) = refl
 
 -- a body moves the next place by its length, but for an origin
 areas_next : (this : Placement) (first : ℤ) (role : AreaRole) → (with_areas this first role).next ≡ this.next
 areas_next this first areas.Ends = refl
+areas_next this first areas.Keeps = refl
 areas_next this first (areas.Makes made) = refl
 areas_next this first (areas.Divides span) = refl
 
@@ -123,22 +125,24 @@ fold_append this [] behind = refl
 fold_append this (line ∷ before) behind = fold_append (after_line this line) before behind
 
 origin_next : (this : Placement) (line : Line) (of : Operands) → origin_with line.statement ≡ Some of
-    → (after_line this line).next ≡ value_so_far this.values of.a
+    → (after_line this line).next ≡ value_so_far this.values this.next of.a
 origin_next this line of is = by line.statement is
   where
     moved_to : (row : Description) (step : Next) → origin_by step row.addressing ≡ Some of
-        → (moved this row step).next ≡ value_so_far this.values of.a
+        → (moved this row step).next ≡ value_so_far this.values this.next of.a
     moved_to row next.Behind h = cc
     moved_to row next.Literals h = cc
     moved_to row next.Value h =
         let same : operands_in row.addressing ≡ of = cc in
-        ap (λ (given : Operands). value_so_far this.values given.a) same
+        ap (λ (given : Operands). value_so_far this.values this.next given.a) same
 
-    body : (given : Body) → origin_in given ≡ Some of → (behind_body this given).next ≡ value_so_far this.values of.a
+    body : (given : Body) → origin_in given ≡ Some of
+        → (behind_body this given).next ≡ value_so_far this.values this.next of.a
     body given h = row_next this (describe given) ∙ moved_to (describe given) (describe given).next h
 
     by : (statement : Option Statement) → origin_with statement ≡ Some of
-        → (after_line this (record { bytes = line.bytes; statement = statement })).next ≡ value_so_far this.values of.a
+        → (after_line this (record { bytes = line.bytes; statement = statement })).next
+        ≡ value_so_far this.values this.next of.a
     by None h = cc
     by (Some statement) h =
         label_next (behind_body this statement.body) (well_formed statement.label) (label_value this statement.body)
@@ -164,6 +168,7 @@ operand_use this fields.Absent = refl
 operand_use this fields.Malformed = refl
 operand_use this (fields.Operand (operands.Address address)) = refl
 operand_use this (fields.Operand (operands.Literal constant)) = literal_use this constant
+operand_use this (fields.Operand (operands.Unit unit)) = refl
 
 uses_append : (used first second : List Characters)
     → fold with_use used (first ++ second) ≡ fold with_use (fold with_use used first) second
@@ -172,6 +177,7 @@ uses_append used (literal ∷ first) second = uses_append (with_use used literal
 
 areas_literals : (this : Placement) (first : ℤ) (role : AreaRole) → (with_areas this first role).literals ≡ this.literals
 areas_literals this first areas.Ends = refl
+areas_literals this first areas.Keeps = refl
 areas_literals this first (areas.Makes made) = refl
 areas_literals this first (areas.Divides span) = refl
 
@@ -243,9 +249,11 @@ operand_spelled this fields.Absent so_far = so_far
 operand_spelled this fields.Malformed so_far = so_far
 operand_spelled this (fields.Operand (operands.Address address)) so_far = so_far
 operand_spelled this (fields.Operand (operands.Literal constant)) so_far = literal_spelled this constant so_far
+operand_spelled this (fields.Operand (operands.Unit unit)) so_far = so_far
 
 areas_spelled : (this : Placement) (first : ℤ) (role : AreaRole) → IsSpelled this → IsSpelled (with_areas this first role)
 areas_spelled this first areas.Ends so_far = so_far
+areas_spelled this first areas.Keeps so_far = so_far
 areas_spelled this first (areas.Makes made) so_far = so_far
 areas_spelled this first (areas.Divides span) so_far = so_far
 

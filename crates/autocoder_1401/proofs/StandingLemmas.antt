@@ -92,9 +92,11 @@ operand_grown this fields.Absent = unchanged this
 operand_grown this fields.Malformed = unchanged this
 operand_grown this (fields.Operand (operands.Address address)) = unchanged this
 operand_grown this (fields.Operand (operands.Literal constant)) = literal_grown this constant
+operand_grown this (fields.Operand (operands.Unit unit)) = unchanged this
 
 areas_grown : (this : Placement) (first : ℤ) (role : AreaRole) → Grown this (with_areas this first role)
 areas_grown this first areas.Ends = unchanged this
+areas_grown this first areas.Keeps = unchanged this
 areas_grown this first (areas.Makes made) = record { literals = λ i v h. h; addresses = λ i v h. h }
 areas_grown this first (areas.Divides span) = unchanged this
 
@@ -120,9 +122,10 @@ body_grown this body =
     let row = describe body in
     let on = moved this row row.next in
     let made = with_areas on this.next row.areas in
-    grown_on this made (with_uses made row.addressing)
+    let whole = grown_on this made (with_uses made row.addressing)
     (grown_on this on made (moved_grown this row row.next) (areas_grown on this.next row.areas))
-    (uses_grown made row.addressing)
+    (uses_grown made row.addressing) in
+    record { literals = whole.literals; addresses = whole.addresses }
 
 label_grown : (this : Placement) (label : Option Label) (value : ℤ) → Grown this (with_label this label value)
 label_grown this None value = unchanged this
@@ -161,6 +164,7 @@ units_at from (first ∷ literals) (suc k) literal h =
 -- areas and uses leave the addresses
 areas_units : (this : Placement) (first : ℤ) (role : AreaRole) → (with_areas this first role).addresses ≡ this.addresses
 areas_units this first areas.Ends = refl
+areas_units this first areas.Keeps = refl
 areas_units this first (areas.Makes made) = refl
 areas_units this first (areas.Divides span) = refl
 
@@ -182,6 +186,7 @@ operand_units this fields.Absent = refl
 operand_units this fields.Malformed = refl
 operand_units this (fields.Operand (operands.Address address)) = refl
 operand_units this (fields.Operand (operands.Literal constant)) = literal_units this constant
+operand_units this (fields.Operand (operands.Unit unit)) = refl
 
 uses_units : (this : Placement) (asked : Addressing) → (with_uses this asked).addresses ≡ this.addresses
 uses_units this addressing.Nothing = refl

@@ -1,9 +1,9 @@
 -- The answer of the assembler, memory aside (Autocoder, "Assembler Control").
-use Rattle.std.specs.Prelude.{◌⊎◌, ℕ, List, [], ◌∷◌, map, ℤ, pos, Option, None, Some, Result, Ok, Err}
+use Rattle.std.specs.Prelude.{◌⊎◌, ℕ, List, [], ◌∷◌, ℤ, pos, Option, None, Some, Result, Ok, Err}
 use Rattle.bcd_1401.specs.declared.cell.Cell.{Cell}
 use Rattle.image_1401.specs.declared.image.Image.{Image}
 use Rattle.source_1401.specs.SourceLine.{lines_of}
-use Rattle.source_1401.specs.Language.{line_in}
+use Rattle.source_1401.specs.Context.{lines_said}
 use Rattle.source_1401.specs.Description.{describe}
 use Rattle.source_1401.specs.declared.description.Addressing.{Addressing}
 use Rattle.source_1401.specs.declared.description.Addressing.TheVariants as addressing
@@ -15,24 +15,24 @@ use Rattle.autocoder_1401.specs.Cells.{address_or_zero, cells_from}
 use Rattle.autocoder_1401.specs.FirstFault.{first_fault, IsFaultless, IsFirstFault}
 use Rattle.autocoder_1401.specs.Laws.{IsFirstOutside}
 use Rattle.autocoder_1401.specs.Listing.{listing_with, listing_of}
-use Rattle.autocoder_1401.specs.Placement.{Placement, nothing_placed, value_so_far, placed}
+use Rattle.autocoder_1401.specs.Placement.{Placement, nothing_placed, entry_value, placed}
 use Rattle.autocoder_1401.specs.Segments.{segments_of}
 use Rattle.autocoder_1401.specs.Symbols.{declared_at}
 use Rattle.autocoder_1401.specs.Values.{first_outside}
 use Rattle.autocoder_1401.specs.declared.assembly.Assembly.{Assembly}
 use Rattle.autocoder_1401.specs.declared.fault.AsmFault.{AsmFault}
 
--- what the lines of a source in this language say, each by itself
+-- what the lines of a source in this language say, each with its neighbours
 abbrev pub lines_in : Language → List ℕ → List Line
-lines_in language source = map (line_in language) (lines_of source)
+lines_in language source = lines_said language (lines_of source)
 
--- the value of END; of any other line, what is given for those after it
+-- where END lets a program begin; of any other line, what is given for those after it
 abbrev pub entry_in_row : Placement → Addressing → ℤ → ℤ
 entry_in_row all addressing.Nothing behind = behind
 entry_in_row all (addressing.Addresses of) behind = behind
 entry_in_row all (addressing.EarlierValue of) behind = behind
 entry_in_row all (addressing.Value of) behind = behind
-entry_in_row all (addressing.Entry of) behind = value_so_far all.values of.a
+entry_in_row all (addressing.Entry of) behind = entry_value all of.a
 
 abbrev pub entry_by : Placement → Body → ℤ → ℤ
 entry_by all body behind = entry_in_row all (describe body).addressing behind

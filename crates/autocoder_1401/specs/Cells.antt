@@ -1,10 +1,11 @@
 -- The cells that a line places (Autocoder, "Instruction", "DCW", "DA"; A24-1403, "Addressing"; DA's blanks and marks
 -- own).
 use Rattle.std.specs.Prelude.{ℕ, suc, zero, ◌+◌, ◌-◌, ◌%◌, Bool, true, false, ◌&&◌, if◌then◌else◌, List, [], ◌∷◌, ◌++◌}
-use Rattle.std.specs.Prelude.{map, fold, replicate, position, slice_get, slice_set, ℤ, pos, int_le, int_lt, nat_abs}
-use Rattle.std.specs.Prelude.{unwrap_or, Option, Some, None}
-use Rattle.std.specs.Option.{option_and_then}
+use Rattle.std.specs.Prelude.{map, fold, replicate, position, slice_get, slice_index, slice_set, ℤ, pos, int_le, int_lt}
+use Rattle.std.specs.Prelude.{nat_abs, unwrap_or, Option, Some, None}
+use Rattle.std.specs.Option.{option_and_then, option_map_or}
 use Rattle.std.specs.List.{flat_map}
+use Rattle.std.specs.Str.{byte}
 use Rattle.bcd_1401.specs.Character.{with_zone_of}
 use Rattle.bcd_1401.specs.declared.cell.Cell.{Cell}
 use Rattle.core_1401.specs.Address.{addresses, spelling_of}
@@ -16,7 +17,9 @@ use Rattle.source_1401.specs.declared.operands.Operand.TheVariants as operands
 use Rattle.source_1401.specs.declared.operands.OperandField.{OperandField}
 use Rattle.source_1401.specs.declared.operands.OperandField.TheVariants as fields
 use Rattle.source_1401.specs.declared.operands.Operands.{Operands}
+use Rattle.source_1401.specs.declared.statement.AddressConstant.{AddressConstant}
 use Rattle.source_1401.specs.declared.statement.Areas.{Areas}
+use Rattle.source_1401.specs.declared.statement.Chain.{Chain}
 use Rattle.source_1401.specs.declared.statement.Span.{Span}
 use Rattle.source_1401.specs.Description.{describe}
 use Rattle.source_1401.specs.declared.description.AreaRole.{AreaRole}
@@ -30,7 +33,7 @@ use Rattle.source_1401.specs.declared.statement.Body.{Body}
 use Rattle.source_1401.specs.declared.statement.Statement.{Statement}
 use Rattle.source_1401.specs.declared.statement.Line.{Line}
 use Rattle.autocoder_1401.specs.Characters.{char_of, characters_of, codes_in, same_characters}
-use Rattle.autocoder_1401.specs.Placement.{Placement, pending, instruction_length, after_line}
+use Rattle.autocoder_1401.specs.Placement.{Placement, pending, instruction_length, chain_length, after_line}
 use Rattle.autocoder_1401.specs.Values.{address_value, last_place}
 use Rattle.autocoder_1401.specs.declared.characters.Characters.{Characters}
 
@@ -57,9 +60,25 @@ with_index index [] = []
 with_index index (hundreds ∷ []) = hundreds ∷ []
 with_index index (hundreds ∷ tens ∷ units) = hundreds ∷ with_zone_of tens index ∷ units
 
+-- the address of a place, with an index register
+abbrev pub indexed : ℕ → ℕ → List ℕ
+indexed index place = with_index (index % 4) (spelling_of place)
+
 abbrev pub address_codes : Placement → ℤ → Address → List ℕ
-address_codes all here address =
-    with_index (address.index % 4) (spelling_of (address_or_zero (address_value all here address)))
+address_codes all here address = indexed address.index (address_or_zero (address_value all here address))
+
+-- the address of a constant with a minus sign is 16,000 less its place, modulo 16,000
+abbrev pub signed_place : Bool → ℕ → ℕ
+signed_place false place = place
+signed_place true place = (addresses - place) % addresses
+
+abbrev pub signed_codes : Placement → ℤ → Bool → OperandField → List ℕ
+signed_codes all here is_negative fields.Absent = []
+signed_codes all here is_negative fields.Malformed = []
+signed_codes all here is_negative (fields.Operand (operands.Address address)) =
+    indexed address.index (signed_place is_negative (address_or_zero (address_value all here address)))
+signed_codes all here is_negative (fields.Operand (operands.Literal constant)) = []
+signed_codes all here is_negative (fields.Operand (operands.Unit unit)) = []
 
 -- the units place of a literal
 abbrev pub literal_value : Placement → Characters → ℤ
@@ -67,12 +86,18 @@ literal_value all literal =
     unwrap_or (option_and_then (λ i. slice_get all.addresses i) (position (same_characters literal) all.literals))
     (pos 0)
 
+-- a unit is assembled as it is written
+abbrev pub unit_codes : List ℕ → List ℕ
+unit_codes graphics =
+    char_of (slice_index graphics 0) ∷ char_of (slice_index graphics 1) ∷ char_of (slice_index graphics 2) ∷ []
+
 abbrev pub operand_codes : Placement → ℤ → OperandField → List ℕ
 operand_codes all here fields.Absent = []
 operand_codes all here fields.Malformed = []
 operand_codes all here (fields.Operand (operands.Address address)) = address_codes all here address
 operand_codes all here (fields.Operand (operands.Literal constant)) =
     spelling_of (address_or_zero (literal_value all (characters_of constant)))
+operand_codes all here (fields.Operand (operands.Unit unit)) = unit_codes unit.graphics
 
 abbrev pub d_codes : Option ℕ → List ℕ
 d_codes None = []
@@ -91,18 +116,28 @@ abbrev pub constant_codes : Option Constant → List ℕ
 constant_codes None = []
 constant_codes (Some constant) = codes_in (characters_of constant)
 
+-- characters with a word mark at the high place, or without one
+abbrev pub field_cells : Bool → List ℕ → List Cell
+field_cells true characters = with_word_mark characters
+field_cells false characters = map plain characters
+
 -- a constant with a word mark at its high place, or without one
 abbrev pub constant_cells : Bool → Option Constant → List Cell
-constant_cells true constant = with_word_mark (constant_codes constant)
-constant_cells false constant = map plain (constant_codes constant)
+constant_cells is_marked constant = field_cells is_marked (constant_codes constant)
+
+-- the constant of an address, with this place for an asterisk
+abbrev pub address_constant_cells : Placement → ℤ → AddressConstant → List Cell
+address_constant_cells all here constant =
+    field_cells constant.is_marked (signed_codes all here constant.is_negative constant.operands.a)
 
 -- literals, each with a word mark at its high place
 abbrev pub literal_cells : Characters → List Cell
 literal_cells literal = with_word_mark (codes_in literal)
 
--- the fields directly after areas, comments aside
+-- the fields directly after areas, comments and headings aside
 abbrev pub fields_by : AreaRole → List Span → List Span
 fields_by areas.Ends behind = []
+fields_by areas.Keeps behind = behind
 fields_by (areas.Makes made) behind = []
 fields_by (areas.Divides None) behind = behind
 fields_by (areas.Divides (Some span)) behind = span ∷ behind
@@ -122,9 +157,9 @@ fields_behind (line ∷ lines) = fields_with line.statement (fields_behind lines
 abbrev pub with_mark_at : List Cell → ℕ → List Cell
 with_mark_at area place = slice_set area place (marked 0)
 
--- a field marks its first place
+-- a field marks its first place, but for one that is a place alone
 abbrev pub with_field : List Cell → Span → List Cell
-with_field area span = with_mark_at area (span.first - 1)
+with_field area span = if span.is_marked then with_mark_at area (span.first - 1) else area
 
 -- an area of blanks with a word mark at its high place and at the first place of each field
 abbrev pub area_cells : ℕ → List Span → List Cell
@@ -135,9 +170,21 @@ abbrev pub repeated : ℕ → List Cell → List Cell
 repeated zero area = []
 repeated (suc n) area = area ++ repeated n area
 
+-- a group mark with a word mark, where one is asked for
+abbrev pub group_mark : Bool → List Cell
+group_mark true = marked (char_of (byte "\"")) ∷ []
+group_mark false = []
+
+-- areas, and a group mark behind the last
 abbrev pub areas_cells : Option Areas → List Line → List Cell
 areas_cells None lines = []
-areas_cells (Some areas) lines = repeated areas.count (area_cells areas.length (fields_behind lines))
+areas_cells (Some areas) lines =
+    repeated areas.count (area_cells areas.length (fields_behind lines)) ++ group_mark areas.has_group_mark
+
+-- a chain: its operation with a word mark, as often as it is repeated
+abbrev pub chain_cells : Chain → List Cell
+chain_cells chain =
+    option_map_or (λ operation. repeated (chain_length chain) (marked (char_of operation) ∷ [])) chain.operation []
 
 -- the cells of contents that begin at the next place, with these lines after them
 abbrev pub contents_cells : Placement → Placement → Contents → List Line → List Cell
@@ -148,6 +195,9 @@ contents_cells all this (contents.MarkedConstant constant) lines = constant_cell
 contents_cells all this (contents.Constant constant) lines = constant_cells false constant
 contents_cells all this (contents.Space places) lines = []
 contents_cells all this (contents.Areas made) lines = areas_cells made lines
+contents_cells all this (contents.Chain chain) lines = chain_cells chain
+contents_cells all this (contents.AddressConstant constant) lines =
+    address_constant_cells all (last_place this.next 3) constant
 
 -- the cells that a statement places: its own, or literals
 abbrev pub row_cells : Placement → Placement → Description → Next → List Line → List Cell

@@ -4,7 +4,7 @@ use Rattle.std.specs.Prelude.{unwrap_or, slice_get, Option, None, Some}
 use Rattle.std.specs.Option.{option_map_or, option_or, option_and_then}
 use Rattle.source_1401.specs.Description.{describe}
 use Rattle.source_1401.specs.Flaw.{stretch, filled, first_base, second_base}
-use Rattle.source_1401.specs.Language.{line_in}
+use Rattle.source_1401.specs.Context.{lines_said}
 use Rattle.source_1401.specs.LanguageFlaw.{columns_in_language, foreign_column_in, operand_flaw_in, operation_flaw_in}
 use Rattle.source_1401.specs.Nearness.{is_near, word_in}
 use Rattle.source_1401.specs.SourceLine.{columns_in}
@@ -20,6 +20,7 @@ use Rattle.source_1401.specs.declared.language.Language.{Language}
 use Rattle.source_1401.specs.declared.label.LabelField.{LabelField}
 use Rattle.source_1401.specs.declared.label.LabelField.TheVariants as labels
 use Rattle.source_1401.specs.declared.statement.Body.{Body}
+use Rattle.source_1401.specs.declared.statement.Body.TheVariants as bodies
 use Rattle.source_1401.specs.declared.statement.LineCheck.{LineCheck}
 use Rattle.source_1401.specs.declared.statement.Line.{Line}
 use Rattle.source_1401.specs.declared.statement.Statement.{Statement}
@@ -73,11 +74,37 @@ abbrev pub operation_fault : OperationFlaw → Cause
 operation_fault operation_flaws.Displaced = causes.OperationDisplaced
 operation_fault (operation_flaws.Unknown nearest) = causes.OperationUnknown nearest
 
+-- why an operation isn't known: a CTL is above this one, or no instruction above CHAIN, or there is none of the name
+abbrev pub unknown_cause : OperationFlaw → Body → Cause
+unknown_cause flaw bodies.Unknown = operation_fault flaw
+unknown_cause flaw (bodies.Instruction instruction of) = operation_fault flaw
+unknown_cause flaw (bodies.MarkedConstant constant) = operation_fault flaw
+unknown_cause flaw (bodies.Constant constant) = operation_fault flaw
+unknown_cause flaw (bodies.Space places) = operation_fault flaw
+unknown_cause flaw (bodies.Areas areas) = operation_fault flaw
+unknown_cause flaw (bodies.Field span) = operation_fault flaw
+unknown_cause flaw (bodies.Equate of) = operation_fault flaw
+unknown_cause flaw (bodies.Origin of) = operation_fault flaw
+unknown_cause flaw (bodies.Execute of) = operation_fault flaw
+unknown_cause flaw (bodies.End of) = operation_fault flaw
+unknown_cause flaw (bodies.Heading is_well_formed) = operation_fault flaw
+unknown_cause flaw (bodies.Control size) = operation_fault flaw
+unknown_cause flaw bodies.SecondControl = causes.ControlledBefore
+unknown_cause flaw (bodies.Suffix suffix) = operation_fault flaw
+unknown_cause flaw (bodies.Transfer of) = operation_fault flaw
+unknown_cause flaw (bodies.Chain chain) = causes.NothingAbove
+unknown_cause flaw (bodies.AddressConstant constant) = operation_fault flaw
+unknown_cause flaw (bodies.LabelledOrigin of) = operation_fault flaw
+unknown_cause flaw (bodies.WideField span) = operation_fault flaw
+unknown_cause flaw (bodies.WideEquate of) = operation_fault flaw
+unknown_cause flaw (bodies.WideExecute of) = operation_fault flaw
+unknown_cause flaw (bodies.WideEnd of) = operation_fault flaw
+
 -- what is wrong with an operation: it isn't known, or there are no areas above a field
 abbrev pub operation_cause : Language → List ℕ → Body → Cause
 operation_cause language columns body =
     if (describe body).is_known then causes.NoAreas
-    else operation_fault (operation_flaw_in language (columns_in 16 20 columns))
+    else unknown_cause (operation_flaw_in language (columns_in 16 20 columns)) body
 
 -- it is the second operand that has no label: no line has it, or the first operand's is there
 abbrev pub is_second : Declared → Declared → Addressing → Bool
@@ -167,10 +194,9 @@ comment_cause language bytes source =
 abbrev pub comment_stretch : Language → LineCheck → List ℕ → Stretch
 comment_stretch language bytes columns = if is_long bytes then stretch 81 0 else foreign_stretch language columns
 
--- what is wrong with a line that has a fault of this kind, and in which columns
-abbrev pub explained_at : Language → Declared → Declared → List Line → ℕ → List ℕ → AsmKind → Explanation
-explained_at language declared anywhere lines number source kind =
-    let line = line_in language source in
+-- what is wrong with a line of this text that has a fault of this kind, and in which columns
+abbrev pub explained_at : Language → Declared → Declared → List Line → ℕ → List ℕ → Line → AsmKind → Explanation
+explained_at language declared anywhere lines number source line kind =
     let columns = columns_in_language language source in
     record {
       fault = record { line = number; kind = kind };
@@ -183,27 +209,30 @@ explained_at language declared anywhere lines number source kind =
     }
 
 -- a fault of this kind with what is wrong, if there is one
-abbrev pub explained : Language → Declared → Declared → List Line → ℕ → List ℕ → Option AsmKind → List Explanation
-explained language declared anywhere lines number source None = []
-explained language declared anywhere lines number source (Some kind) =
-    explained_at language declared anywhere lines number source kind ∷ []
+abbrev pub explained : Language → Declared → Declared → List Line → ℕ → List ℕ → Line → Option AsmKind
+    → List Explanation
+explained language declared anywhere lines number source line None = []
+explained language declared anywhere lines number source line (Some kind) =
+    explained_at language declared anywhere lines number source line kind ∷ []
 
 -- a fault that no columns of a line show
 abbrev pub whole_line : Cause → AsmFault → Explanation
 whole_line cause fault = record { fault = fault; columns = stretch 1 0; cause = cause }
 
-abbrev pub explained_from : Language → Declared → Declared → List Line → Before → List (List ℕ) → List Explanation
-explained_from language declared anywhere lines this [] = map (whole_line causes.NoEnd) (told_end this)
-explained_from language declared anywhere lines this (source ∷ sources) =
-    let line = line_in language source in
-    explained language declared anywhere lines this.at.number source (told declared anywhere this line)
-    ++ explained_from language declared anywhere lines (before_next declared this line) sources
+-- the faults of lines among all, which have these texts, each with what is wrong
+abbrev pub explained_from : Language → Declared → Declared → List Line → Before → List Line → List (List ℕ)
+    → List Explanation
+explained_from language declared anywhere all this [] sources = map (whole_line causes.NoEnd) (told_end this)
+explained_from language declared anywhere all this (line ∷ lines) [] = []
+explained_from language declared anywhere all this (line ∷ lines) (source ∷ sources) =
+    explained language declared anywhere all this.at.number source line (told declared anywhere this line)
+    ++ explained_from language declared anywhere all (before_next declared this line) lines sources
 
 -- the faults of a source's lines in this language, each with what is wrong, but for what isn't in core
 abbrev pub explained_lines : Language → List (List ℕ) → List Explanation
 explained_lines language sources =
-    let lines = map (line_in language) sources in
-    explained_from language (declared_at lines) (declared_anywhere lines) lines nothing_before sources
+    let lines = lines_said language sources in
+    explained_from language (declared_at lines) (declared_anywhere lines) lines nothing_before lines sources
 
 -- the faults of lines; of lines without any, the first of which something isn't in core
 abbrev pub or_outside_explained : List Explanation → Option AsmFault → List Explanation
@@ -214,7 +243,7 @@ or_outside_explained (first ∷ more) outside = first ∷ more
 -- all faults of a source's lines, each with what is wrong
 abbrev pub all_explained : Language → ℕ → List (List ℕ) → List Explanation
 all_explained language size sources =
-    or_outside_explained (explained_lines language sources) (first_outside size (map (line_in language) sources))
+    or_outside_explained (explained_lines language sources) (first_outside size (lines_said language sources))
 
 -- the faults alone
 abbrev pub faults_of : List Explanation → List AsmFault

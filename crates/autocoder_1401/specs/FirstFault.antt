@@ -3,7 +3,7 @@ use Rattle.std.specs.Prelude.{◌≡◌, ℕ, ◌+◌, ◌<◌, Bool, true, fals
 use Rattle.std.specs.Prelude.{◌∷◌, length, take, fold, slice_get, slice_index_or, Option, Some, None, is_none, is_some}
 use Rattle.std.specs.Option.{option_map, option_map_or}
 use Rattle.std.specs.List.{list_any}
-use Rattle.source_1401.specs.Statement.{has_bad_label, has_bad_operands, is_end}
+use Rattle.source_1401.specs.Statement.{has_bad_label, has_bad_operands, is_end, lacks_field_label}
 use Rattle.source_1401.specs.declared.label.Label.{Label}
 use Rattle.source_1401.specs.declared.label.LabelField.{LabelField}
 use Rattle.source_1401.specs.declared.label.LabelField.TheVariants as labels
@@ -31,10 +31,11 @@ use Rattle.autocoder_1401.specs.declared.fault.AsmKind.TheVariants as kinds
 use Rattle.autocoder_1401.specs.declared.fault.AsmFault.{AsmFault}
 use Rattle.autocoder_1401.specs.declared.first_fault.LineContext.{LineContext}
 
--- the length of the areas that a field after these lines would divide: those of a DA, with nothing but its fields and
--- comments after it
+-- the length of the areas that a field after these lines would divide: those of a DA, with nothing but its fields,
+-- comments and headings after it
 abbrev pub areas_by : Option ℕ → AreaRole → Option ℕ
 areas_by areas roles.Ends = None
+areas_by areas roles.Keeps = areas
 areas_by areas (roles.Makes made) = option_map (λ (of : Areas). of.length) made
 areas_by areas (roles.Divides span) = areas
 
@@ -56,21 +57,13 @@ place_behind this line =
 
 abbrev pub is_field : AreaRole → Bool
 is_field roles.Ends = false
+is_field roles.Keeps = false
 is_field (roles.Makes made) = false
 is_field (roles.Divides span) = true
 
--- a field divides areas
-abbrev pub is_field_of : Option ℕ → Body → Bool
-is_field_of areas body = is_field (describe body).areas && is_some areas
-
-abbrev pub is_absent : LabelField → Bool
-is_absent labels.Absent = true
-is_absent labels.Malformed = false
-is_absent (labels.Label label) = false
-
--- a field needs a label
+-- a field of areas may need a label
 abbrev pub bad_label : Option ℕ → Statement → Bool
-bad_label areas this = has_bad_label this || (is_absent this.label && is_field_of areas this.body)
+bad_label areas this = has_bad_label this || (lacks_field_label this && is_some areas)
 
 abbrev pub double_label : Declared → ℕ → LabelField → Bool
 double_label declared number labels.Absent = false
@@ -86,12 +79,15 @@ abbrev pub symbol_in_base : Base → Option Label
 symbol_in_base (bases.Number number) = None
 symbol_in_base (bases.Symbol label) = Some label
 symbol_in_base bases.Here = None
+symbol_in_base (bases.Register number) = None
+symbol_in_base bases.NextHundred = None
 
 abbrev pub symbol_in : OperandField → Option Label
 symbol_in fields.Absent = None
 symbol_in fields.Malformed = None
 symbol_in (fields.Operand (operands.Address address)) = symbol_in_base address.base
 symbol_in (fields.Operand (operands.Literal constant)) = None
+symbol_in (fields.Operand (operands.Unit unit)) = None
 
 -- a symbol that no line declares
 abbrev pub is_undefined : Declared → OperandField → Bool
@@ -121,6 +117,7 @@ is_past None span = false
 
 abbrev pub is_past_by : Option ℕ → AreaRole → Bool
 is_past_by areas roles.Ends = false
+is_past_by areas roles.Keeps = false
 is_past_by areas (roles.Makes made) = false
 is_past_by areas (roles.Divides span) = is_past areas span
 

@@ -7,7 +7,7 @@ use Rattle.bcd_1401.specs.declared.cell.Cell.{Cell}
 use Rattle.notation_1401.specs.Digits.{digits_in}
 use Rattle.source_1401.specs.Constant.{bytes_of}
 use Rattle.source_1401.specs.SourceLine.{padded, is_blank}
-use Rattle.source_1401.specs.Language.{line_in}
+use Rattle.source_1401.specs.Context.{lines_said}
 use Rattle.source_1401.specs.declared.constant.Constant.{Constant}
 use Rattle.source_1401.specs.declared.constant.Constant.TheVariants as constants
 use Rattle.source_1401.specs.Description.{describe}
@@ -15,7 +15,6 @@ use Rattle.source_1401.specs.declared.description.Addressing.{Addressing}
 use Rattle.source_1401.specs.declared.description.Addressing.TheVariants as addressing
 use Rattle.source_1401.specs.declared.description.Next.{Next}
 use Rattle.source_1401.specs.declared.description.Next.TheVariants as next
-use Rattle.source_1401.specs.declared.label.Label.{Label}
 use Rattle.source_1401.specs.declared.language.Language.{Language}
 use Rattle.source_1401.specs.declared.statement.Body.{Body}
 use Rattle.source_1401.specs.declared.statement.Statement.{Statement}
@@ -77,18 +76,18 @@ literals_by this next.Value = []
 abbrev pub literals_at : Placement → Body → List Constant
 literals_at this body = literals_by this (describe body).next
 
--- the values of labels that an operand is looked up in: some are valued by the labels before them, the others by all labels
-abbrev pub values_for : Placement → Placement → Addressing → List (Label × ℤ)
-values_for all this addressing.Nothing = this.values
-values_for all this (addressing.Addresses of) = this.values
-values_for all this (addressing.EarlierValue of) = this.values
-values_for all this (addressing.Value of) = all.values
-values_for all this (addressing.Entry of) = all.values
+-- what is placed by the lines whose labels an operand may name: some name the labels before them alone, the others all
+abbrev pub placed_for : Placement → Placement → Addressing → Placement
+placed_for all this addressing.Nothing = this
+placed_for all this (addressing.Addresses of) = this
+placed_for all this (addressing.EarlierValue of) = this
+placed_for all this (addressing.Value of) = all
+placed_for all this (addressing.Entry of) = all
 
 -- the address of a body: its first place, that of a field in the first area; the value of EQU, ORG, EX and END
 abbrev pub address_at : Placement → Placement → Body → ℤ
 address_at all this body =
-    let row = describe body in point_value (values_for all this row.addressing) this row row.shows
+    let row = describe body in point_value (placed_for all this row.addressing) this row row.shows
 
 -- the address that the line of a body shows; a remark, as a heading is, has none
 abbrev pub address_shown : Placement → Placement → Body → Option ℤ
@@ -125,4 +124,4 @@ listing_with lines sources = listing_from (placed lines) nothing_placed 1 lines 
 
 -- the listing of a source's lines in this language
 abbrev pub listing_of : Language → List (List ℕ) → List (List ℕ)
-listing_of language sources = listing_with (map (line_in language) sources) sources
+listing_of language sources = listing_with (lines_said language sources) sources

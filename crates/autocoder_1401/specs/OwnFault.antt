@@ -33,6 +33,7 @@ nothing_before =
 -- a DA without a value leaves its fields without areas, and so may a field whose operation can't be read
 abbrev pub loses_areas : Bool → Option ℕ → Description → AreaRole → Bool
 loses_areas lost areas row roles.Ends = not row.is_known && (lost || is_some areas)
+loses_areas lost areas row roles.Keeps = lost
 loses_areas lost areas row (roles.Makes None) = true
 loses_areas lost areas row (roles.Makes (Some made)) = false
 loses_areas lost areas row (roles.Divides span) = lost

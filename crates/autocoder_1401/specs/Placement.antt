@@ -1,6 +1,6 @@
 -- Where statements and literals are placed (Autocoder, "Assembler Control", "Literals"; the first place own).
-use Rattle.std.specs.Prelude.{ℕ, ◌+◌, ◌*◌, if◌then◌else◌, List, [], ◌∷◌, ◌++◌, length, fold, drop, ℤ, pos, negsuc, ◌+ℤ◌}
-use Rattle.std.specs.Prelude.{unwrap_or, Option, Some, None}
+use Rattle.std.specs.Prelude.{ℕ, ◌+◌, ◌*◌, ◌/◌, if◌then◌else◌, List, [], ◌∷◌, ◌++◌, length, fold, drop, ℤ, pos, negsuc}
+use Rattle.std.specs.Prelude.{◌+ℤ◌, int_le, nat_abs, unwrap_or, Option, Some, None}
 use Rattle.std.specs.Option.{option_map_or}
 use Rattle.std.specs.List.{list_any}
 use Rattle.std.specs.Map.{lookup}
@@ -16,6 +16,7 @@ use Rattle.source_1401.specs.declared.operands.OperandField.{OperandField}
 use Rattle.source_1401.specs.declared.operands.OperandField.TheVariants as fields
 use Rattle.source_1401.specs.declared.operands.Operands.{Operands}
 use Rattle.source_1401.specs.declared.statement.Areas.{Areas}
+use Rattle.source_1401.specs.declared.statement.Chain.{Chain}
 use Rattle.source_1401.specs.Description.{describe, operands_in}
 use Rattle.source_1401.specs.declared.description.Addressing.{Addressing}
 use Rattle.source_1401.specs.declared.description.Addressing.TheVariants as addressing
@@ -35,19 +36,36 @@ use Rattle.autocoder_1401.specs.Characters.{characters_of, same_characters}
 use Rattle.autocoder_1401.specs.Symbols.{same_label}
 use Rattle.autocoder_1401.specs.declared.characters.Characters.{Characters}
 
--- what is placed so far: the next place, the first place of the last areas, the labels' values, the literals in order
--- of first use with what each was first written as, and the units places of those that are placed
+-- what is placed so far: the next place, the first place of the last areas, the place of the first instruction, the next
+-- place as it was before END, the labels' values, the literals in order of first use with what each was first written
+-- as, and the units places of those that are placed
 pub record Placement : Type 0 where
   pub next : ℤ
   pub areas : ℤ
+  pub first_instruction : Option ℤ
+  pub before_end : ℤ
   pub values : List (Label × ℤ)
   pub literals : List Characters
   pub spellings : List Constant
   pub addresses : List ℤ
 
--- before the first line the next place is 333
+-- where a program is placed without ORG
+abbrev pub usual_place : ℤ
+usual_place = pos 333
+
+-- before the first line
 abbrev pub nothing_placed : Placement
-nothing_placed = record { next = pos 333; areas = pos 333; values = []; literals = []; spellings = []; addresses = [] }
+nothing_placed =
+    record {
+      next = usual_place;
+      areas = usual_place;
+      first_instruction = None;
+      before_end = usual_place;
+      values = [];
+      literals = [];
+      spellings = [];
+      addresses = [];
+    }
 
 -- how many places an instruction takes: its operation, its addresses, its d-character
 abbrev pub instruction_length : Operands → ℕ
@@ -59,7 +77,11 @@ constant_length (Some constant) = (characters_of constant).len
 
 abbrev pub areas_length : Option Areas → ℕ
 areas_length None = 0
-areas_length (Some areas) = areas.count * areas.length
+areas_length (Some areas) = areas.count * areas.length + (if areas.has_group_mark then 1 else 0)
+
+-- how many places a chain takes: one for each of its instructions
+abbrev pub chain_length : Chain → ℕ
+chain_length chain = unwrap_or chain.count 0
 
 -- how many places contents fill
 abbrev pub contents_length : Contents → ℕ
@@ -69,23 +91,54 @@ contents_length (contents.MarkedConstant constant) = constant_length constant
 contents_length (contents.Constant constant) = constant_length constant
 contents_length (contents.Space places) = unwrap_or places 0
 contents_length (contents.Areas areas) = areas_length areas
+contents_length (contents.Chain chain) = chain_length chain
+contents_length (contents.AddressConstant constant) = 3
 
 -- how many places a body takes, without the literals that it places
 abbrev pub length_of : Body → ℕ
 length_of body = contents_length (describe body).contents
 
--- the value so far of what an address is counted from
-abbrev pub base_so_far : List (Label × ℤ) → Base → ℤ
-base_so_far values (bases.Number number) = pos number
-base_so_far values (bases.Symbol label) = unwrap_or (lookup (same_label label) values) (pos 0)
-base_so_far values bases.Here = pos 0
+-- the units place of an index register
+abbrev pub register_value : ℕ → ℤ
+register_value number = pos (84 + 5 * number)
 
--- the value of an operand by these values of labels
-abbrev pub value_so_far : List (Label × ℤ) → OperandField → ℤ
-value_so_far values fields.Absent = pos 0
-value_so_far values fields.Malformed = pos 0
-value_so_far values (fields.Operand (operands.Address address)) = base_so_far values address.base +ℤ address.adjustment
-value_so_far values (fields.Operand (operands.Literal constant)) = pos 0
+-- the first place from this one on whose number ends in 00; no place is below 0
+abbrev pub next_hundred : ℤ → ℤ
+next_hundred at = if int_le (pos 0) at then pos (nat_abs (at +ℤ pos 99) / 100 * 100) else pos 0
+
+-- the value of a symbol by these values of labels
+abbrev pub symbol_value : List (Label × ℤ) → Label → ℤ
+symbol_value values label = unwrap_or (lookup (same_label label) values) (pos 0)
+
+-- the value of what an address is counted from, with this place for an asterisk
+abbrev pub base_value : List (Label × ℤ) → ℤ → Base → ℤ
+base_value values here (bases.Number number) = pos number
+base_value values here (bases.Symbol label) = symbol_value values label
+base_value values here bases.Here = here
+base_value values here (bases.Register number) = register_value number
+base_value values here bases.NextHundred = next_hundred here
+
+-- the value of an operand by these values of labels, with this place for an asterisk
+abbrev pub value_so_far : List (Label × ℤ) → ℤ → OperandField → ℤ
+value_so_far values here fields.Absent = pos 0
+value_so_far values here fields.Malformed = pos 0
+value_so_far values here (fields.Operand (operands.Address address)) =
+    base_value values here address.base +ℤ address.adjustment
+value_so_far values here (fields.Operand (operands.Literal constant)) = pos 0
+value_so_far values here (fields.Operand (operands.Unit unit)) = pos 0
+
+-- an asterisk is the next place in ORG, and in other values the last place before it
+abbrev pub asterisk_place : ℤ → Next → ℤ
+asterisk_place place next.Behind = place +ℤ negsuc 0
+asterisk_place place next.Literals = place +ℤ negsuc 0
+asterisk_place place next.Value = place
+
+-- where a program begins: the value of END, or without an operand the place of its first instruction
+abbrev pub entry_value : Placement → OperandField → ℤ
+entry_value all fields.Absent = unwrap_or all.first_instruction usual_place
+entry_value all fields.Malformed = pos 0
+entry_value all (fields.Operand operand) =
+    value_so_far all.values (asterisk_place all.before_end next.Literals) (fields.Operand operand)
 
 -- the literals that are used and not placed
 abbrev pub pending : Placement → List Characters
@@ -119,6 +172,7 @@ with_operand this fields.Absent = this
 with_operand this fields.Malformed = this
 with_operand this (fields.Operand (operands.Address address)) = this
 with_operand this (fields.Operand (operands.Literal constant)) = with_literal this constant
+with_operand this (fields.Operand (operands.Unit unit)) = this
 
 -- EX and END place the literals that are used and not placed
 abbrev pub with_pending : Placement → Placement
@@ -143,12 +197,13 @@ with_uses this (addressing.Entry of) = this
 -- areas begin at this place
 abbrev pub with_areas : Placement → ℤ → AreaRole → Placement
 with_areas this first areas.Ends = this
+with_areas this first areas.Keeps = this
 with_areas this first (areas.Makes made) = record this { areas = first }
 with_areas this first (areas.Divides span) = this
 
--- the value of the operand by the values so far
+-- the value of ORG, by the values so far
 abbrev pub own_value : Placement → Addressing → ℤ
-own_value this asked = value_so_far this.values (operands_in asked).a
+own_value this asked = value_so_far this.values (asterisk_place this.next next.Value) (operands_in asked).a
 
 -- what becomes of the next place
 abbrev pub moved : Placement → Description → Next → Placement
@@ -156,24 +211,61 @@ moved this row next.Behind = with_next this (this.next +ℤ pos (contents_length
 moved this row next.Literals = with_pending this
 moved this row next.Value = with_next this (own_value this row.addressing)
 
+-- the place of the first instruction, once contents begin at a place
+abbrev pub first_of_two : Option ℤ → ℤ → Contents → Option ℤ
+first_of_two first place contents.Nothing = first
+first_of_two first place (contents.Instruction instruction of) = Some (unwrap_or first place)
+first_of_two first place (contents.MarkedConstant constant) = first
+first_of_two first place (contents.Constant constant) = first
+first_of_two first place (contents.Space places) = first
+first_of_two first place (contents.Areas made) = first
+first_of_two first place (contents.Chain chain) = first
+first_of_two first place (contents.AddressConstant constant) = first
+
+-- the next place as it was before END, once a statement is at a place
+abbrev pub end_of_two : ℤ → ℤ → Addressing → ℤ
+end_of_two before place addressing.Nothing = before
+end_of_two before place (addressing.Addresses of) = before
+end_of_two before place (addressing.EarlierValue of) = before
+end_of_two before place (addressing.Value of) = before
+end_of_two before place (addressing.Entry of) = place
+
+-- the place of the first instruction, and the next place as it was before END
+abbrev pub with_ends : Placement → Option ℤ → ℤ → Placement
+with_ends this first before_end = record this { first_instruction = first; before_end = before_end }
+
+-- what is placed after a statement, but for where the program begins
+abbrev pub gone_on : Placement → Description → Placement
+gone_on this row = with_uses (with_areas (moved this row row.next) this.next row.areas) row.addressing
+
 -- what is placed after a statement
 abbrev pub behind_row : Placement → Description → Placement
-behind_row this row = with_uses (with_areas (moved this row row.next) this.next row.areas) row.addressing
+behind_row this row =
+    with_ends (gone_on this row) (first_of_two this.first_instruction this.next row.contents)
+    (end_of_two this.before_end this.next row.addressing)
 
 abbrev pub behind_body : Placement → Body → Placement
 behind_body this body = behind_row this (describe body)
 
--- the place that a statement's point names, with its operand by these values of labels
-abbrev pub point_value : List (Label × ℤ) → Placement → Description → Point → ℤ
-point_value values this row point.First = this.next
-point_value values this row point.Last = this.next +ℤ pos (contents_length row.contents) +ℤ negsuc 0
-point_value values this row (point.InArea place) = this.areas +ℤ pos place +ℤ negsuc 0
-point_value values this row point.Value = value_so_far values (operands_in row.addressing).a
+-- the value that a statement asks for, by the labels of what is placed by others
+abbrev pub asked_value : Placement → Placement → Next → Addressing → ℤ
+asked_value by this step addressing.Nothing = pos 0
+asked_value by this step (addressing.Addresses of) = value_so_far by.values (asterisk_place this.next step) of.a
+asked_value by this step (addressing.EarlierValue of) = value_so_far by.values (asterisk_place this.next step) of.a
+asked_value by this step (addressing.Value of) = value_so_far by.values (asterisk_place this.next step) of.a
+asked_value by this step (addressing.Entry of) = entry_value by of.a
+
+-- the place that a statement's point names, with its operand by the labels of what is placed by others
+abbrev pub point_value : Placement → Placement → Description → Point → ℤ
+point_value by this row point.First = this.next
+point_value by this row point.Last = this.next +ℤ pos (contents_length row.contents) +ℤ negsuc 0
+point_value by this row (point.InArea place) = this.areas +ℤ pos place +ℤ negsuc 0
+point_value by this row point.Value = asked_value by this row.next row.addressing
 
 -- the value of a label: the units place of a constant, the last place of DS, the last place of a field in the first
 -- area, the value of EQU, and else the first place
 abbrev pub label_value : Placement → Body → ℤ
-label_value this body = point_value this.values this (describe body) (describe body).names
+label_value this body = point_value this this (describe body) (describe body).names
 
 abbrev pub with_label : Placement → Option Label → ℤ → Placement
 with_label this None value = this

@@ -81,6 +81,7 @@ literal_in fields.Absent = []
 literal_in fields.Malformed = []
 literal_in (fields.Operand (operands.Address address)) = []
 literal_in (fields.Operand (operands.Literal constant)) = characters_of constant ∷ []
+literal_in (fields.Operand (operands.Unit unit)) = []
 
 -- the literals that a body uses
 abbrev pub uses_by : Addressing → List Characters
@@ -110,10 +111,10 @@ pub record IsPlacedInTurn (lines : List Line) : Type 0 where
   -- After lines without an origin the next place is the one before them and their lengths.
   pub since : (before since rest : List Line) → lines ≡ before ++ since ++ rest → AreNoOrigins since
       → (placed (before ++ since)).next ≡ (placed before).next +ℤ pos (lengths_from (placed before) since)
-  -- After an origin it is the value of its operand.
+  -- After an origin it is the value of its operand, in which an asterisk is the place before it.
   pub origin : (before : List Line) (line : Line) (rest : List Line) (of : Operands) → lines ≡ before ++ line ∷ rest
       → origin_with line.statement ≡ Some of
-      → (placed (before ++ line ∷ [])).next ≡ value_so_far (placed before).values of.a
+      → (placed (before ++ line ∷ [])).next ≡ value_so_far (placed before).values (placed before).next of.a
   -- The literals are those that are used, each once, in the order of their first use,
   pub literals : (placed lines).literals ≡ fold with_use [] (uses lines)
   -- and each is kept as it was written there.

@@ -1,8 +1,7 @@
 -- The symbol table of a source (own).
-use Rattle.std.specs.Prelude.{ℕ, ◌+◌, ◌-◌, List, [], ◌∷◌, ◌++◌, pos, Option, None, Some, codes, unwrap_or}
+use Rattle.std.specs.Prelude.{ℕ, ◌+◌, ◌-◌, List, [], ◌∷◌, ◌++◌, Option, None, Some, codes}
 use Rattle.std.specs.Option.{option_map}
 use Rattle.std.specs.List.{flat_map}
-use Rattle.std.specs.Map.{lookup}
 use Rattle.notation_1401.specs.Digits.{digits_in}
 use Rattle.source_1401.specs.Description.{describe}
 use Rattle.source_1401.specs.Statement.{well_formed}
@@ -17,8 +16,7 @@ use Rattle.source_1401.specs.declared.statement.Line.{Line}
 use Rattle.source_1401.specs.declared.statement.Span.{Span}
 use Rattle.source_1401.specs.declared.statement.Statement.{Statement}
 use Rattle.autocoder_1401.specs.Listing.{address_text}
-use Rattle.autocoder_1401.specs.Placement.{Placement, contents_length, placed}
-use Rattle.autocoder_1401.specs.Symbols.{same_label}
+use Rattle.autocoder_1401.specs.Placement.{Placement, contents_length, symbol_value, placed}
 use Rattle.autocoder_1401.specs.declared.symbol_table.Symbol.{Symbol}
 
 -- how many places a field of an area has
@@ -27,11 +25,12 @@ span_length span = span.last + 1 - span.first
 
 abbrev pub field_length : AreaRole → Option ℕ
 field_length areas.Ends = None
+field_length areas.Keeps = None
 field_length (areas.Makes made) = None
 field_length (areas.Divides span) = option_map span_length span
 
--- how many places a label names: those of an instruction, a constant, DS or all areas of DA, or of the field of one
--- area; EQU names a value alone
+-- how many places a label names: those of an instruction, a constant, DS or all areas of DA with their group mark, or of
+-- the field of one area; EQU names a value alone, and ORG a place at which nothing begins
 abbrev pub length_by : Description → Point → Option ℕ
 length_by row point.First = Some (contents_length row.contents)
 length_by row point.Last = Some (contents_length row.contents)
@@ -46,7 +45,7 @@ abbrev pub symbol_of : Placement → ℕ → Body → Label → Symbol
 symbol_of all number body label =
     record {
       label = label;
-      value = unwrap_or (lookup (same_label label) all.values) (pos 0);
+      value = symbol_value all.values label;
       length = length_named (describe body);
       line = number;
     }

@@ -1,11 +1,8 @@
 -- The values of addresses once all is placed, and what isn't in core (Autocoder, "Operand"; what is looked at own).
 use Rattle.std.specs.Prelude.{ℕ, ◌+◌, Bool, false, not, ◌&&◌, ◌||◌, nat_lt, if◌then◌else◌, List, [], ◌∷◌, length, ℤ}
-use Rattle.std.specs.Prelude.{pos, negsuc, ◌+ℤ◌, int_le, int_lt, unwrap_or, Option, Some, None}
+use Rattle.std.specs.Prelude.{pos, negsuc, ◌+ℤ◌, int_le, int_lt, Option, Some, None}
 use Rattle.std.specs.Option.{option_map_or}
-use Rattle.std.specs.Map.{lookup}
 use Rattle.source_1401.specs.declared.address.Address.{Address}
-use Rattle.source_1401.specs.declared.address.Base.{Base}
-use Rattle.source_1401.specs.declared.address.Base.TheVariants as bases
 use Rattle.source_1401.specs.declared.operands.Operand.TheVariants as operands
 use Rattle.source_1401.specs.declared.operands.OperandField.{OperandField}
 use Rattle.source_1401.specs.declared.operands.OperandField.TheVariants as fields
@@ -19,20 +16,13 @@ use Rattle.source_1401.specs.declared.statement.Body.{Body}
 use Rattle.source_1401.specs.declared.statement.Statement.{Statement}
 use Rattle.source_1401.specs.declared.statement.Line.{Line}
 use Rattle.autocoder_1401.specs.Placement.{Placement, nothing_placed, contents_length, pending}
-use Rattle.autocoder_1401.specs.Placement.{behind_literals, value_so_far, after_line, placed}
-use Rattle.autocoder_1401.specs.Symbols.{same_label}
+use Rattle.autocoder_1401.specs.Placement.{behind_literals, base_value, asked_value, entry_value, after_line, placed}
 use Rattle.autocoder_1401.specs.declared.fault.AsmKind.TheVariants as kinds
 use Rattle.autocoder_1401.specs.declared.fault.AsmFault.{AsmFault}
 
--- the value of what an address is counted from, with this place for an asterisk
-abbrev pub base_value : Placement → ℤ → Base → ℤ
-base_value all here (bases.Number number) = pos number
-base_value all here (bases.Symbol label) = unwrap_or (lookup (same_label label) all.values) (pos 0)
-base_value all here bases.Here = here
-
--- the value of an address before indexing
+-- the value of an address before indexing, with this place for an asterisk
 abbrev pub address_value : Placement → ℤ → Address → ℤ
-address_value all here address = base_value all here address.base +ℤ address.adjustment
+address_value all here address = base_value all.values here address.base +ℤ address.adjustment
 
 -- a value is the address of a place of core storage of this size
 abbrev pub is_in_core : ℕ → ℤ → Bool
@@ -50,13 +40,14 @@ last_place first length = first +ℤ pos length +ℤ negsuc 0
 abbrev pub places_outside : ℕ → ℤ → ℕ → Bool
 places_outside size first length = nat_lt 0 length && not (are_in_core size first (first +ℤ pos length))
 
--- an address other than a literal whose value isn't in core
+-- an address whose value isn't in core; a literal is looked at where it is placed, and a unit is no address
 abbrev pub operand_outside : ℕ → Placement → ℤ → OperandField → Bool
 operand_outside size all here fields.Absent = false
 operand_outside size all here fields.Malformed = false
 operand_outside size all here (fields.Operand (operands.Address address)) =
     not (is_in_core size (address_value all here address))
 operand_outside size all here (fields.Operand (operands.Literal constant)) = false
+operand_outside size all here (fields.Operand (operands.Unit unit)) = false
 
 -- a literal that is placed here and isn't in core
 abbrev pub literals_outside : ℕ → Placement → Bool
@@ -82,9 +73,10 @@ addresses_outside size all this row (addressing.Addresses of) =
     let last = last_place this.next (contents_length row.contents) in
     operand_outside size all last of.a || operand_outside size all last of.b
 addresses_outside size all this row (addressing.EarlierValue of) =
-    value_outside size (value_so_far this.values of.a) row.next
-addresses_outside size all this row (addressing.Value of) = operand_outside size all (pos 0) of.a
-addresses_outside size all this row (addressing.Entry of) = operand_outside size all (pos 0) of.a
+    value_outside size (asked_value this this row.next (addressing.EarlierValue of)) row.next
+addresses_outside size all this row (addressing.Value of) =
+    value_outside size (asked_value all this row.next (addressing.Value of)) row.next
+addresses_outside size all this row (addressing.Entry of) = not (is_in_core size (entry_value all of.a))
 
 -- a place of a statement that isn't in core, a literal that it places, or a value
 abbrev pub row_outside : ℕ → Placement → Placement → Description → Bool

@@ -14,6 +14,8 @@ places_of this =
     record {
       next = this.next;
       areas = this.areas;
+      first_instruction = this.first_instruction;
+      before_end = this.before_end;
       values = this.values.entries;
       literals =
           this.literals.keys;

@@ -21,13 +21,14 @@ use Rattle.source_1401.specs.declared.operands.Operand.TheVariants as operands
 use Rattle.source_1401.specs.declared.operands.OperandField.{OperandField}
 use Rattle.source_1401.specs.declared.operands.OperandField.TheVariants as fields
 use Rattle.source_1401.specs.declared.operands.Operands.{Operands}
+use Rattle.source_1401.specs.declared.statement.Chain.{Chain}
 use Rattle.source_1401.specs.declared.statement.Line.{Line}
 use Rattle.source_1401.specs.declared.statement.Statement.{Statement}
 use Rattle.autocoder_1401.specs.CrossReference.{is_named_in}
 use Rattle.autocoder_1401.specs.Filling.{filled, addresses_of}
 use Rattle.autocoder_1401.specs.FirstFault.{symbol_in, symbol_in_base}
 use Rattle.autocoder_1401.specs.Fitted.{is_fitted}
-use Rattle.autocoder_1401.specs.Placement.{instruction_length}
+use Rattle.autocoder_1401.specs.Placement.{instruction_length, chain_length}
 use Rattle.autocoder_1401.specs.Symbols.{has_label}
 use Rattle.autocoder_1401.specs.declared.warning.Warning.{Warning}
 use Rattle.autocoder_1401.specs.declared.warning.WarningKind.{WarningKind}
@@ -50,6 +51,8 @@ is_number (contents.MarkedConstant constant) = is_unsigned constant
 is_number (contents.Constant constant) = false
 is_number (contents.Space places) = false
 is_number (contents.Areas areas) = false
+is_number (contents.Chain chain) = false
+is_number (contents.AddressConstant constant) = false
 
 -- the label of a number without a sign
 abbrev pub number_label : Statement → Option Label
@@ -72,6 +75,7 @@ is_plus_literal fields.Absent = false
 is_plus_literal fields.Malformed = false
 is_plus_literal (fields.Operand (operands.Address address)) = false
 is_plus_literal (fields.Operand (operands.Literal constant)) = is_plus constant
+is_plus_literal (fields.Operand (operands.Unit unit)) = false
 
 -- an instruction that brings no sign into its fields: a comparison, a branch, and a sum with a literal that has a plus
 -- sign, since a field without a sign counts as plus and stays as it is
@@ -84,8 +88,8 @@ brings_no_sign this of =
 abbrev pub last_field : Operands → OperandField
 last_field of = if count_of of.b == 0 then of.a else of.b
 
--- the symbol of a field into which a statement may bring a sign; EQU may give it a second name, and ORG may place
--- something else there
+-- the symbol of a field into which a statement may bring a sign; EQU may give it a second name, ORG may place something
+-- else there, and instructions may take an address constant for an address
 abbrev pub signed_symbol : Contents → Operands → Option Label
 signed_symbol contents.Nothing of = symbol_in of.a
 signed_symbol (contents.Instruction instruction these) of =
@@ -94,6 +98,8 @@ signed_symbol (contents.MarkedConstant constant) of = None
 signed_symbol (contents.Constant constant) of = None
 signed_symbol (contents.Space places) of = None
 signed_symbol (contents.Areas areas) of = None
+signed_symbol (contents.Chain chain) of = None
+signed_symbol (contents.AddressConstant constant) of = symbol_in of.a
 
 abbrev pub signed_label : Description → Option Label
 signed_label row = signed_symbol row.contents (operands_in row.addressing)
@@ -102,7 +108,11 @@ abbrev pub is_signed_in : Label → Line → Bool
 is_signed_in label line =
     option_map_or (λ (this : Statement). has_label label (signed_label (describe this.body))) line.statement false
 
--- an instruction of this operation
+-- a chain of instructions of this operation
+abbrev pub is_chain_of : ℕ → Chain → Bool
+is_chain_of operation chain = option_map_or (λ each. each == operation) chain.operation false
+
+-- an instruction of this operation, or a chain of such instructions
 abbrev pub is_operation : ℕ → Contents → Bool
 is_operation operation contents.Nothing = false
 is_operation operation (contents.Instruction instruction of) = instruction.operation == operation
@@ -110,6 +120,8 @@ is_operation operation (contents.MarkedConstant constant) = false
 is_operation operation (contents.Constant constant) = false
 is_operation operation (contents.Space places) = false
 is_operation operation (contents.Areas areas) = false
+is_operation operation (contents.Chain chain) = is_chain_of operation chain
+is_operation operation (contents.AddressConstant constant) = false
 
 abbrev pub has_operation : ℕ → Line → Bool
 has_operation operation line =
@@ -147,14 +159,33 @@ known_in lines =
           list_any (has_operation (byte "A")) lines || list_any (has_operation (byte "S")) lines;
     }
 
--- an instruction that the machine never carries out
+-- an input-output unit
+abbrev pub is_unit : OperandField → Bool
+is_unit fields.Absent = false
+is_unit fields.Malformed = false
+is_unit (fields.Operand (operands.Address address)) = false
+is_unit (fields.Operand (operands.Literal constant)) = false
+is_unit (fields.Operand (operands.Unit unit)) = true
+
+-- an instruction that the machine never carries out: one of another length, or one with a unit, which it hasn't got
+abbrev pub is_unfitted : Instruction → Operands → Bool
+is_unfitted instruction of =
+    is_unit of.a || is_unit of.b || not (is_fitted instruction.operation (instruction_length of))
+
+-- a chain of instructions that can't be one character alone
+abbrev pub is_unfitted_chain : Chain → Bool
+is_unfitted_chain chain = option_map_or (λ operation. not (is_fitted operation 1)) chain.operation false
+
+-- an instruction, or a chain of such, that the machine never carries out
 abbrev pub is_not_fitted : Contents → Bool
 is_not_fitted contents.Nothing = false
-is_not_fitted (contents.Instruction instruction of) = not (is_fitted instruction.operation (instruction_length of))
+is_not_fitted (contents.Instruction instruction of) = is_unfitted instruction of
 is_not_fitted (contents.MarkedConstant constant) = false
 is_not_fitted (contents.Constant constant) = false
 is_not_fitted (contents.Space places) = false
 is_not_fitted (contents.Areas areas) = false
+is_not_fitted (contents.Chain chain) = is_unfitted_chain chain
+is_not_fitted (contents.AddressConstant constant) = false
 
 -- a label that no operand names
 abbrev pub is_unused : Known → Option Label → Bool
@@ -178,6 +209,8 @@ branches_unset known (contents.MarkedConstant constant) = false
 branches_unset known (contents.Constant constant) = false
 branches_unset known (contents.Space places) = false
 branches_unset known (contents.Areas areas) = false
+branches_unset known (contents.Chain chain) = false
+branches_unset known (contents.AddressConstant constant) = false
 
 -- a number with a sign, as a literal
 abbrev pub has_sign : Constant → Bool
@@ -192,6 +225,7 @@ is_signed_literal fields.Absent = false
 is_signed_literal fields.Malformed = false
 is_signed_literal (fields.Operand (operands.Address address)) = false
 is_signed_literal (fields.Operand (operands.Literal constant)) = has_sign constant
+is_signed_literal (fields.Operand (operands.Unit unit)) = false
 
 -- a symbol alone, without an adjustment and an index register
 abbrev pub is_lone : Address → Bool
@@ -202,6 +236,7 @@ lone_symbol fields.Absent = None
 lone_symbol fields.Malformed = None
 lone_symbol (fields.Operand (operands.Address address)) = if is_lone address then symbol_in_base address.base else None
 lone_symbol (fields.Operand (operands.Literal constant)) = None
+lone_symbol (fields.Operand (operands.Unit unit)) = None
 
 -- the label of a number without a sign, into which no line brings one
 abbrev pub stays_unsigned : Known → Label → Bool
@@ -220,6 +255,8 @@ compares_unlike known (contents.MarkedConstant constant) = false
 compares_unlike known (contents.Constant constant) = false
 compares_unlike known (contents.Space places) = false
 compares_unlike known (contents.Areas areas) = false
+compares_unlike known (contents.Chain chain) = false
+compares_unlike known (contents.AddressConstant constant) = false
 
 -- the most characters that an instruction has
 abbrev pub longest : ℕ → ℕ
@@ -237,6 +274,11 @@ abbrev pub open_place : List Cell → ℕ → ℕ → ℕ → Option ℕ
 open_place storage operation length place =
     option_and_then (λ cell. if ends operation length cell then None else Some place) (slice_get storage place)
 
+-- that of the last instruction of a chain which begins at this address
+abbrev pub chain_read_on : List Cell → ℕ → Chain → Option ℕ
+chain_read_on storage address chain =
+    option_and_then (λ operation. open_place storage operation 1 (address + chain_length chain)) chain.operation
+
 -- that of a statement which begins at this address
 abbrev pub read_on : List Cell → ℕ → Contents → Option ℕ
 read_on storage address contents.Nothing = None
@@ -246,6 +288,8 @@ read_on storage address (contents.MarkedConstant constant) = None
 read_on storage address (contents.Constant constant) = None
 read_on storage address (contents.Space places) = None
 read_on storage address (contents.Areas areas) = None
+read_on storage address (contents.Chain chain) = chain_read_on storage address chain
+read_on storage address (contents.AddressConstant constant) = None
 
 -- a warning of this kind at this line, if there is one
 abbrev pub warned_if : Bool → ℕ → WarningKind → List Warning

@@ -46,7 +46,7 @@ fn scan(
     Ok(fault)
 }
 
-/// The value of the first END.
+/// Where the first END lets the program begin.
 fn entry(all: &Placing, lines: &[KeptLine]) -> Result<i64, AsmFault>
     ensures value { IfOk result (λ value. value ≡ entry_in (places_of all.now) lines.now) }
     ensures err { IfErr result IsMemory }
@@ -56,7 +56,7 @@ fn entry(all: &Placing, lines: &[KeptLine]) -> Result<i64, AsmFault>
             continue;
         };
         match body.describe().addressing {
-            Addressing::Entry(operands) => return all.value_so_far(operands.a),
+            Addressing::Entry(operands) => return all.entry_value(operands.a),
             Addressing::Nothing
             | Addressing::Addresses(_)
             | Addressing::EarlierValue(_)

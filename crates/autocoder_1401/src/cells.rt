@@ -1,13 +1,14 @@
 //! The cells that a line places.
-ghost use Rattle.std.specs.Prelude.{◌≡◌, ◌++◌, ◌<◌, ◌%◌, map, fold, IfOk, IfErr, OnOk};
+ghost use Rattle.std.specs.Prelude.{◌≡◌, ◌++◌, ◌<◌, map, fold, IfOk, IfErr, OnOk};
 ghost use Rattle.std.specs.List.{flat_map};
-ghost use Rattle.core_1401.specs.Address.{addresses, spelling_of};
+ghost use Rattle.core_1401.specs.Address.{addresses};
 ghost use Rattle.autocoder_1401.specs.Fault.{IsMemory};
 ghost use Rattle.autocoder_1401.specs.Characters.{char_with};
-ghost use Rattle.autocoder_1401.specs.Cells.{address_or_zero, plain, with_word_mark, with_index, literal_value, operand_codes};
-ghost use Rattle.autocoder_1401.specs.Cells.{d_codes, operands_cells, instruction_cells, constant_cells, literal_cells};
+ghost use Rattle.autocoder_1401.specs.Cells.{address_or_zero, plain, with_word_mark, indexed, literal_value};
+ghost use Rattle.autocoder_1401.specs.Cells.{operand_codes, d_codes, operands_cells, instruction_cells, constant_cells, literal_cells};
 ghost use Rattle.autocoder_1401.specs.Cells.{fields_behind, with_mark_at, with_field, repeated, areas_cells};
-ghost use Rattle.autocoder_1401.specs.Cells.{contents_cells, row_cells, statement_cells};
+ghost use Rattle.autocoder_1401.specs.Cells.{unit_codes, chain_cells, contents_cells, row_cells, statement_cells};
+ghost use Rattle.autocoder_1401.specs.Cells.{signed_place, field_cells, address_constant_cells, group_mark};
 ghost use Rattle.autocoder_1401.specs.View.{places_of};
 
 use crate::characters::{Characters, char_of, char_with};
@@ -17,8 +18,8 @@ use crate::placing::{Placing, instruction_length, last_place};
 use bcd_1401::{Cell, Char};
 use core_1401::{ADDRESSES, encode};
 use source_1401::{
-    Address, AreaRole, Areas, Constant, Contents, Description, Instruction, Next, Operand,
-    OperandField, Operands, Statement,
+    AddressConstant, AreaRole, Areas, Chain, Constant, Contents, Description, Instruction, Next,
+    Operand, OperandField, Operands, Span, Statement, Unit,
 };
 use std::alloc::Global;
 
@@ -77,10 +78,31 @@ fn put_marked(out: &mut Vec<Cell>, codes: &[u8]) -> Result<(), AsmFault>
     Ok(())
 }
 
+/// The characters of an input-output unit.
+fn unit_chars(unit: Unit) -> [Char; 3]
+    ensures { result ≡ unit_codes unit.graphics }
+{
+    let [sign, letter, digit] = unit.graphics;
+    [char_of(sign), char_of(letter), char_of(digit)]
+}
+
+/// The place whose address a constant of this place has, with a minus sign or without.
+fn signed_place(is_negative: bool, place: u16) -> u16
+    requires { place < addresses }
+    ensures value { result ≡ signed_place is_negative place }
+    ensures range { result < addresses }
+{
+    if is_negative {
+        (ADDRESSES - place) % ADDRESSES
+    } else {
+        place
+    }
+}
+
 /// The characters of an address, with the number of an index register as the zone over its tens.
 fn address_chars(address: u16, index: u8) -> [Char; 3]
     requires { address < addresses }
-    ensures { result ≡ with_index (index % 4) (spelling_of address) }
+    ensures { result ≡ indexed index address }
 {
     let [hundreds, tens, units] = encode(address);
     [hundreds, tens.with_zone(index % 4), units]
@@ -117,6 +139,7 @@ impl Placing {
                 let value = self.literal_value(&Characters::from_constant(constant));
                 put_chars(out, &encode(address_or_zero(value)))?;
             },
+            OperandField::Operand(Operand::Unit(unit)) => put_chars(out, &unit_chars(unit))?,
             OperandField::Absent | OperandField::Malformed => {},
         }
         Ok(())
@@ -164,6 +187,30 @@ impl Placing {
         put_d(operands.d, out)?;
         Ok(())
     }
+
+    /// Puts an address constant of which this is the last place.
+    fn put_address_constant(
+        &self,
+        here: i64,
+        constant: AddressConstant,
+        out: &mut Vec<Cell>,
+    ) -> Result<(), AsmFault>
+        ensures ok { OnOk result
+            (out.new.items ≡ out.old.items ++ address_constant_cells (places_of self.now) here constant) }
+        ensures err { IfErr result IsMemory }
+    {
+        match constant.operands.a {
+            OperandField::Operand(Operand::Address(address)) => {
+                let value = self.address_value(here, address)?;
+                let place = signed_place(constant.is_negative, address_or_zero(value));
+                let chars = address_chars(place, address.index);
+                put_field(out, &chars, constant.is_marked)
+            },
+            OperandField::Operand(Operand::Literal(_) | Operand::Unit(_))
+            | OperandField::Absent
+            | OperandField::Malformed => put_field(out, &[], constant.is_marked),
+        }
+    }
 }
 
 /// Puts a d-character.
@@ -198,6 +245,23 @@ pub(crate) fn put_constant(
     Ok(())
 }
 
+/// Puts characters, with a word mark at the first or without one.
+fn put_field(out: &mut Vec<Cell>, chars: &[Char], is_marked: bool) -> Result<(), AsmFault>
+    ensures ok { OnOk result (out.new.items ≡ out.old.items ++ field_cells is_marked chars.now) }
+    ensures err { IfErr result IsMemory }
+{
+    match chars {
+        [first, more @ ..] if is_marked => {
+            out.push(Cell {
+                char: *first,
+                mark: true,
+            })?;
+            put_chars(out, more)
+        },
+        _ => put_chars(out, chars),
+    }
+}
+
 /// Puts literals.
 fn put_literals(literals: &[Characters], out: &mut Vec<Cell>) -> Result<(), AsmFault>
     ensures ok { OnOk result (out.new.items ≡ out.old.items ++ flat_map literal_cells literals.now) }
@@ -221,7 +285,16 @@ fn mark(area: &mut [Cell], place: usize)
     }
 }
 
-/// Sets the word marks of the fields directly after areas, comments aside.
+/// Sets the word mark of a field of an area, if it has one.
+fn mark_field(area: &mut [Cell], span: Span)
+    ensures { area.new ≡ with_field area.old span }
+{
+    if span.is_marked {
+        mark(area, usize::from(span.first).saturating_sub(1));
+    }
+}
+
+/// Sets the word marks of the fields directly after areas, comments and headings aside.
 fn mark_fields(area: &mut [Cell], lines: &[KeptLine])
     ensures { area.new ≡ fold with_field area.old (fields_behind lines.now) }
 {
@@ -230,11 +303,25 @@ fn mark_fields(area: &mut [Cell], lines: &[KeptLine])
             continue;
         };
         match body.describe().areas {
-            AreaRole::Divides(Some(span)) => mark(area, usize::from(span.first).saturating_sub(1)),
-            AreaRole::Divides(None) => {},
+            AreaRole::Divides(Some(span)) => mark_field(area, span),
+            AreaRole::Divides(None) | AreaRole::Keeps => {},
             AreaRole::Ends | AreaRole::Makes(_) => return,
         }
     }
+}
+
+/// Puts a group mark, if it is asked for.
+fn put_group_mark(is_asked: bool, out: &mut Vec<Cell>) -> Result<(), AsmFault>
+    ensures ok { OnOk result (out.new.items ≡ out.old.items ++ group_mark is_asked) }
+    ensures err { IfErr result IsMemory }
+{
+    if is_asked {
+        out.push(Cell {
+            char: char_of(b'"'),
+            mark: true,
+        })?;
+    }
+    Ok(())
 }
 
 /// Puts areas, with the word marks of the fields after them.
@@ -254,6 +341,7 @@ fn put_areas(
     mark(&mut area, 0);
     mark_fields(&mut area, lines);
     put_repeated(areas.count, &area, out)?;
+    put_group_mark(areas.has_group_mark, out)?;
     Ok(())
 }
 
@@ -269,6 +357,21 @@ fn put_repeated(count: u8, area: &[Cell], out: &mut Vec<Cell>) -> Result<(), Asm
         left -= 1;
     }
     Ok(())
+}
+
+/// Puts the instructions of a chain.
+fn put_chain(chain: Chain, out: &mut Vec<Cell>) -> Result<(), AsmFault>
+    ensures ok { OnOk result (out.new.items ≡ out.old.items ++ chain_cells chain) }
+    ensures err { IfErr result IsMemory }
+{
+    let (Some(operation), Some(count)) = (chain.operation, chain.count) else {
+        return Ok(());
+    };
+    let instruction = Cell {
+        char: char_of(operation),
+        mark: true,
+    };
+    put_repeated(count, &[instruction], out)
 }
 
 /// Puts the cells of contents that begin at the next place, with these lines after them.
@@ -292,6 +395,11 @@ pub(crate) fn put_contents(
         Contents::MarkedConstant(constant) => put_constant(constant, true, out),
         Contents::Constant(constant) => put_constant(constant, false, out),
         Contents::Areas(areas) => put_areas(alloc, areas, lines, out),
+        Contents::Chain(chain) => put_chain(chain, out),
+        Contents::AddressConstant(constant) => {
+            let last = last_place(so_far.next, 3)?;
+            all.put_address_constant(last, constant, out)
+        },
         Contents::Nothing | Contents::Space(_) => Ok(()),
     }
 }

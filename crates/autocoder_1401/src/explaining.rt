@@ -1,7 +1,7 @@
 //! All faults of a source, each with what is wrong and the columns in which it is.
 ghost use Rattle.std.specs.Prelude.{◌≡◌, ◌++◌, ◌<◌, ◌^◌, All, length, map, IfOk, IfErr, OnOk};
 ghost use Rattle.indexmap.specs.IndexMap.{get};
-ghost use Rattle.source_1401.specs.Language.{line_in};
+ghost use Rattle.source_1401.specs.Context.{lines_said};
 ghost use Rattle.source_1401.specs.SourceLine.{lines_of};
 ghost use Rattle.autocoder_1401.specs.AllFaults.{told_end, all_faults, first_in, fault_in, IsTold};
 ghost use Rattle.autocoder_1401.specs.Assembly.{lines_in, assembly_in};
@@ -43,10 +43,10 @@ fn put_explained(
     line: &KeptLine,
     explanations: &mut Vec<Explanation>,
 ) -> Result<(), AsmFault>
-    requires { line.now ≡ line_in language source.now }
     ensures ok { OnOk result (explanations.new.items ≡ explanations.old.items
         ++ explained language (get same_label this.now.labels) (get same_label this.now.anywhere) lines.now
-        before.at.number source.now (told (get same_label this.now.labels) (get same_label this.now.anywhere) before line.now)) }
+        before.at.number source.now line.now
+        (told (get same_label this.now.labels) (get same_label this.now.anywhere) before line.now)) }
     ensures err { IfErr result IsMemory }
 {
     if let Some(kind) = told_of(&this.labels, &this.anywhere, before, line) {
@@ -96,11 +96,11 @@ fn put_all_explained(
     lines: &[KeptLine],
     explanations: &mut Vec<Explanation>,
 ) -> Result<(), AsmFault>
-    requires lines { lines.now ≡ map (line_in language) (lines_of source.now) }
+    requires as_many { length lines.now ≡ length (lines_of source.now) }
     requires few { length lines.now < 2 ^ 32 }
     ensures ok { OnOk result (explanations.new.items ≡ explanations.old.items
         ++ explained_from language (get same_label this.now.labels) (get same_label this.now.anywhere) lines.now
-        nothing_before (lines_of source.now)) }
+        nothing_before lines.now (lines_of source.now)) }
     ensures err { IfErr result IsMemory }
 {
     let mut before = Before::NOTHING;
@@ -125,7 +125,8 @@ fn line_explanations(
     source: &[u8],
     lines: &[KeptLine],
 ) -> Result<Vec<Explanation>, AsmFault>
-    requires lines { lines.now ≡ map (line_in language) (lines_of source.now) }
+    requires lines { lines.now ≡ lines_said language (lines_of source.now) }
+    requires as_many { length lines.now ≡ length (lines_of source.now) }
     requires few { length lines.now < 2 ^ 32 }
     ensures ok { IfOk result (λ v. v.items ≡ explained_lines language (lines_of source.now)) }
     ensures err { IfErr result IsMemory }

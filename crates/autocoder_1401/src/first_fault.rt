@@ -2,7 +2,7 @@
 ghost use Rattle.std.specs.Prelude.{◌≡◌, ◌+◌, ◌<◌, ◌^◌, length, IfNone, IfSome};
 ghost use Rattle.indexmap.specs.IndexMap.{get};
 ghost use Rattle.autocoder_1401.specs.Symbols.{same_label, is_before};
-ghost use Rattle.autocoder_1401.specs.FirstFault.{first_place, place_behind, areas_behind, is_field_of, bad_label};
+ghost use Rattle.autocoder_1401.specs.FirstFault.{first_place, place_behind, areas_behind, bad_label};
 ghost use Rattle.autocoder_1401.specs.FirstFault.{double_label, bad_operation, symbol_in, is_undefined};
 ghost use Rattle.autocoder_1401.specs.FirstFault.{is_undefined_before, undefined, is_past_areas, bad_operands};
 ghost use Rattle.autocoder_1401.specs.FirstFault.{lowest_in, lowest, first_fault_from, IsClean, IsLowest, IsFaultless};
@@ -55,25 +55,17 @@ impl LineContext {
             Some(Statement { body, .. }) => match body.describe().areas {
                 AreaRole::Makes(Some(areas)) => Some(areas.length),
                 AreaRole::Makes(None) | AreaRole::Ends => None,
-                AreaRole::Divides(_) => self.areas,
+                AreaRole::Keeps | AreaRole::Divides(_) => self.areas,
             },
             None => self.areas,
         }
     }
 
-    /// Whether a line here is a field of areas.
-    fn is_field(self, body: Body) -> bool
-        ensures { result ≡ is_field_of self.areas body }
-    {
-        matches!(body.describe().areas, AreaRole::Divides(_)) && self.areas.is_some()
-    }
-
-    /// Whether the label is bad, or a field of areas has none.
+    /// Whether the label is bad, or a field of areas lacks one.
     pub(crate) fn has_bad_label(self, statement: Statement) -> bool
         ensures { result ≡ bad_label self.areas statement }
     {
-        statement.has_bad_label()
-            || (matches!(statement.label, LabelField::Absent) && self.is_field(statement.body))
+        statement.has_bad_label() || (statement.lacks_field_label() && self.areas.is_some())
     }
 
     /// Whether the operation isn't known, or is a field under no areas.
@@ -90,8 +82,11 @@ impl LineContext {
     {
         match (self.areas, body.describe().areas) {
             (Some(length), AreaRole::Divides(Some(span))) => span.last > length,
-            (Some(_), AreaRole::Divides(None) | AreaRole::Ends | AreaRole::Makes(_)) | (None, _) =>
-                false,
+            (
+                Some(_),
+                AreaRole::Divides(None) | AreaRole::Ends | AreaRole::Keeps | AreaRole::Makes(_),
+            )
+            | (None, _) => false,
         }
     }
 
@@ -130,9 +125,9 @@ pub(crate) fn symbol_in(field: OperandField) -> Option<Label>
     match field {
         OperandField::Operand(Operand::Address(address)) => match address.base {
             Base::Symbol(label) => Some(label),
-            Base::Number(_) | Base::Here => None,
+            Base::Number(_) | Base::Here | Base::Register(_) | Base::NextHundred => None,
         },
-        OperandField::Operand(Operand::Literal(_))
+        OperandField::Operand(Operand::Literal(_) | Operand::Unit(_))
         | OperandField::Absent
         | OperandField::Malformed => None,
     }

@@ -1,9 +1,10 @@
 //! A line of the source, as the assembler keeps it.
 ghost use Rattle.std.specs.Prelude.{◌≡◌, IfOk, IfErr};
+ghost use Rattle.source_1401.specs.Context.{with_registers};
 ghost use Rattle.autocoder_1401.specs.Fault.{IsMemory};
 
 use crate::fault::AsmFault;
-use source_1401::{Line, LineCheck};
+use source_1401::{Line, LineCheck, Registers};
 use std::alloc::Global;
 use std::marker::Model;
 
@@ -42,6 +43,16 @@ impl KeptLine {
                     said: Some(Box::new(alloc, line)?),
                 },
             ),
+        }
+    }
+
+    /// Makes of the line what it says where these are labels.
+    pub(crate) fn settle(&mut self, registers: Registers)
+        ensures { self.new ≡ with_registers registers self.old }
+    {
+        if let Some(line) = &mut self.said {
+            let said = **line;
+            **line = registers.line(said);
         }
     }
 

@@ -11,7 +11,7 @@
 #![tactic(auto)]
 
 pub mod assembly; // the passes, in their order
-mod reading; // a source as its lines
+mod reading; // a source as its lines, each with its neighbours
 mod kept_line; // a line, as it is kept
 mod hashing; // how labels and literals are hashed
 mod symbols; // which line declares a label

@@ -9,7 +9,8 @@ ghost use Rattle.autocoder_1401.specs.Noted.{known_of};
 ghost use Rattle.autocoder_1401.specs.Symbols.{has_label, same_label};
 ghost use Rattle.autocoder_1401.specs.Warnings.{is_unsigned, is_number, number_label, is_number_in, is_plus_literal};
 ghost use Rattle.autocoder_1401.specs.Warnings.{brings_no_sign, last_field, signed_symbol, signed_label, is_signed_in};
-ghost use Rattle.autocoder_1401.specs.Warnings.{has_operation, is_named, is_number_of, is_signed, known_in};
+ghost use Rattle.autocoder_1401.specs.Warnings.{is_chain_of, has_operation, is_named, is_number_of, is_signed};
+ghost use Rattle.autocoder_1401.specs.Warnings.{known_in};
 
 use crate::fault::AsmFault;
 use crate::first_fault::symbol_in;
@@ -17,7 +18,7 @@ use crate::hashing::SourceHashing;
 use crate::kept_line::KeptLine;
 use indexmap::IndexSet;
 use source_1401::{
-    Constant, Contents, Description, Instruction, Label, LabelField, Operand, OperandField,
+    Chain, Constant, Contents, Description, Instruction, Label, LabelField, Operand, OperandField,
     Operands, Statement,
 };
 use std::alloc::Global;
@@ -88,7 +89,9 @@ fn is_number(contents: Contents) -> bool
         | Contents::Instruction(..)
         | Contents::Constant(_)
         | Contents::Space(_)
-        | Contents::Areas(_) => false,
+        | Contents::Areas(_)
+        | Contents::Chain(_)
+        | Contents::AddressConstant(_) => false,
     }
 }
 
@@ -154,7 +157,9 @@ fn signed_label(row: Description) -> Option<Label>
     ensures { result ≡ signed_label row }
 {
     match row.contents {
-        Contents::Nothing => symbol_in(row.addressing.operands().a),
+        Contents::Nothing | Contents::AddressConstant(_) => {
+            symbol_in(row.addressing.operands().a)
+        },
         Contents::Instruction(instruction, operands) => {
             if brings_no_sign(instruction, operands) {
                 None
@@ -165,7 +170,8 @@ fn signed_label(row: Description) -> Option<Label>
         Contents::MarkedConstant(_)
         | Contents::Constant(_)
         | Contents::Space(_)
-        | Contents::Areas(_) => None,
+        | Contents::Areas(_)
+        | Contents::Chain(_) => None,
     }
 }
 
@@ -182,18 +188,30 @@ fn note_signed(labels: &mut LabelSet, line: &KeptLine) -> Result<(), AsmFault>
     Ok(())
 }
 
-/// Whether a line has an instruction of this operation.
+/// Whether a chain is of instructions of this operation.
+fn is_chain_of(operation: u8, chain: Chain) -> bool
+    ensures { result ≡ is_chain_of operation chain }
+{
+    match chain.operation {
+        Some(each) => each == operation,
+        None => false,
+    }
+}
+
+/// Whether a line has an instruction of this operation, or a chain of such.
 fn has_operation(operation: u8, line: &KeptLine) -> bool
     ensures { result ≡ has_operation operation line.now }
 {
     match line.line().statement {
         Some(Statement { body, .. }) => match body.describe().contents {
             Contents::Instruction(instruction, _) => instruction.operation == operation,
+            Contents::Chain(chain) => is_chain_of(operation, chain),
             Contents::Nothing
             | Contents::MarkedConstant(_)
             | Contents::Constant(_)
             | Contents::Space(_)
-            | Contents::Areas(_) => false,
+            | Contents::Areas(_)
+            | Contents::AddressConstant(_) => false,
         },
         None => false,
     }

@@ -45,7 +45,7 @@ impl Before {
             AreaRole::Ends => !row.is_known && (self.lost_areas || self.at.areas.is_some()),
             AreaRole::Makes(None) => true,
             AreaRole::Makes(Some(_)) => false,
-            AreaRole::Divides(_) => self.lost_areas,
+            AreaRole::Keeps | AreaRole::Divides(_) => self.lost_areas,
         }
     }
 

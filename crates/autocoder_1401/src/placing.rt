@@ -1,5 +1,5 @@
 //! Where statements and literals are placed.
-ghost use Rattle.std.specs.Prelude.{◌≡◌, ◌+◌, ◌*◌, ◌≤◌, ◌+ℤ◌, ◌++◌, drop, fold, IfOk, IfErr, OnOk};
+ghost use Rattle.std.specs.Prelude.{◌≡◌, ◌+◌, ◌*◌, ◌<◌, ◌≤◌, ◌+ℤ◌, ◌++◌, Some, drop, fold, IfOk, IfErr, OnOk};
 ghost use Rattle.indexmap.specs.IndexMap.{get};
 ghost use Rattle.source_1401.specs.Statement.{well_formed};
 ghost use Rattle.autocoder_1401.specs.Characters.{same_characters};
@@ -7,8 +7,11 @@ ghost use Rattle.autocoder_1401.specs.Fault.{IsMemory};
 ghost use Rattle.autocoder_1401.specs.Symbols.{same_label};
 ghost use Rattle.autocoder_1401.specs.Placement.{nothing_placed, with_literal, with_operand, with_pending, with_uses};
 ghost use Rattle.autocoder_1401.specs.Placement.{pending, behind_literals, units_from, instruction_length};
-ghost use Rattle.autocoder_1401.specs.Placement.{constant_length, contents_length, base_so_far, value_so_far};
-ghost use Rattle.autocoder_1401.specs.Placement.{point_value, moved, behind_row, with_label, after_line, placed};
+ghost use Rattle.autocoder_1401.specs.Placement.{constant_length, areas_length, chain_length, contents_length};
+ghost use Rattle.autocoder_1401.specs.Placement.{register_value, next_hundred, symbol_value, base_value, value_so_far};
+ghost use Rattle.autocoder_1401.specs.Placement.{asterisk_place, entry_value, asked_value, first_of_two, end_of_two};
+ghost use Rattle.autocoder_1401.specs.Placement.{with_ends, point_value, moved, gone_on, behind_row, with_label};
+ghost use Rattle.autocoder_1401.specs.Placement.{after_line, placed};
 ghost use Rattle.autocoder_1401.specs.Values.{last_place};
 ghost use Rattle.autocoder_1401.specs.View.{places_of};
 ghost use Rattle.source_1401.specs.Operands.{count_of};
@@ -19,13 +22,13 @@ use crate::hashing::SourceHashing;
 use crate::kept_line::KeptLine;
 use indexmap::{IndexMap, IndexSet};
 use source_1401::{
-    Addressing, AreaRole, Base, Constant, Contents, Description, Label, LabelField, Next, Operand,
-    OperandField, Operands, Point, Statement,
+    Addressing, AreaRole, Areas, Base, Chain, Constant, Contents, Description, Label, LabelField,
+    Next, Operand, OperandField, Operands, Point, Statement,
 };
 use std::alloc::Global;
 
 /// Where a program is placed without ORG.
-const FIRST_PLACE: i64 = 333;
+const USUAL_PLACE: i64 = 333;
 
 /// What is placed so far.
 #[derive(Drop)]
@@ -34,6 +37,10 @@ pub(crate) struct Placing {
     pub next: i64,
     /// The first place of the last areas.
     pub areas: i64,
+    /// The place of the first instruction.
+    pub first_instruction: Option<i64>,
+    /// The next place as it was before END.
+    pub before_end: i64,
     /// The values of labels.
     pub values: IndexMap<Label, i64, SourceHashing>,
     /// The literals in the order of their first use.
@@ -95,6 +102,25 @@ fn constant_length(constant: Option<Constant>) -> u32
     }
 }
 
+/// How many places areas take, with the group mark behind them.
+fn areas_length(areas: Areas) -> u32
+    ensures { result ≡ areas_length (Some areas) }
+{
+    let behind = if areas.has_group_mark { 1 } else { 0 };
+    u32::from(areas.count) * u32::from(areas.length) + behind
+}
+
+/// How many places the instructions of a chain take.
+pub(crate) fn chain_length(chain: Chain) -> u32
+    ensures value { result ≡ chain_length chain }
+    ensures bound { result < 256 }
+{
+    match chain.count {
+        Some(count) => u32::from(count),
+        None => 0,
+    }
+}
+
 /// How many places contents fill.
 pub(crate) fn contents_length(contents: Contents) -> u32
     ensures { result ≡ contents_length contents }
@@ -106,8 +132,70 @@ pub(crate) fn contents_length(contents: Contents) -> u32
             constant_length(constant)
         },
         Contents::Space(Some(places)) => u32::from(places),
-        Contents::Areas(Some(areas)) => u32::from(areas.count) * u32::from(areas.length),
+        Contents::Areas(Some(areas)) => areas_length(areas),
+        Contents::Chain(chain) => chain_length(chain),
+        Contents::AddressConstant(_) => 3,
     }
+}
+
+/// The first place from this one on whose number ends in 00.
+fn next_hundred(at: i64) -> Result<i64, AsmFault>
+    ensures value { IfOk result (λ place. place ≡ next_hundred at) }
+    ensures err { IfErr result IsMemory }
+{
+    if at >= 0 {
+        let hundreds = checked_sum(at, 99)? as u64 / 100;
+        Ok((hundreds * 100) as i64)
+    } else {
+        Ok(0)
+    }
+}
+
+/// The place of the first instruction, once contents begin at a place.
+fn first_of_two(first: Option<i64>, place: i64, contents: Contents) -> Option<i64>
+    ensures { result ≡ first_of_two first place contents }
+{
+    match contents {
+        Contents::Instruction(..) => Some(first.unwrap_or(place)),
+        Contents::Nothing
+        | Contents::MarkedConstant(_)
+        | Contents::Constant(_)
+        | Contents::Space(_)
+        | Contents::Areas(_)
+        | Contents::Chain(_)
+        | Contents::AddressConstant(_) => first,
+    }
+}
+
+/// The next place as it was before END, once a statement is at a place.
+fn end_of_two(before: i64, place: i64, addressing: Addressing) -> i64
+    ensures { result ≡ end_of_two before place addressing }
+{
+    match addressing {
+        Addressing::Entry(_) => place,
+        Addressing::Nothing
+        | Addressing::Addresses(_)
+        | Addressing::EarlierValue(_)
+        | Addressing::Value(_) => before,
+    }
+}
+
+/// The place that an asterisk is in a value.
+fn asterisk_place(next: i64, step: Next) -> Result<i64, AsmFault>
+    ensures value { IfOk result (λ place. place ≡ asterisk_place next step) }
+    ensures err { IfErr result IsMemory }
+{
+    match step {
+        Next::Behind | Next::Literals => checked_sum(next, -1),
+        Next::Value => Ok(next),
+    }
+}
+
+/// The units place of an index register.
+pub(crate) fn register_value(number: u8) -> i64
+    ensures { result ≡ register_value number }
+{
+    84 + 5 * i64::from(number)
 }
 
 /// The place after literals that begin at a place.
@@ -159,8 +247,10 @@ impl Placing {
         ensures { places_of result ≡ nothing_placed }
     {
         Placing {
-            next: FIRST_PLACE,
-            areas: FIRST_PLACE,
+            next: USUAL_PLACE,
+            areas: USUAL_PLACE,
+            first_instruction: None,
+            before_end: USUAL_PLACE,
             values: IndexMap::with_hasher(alloc, hashing),
             literals: IndexSet::with_hasher(alloc, hashing),
             spellings: Vec::new(alloc),
@@ -176,49 +266,91 @@ impl Placing {
         behind(&self.literals, self.addresses.len())
     }
 
-    /// The value so far of what an address is counted from.
-    pub(crate) fn base_so_far(&self, base: Base) -> i64
-        ensures { result ≡ base_so_far (places_of self.now).values base }
+    /// The value of a symbol by the values so far.
+    pub(crate) fn symbol_value(&self, label: Label) -> i64
+        ensures { result ≡ symbol_value (places_of self.now).values label }
+    {
+        self.values.get(&label).copied().unwrap_or(0)
+    }
+
+    /// The value so far of what an address is counted from, with this place for an asterisk.
+    pub(crate) fn base_value(&self, here: i64, base: Base) -> Result<i64, AsmFault>
+        ensures value { IfOk result (λ value. value ≡ base_value (places_of self.now).values here base) }
+        ensures err { IfErr result IsMemory }
     {
         match base {
-            Base::Number(number) => i64::from(number),
-            Base::Symbol(label) => self.values.get(&label).copied().unwrap_or(0),
-            Base::Here => 0,
+            Base::Number(number) => Ok(i64::from(number)),
+            Base::Symbol(label) => Ok(self.symbol_value(label)),
+            Base::Here => Ok(here),
+            Base::Register(number) => Ok(register_value(number)),
+            Base::NextHundred => next_hundred(here),
         }
     }
 
-    /// The value of an operand by the values so far.
-    pub(crate) fn value_so_far(&self, field: OperandField) -> Result<i64, AsmFault>
-        ensures value { IfOk result (λ value. value ≡ value_so_far (places_of self.now).values field) }
+    /// The value of an operand by the values so far, with this place for an asterisk.
+    fn value_so_far(&self, here: i64, field: OperandField) -> Result<i64, AsmFault>
+        ensures value { IfOk result (λ value. value ≡ value_so_far (places_of self.now).values here field) }
         ensures err { IfErr result IsMemory }
     {
         match field {
             OperandField::Operand(Operand::Address(address)) => checked_sum(
-                self.base_so_far(address.base),
+                self.base_value(here, address.base)?,
                 i64::from(address.adjustment),
             ),
-            OperandField::Operand(Operand::Literal(_))
+            OperandField::Operand(Operand::Literal(_) | Operand::Unit(_))
             | OperandField::Absent
             | OperandField::Malformed => Ok(0),
         }
     }
 
-    /// The place that a statement's point names, with its operand by the values of labels that are given.
+    /// Where a program begins by the operand of END, once all is placed.
+    pub(crate) fn entry_value(&self, field: OperandField) -> Result<i64, AsmFault>
+        ensures value { IfOk result (λ value. value ≡ entry_value (places_of self.now) field) }
+        ensures err { IfErr result IsMemory }
+    {
+        match field {
+            OperandField::Absent => Ok(self.first_instruction.unwrap_or(USUAL_PLACE)),
+            OperandField::Malformed => Ok(0),
+            OperandField::Operand(_) => {
+                let here = asterisk_place(self.before_end, Next::Literals)?;
+                self.value_so_far(here, field)
+            },
+        }
+    }
+
+    /// The value that a statement here asks for, by the labels of what is placed by others.
+    pub(crate) fn asked_value(&self, by: &Placing, row: Description) -> Result<i64, AsmFault>
+        ensures value { IfOk result (λ value. value
+            ≡ asked_value (places_of by.now) (places_of self.now) row.next row.addressing) }
+        ensures err { IfErr result IsMemory }
+    {
+        match row.addressing {
+            Addressing::Nothing => Ok(0),
+            Addressing::Addresses(operands)
+            | Addressing::EarlierValue(operands)
+            | Addressing::Value(operands) => {
+                by.value_so_far(asterisk_place(self.next, row.next)?, operands.a)
+            },
+            Addressing::Entry(operands) => by.entry_value(operands.a),
+        }
+    }
+
+    /// The place that a statement's point names, with its operand by the labels of what is placed by others.
     pub(crate) fn point_value(
         &self,
-        values: &Placing,
+        by: &Placing,
         row: Description,
         point: Point,
     ) -> Result<i64, AsmFault>
         ensures value { IfOk result
-            (λ value. value ≡ point_value (places_of values.now).values (places_of self.now) row point) }
+            (λ value. value ≡ point_value (places_of by.now) (places_of self.now) row point) }
         ensures err { IfErr result IsMemory }
     {
         match point {
             Point::First => Ok(self.next),
             Point::Last => last_place(self.next, contents_length(row.contents)),
             Point::InArea(place) => checked_sum(checked_sum(self.areas, i64::from(place))?, -1),
-            Point::Value => values.value_so_far(row.addressing.operands().a),
+            Point::Value => self.asked_value(by, row),
         }
     }
 
@@ -254,7 +386,7 @@ impl Placing {
     {
         match field {
             OperandField::Operand(Operand::Literal(constant)) => self.note_literal(constant),
-            OperandField::Operand(Operand::Address(_))
+            OperandField::Operand(Operand::Address(_) | Operand::Unit(_))
             | OperandField::Absent
             | OperandField::Malformed => Ok(()),
         }
@@ -281,7 +413,9 @@ impl Placing {
                 self.next = checked_sum(self.next, i64::from(contents_length(row.contents)))?;
             },
             Next::Literals => self.place_pending()?,
-            Next::Value => self.next = self.value_so_far(row.addressing.operands().a)?,
+            Next::Value => {
+                self.next = self.value_so_far(self.next, row.addressing.operands().a)?;
+            },
         }
         Ok(())
     }
@@ -305,17 +439,37 @@ impl Placing {
     }
 
     /// Goes on after a statement, and notes and places its literals.
-    fn pass(&mut self, row: Description) -> Result<(), AsmFault>
-        ensures ok { OnOk result (places_of self.new ≡ behind_row (places_of self.old) row) }
+    fn go_on(&mut self, row: Description) -> Result<(), AsmFault>
+        ensures ok { OnOk result (places_of self.new ≡ gone_on (places_of self.old) row) }
         ensures err { IfErr result IsMemory }
     {
         let first = self.next;
         self.move_on(row)?;
         match row.areas {
             AreaRole::Makes(_) => self.areas = first,
-            AreaRole::Ends | AreaRole::Divides(_) => {},
+            AreaRole::Ends | AreaRole::Keeps | AreaRole::Divides(_) => {},
         }
         self.note_uses(row.addressing)
+    }
+
+    /// Sets where the first instruction and END are.
+    fn set_ends(&mut self, first: Option<i64>, before_end: i64)
+        ensures { places_of self.new ≡ with_ends (places_of self.old) first before_end }
+    {
+        self.first_instruction = first;
+        self.before_end = before_end;
+    }
+
+    /// Goes on after a statement, notes and places its literals, and notes where the program begins.
+    fn pass(&mut self, row: Description) -> Result<(), AsmFault>
+        ensures ok { OnOk result (places_of self.new ≡ behind_row (places_of self.old) row) }
+        ensures err { IfErr result IsMemory }
+    {
+        let first = first_of_two(self.first_instruction, self.next, row.contents);
+        let before_end = end_of_two(self.before_end, self.next, row.addressing);
+        self.go_on(row)?;
+        self.set_ends(first, before_end);
+        Ok(())
     }
 
     /// Placement a line.

@@ -11,7 +11,7 @@ use crate::kept_line::KeptLine;
 use crate::placing::{Placing, contents_length};
 use crate::printing::put_address;
 use notation_1401::put_digits;
-use source_1401::{AreaRole, Base, Description, Label, LabelField, Point, Span, Statement};
+use source_1401::{AreaRole, Description, Label, LabelField, Point, Span, Statement};
 use std::alloc::Global;
 
 /// How many digits a length has.
@@ -48,7 +48,7 @@ fn length_named(row: Description) -> Option<u32>
         Point::First | Point::Last => Some(contents_length(row.contents)),
         Point::InArea(_) => match row.areas {
             AreaRole::Divides(Some(span)) => Some(span_length(span)),
-            AreaRole::Divides(None) | AreaRole::Ends | AreaRole::Makes(_) => None,
+            AreaRole::Divides(None) | AreaRole::Ends | AreaRole::Keeps | AreaRole::Makes(_) => None,
         },
         Point::Value => None,
     }
@@ -61,7 +61,7 @@ fn symbol_with(all: &Placing, number: u64, statement: Statement) -> Option<Symbo
     match statement.label {
         LabelField::Label(label) => Some(Symbol {
             label,
-            value: all.base_so_far(Base::Symbol(label)),
+            value: all.symbol_value(label),
             length: length_named(statement.body.describe()),
             line: number,
         }),

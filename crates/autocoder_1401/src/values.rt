@@ -1,7 +1,7 @@
 //! The values of addresses, and what of a line isn't in core.
 ghost use Rattle.std.specs.Prelude.{◌≡◌, IfOk, IfErr};
 ghost use Rattle.autocoder_1401.specs.Fault.{IsMemory};
-ghost use Rattle.autocoder_1401.specs.Values.{base_value, address_value, is_in_core, are_in_core, operand_outside};
+ghost use Rattle.autocoder_1401.specs.Values.{address_value, is_in_core, are_in_core, operand_outside};
 ghost use Rattle.autocoder_1401.specs.Values.{places_outside, literals_outside, next_outside};
 ghost use Rattle.autocoder_1401.specs.Values.{value_outside, addresses_outside, row_outside, line_outside};
 ghost use Rattle.autocoder_1401.specs.View.{places_of};
@@ -9,7 +9,7 @@ ghost use Rattle.autocoder_1401.specs.View.{places_of};
 use crate::fault::AsmFault;
 use crate::kept_line::KeptLine;
 use crate::placing::{Placing, behind_literals, checked_sum, contents_length, last_place};
-use source_1401::{Address, Addressing, Base, Description, Next, Operand, OperandField, Statement};
+use source_1401::{Address, Addressing, Description, Next, Operand, OperandField, Statement};
 
 /// Whether a value is the address of a place of core storage of this size.
 fn is_in_core(size: u16, value: i64) -> bool
@@ -45,23 +45,12 @@ fn are_places_outside(size: u16, first: i64, length: u32) -> Result<bool, AsmFau
 }
 
 impl Placing {
-    /// The value of what an address is counted from, once all is placed, with this place for an asterisk.
-    fn base_value(&self, here: i64, base: Base) -> i64
-        ensures { result ≡ base_value (places_of self.now) here base }
-    {
-        match base {
-            Base::Number(number) => i64::from(number),
-            Base::Symbol(label) => self.values.get(&label).copied().unwrap_or(0),
-            Base::Here => here,
-        }
-    }
-
-    /// The value of an address before indexing, once all is placed.
+    /// The value of an address before indexing, once all is placed, with this place for an asterisk.
     pub(crate) fn address_value(&self, here: i64, address: Address) -> Result<i64, AsmFault>
         ensures value { IfOk result (λ value. value ≡ address_value (places_of self.now) here address) }
         ensures err { IfErr result IsMemory }
     {
-        let base = self.base_value(here, address.base);
+        let base = self.base_value(here, address.base)?;
         checked_sum(base, i64::from(address.adjustment))
     }
 
@@ -80,7 +69,7 @@ impl Placing {
                 let value = self.address_value(here, address)?;
                 Ok(!is_in_core(size, value))
             },
-            OperandField::Operand(Operand::Literal(_))
+            OperandField::Operand(Operand::Literal(_) | Operand::Unit(_))
             | OperandField::Absent
             | OperandField::Malformed => Ok(false),
         }
@@ -126,12 +115,17 @@ impl Placing {
                 let b = all.is_operand_outside(size, last, operands.b)?;
                 Ok(a || b)
             },
-            Addressing::EarlierValue(operands) => {
-                let value = self.value_so_far(operands.a)?;
+            Addressing::EarlierValue(_) => {
+                let value = self.asked_value(self, row)?;
                 Ok(is_value_outside(size, value, row.next))
             },
-            Addressing::Value(operands) | Addressing::Entry(operands) => {
-                all.is_operand_outside(size, 0, operands.a)
+            Addressing::Value(_) => {
+                let value = self.asked_value(all, row)?;
+                Ok(is_value_outside(size, value, row.next))
+            },
+            Addressing::Entry(operands) => {
+                let value = all.entry_value(operands.a)?;
+                Ok(!is_in_core(size, value))
             },
         }
     }

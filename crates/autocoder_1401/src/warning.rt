@@ -5,10 +5,12 @@ ghost use Rattle.autocoder_1401.specs.Assembly.{lines_in};
 ghost use Rattle.autocoder_1401.specs.Fault.{IsMemory};
 ghost use Rattle.autocoder_1401.specs.Languages.{AgreesWithPlain};
 ghost use Rattle.autocoder_1401.specs.Noted.{known_of};
-ghost use Rattle.autocoder_1401.specs.Warnings.{is_not_fitted, is_unused, tests_comparison, is_unset, branches_unset, has_sign};
+ghost use Rattle.autocoder_1401.specs.Warnings.{is_unit, is_unfitted, is_unfitted_chain, is_not_fitted, is_unused};
+ghost use Rattle.autocoder_1401.specs.Warnings.{tests_comparison, is_unset, branches_unset, has_sign};
 ghost use Rattle.autocoder_1401.specs.Warnings.{is_signed_literal, lone_symbol, stays_unsigned, are_unlike};
-ghost use Rattle.autocoder_1401.specs.Warnings.{compares_unlike, longest, ends, open_place, read_on, warned_if, warned_of};
-ghost use Rattle.autocoder_1401.specs.Warnings.{statement_warnings, line_warnings, warnings_from, all_warnings};
+ghost use Rattle.autocoder_1401.specs.Warnings.{compares_unlike, longest, ends, open_place, chain_read_on, read_on};
+ghost use Rattle.autocoder_1401.specs.Warnings.{warned_if, warned_of, statement_warnings, line_warnings};
+ghost use Rattle.autocoder_1401.specs.Warnings.{warnings_from, all_warnings};
 ghost use Rattle.autocoder_1401.specs.Placement.{instruction_length};
 
 use crate::fault::AsmFault;
@@ -17,20 +19,20 @@ use crate::fitted::is_fitted;
 use crate::hashing::SourceHashing;
 use crate::kept_line::KeptLine;
 use crate::notes::Notes;
-use crate::placing::instruction_length;
+use crate::placing::{chain_length, instruction_length};
 use crate::reading::read_lines;
 use bcd_1401::{Cell, Char};
 use source_1401::{
-    Base, Constant, Contents, Instruction, Label, LabelField, Language, Operand, OperandField,
-    Operands, Statement,
+    Base, Chain, Constant, Contents, Instruction, Label, LabelField, Language, Operand,
+    OperandField, Operands, Statement,
 };
 use std::alloc::Global;
 
 /// What a line says and hardly means.
 #[derive(Clone, Copy, Debug, PartialEq, Eq)]
 pub enum WarningKind {
-    /// The machine never carries out the instruction: the operation belongs to a feature that it hasn't got, or has no
-    /// instructions of this length.
+    /// The machine never carries out the instruction: its operation or its unit belongs to a feature that it hasn't
+    /// got, or the operation has no instructions of this length.
     NotFitted,
     /// No operand names the label.
     UnusedLabel,
@@ -52,19 +54,45 @@ pub struct Warning {
     pub kind: WarningKind,
 }
 
-/// Whether a statement is an instruction that the machine never carries out.
+/// Whether an operand is an input-output unit.
+fn is_unit(field: OperandField) -> bool
+    ensures { result ≡ is_unit field }
+{
+    matches!(field, OperandField::Operand(Operand::Unit(_)))
+}
+
+/// Whether the machine never carries out an instruction.
+fn is_unfitted(instruction: Instruction, operands: Operands) -> bool
+    ensures { result ≡ is_unfitted instruction operands }
+{
+    is_unit(operands.a)
+        || is_unit(operands.b)
+        || !is_fitted(instruction.operation, instruction_length(operands))
+}
+
+/// Whether the machine never carries out the instructions of a chain.
+fn is_unfitted_chain(chain: Chain) -> bool
+    ensures { result ≡ is_unfitted_chain chain }
+{
+    match chain.operation {
+        Some(operation) => !is_fitted(operation, 1),
+        None => false,
+    }
+}
+
+/// Whether a statement is an instruction, or a chain of such, that the machine never carries out.
 fn is_not_fitted(contents: Contents) -> bool
     ensures { result ≡ is_not_fitted contents }
 {
     match contents {
-        Contents::Instruction(instruction, operands) => {
-            !is_fitted(instruction.operation, instruction_length(operands))
-        },
+        Contents::Instruction(instruction, operands) => is_unfitted(instruction, operands),
+        Contents::Chain(chain) => is_unfitted_chain(chain),
         Contents::Nothing
         | Contents::MarkedConstant(_)
         | Contents::Constant(_)
         | Contents::Space(_)
-        | Contents::Areas(_) => false,
+        | Contents::Areas(_)
+        | Contents::AddressConstant(_) => false,
     }
 }
 
@@ -109,7 +137,9 @@ fn branches_unset(notes: &Notes, contents: Contents) -> bool
         | Contents::MarkedConstant(_)
         | Contents::Constant(_)
         | Contents::Space(_)
-        | Contents::Areas(_) => false,
+        | Contents::Areas(_)
+        | Contents::Chain(_)
+        | Contents::AddressConstant(_) => false,
     }
 }
 
@@ -132,10 +162,10 @@ fn lone_symbol(field: OperandField) -> Option<Label>
             if address.adjustment == 0 && address.index == 0 => {
             match address.base {
                 Base::Symbol(label) => Some(label),
-                Base::Number(_) | Base::Here => None,
+                Base::Number(_) | Base::Here | Base::Register(_) | Base::NextHundred => None,
             }
         },
-        OperandField::Operand(Operand::Address(_) | Operand::Literal(_))
+        OperandField::Operand(Operand::Address(_) | Operand::Literal(_) | Operand::Unit(_))
         | OperandField::Absent
         | OperandField::Malformed => None,
     }
@@ -172,7 +202,9 @@ fn compares_unlike(notes: &Notes, contents: Contents) -> bool
         | Contents::MarkedConstant(_)
         | Contents::Constant(_)
         | Contents::Space(_)
-        | Contents::Areas(_) => false,
+        | Contents::Areas(_)
+        | Contents::Chain(_)
+        | Contents::AddressConstant(_) => false,
     }
 }
 
@@ -195,21 +227,24 @@ fn ends(operation: u8, length: u32, cell: Cell) -> bool
         || (operation == b'B' && length == 4 && cell.char == Char::BLANK)
 }
 
-/// The place at which an instruction is read on that begins at this address.
-fn open_place(
-    storage: &[Cell],
-    address: u16,
-    instruction: Instruction,
-    operands: Operands,
-) -> Option<u32>
-    ensures { result ≡ open_place storage.now instruction.operation (instruction_length operands)
-        (address + instruction_length operands) }
+/// The place after an instruction of this length, if it is read on there.
+fn open_place(storage: &[Cell], operation: u8, length: u32, place: u32) -> Option<u32>
+    ensures { result ≡ open_place storage.now operation length place }
 {
-    let length = instruction_length(operands);
-    let place = u32::from(address) + length;
     match storage.get(place as usize) {
-        Some(cell) if !ends(instruction.operation, length, *cell) => Some(place),
+        Some(cell) if !ends(operation, length, *cell) => Some(place),
         Some(_) | None => None,
+    }
+}
+
+/// The place at which the last instruction of a chain is read on that begins at this address.
+fn chain_read_on(storage: &[Cell], address: u16, chain: Chain) -> Option<u32>
+    ensures { result ≡ chain_read_on storage.now address chain }
+{
+    let place = u32::from(address) + chain_length(chain);
+    match chain.operation {
+        Some(operation) => open_place(storage, operation, 1, place),
+        None => None,
     }
 }
 
@@ -219,13 +254,17 @@ fn read_on(storage: &[Cell], address: u16, contents: Contents) -> Option<u32>
 {
     match contents {
         Contents::Instruction(instruction, operands) => {
-            open_place(storage, address, instruction, operands)
+            let length = instruction_length(operands);
+            let place = u32::from(address) + length;
+            open_place(storage, instruction.operation, length, place)
         },
+        Contents::Chain(chain) => chain_read_on(storage, address, chain),
         Contents::Nothing
         | Contents::MarkedConstant(_)
         | Contents::Constant(_)
         | Contents::Space(_)
-        | Contents::Areas(_) => None,
+        | Contents::Areas(_)
+        | Contents::AddressConstant(_) => None,
     }
 }
 

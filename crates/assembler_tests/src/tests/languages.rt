@@ -1,21 +1,38 @@
 //! Sources in the wider language, and what they are in the plain one.
+ghost use Rattle.std.specs.Prelude.{◌≡◌, true};
+ghost use Rattle.core_1401.specs.Storage.{is_core_size};
 
-use autocoder_1401::AsmKind::{Graphic, Operand, Undefined};
-use autocoder_1401::WarningKind::NotFitted;
+use autocoder_1401::AsmKind::{
+    self, DoubleLabel, Graphic, Label, Operand, Operation, OutOfCore, Undefined,
+};
+use autocoder_1401::WarningKind::{NotFitted, ReadOn, UnusedLabel};
 use autocoder_1401::{
     Assembly, Cause, assemble, assemble_image, explained_faults, faults, warnings,
 };
 use image_1401::write_image;
 use source_1401::Language::{self, Ibm, Plain};
+use source_1401::size_asked;
 use std::process::Abort;
 use std::test::Fail;
 
-/// Compares the image of a source in the wider language, in 4,000 places, with a text.
-fn expect_image(rt: &(impl Abort + AllocGlobal), source: &[u8], wanted: &[u8]) -> Result<(), Fail> {
-    let image = assemble_image(rt.alloc(), Ibm, source, 4_000)?;
+/// Compares the image of a source in the wider language, in core storage of this size, with a text.
+fn expect_image_in(
+    rt: &(impl Abort + AllocGlobal),
+    size: u16,
+    source: &[u8],
+    wanted: &[u8],
+) -> Result<(), Fail>
+    requires { is_core_size size ≡ true }
+{
+    let image = assemble_image(rt.alloc(), Ibm, source, size)?;
     let text = write_image(rt.alloc(), &image)?;
     assert_eq!(rt; text.as_slice(), wanted);
     Ok(())
+}
+
+/// The same in 4,000 places.
+fn expect_image(rt: &(impl Abort + AllocGlobal), source: &[u8], wanted: &[u8]) -> Result<(), Fail> {
+    expect_image_in(rt, 4_000, source, wanted)
 }
 
 /// The listing of a source in 4,000 places.
@@ -102,36 +119,41 @@ fn mnemonics_have_more_forms(rt: HostRuntime) -> Result<(), Fail> {
                CCB  A,1
                SSB  A,4
                MLNS A,B
+               CHAIN2
                B    A,@X@,,
                END  A
 ";
     let wanted = b"IMAGE2 04000
 00500 40 ~B500507C~B500/~V500526K~B500S~F500K~F5001~K500
-00540 17 4~D500526~B500556,~X
+00540 19 4~D500526~D~D~B500558,~X
 END 00500
 ";
     expect_image(&rt, source, wanted)
 }
 
-/// Instructions of which the machine never carries out those on lines 3, 4, 6, 8 and 9.
+/// Instructions of which the machine never carries out those on lines 3 to 8, 10, 12 and 13.
 const NOT_FITTED: &[u8] = b"               ORG  500
      AREA      EQU  700
+               RT   1,AREA
+               MCW  %U1,AREA,R
+               CU   %U2,R
+               WTM  2
                M    +5,AREA
-               SBR  89,AREA
+               SBR  X1,AREA
      SW        NOP  AREA
                H    1,AREA
                BCE  SW,AREA,A
                BCE
                MCM  AREA,201
-               END  SW
+               END  500
 ";
 
 #[test]
 fn what_the_machine_never_carries_out_is_assembled(rt: HostRuntime) -> Result<(), Fail> {
     let wanted = b"IMAGE2 04000
-00500 40 ~@541700~H089700~N700~.001700~B514700A~B~P70020
-00540 02 1~E
-END 00514
+00500 40 ~M%U1700R~M%U1700R~U%U2R~U%U2M~@567700~H089700
+00540 28 ~N700~.001700~B540700A~B~P700201~E
+END 00500
 ";
     expect_image(&rt, NOT_FITTED, wanted)
 }
@@ -142,7 +164,7 @@ fn what_the_machine_never_carries_out_is_warned_of(rt: HostRuntime) -> Result<()
     for warning in warnings(rt.alloc(), Ibm, NOT_FITTED, 4_000)? {
         told.push((warning.line, warning.kind))?;
     }
-    let wanted = [3, 4, 6, 8, 9].map(|line| (line, NotFitted));
+    let wanted = [3, 4, 5, 6, 7, 8, 10, 12, 13].map(|line| (line, NotFitted));
     assert_eq!(rt; told.as_slice(), wanted.as_slice());
     Ok(())
 }
@@ -175,13 +197,364 @@ fn headings_are_listed_as_comments_are(rt: HostRuntime) -> Result<(), Fail> {
 }
 
 #[test]
-fn there_is_no_other_assembler(rt: HostRuntime) -> Result<(), Fail> {
-    let source = b"               ent  sps\n     A         h    a\n               end  A\n";
-    let mut told = Vec::new(rt.alloc());
-    for fault in faults(rt.alloc(), Ibm, source, 4_000)? {
-        told.push((fault.line, fault.kind))?;
+fn fields_go_on_below_a_heading(rt: HostRuntime) -> Result<(), Fail> {
+    let source = b"               ORG  500
+     REC       DA   2X4
+               JOB  The fields of both areas
+     KEY            3,4
+               END  KEY
+";
+    expect_image(
+        &rt,
+        source,
+        b"IMAGE2 04000\n00500 08 ~  ~  ~  ~  \nEND 00503\n",
+    )
+}
+
+#[test]
+fn the_first_ctl_says_the_size(rt: HostRuntime) -> Result<(), Fail> {
+    let source = b"               job  Wages, March 1962
+               ctl  66
+     x1        equ  89
+               org  500
+     start     zs   x1
+               mcw  tab+x1,x2
+               mcw  &1,x1+1
+     tab       dcw  @ab@
+               end  start
+";
+    assert_eq!(rt; size_asked(Plain, source), None);
+    assert_eq!(rt; size_asked(Ibm, source), Some(16_000));
+    let wanted = b"IMAGE2 16000\n00500 21 ~!089~M5/9094~M520090~AB~A\nEND 00500\n";
+    expect_image_in(&rt, 16_000, source, wanted)
+}
+
+#[test]
+fn sections_use_the_same_short_labels(rt: HostRuntime) -> Result<(), Fail> {
+    let source = b"               ORG  500
+               SFX  A
+     LOOP      B    LOOP
+     ENTRY     B    LOOP
+               SFX  B
+     LOOP      B    ENTRYA
+               SFX
+               END  ENTRYA
+";
+    expect_image(
+        &rt,
+        source,
+        b"IMAGE2 04000\n00500 12 ~B500~B500~B504\nEND 00504\n",
+    )
+}
+
+#[test]
+fn x1_is_a_symbol(rt: HostRuntime) -> Result<(), Fail> {
+    // X2 is a label, and X1 and X3 are index registers; after a base +X2 is the index all the same.
+    let source = b"     GO        MCW  X1+5,X1+X2
+               MCW  X2,X3+X0
+               ORG  400
+     X2        DCW  000
+               END  GO
+";
+    let wanted = b"IMAGE2 04000\n00333 14 ~M0940Q9~M402099\n00400 03 ~000\nEND 00333\n";
+    expect_image(&rt, source, wanted)
+}
+
+#[test]
+fn xfr_places_nothing(rt: HostRuntime) -> Result<(), Fail> {
+    let source = b"               ORG  500
+     GO        A    +1,9
+               XFR  GO
+               EX   GO
+               A    +1,9
+               END  GO
+";
+    expect_image(
+        &rt,
+        source,
+        b"IMAGE2 04000\n00500 15 ~A507009~A~A507009\nEND 00500\n",
+    )?;
+    let text = listing_of(&rt, Ibm, source)?;
+    let wanted = b"\
+0001 00500                         ORG  500
+0002 00500 A507009       GO        A    +1,9
+0003 00500                         XFR  GO
+     00507 A        +1
+0004 00500                         EX   GO
+0005 00508 A507009                 A    +1,9
+0006 00500                         END  GO
+";
+    assert_eq!(rt; text.as_slice(), wanted.as_slice());
+    Ok(())
+}
+
+#[test]
+fn an_asterisk_says_a_value(rt: HostRuntime) -> Result<(), Fail> {
+    let source = b"               ORG  340
+     GO        B    LATER
+     HERE      EQU  *+1
+               H    HERE
+     BACK      ORG  *+X00
+     EXIT      H
+               NOP
+               CHAIN3
+     BUFFER    DS   3
+     LATER     EQU  EXIT+4
+               ORG  BACK
+               MCW  BUFFER-2+X2,BUFFER-2
+               EX   *
+               END
+";
+    let wanted = b"IMAGE2 04000
+00340 08 ~B404~.344
+00400 05 ~.~N~N~N~N
+00348 07 ~M4!5405
+END 00340
+";
+    expect_image(&rt, source, wanted)?;
+    let text = listing_of(&rt, Ibm, source)?;
+    let wanted = b"\
+0001 00340                         ORG  340
+0002 00340 B404          GO        B    LATER
+0003 00344               HERE      EQU  *+1
+0004 00344 .344                    H    HERE
+0005 00400               BACK      ORG  *+X00
+0006 00400 .             EXIT      H
+0007 00401 N                       NOP
+0008 00402 NNN                     CHAIN3
+0009 00405               BUFFER    DS   3
+0010 00404               LATER     EQU  EXIT+4
+0011 00348                         ORG  BACK
+0012 00348 M4!5405                 MCW  BUFFER-2+X2,BUFFER-2
+0013 00354                         EX   *
+0014 00340                         END
+";
+    assert_eq!(rt; text.as_slice(), wanted.as_slice());
+    Ok(())
+}
+
+#[test]
+fn an_asterisk_of_an_origin_is_the_next_place(rt: HostRuntime) -> Result<(), Fail> {
+    let source = b"     GO        A    +5,9
+               ORG  *+20
+               H    GO
+               ORG  *+3
+               END  *-2
+";
+    let wanted = b"IMAGE2 04000\n00333 07 ~A367009\n00360 04 ~.333\n00367 01 ~E\nEND 00364\n";
+    expect_image(&rt, source, wanted)
+}
+
+#[test]
+fn end_alone_begins_at_the_first_instruction(rt: HostRuntime) -> Result<(), Fail> {
+    let rows: [(&[u8], &[u8]); 2] = [
+        (
+            b"               ORG  400
+     TAB       DCW  @X@
+               H
+               NOP
+               END
+",
+            b"IMAGE2 04000\n00400 03 ~X~.~N\nEND 00401\n",
+        ),
+        (
+            b"               ORG  400\n     TAB       DCW  @X@\n               END\n",
+            b"IMAGE2 04000\n00400 01 ~X\nEND 00333\n",
+        ),
+    ];
+    for (source, wanted) in rows {
+        expect_image(&rt, source, wanted)?;
     }
-    assert_eq!(rt; told.as_slice(), [(1, Operand)].as_slice());
+    Ok(())
+}
+
+#[test]
+fn areas_end_with_a_group_mark(rt: HostRuntime) -> Result<(), Fail> {
+    let source = b"               ORG  700
+     REC       DA   2X5,C,G
+     KEY            1,2
+     LOW            4
+                    5,5
+               A    KEY,LOW
+               MCW  REC,KEY
+               END
+";
+    let wanted = b"IMAGE2 04000\n00700 25 ~    ~ ~    ~ ~\"~A701703~M700701\nEND 00711\n";
+    expect_image(&rt, source, wanted)?;
+    let text = listing_of(&rt, Ibm, source)?;
+    let wanted = b"\
+0001 00700                         ORG  700
+0002 00700               REC       DA   2X5,C,G
+0003 00700               KEY            1,2
+0004 00703               LOW            4
+0005 00704                              5,5
+0006 00711 A701703                 A    KEY,LOW
+0007 00718 M700701                 MCW  REC,KEY
+0008 00711                         END
+";
+    assert_eq!(rt; text.as_slice(), wanted.as_slice());
+    Ok(())
+}
+
+#[test]
+fn a_constant_may_be_an_address(rt: HostRuntime) -> Result<(), Fail> {
+    let source = b"               ORG  514
+     GO        MCW  TAB,X1
+     TAB       DCW  @ABC@
+     BASE      ORG  600
+               DSA  TAB+X3
+               DC   -TAB
+     FIRST     DCW  +GO-1
+     SELF      DSA  *-2
+               ORG  BASE
+               MCW  FIRST,SELF
+               END  GO
+";
+    let wanted = b"IMAGE2 04000
+00514 10 ~M523089~ABC
+00600 12 ~5B3D7G~513~609
+00524 07 ~M608611
+END 00514
+";
+    expect_image(&rt, source, wanted)
+}
+
+#[test]
+fn the_first_fault_of_a_wider_source(rt: HostRuntime) -> Result<(), Fail> {
+    let rows: [(&[u8], u64, AsmKind); 18] = [
+        (
+            b"     X1        DCW  #1\n     X1        EQU  89\n               END  0\n",
+            2,
+            DoubleLabel,
+        ),
+        (
+            b"     TAG       DCW  #3\n               CHAIN2\n               END  0\n",
+            2,
+            Operation,
+        ),
+        (
+            b"               CTL  66\n               CTL  66\n               END  0\n",
+            2,
+            Operation,
+        ),
+        (
+            b"               CTL  37\n               END  0\n",
+            1,
+            Operand,
+        ),
+        (b"     L         XFR  0\n               END  0\n", 1, Label),
+        (
+            b"               XFR  4000\n               END  0\n",
+            1,
+            OutOfCore,
+        ),
+        (
+            b"               ORG  3998\n               NOP\n               CHAIN2\n               END  0\n",
+            3,
+            OutOfCore,
+        ),
+        (
+            b"               A    %U1,5\n               END  0\n",
+            1,
+            Operand,
+        ),
+        (
+            b"               ENT  SPS\n               END  0\n",
+            1,
+            Operand,
+        ),
+        (
+            b"               SFX  A\n     TAG       DCW  #1\n               SFX\n               B    TAG
+               END  0\n",
+            4,
+            Undefined,
+        ),
+        (
+            b"               ORG  *+X1\n               END\n",
+            1,
+            Operand,
+        ),
+        (
+            b"     A         EQU  *+X00\n               END\n",
+            1,
+            Operand,
+        ),
+        (
+            b"               DA   1X5,G,G\n               END\n",
+            1,
+            Operand,
+        ),
+        (
+            b"               DSA  UNDEF,1\n               END\n",
+            1,
+            Undefined,
+        ),
+        (
+            b"               DSA  A\n     A         EQU  4000\n               END\n",
+            1,
+            OutOfCore,
+        ),
+        (
+            b"               ORG  3990\n               DA   1X10,G\n               END\n",
+            2,
+            OutOfCore,
+        ),
+        (
+            b"     BACK      ORG  BACK\n               END\n",
+            1,
+            Undefined,
+        ),
+        (
+            b"               ORG  0\n               END  *\n",
+            2,
+            OutOfCore,
+        ),
+    ];
+    for (source, line, kind) in rows {
+        let found = faults(rt.alloc(), Ibm, source, 4_000)?;
+        let told = found.first().map(|fault| (fault.line, fault.kind));
+        assert_eq!(rt; told, Some((line, kind)));
+    }
+    Ok(())
+}
+
+/// What is wrong at the only fault of a source in the wider language.
+fn cause_of(rt: &(impl Abort + AllocGlobal), source: &[u8]) -> Result<Cause, Fail> {
+    let found = explained_faults(rt.alloc(), Ibm, source, 4_000)?;
+    let [explanation] = found.as_slice() else {
+        panic!(rt; "not one fault");
+    };
+    Ok(explanation.cause)
+}
+
+#[test]
+fn a_fault_may_lie_in_the_lines_above(rt: HostRuntime) -> Result<(), Fail> {
+    let second = b"               CTL  66\n               CTL  66\n               END  0\n";
+    assert_eq!(rt; cause_of(&rt, second)?, Cause::ControlledBefore);
+    let apart =
+        b"     A         A    A,A\n     B         DCW  #3\n               CHAIN2\n               END  B\n";
+    assert_eq!(rt; cause_of(&rt, apart)?, Cause::NothingAbove);
+    Ok(())
+}
+
+#[test]
+fn a_chain_is_warned_of_as_its_instructions_are(rt: HostRuntime) -> Result<(), Fail> {
+    let source = b"     GO        M    5,6
+               CHAIN3
+     NUMBER    DC   @X@
+               END  GO
+";
+    let mut told = Vec::new(rt.alloc());
+    for warning in warnings(rt.alloc(), Ibm, source, 4_000)? {
+        told.push((warning.line, warning.kind))?;
+    }
+    let wanted = [
+        (1, NotFitted),
+        (2, NotFitted),
+        (2, ReadOn(343)),
+        (3, UnusedLabel),
+    ];
+    assert_eq!(rt; told.as_slice(), wanted.as_slice());
     Ok(())
 }
 

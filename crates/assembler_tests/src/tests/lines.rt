@@ -183,7 +183,7 @@ fn each_kind_of_statement_has_its_row(rt: HostRuntime) {
         ),
         (
             b"     A              2,4",
-            LabelRule::Optional,
+            LabelRule::OfField,
             Point::InArea(4),
             Next::Behind,
         ),

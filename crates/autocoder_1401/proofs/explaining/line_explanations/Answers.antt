@@ -16,13 +16,13 @@ returns-clause-ok c =
     let labels = get same_label c.in_ok-labels.labels in
     let anywhere = get same_label c.in_ok-anywhere.anywhere in
     c.in_ok-put_all_explained.ensures.ok
-    ∙ ap (λ none. none ++ explained_from c.args.language labels anywhere lines nothing_before sources)
+    ∙ ap (λ none. none ++ explained_from c.args.language labels anywhere lines nothing_before lines sources)
     c.new-explanations.ensures.items
-    ∙ ap (λ (declared : Declared). explained_from c.args.language declared anywhere lines nothing_before sources)
+    ∙ ap (λ (declared : Declared). explained_from c.args.language declared anywhere lines nothing_before lines sources)
     (same_declared labels (declared_at lines) c.in_ok-labels.ensures.lines)
     ∙ ap (λ (anywhere : Declared).
-    explained_from c.args.language (declared_at lines) anywhere lines nothing_before sources)
+    explained_from c.args.language (declared_at lines) anywhere lines nothing_before lines sources)
     (same_declared anywhere (declared_anywhere lines) c.in_ok-anywhere.ensures.lines)
     ∙ ap (λ (lines : List Line).
-    explained_from c.args.language (declared_at lines) (declared_anywhere lines) lines nothing_before sources)
+    explained_from c.args.language (declared_at lines) (declared_anywhere lines) lines nothing_before lines sources)
     c.requires.lines

@@ -1,7 +1,6 @@
 -- What is explained, with what is explained of the lines that are left, is what is explained of all lines.
-use Rattle.std.proofs.Common.{◌≡◌, ◌+◌, ◌++◌, drop, map}
+use Rattle.std.proofs.Common.{◌≡◌, ◌+◌, ◌++◌, drop, length}
 use Rattle.indexmap.specs.IndexMap.{get}
-use Rattle.source_1401.specs.Language.{line_in}
 use Rattle.source_1401.specs.SourceLine.{lines_of}
 use Rattle.autocoder_1401.specs.Explanation.{explained_from}
 use Rattle.autocoder_1401.specs.OwnFault.{nothing_before}
@@ -12,10 +11,10 @@ abbrev pub invariant-loop-line : goal.invariant-loop-line
 invariant-loop-line l = record {
   explained : l.explanations.items
       ++ explained_from l.language (get same_label l.this.labels) (get same_label l.this.anywhere) l.lines l.before
-      (lines_of l.sources)
+      (drop l.line-index l.lines) (lines_of l.sources)
       ≡ l.initial.explanations.items
       ++ explained_from l.language (get same_label l.this.labels) (get same_label l.this.anywhere) l.lines nothing_before
-      (lines_of l.source);
+      l.lines (lines_of l.source);
   number : l.before.at.number ≡ l.line-index + 1;
-  left : drop l.line-index l.lines ≡ map (line_in l.language) (lines_of l.sources);
+  left : length (drop l.line-index l.lines) ≡ length (lines_of l.sources);
 }
