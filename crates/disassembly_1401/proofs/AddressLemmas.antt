@@ -1,20 +1,19 @@
 -- An address that is written is read again.
-use Rattle.std.proofs.Common.{◌≡◌, ℕ, zero, suc, ◌+◌, ◌<◌, ◌≤◌, ◌==◌, ◌&&◌, Bool, true, false, List, [], ◌∷◌, ◌++◌}
+use Rattle.std.proofs.Common.{◌≡◌, ℕ, zero, suc, ◌+◌, ◌<◌, false, List, [], ◌∷◌, ◌++◌}
 use Rattle.std.proofs.Common.{length}
-use Rattle.std.proofs.Common.{take, drop, pos, Option, None, Some, refl, ap, ◌∙◌, sym, arith, append_assoc}
+use Rattle.std.proofs.Common.{take, drop, pos, Some, refl, ap, ◌∙◌, arith, append_assoc}
 use Rattle.std.proofs.Common.{length-append}
 use Rattle.std.proofs.lemmas.Bool.{and_parts}
 use Rattle.std.proofs.Math.Seq.{take-append_seam, drop-append_seam}
 use Rattle.std.specs.List.{list_all, prefix_len}
 use Rattle.source_1401.specs.Address.{address_of, is_adjusted, index_of, base_of, base_len}
 use Rattle.source_1401.specs.Label.{is_digit, is_letter_or_digit}
-use Rattle.source_1401.specs.Numbers.{short_number}
-use Rattle.source_1401.specs.Operands.{operand_len, operand_of, operand_in, behind_operand, is_ended, read_operand}
+use Rattle.source_1401.specs.Operands.{operand_len, operand_of, is_ended, read_operand}
 use Rattle.source_1401.specs.declared.address.Address.{Address}
-use Rattle.source_1401.specs.declared.address.Base.{Base}
 use Rattle.source_1401.specs.declared.address.Base.TheVariants as bases
 use Rattle.source_1401.specs.declared.operands.Operand.TheVariants as operands
 use Rattle.source_1401.specs.declared.operands.OperandField.TheVariants as fields
+use Rattle.source_1401.specs.declared.language.Language.TheVariants.{Plain}
 use Rattle.disassembly_1401.specs.Address.{index_text, number_text}
 use Rattle.disassembly_1401.proofs.NumberLemmas.{IsNumber, number_again, short_number_of, no_other, no_higher}
 use Rattle.disassembly_1401.proofs.NumberLemmas.{operand_len-digits, prefix_len-digits}
@@ -24,7 +23,7 @@ record IsIndex (index : ℕ) (text : List ℕ) : Type 0 where
   goes_on : (rest : List ℕ) → operand_len false (text ++ rest) ≡ length text + operand_len false rest
   ends_the_word : prefix_len is_letter_or_digit text ≡ 0
   no_adjustment : is_adjusted text ≡ false
-  is : index_of text ≡ Some index
+  is : index_of Plain text ≡ Some index
 
 index_again : (index : ℕ) → index < 4 → IsIndex index (index_text index)
 index_again zero h = record {
@@ -59,13 +58,13 @@ numbered value index = record { base = bases.Number value; adjustment = pos 0; i
 
 -- what a word is, with the parts that it is read by
 address_by : (word rest : List ℕ) (n value index : ℕ) → base_len (word ++ rest) ≡ n → take n (word ++ rest) ≡ word
-    → drop n (word ++ rest) ≡ rest → base_of word ≡ Some (bases.Number value) → is_adjusted rest ≡ false
-    → index_of rest ≡ Some index
-    → address_of (word ++ rest) ≡ Some (numbered value index)
+    → drop n (word ++ rest) ≡ rest → base_of Plain word ≡ Some (bases.Number value) → is_adjusted rest ≡ false
+    → index_of Plain rest ≡ Some index
+    → address_of Plain (word ++ rest) ≡ Some (numbered value index)
 address_by word rest n value index e front behind base plain is = rw (e, front, behind, base, plain, is) refl
 
 base_again : (word : List ℕ) (value : ℕ) → IsNumber word value → value < 100000
-    → base_of word ≡ Some (bases.Number value)
+    → base_of Plain word ≡ Some (bases.Number value)
 base_again [] value number fits = absurd (omega (arith, number.some))
 base_again (byte ∷ more) value number fits =
     let parts = and_parts (is_digit byte) (list_all is_digit more) number.digits in
@@ -80,7 +79,7 @@ base_len_again (byte ∷ more) text value index number behind =
     rw (no_other byte 42 parts.0 (omega arith)) (omega (arith, letters, behind.ends_the_word))
 
 address_again : (word text : List ℕ) (value index : ℕ) → IsNumber word value → IsIndex index text → value < 100000
-    → address_of (word ++ text) ≡ Some (numbered value index)
+    → address_of Plain (word ++ text) ≡ Some (numbered value index)
 address_again word text value index number behind fits =
     address_by word text (length word) value index (base_len_again word text value index number behind)
     (take-append_seam word text) (drop-append_seam word text) (base_again word value number fits) behind.no_adjustment
@@ -90,10 +89,10 @@ address_again word text value index number behind fits =
 pub record IsAddress (word : List ℕ) (address : Address) : Type 0 where
   pub goes_on : (rest : List ℕ) → operand_len false (word ++ rest) ≡ length word + operand_len false rest
   pub begins : (rest : List ℕ) → is_ended (word ++ rest) ≡ false
-  pub is : operand_of word ≡ Some (operands.Address address)
+  pub is : operand_of Plain word ≡ Some (operands.Address address)
 
 operand_again : (word text : List ℕ) (value index : ℕ) → IsNumber word value → IsIndex index text → value < 100000
-    → operand_of (word ++ text) ≡ Some (operands.Address (numbered value index))
+    → operand_of Plain (word ++ text) ≡ Some (operands.Address (numbered value index))
 operand_again [] text value index number behind fits = absurd (omega (arith, number.some))
 operand_again (byte ∷ more) text value index number behind fits =
     let parts = and_parts (is_digit byte) (list_all is_digit more) number.digits in
@@ -131,12 +130,12 @@ number_is_address value index fits few =
 
 -- an address up to where it ends
 read_by : (word rest : List ℕ) (address : Address) (n : ℕ) → operand_len false (word ++ rest) ≡ n
-    → take n (word ++ rest) ≡ word → drop n (word ++ rest) ≡ rest → operand_of word ≡ Some (operands.Address address)
-    → read_operand (word ++ rest) ≡ (fields.Operand (operands.Address address), rest)
+    → take n (word ++ rest) ≡ word → drop n (word ++ rest) ≡ rest → operand_of Plain word ≡ Some (operands.Address address)
+    → read_operand Plain (word ++ rest) ≡ (fields.Operand (operands.Address address), rest)
 read_by word rest address n e front behind is = rw (e, front, behind, is) refl
 
 pub address_is_read : (word rest : List ℕ) (address : Address) → IsAddress word address → operand_len false rest ≡ 0
-    → read_operand (word ++ rest) ≡ (fields.Operand (operands.Address address), rest)
+    → read_operand Plain (word ++ rest) ≡ (fields.Operand (operands.Address address), rest)
 address_is_read word rest address this ends =
     read_by word rest address (length word) (omega (arith, this.goes_on rest, ends)) (take-append_seam word rest)
     (drop-append_seam word rest) this.is

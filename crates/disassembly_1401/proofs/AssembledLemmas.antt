@@ -1,8 +1,7 @@
 -- An instruction that the assembler has a word for is assembled again from its text.
-use Rattle.std.proofs.Common.{◌≡◌, ℕ, zero, suc, ◌+◌, ◌-◌, ◌<◌, ◌≤◌, ◌==◌, ◌&&◌, nat_le, nat_lt, Bool, true, false, not}
-use Rattle.std.proofs.Common.{if◌then◌else◌, List, [], ◌∷◌, ◌++◌, length, take, map, Option, None, Some, refl, ap, ◌∙◌}
-use Rattle.std.proofs.Common.{sym}
-use Rattle.std.proofs.Common.{arith, append_assoc, length-append, subst}
+use Rattle.std.proofs.Common.{◌≡◌, ℕ, ◌<◌, ◌≤◌, ◌==◌, nat_le, nat_lt, Bool, true, false}
+use Rattle.std.proofs.Common.{List, [], ◌∷◌, ◌++◌, length, map, Option, None, Some, refl, ap, ◌∙◌}
+use Rattle.std.proofs.Common.{arith, append_assoc, length-append}
 use Rattle.std.specs.Prelude.{ℤ, ◌||◌}
 use Rattle.std.specs.List.{list_all}
 use Rattle.std.specs.Option.{option_map_or}
@@ -20,12 +19,13 @@ use Rattle.source_1401.specs.declared.mnemonic.Form.{Form}
 use Rattle.source_1401.specs.declared.mnemonic.Instruction.{Instruction}
 use Rattle.source_1401.specs.declared.operands.OperandField.TheVariants as fields
 use Rattle.source_1401.specs.declared.operands.Operands.{Operands}
+use Rattle.source_1401.specs.declared.language.Language.TheVariants.{Plain}
 use Rattle.autocoder_1401.specs.Cells.{plain, marked, address_codes, d_codes, instruction_cells}
 use Rattle.autocoder_1401.specs.Characters.{char_of}
 use Rattle.autocoder_1401.specs.Placement.{Placement}
 use Rattle.disassembly_1401.specs.Address.{register_in, address_text}
 use Rattle.disassembly_1401.specs.Assembled.{is_spelling, has_no_mark, IsOwn}
-use Rattle.disassembly_1401.specs.InstructionText.{graphic_of, operands_text}
+use Rattle.disassembly_1401.specs.InstructionText.{graphic_of}
 use Rattle.disassembly_1401.proofs.AddressLemmas.{IsAddress, numbered, number_is_address}
 use Rattle.disassembly_1401.proofs.MnemonicLemmas.{says}
 use Rattle.disassembly_1401.proofs.OperandsLemmas.{no_d, d_said, d_first, d_behind, no_operands, d_alone, one_operand}
@@ -44,7 +44,7 @@ pub record IsFor (says_d : Bool) (of_operation addresses : ℕ) (d : Option ℕ)
 -- a text that is read as operands of an instruction, which makes these cells of them
 pub record IsRead (instruction : Instruction) (text : List ℕ) (wanted : List Cell) : Type 0 where
   pub of : Operands
-  pub reads : (more : List ℕ) → operands_of instruction.form (text ++ 32 ∷ more) ≡ of
+  pub reads : (more : List ℕ) → operands_of Plain instruction.form (text ++ 32 ∷ more) ≡ of
   pub good : has_malformed of ≡ false
   pub few : length text ≤ 50
   pub shows : list_all is_graphic text ≡ true
@@ -137,7 +137,7 @@ pub record IsTail (says_d : Bool) (form : Form) (addresses : ℕ) (tail : List �
     Type 0 where
   ends : (more : List ℕ) → operand_len false (tail ++ 32 ∷ more) ≡ 0
   one : addresses ≡ 1 → (more : List ℕ)
-      → second_operand form.most (tail ++ 32 ∷ more) ≡ (fields.Absent, tail ++ 32 ∷ more)
+      → second_operand Plain form.most (tail ++ 32 ∷ more) ≡ (fields.Absent, tail ++ 32 ∷ more)
   reads : (more : List ℕ) → d_by form.d form.most (tail ++ 32 ∷ more) ≡ (d, true)
   few : length tail ≤ 2
   shows : list_all is_graphic tail ≡ true
@@ -168,7 +168,7 @@ said_tail operation addresses d instruction own unmarked this = record {
 }
 
 no_second : (most addresses : ℕ) (rest : List ℕ) → most ≡ addresses → addresses ≡ 1
-    → second_operand most (44 ∷ rest) ≡ (fields.Absent, 44 ∷ rest)
+    → second_operand Plain most (44 ∷ rest) ≡ (fields.Absent, 44 ∷ rest)
 no_second most addresses rest e f =
     let one : most ≡ 1 = e ∙ f in rw one refl
 
@@ -222,7 +222,7 @@ one_read operation h t u says_d tail d behind instruction own mark placed this t
     record {
       of = whole (address_field (field_at h t u)) fields.Absent d;
       reads = λ more.
-          ap (operands_of instruction.form) (append_assoc word tail (32 ∷ more))
+          ap (operands_of Plain instruction.form) (append_assoc word tail (32 ∷ more))
           ∙ one_operand instruction.form word (tail ++ 32 ∷ more) (field_at h t u) d (is_address h t u placed)
           (that.ends more) (some_addresses 1 instruction.form.most (omega arith) this.most) this.least
           (that.one refl more) (that.reads more);
@@ -252,7 +252,7 @@ two_read operation h t u x y z says_d tail d behind instruction own mark placed 
     record {
       of = whole (address_field (field_at h t u)) (address_field (field_at x y z)) d;
       reads = λ more.
-          ap (operands_of instruction.form)
+          ap (operands_of Plain instruction.form)
           (append_assoc word (44 ∷ (second ++ tail)) (32 ∷ more)
           ∙ ap (λ (rest : List ℕ). word ++ 44 ∷ rest) (append_assoc second tail (32 ∷ more)))
           ∙ two_operands instruction.form word second (tail ++ 32 ∷ more) (field_at h t u) (field_at x y z) d

@@ -1,5 +1,6 @@
 pub mod AddressLemmas
 pub mod AssembledLemmas
+pub mod CarriedOutLemmas
 mod InstructionTextExamples
 pub mod LineLemmas
 pub mod MnemonicLemmas

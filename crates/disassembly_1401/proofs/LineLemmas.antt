@@ -1,18 +1,16 @@
 -- A line that is a mnemonic and its operands.
-use Rattle.std.proofs.Common.{◌≡◌, ℕ, zero, suc, ◌+◌, ◌-◌, ◌≤◌, nat_lt, ◌==◌, ◌&&◌, Bool, true, false, not, List, []}
+use Rattle.std.proofs.Common.{◌≡◌, ℕ, zero, suc, ◌+◌, ◌-◌, ◌≤◌, nat_lt, Bool, true, false, not, List, []}
 use Rattle.std.proofs.Common.{◌∷◌, ◌++◌, length}
-use Rattle.std.proofs.Common.{take, drop, replicate, Option, None, Some, refl, ap, ◌∙◌, sym, arith, length-append}
-use Rattle.std.proofs.Common.{append_assoc}
-use Rattle.std.specs.Prelude.{slice_index, ◌||◌}
+use Rattle.std.proofs.Common.{take, drop, replicate, Some, refl, ap, ◌∙◌, arith}
+use Rattle.std.specs.Prelude.{◌||◌}
 use Rattle.std.specs.List.{list_all}
-use Rattle.std.proofs.lemmas.List.{take_all, take-replicate, drop-replicate, length-replicate}
+use Rattle.std.proofs.lemmas.List.{take_all, take-replicate, drop-replicate}
 use Rattle.std.proofs.lemmas.Bool.Decides.{nat_tests}
 use Rattle.std.proofs.Math.Seq.{take-append-add, drop-append-add}
 use Rattle.std.proofs.lemmas.List.Folds.{list_all-append}
 use Rattle.bcd_1401.specs.Graphic.{graphics}
-use Rattle.source_1401.specs.SourceLine.{columns_of, columns_in, is_blank, is_graphic, is_printable, is_comment, padded}
+use Rattle.source_1401.specs.SourceLine.{columns_of, columns_in, is_blank, is_graphic, is_printable, is_comment}
 use Rattle.source_1401.specs.SourceLine.{has_foreign_bytes}
-use Rattle.source_1401.specs.Label.{label_in}
 use Rattle.source_1401.specs.Mnemonic.{instruction_of}
 use Rattle.source_1401.specs.Operands.{operands_of}
 use Rattle.source_1401.specs.Statement.{line_of, line_with, statement_of, body_of}
@@ -21,8 +19,8 @@ use Rattle.source_1401.specs.declared.label.LabelField.TheVariants as labels
 use Rattle.source_1401.specs.declared.operands.Operands.{Operands}
 use Rattle.source_1401.specs.declared.statement.Body.TheVariants as bodies
 use Rattle.source_1401.specs.declared.statement.LineCheck.TheVariants as bytes
-use Rattle.source_1401.specs.declared.statement.Line.{Line}
 use Rattle.source_1401.specs.declared.statement.Statement.{Statement}
+use Rattle.source_1401.specs.declared.language.Language.TheVariants.{Plain}
 
 -- the columns 21 to 80
 abbrev rest_of : List ℕ → List ℕ
@@ -115,7 +113,7 @@ no_foreign_bytes a b c d e operands few h columns shown =
     (middle_shows a b c d e operands few columns shown) (last_print operands few))
 
 body_again : (columns operands : List ℕ) (instruction : Instruction) → instruction_of columns ≡ Some instruction
-    → body_of columns operands ≡ bodies.Instruction instruction (operands_of instruction.form operands)
+    → body_of columns operands ≡ bodies.Instruction instruction (operands_of Plain instruction.form operands)
 body_again columns operands instruction is = rw is refl
 
 -- what a line says that is a mnemonic and its operands
@@ -123,7 +121,7 @@ pub line_again : (a b c d e : ℕ) (operands : List ℕ) (instruction : Instruct
     → length operands ≤ 50
     → is_blank a ≡ false → list_all is_graphic (a ∷ b ∷ c ∷ d ∷ e ∷ []) ≡ true → list_all is_graphic operands ≡ true
     → instruction_of (a ∷ b ∷ c ∷ d ∷ e ∷ []) ≡ Some instruction
-    → operands_of instruction.form (operands ++ 32 ∷ replicate (51 - length operands) 32) ≡ of
+    → operands_of Plain instruction.form (operands ++ 32 ∷ replicate (51 - length operands) 32) ≡ of
     → line_of (columns_with a b c d e operands)
     ≡ record {
       bytes = bytes.Good;
@@ -137,6 +135,6 @@ line_again a b c d e operands instruction of few h columns shown is read =
     (no_foreign_bytes a b c d e operands few h columns shown) (no_comment a b c d e (rest_of operands) h)
     (ap (λ body. record { label = labels.Absent; body = body })
     (body_again (a ∷ b ∷ c ∷ d ∷ e ∷ []) (take 52 (rest_of operands)) instruction is
-    ∙ ap (λ (columns : List ℕ). bodies.Instruction instruction (operands_of instruction.form columns))
+    ∙ ap (λ (columns : List ℕ). bodies.Instruction instruction (operands_of Plain instruction.form columns))
     (operands_columns operands few)
     ∙ ap (bodies.Instruction instruction) read))

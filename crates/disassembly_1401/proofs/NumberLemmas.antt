@@ -1,13 +1,13 @@
 -- A number that is written is read again.
-use Rattle.std.proofs.Common.{◌≡◌, ℕ, ◌+◌, ◌-◌, ◌*◌, ◌/◌, ◌%◌, ◌<◌, ◌≤◌, ◌==◌, ◌&&◌, nat_lt, nat_le, Bool, true, false}
-use Rattle.std.proofs.Common.{if◌then◌else◌, List, [], ◌∷◌, ◌++◌, length, Some, refl, ap, arith}
+use Rattle.std.proofs.Common.{◌≡◌, ℕ, ◌+◌, ◌/◌, ◌<◌, ◌≤◌, ◌==◌, nat_lt, Bool, true, false}
+use Rattle.std.proofs.Common.{if◌then◌else◌, List, [], ◌∷◌, ◌++◌, length, Some, refl, arith}
 use Rattle.std.proofs.lemmas.Bool.{and_parts}
 use Rattle.std.proofs.lemmas.Bool.Decides.{nat_tests}
 use Rattle.std.specs.List.{list_all, prefix_len}
 use Rattle.source_1401.specs.Label.{is_digit, is_letter_or_digit}
 use Rattle.source_1401.specs.Numbers.{value_of, short_number}
 use Rattle.source_1401.specs.Operands.{operand_len}
-use Rattle.disassembly_1401.specs.Address.{digit, thousands_text, number_text}
+use Rattle.disassembly_1401.specs.Address.{digit, number_text}
 
 -- a word of one to five digits that writes a number
 pub record IsNumber (word : List ℕ) (value : ℕ) : Type 0 where

@@ -1,12 +1,11 @@
 -- Operands that are written are read again, by what the form asks for.
-use Rattle.std.proofs.Common.{◌≡◌, ℕ, ◌+◌, ◌<◌, ◌≤◌, ◌==◌, ◌&&◌, nat_le, nat_lt, Bool, true, false, List, [], ◌∷◌, ◌++◌}
-use Rattle.std.proofs.Common.{Option, None, Some, refl, ap, ◌∙◌, sym, arith}
+use Rattle.std.proofs.Common.{◌≡◌, ℕ, ◌==◌, ◌&&◌, nat_le, nat_lt, Bool, true, false, List, ◌∷◌, ◌++◌}
+use Rattle.std.proofs.Common.{Option, None, Some, refl, ap, ◌∙◌}
 use Rattle.std.specs.Prelude.{◌||◌}
-use Rattle.std.proofs.lemmas.Bool.{and_parts, eqb-true, false≢true}
-use Rattle.std.proofs.lemmas.Bool.Decides.{nat_tests}
+use Rattle.std.proofs.lemmas.Bool.{eqb-true, false≢true}
 use Rattle.source_1401.specs.Operands.{operand_len, operands_of, operands_with, first_operand, second_operand, d_of}
 use Rattle.source_1401.specs.Operands.{d_by}
-use Rattle.source_1401.specs.Operands.{d_at, is_ended, read_operand, Read}
+use Rattle.source_1401.specs.Operands.{Read}
 use Rattle.source_1401.specs.declared.address.Address.{Address}
 use Rattle.source_1401.specs.declared.mnemonic.DCharacter.{DCharacter}
 use Rattle.source_1401.specs.declared.mnemonic.DCharacter.TheVariants as kinds
@@ -15,6 +14,7 @@ use Rattle.source_1401.specs.declared.operands.Operand.TheVariants as operands
 use Rattle.source_1401.specs.declared.operands.OperandField.{OperandField}
 use Rattle.source_1401.specs.declared.operands.OperandField.TheVariants as fields
 use Rattle.source_1401.specs.declared.operands.Operands.{Operands}
+use Rattle.source_1401.specs.declared.language.Language.TheVariants.{Plain}
 use Rattle.disassembly_1401.proofs.AddressLemmas.{IsAddress, address_is_read}
 use Rattle.disassembly_1401.proofs.MnemonicLemmas.{says}
 
@@ -52,10 +52,10 @@ d_behind kinds.Required addresses most d more some h = rw some refl
 
 -- the operands by their parts
 operands_by : (form : Form) (columns behind_first behind_second : List ℕ) (a b : OperandField) (read : Read)
-    → first_operand form.most columns ≡ (a, behind_first)
-    → second_operand form.most behind_first ≡ (b, behind_second)
+    → first_operand Plain form.most columns ≡ (a, behind_first)
+    → second_operand Plain form.most behind_first ≡ (b, behind_second)
     → d_of form behind_second ≡ read
-    → operands_of form columns ≡ operands_with form.least a b read
+    → operands_of Plain form columns ≡ operands_with form.least a b read
 operands_by form columns behind_first behind_second a b read first second d = rw (first, second, d) refl
 
 abbrev pub address_field : Address → OperandField
@@ -76,7 +76,7 @@ whole a b d = record { a = a; b = b; d = d; is_whole = true }
 -- nothing but blanks
 pub no_operands : (form : Form) (more : List ℕ) (d : Option ℕ) → nat_le form.least 0 ≡ true
     → d_by form.d form.most (32 ∷ more) ≡ (d, true)
-    → operands_of form (32 ∷ more) ≡ whole fields.Absent fields.Absent d
+    → operands_of Plain form (32 ∷ more) ≡ whole fields.Absent fields.Absent d
 no_operands form more d least read =
     operands_by form (32 ∷ more) (32 ∷ more) (32 ∷ more) fields.Absent fields.Absent (d, true)
     (rw (or_true (form.most == 0)) refl) refl read
@@ -85,7 +85,7 @@ no_operands form more d least read =
 -- a d-character alone
 pub d_alone : (form : Form) (d : ℕ) (more : List ℕ) → form.most ≡ 0 → nat_le form.least 0 ≡ true
     → d_by form.d 0 (d ∷ 32 ∷ more) ≡ (Some d, true)
-    → operands_of form (d ∷ 32 ∷ more) ≡ whole fields.Absent fields.Absent (Some d)
+    → operands_of Plain form (d ∷ 32 ∷ more) ≡ whole fields.Absent fields.Absent (Some d)
 d_alone form d more most least read =
     operands_by form (d ∷ 32 ∷ more) (d ∷ 32 ∷ more) (d ∷ 32 ∷ more) fields.Absent fields.Absent (Some d, true)
     (rw most refl) (rw (most, and_false (d == 44)) refl) (rw most read)
@@ -93,16 +93,16 @@ d_alone form d more most least read =
 
 first_address : (most : ℕ) (word rest : List ℕ) (address : Address) → IsAddress word address
     → operand_len false rest ≡ 0 → (most == 0) ≡ false
-    → first_operand most (word ++ rest) ≡ (address_field address, rest)
+    → first_operand Plain most (word ++ rest) ≡ (address_field address, rest)
 first_address most word rest address this ends some =
     rw (some, this.begins rest) (address_is_read word rest address this ends)
 
 -- an address, and nothing after it that is a second one
 pub one_operand : (form : Form) (word rest : List ℕ) (address : Address) (d : Option ℕ) → IsAddress word address
     → operand_len false rest ≡ 0 → (form.most == 0) ≡ false → nat_le form.least 1 ≡ true
-    → second_operand form.most rest ≡ (fields.Absent, rest)
+    → second_operand Plain form.most rest ≡ (fields.Absent, rest)
     → d_by form.d form.most rest ≡ (d, true)
-    → operands_of form (word ++ rest) ≡ whole (address_field address) fields.Absent d
+    → operands_of Plain form (word ++ rest) ≡ whole (address_field address) fields.Absent d
 one_operand form word rest address d this ends some least second read =
     operands_by form (word ++ rest) rest rest (address_field address) fields.Absent (d, true)
     (first_address form.most word rest address this ends some) second read
@@ -113,7 +113,7 @@ pub two_operands : (form : Form) (word other rest : List ℕ) (address second : 
     → IsAddress word address → IsAddress other second → operand_len false rest ≡ 0
     → (form.most == 0) ≡ false → nat_lt 1 form.most ≡ true → nat_le form.least 2 ≡ true
     → d_by form.d form.most rest ≡ (d, true)
-    → operands_of form (word ++ 44 ∷ (other ++ rest)) ≡ whole (address_field address) (address_field second) d
+    → operands_of Plain form (word ++ 44 ∷ (other ++ rest)) ≡ whole (address_field address) (address_field second) d
 two_operands form word other rest address second d this that ends some more least read =
     operands_by form (word ++ 44 ∷ (other ++ rest)) (44 ∷ (other ++ rest)) rest (address_field address)
     (address_field second) (d, true)

@@ -1,13 +1,12 @@
 -- The cells that the assembler makes of an address and of a d-character.
-use Rattle.std.proofs.Common.{◌≡◌, ℕ, ◌+◌, ◌%◌, ◌<◌, ◌≤◌, ◌==◌, ◌&&◌, nat_lt, Bool, true, false, not, if◌then◌else◌}
-use Rattle.std.proofs.Common.{List, [], ◌∷◌, ◌++◌}
-use Rattle.std.proofs.Common.{map, Option, Some, pos, refl, ap, ◌∙◌, sym, subst, arith}
-use Rattle.std.specs.Prelude.{position, ℤ, int_le, int_lt, unwrap_or}
+use Rattle.std.proofs.Common.{◌≡◌, ℕ, ◌+◌, ◌%◌, ◌<◌, ◌&&◌, nat_lt, Bool, true, false, not, if◌then◌else◌}
+use Rattle.std.proofs.Common.{[], ◌∷◌}
+use Rattle.std.proofs.Common.{pos, refl, ap, ◌∙◌, arith}
+use Rattle.std.specs.Prelude.{ℤ, int_le, int_lt}
 use Rattle.std.specs.Str.{bytes_eq}
 use Rattle.std.proofs.lemmas.Bool.{and_parts, false≢true}
 use Rattle.std.proofs.lemmas.Bool.Decides.{nat_tests}
 use Rattle.std.proofs.lemmas.Slice.Eq.{bytes_eq-Decides}
-use Rattle.bcd_1401.specs.Graphic.{graphics}
 use Rattle.bcd_1401.specs.declared.cell.Cell.{Cell}
 use Rattle.core_1401.specs.Address.{addresses, value_of, spelling_of}
 use Rattle.autocoder_1401.specs.Cells.{address_or_zero, plain, with_index, address_codes}

@@ -1,18 +1,14 @@
 -- The operands of an instruction with a word of its own: they are read again, and assembled as its cells.
-use Rattle.std.proofs.Common.{◌≡◌, ℕ, zero, suc, ◌+◌, ◌*◌, ◌/◌, ◌%◌, ◌<◌, ◌≤◌, ◌==◌, ◌&&◌, nat_le, nat_lt, Bool, true}
+use Rattle.std.proofs.Common.{◌≡◌, ℕ, zero, suc, ◌+◌, ◌/◌, ◌%◌, ◌<◌, ◌≤◌, ◌==◌, nat_lt, Bool, true}
 use Rattle.std.proofs.Common.{false, if◌then◌else◌}
-use Rattle.std.proofs.Common.{not, List, [], ◌∷◌, ◌++◌, length, map, Option, None, Some, is_some, pos, refl, ap, ◌∙◌}
-use Rattle.std.proofs.Common.{sym}
-use Rattle.std.proofs.Common.{arith, append_assoc, length-append}
-use Rattle.std.specs.Prelude.{position, slice_index, ◌+ℤ◌}
+use Rattle.std.proofs.Common.{List, [], ◌∷◌, ◌++◌, length, Option, Some, is_some, refl, ◌∙◌}
+use Rattle.std.proofs.Common.{arith, length-append}
+use Rattle.std.specs.Prelude.{position}
 use Rattle.std.specs.List.{list_all}
-use Rattle.std.proofs.lemmas.Bool.{and_parts, false≢true, eqb-true}
-use Rattle.std.proofs.lemmas.Bool.Decides.{nat_tests}
-use Rattle.std.proofs.lemmas.Int.{ints}
 use Rattle.std.proofs.lemmas.List.Folds.{list_all-append}
 use Rattle.bcd_1401.specs.Graphic.{graphics}
 use Rattle.bcd_1401.specs.declared.cell.Cell.{Cell}
-use Rattle.core_1401.specs.Address.{addresses, value_of, spelling_of}
+use Rattle.core_1401.specs.Address.{value_of}
 use Rattle.source_1401.specs.SourceLine.{is_graphic}
 use Rattle.disassembly_1401.specs.Address.{digit, thousands_text, number_text, index_text, register_in, address_text}
 use Rattle.disassembly_1401.specs.Assembled.{IsOwn}

@@ -1,12 +1,11 @@
 -- If the assembler has a word for an instruction, its text is assembled as its cells.
-use Rattle.std.proofs.Common.{◌≡◌, ℕ, ◌-◌, ◌<◌, ◌≤◌, ◌==◌, ◌&&◌, Bool, true, false, not, if◌then◌else◌, List, [], ◌∷◌}
+use Rattle.std.proofs.Common.{◌≡◌, ℕ, ◌-◌, ◌≤◌, ◌==◌, Bool, true, false, not, if◌then◌else◌, List, [], ◌∷◌}
 use Rattle.std.proofs.Common.{◌++◌}
-use Rattle.std.proofs.Common.{length, take, replicate, Option, None, Some, refl, ap, ◌∙◌, sym, subst, arith}
-use Rattle.std.specs.Prelude.{slice_index, position}
+use Rattle.std.proofs.Common.{length, take, replicate, Option, None, Some, refl, ap, sym, subst, arith}
+use Rattle.std.specs.Prelude.{slice_index}
 use Rattle.std.specs.List.{list_all}
 use Rattle.std.specs.Option.{option_map_or}
 use Rattle.std.proofs.lemmas.Bool.{and_parts, eqb-true, false≢true}
-use Rattle.std.proofs.lemmas.Bool.Decides.{nat_tests}
 use Rattle.std.proofs.lemmas.List.Elements.{All-get_or}
 use Rattle.std.proofs.lemmas.List.Quantifiers.{position-Some}
 use Rattle.std.proofs.lemmas.List.Sums.{AllPass-from_list_all}
@@ -17,7 +16,6 @@ use Rattle.source_1401.specs.SourceLine.{is_blank, is_graphic}
 use Rattle.source_1401.specs.Statement.{line_of}
 use Rattle.source_1401.specs.declared.label.LabelField.TheVariants as labels
 use Rattle.source_1401.specs.declared.mnemonic.Instruction.{Instruction}
-use Rattle.source_1401.specs.declared.operands.Operands.{Operands}
 use Rattle.source_1401.specs.declared.statement.Body.TheVariants as bodies
 use Rattle.source_1401.specs.declared.statement.LineCheck.TheVariants as bytes
 use Rattle.source_1401.specs.declared.statement.Line.{Line}
@@ -26,13 +24,12 @@ use Rattle.autocoder_1401.specs.Values.{last_place}
 use Rattle.disassembly_1401.specs.Assembled.{has_mnemonic, has_no_mark, has_word, is_spelled, is_spelling, line_with}
 use Rattle.disassembly_1401.specs.Assembled.{IsAssembled, IsOwn, IsOwnD, IsTextOf}
 use Rattle.disassembly_1401.specs.InstructionText.{addresses_in, d_in, graphic_of, instruction_text, operands_text}
-use Rattle.disassembly_1401.specs.InstructionText.{text_with, written}
 use Rattle.disassembly_1401.specs.Mnemonic.{mnemonic_of}
 use Rattle.disassembly_1401.specs.declared.mnemonic.Mnemonic.{Mnemonic}
 use Rattle.disassembly_1401.proofs.AssembledLemmas.{IsFor, IsPlaced, IsRead, none_read, d_said_read, d_read, one_read}
 use Rattle.disassembly_1401.proofs.AssembledLemmas.{two_read, bare_tail, said_tail, d_tail, unsaid}
 use Rattle.disassembly_1401.proofs.LineLemmas.{line_again}
-use Rattle.disassembly_1401.proofs.MnemonicLemmas.{follows, is_as, is_good, is_written_well, says, with_d, without_d}
+use Rattle.disassembly_1401.proofs.MnemonicLemmas.{follows, is_as, is_good, is_written_well, with_d, without_d}
 use Rattle.disassembly_1401.proofs.MnemonicLemmas.{none_with_d, one_with_d, two_with_d, none_without_d}
 use Rattle.disassembly_1401.proofs.MnemonicLemmas.{one_without_d, two_without_d}
 

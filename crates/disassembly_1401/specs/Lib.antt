@@ -1,5 +1,6 @@
 pub mod Address
 pub mod Assembled
+pub mod CarriedOut
 pub mod ImageListing
 pub mod InstructionText
 pub mod Mnemonic
