@@ -2,7 +2,7 @@
 
 use crate::call::{Assembling, Call, Product, Tables, Told};
 use crate::languages::{language_arg, language_in};
-use crate::reading::{name_in, refusal, size_arg, size_in};
+use crate::reading::{name_in, named_size_in, refusal, size_arg};
 use crate::sizes::SizeTexts;
 use clap::{Arg, ArgAction, ArgMatches, Command, Error};
 use std::alloc::{AllocError, Global};
@@ -95,7 +95,7 @@ pub(crate) fn assemble_call(
     Ok(Call::Assemble(Assembling {
         file,
         language: language_in(matches),
-        size: size_in(matches),
+        size: named_size_in(matches),
         product: product_in(matches),
         out,
         deck,

@@ -31,8 +31,8 @@ pub struct Assembling {
     pub file: String,
     /// The language that it is written in.
     pub language: Language,
-    /// How many places core storage has.
-    pub size: u16,
+    /// How many places core storage has; without a value those that the source asks for, or else 4,000.
+    pub size: Option<u16>,
     /// What is written.
     pub product: Product,
     /// The name of the file that it is written to; without one it is standard output.
@@ -123,8 +123,9 @@ pub struct Job {
     pub trace: Option<String>,
     /// The language of the file, if it is a source.
     pub language: Language,
-    /// How many places core storage has, if the file is no image.
-    pub size: u16,
+    /// How many places core storage has, if the file is no image; without a value those that the source asks for, or
+    /// else 4,000.
+    pub size: Option<u16>,
     /// The most instructions that are carried out.
     pub limit: u32,
     /// The sense switches A to G.

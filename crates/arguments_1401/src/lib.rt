@@ -18,3 +18,4 @@ pub use call::{
     Showing, Start, Tables, Told,
 };
 pub use reading::read_call;
+pub use sizes::DEFAULT_SIZE;

@@ -10,6 +10,7 @@ use crate::languages::{language_arg, language_in};
 use crate::serving::{operators_in, serve_call, serve_command};
 use crate::sizes::{DEFAULT_SIZE, SizeTexts};
 use clap::error::ErrorKind;
+use clap::parser::ValueSource;
 use clap::{Arg, ArgAction, ArgMatches, Command, Error, value_parser};
 use std::alloc::{AllocError, Global};
 use std::convert::AsStr;
@@ -141,6 +142,15 @@ pub(crate) fn size_in(matches: &ArgMatches<'_>) -> u16 {
     matches.get_one::<u16>("size").unwrap_or(DEFAULT_SIZE)
 }
 
+/// The size that the command line itself names, and not its default.
+pub(crate) fn named_size_in(matches: &ArgMatches<'_>) -> Option<u16> {
+    if matches.value_source("size") == Some(ValueSource::CommandLine) {
+        matches.get_one::<u16>("size")
+    } else {
+        None
+    }
+}
+
 /// The value of an option, if it is there.
 pub(crate) fn name_in(
     alloc: Global,
@@ -185,7 +195,7 @@ fn run_call(alloc: Global, matches: &ArgMatches<'_>, file: &str) -> Result<Call,
         paper: name_in(alloc, matches, "paper")?,
         trace: name_in(alloc, matches, "trace")?,
         language: language_in(matches),
-        size: size_in(matches),
+        size: named_size_in(matches),
         limit: matches.get_one("limit").unwrap_or(DEFAULT_LIMIT),
         switches,
     }))

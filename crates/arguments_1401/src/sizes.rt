@@ -4,7 +4,7 @@ use core_1401::SIZES;
 use std::alloc::{AllocError, Global};
 
 /// The size of core storage if none is named.
-pub(crate) const DEFAULT_SIZE: u16 = SIZES[2];
+pub const DEFAULT_SIZE: u16 = SIZES[2];
 
 /// The texts of the option `--size`, from the one list of sizes.
 #[derive(Drop)]

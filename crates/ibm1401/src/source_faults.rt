@@ -27,6 +27,11 @@ fn operand_help(alloc: Global, flaw: OperandFlaw, word: &str) -> Result<String, 
         OperandFlaw::AddressMissing => String::from_str(alloc, "an address is missing"),
         OperandFlaw::CharacterMissing => String::from_str(alloc, "the d-character is missing"),
         OperandFlaw::NoAssembler => String::from_str(alloc, "ENT takes AUTOCODER alone"),
+        OperandFlaw::NoSize => String::from_str(
+            alloc,
+            "CTL has the size of core storage in column 22, 1 to 6",
+        ),
+        OperandFlaw::NoSuffix => String::from_str(alloc, "SFX takes one letter or digit"),
         OperandFlaw::TooMuch => format!(in alloc; "{word} is more than the operation takes"),
         _ if word.is_empty() => String::from_str(alloc, "an operand is missing"),
         OperandFlaw::NoAddress => format!(in alloc; "{word} is neither an address nor a literal"),
@@ -39,6 +44,15 @@ fn operand_help(alloc: Global, flaw: OperandFlaw, word: &str) -> Result<String, 
         OperandFlaw::NoValue => {
             format!(in alloc; "{word} says no value, as a number or a label does")
         }
+        OperandFlaw::NoUnit => format!(in alloc; "{word} is no unit, as %U1 is"),
+        OperandFlaw::NoTape => format!(in alloc; "{word} is no tape, as 1 or %U1 is"),
+        OperandFlaw::NoTimes => format!(in alloc; "{word} is no number from 1 to 99"),
+        OperandFlaw::NoOptions => {
+            format!(in alloc; "{word} isn't G or C, each once, behind the areas")
+        }
+        OperandFlaw::Literal => format!(in alloc;
+            "{word} is a literal, and an address is asked for"
+        ),
     }
 }
 
@@ -81,6 +95,8 @@ fn help_of(alloc: Global, explanation: Explanation, word: &str) -> Result<String
             let near = name_in(&near);
             return format!(in alloc; "{word} is no operation; did you mean {near}?");
         }
+        Cause::ControlledBefore => "there is a CTL already",
+        Cause::NothingAbove => "CHAIN stands directly below an instruction, or below another CHAIN",
         Cause::NoAreas => "a line without an operation is a field, and no areas are above it",
         Cause::Undeclared(None) => {
             return format!(in alloc; "{word} is the label of no line");

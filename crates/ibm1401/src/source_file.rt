@@ -7,6 +7,7 @@ use crate::source_faults::{fault_lines, warning_lines};
 use arguments_1401::{Assembling, Product, Told};
 use autocoder_1401::{AsmKind, explained_faults, warnings};
 use files_1401::{WriteFault, hold_closed_streams, write_whole};
+use running_1401::{is_refused, size_for};
 use source_1401::Language;
 use std::alloc::Global;
 use std::io;
@@ -140,13 +141,16 @@ pub fn assemble_file<R: Files + Print + Eprint + AllocGlobal>(
         deck,
         told,
     } = asked;
-    check_size(size)?;
+    if is_refused(size) {
+        return Err(Fault::Size);
+    }
     // Standard streams that are closed stay so: no file that is made takes the place of one.
     let _held = hold_closed_streams(rt);
     let Ok(name) = file.clone() else {
         return Err(Fault::Memory);
     };
     let source = read_file(rt, file)?;
+    let size = size_for(size, language, source.as_slice());
     match (
         write_asked(rt, language, source.as_slice(), size, product, out, deck),
         told,

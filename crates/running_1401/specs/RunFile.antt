@@ -1,11 +1,11 @@
 -- What a run of files may be refused or fail by (own). Nothing is said of the files themselves. A name is the list of
 -- its bytes.
-use Rattle.std.specs.Prelude.{◌≡◌, ◌≢◌, ◌⊎◌, ℕ, ⊤, false, List, Option, Some, option_map, string_bytes}
-use Rattle.core_1401.specs.Storage.{is_core_size}
+use Rattle.std.specs.Prelude.{◌≡◌, ◌≢◌, ◌⊎◌, ℕ, ⊤, true, List, Option, Some, option_map, string_bytes}
 use Rattle.cpu_1401.specs.declared.stop.Stop.TheVariants as stop
 use Rattle.arguments_1401.specs.declared.call.Job.{Job}
 use Rattle.arguments_1401.specs.declared.call.Start.{Start}
 use Rattle.arguments_1401.specs.declared.call.Start.TheVariants as start
+use Rattle.running_1401.specs.Sizes.{is_refused}
 use Rattle.running_1401.specs.declared.fault.RunFault.{RunFault}
 use Rattle.running_1401.specs.declared.fault.RunFault.TheVariants as fault
 
@@ -49,10 +49,10 @@ IsInput names name = (name ≡ names.program) ⊎ (names.deck ≡ Some name)
 abbrev pub IsDeck : Start → InputNames → List ℕ → Type 0
 IsDeck how names name = ((how ≡ start.LoadKey) × (name ≡ names.program)) ⊎ (names.deck ≡ Some name)
 
--- why there is nothing to be run: no such size; a file; a source or an image, unless the load key is pressed
-abbrev pub IsUnread : Start → ℕ → InputNames → RunFault → Type 0
+-- why there is nothing to be run: no such size is named; a file; a source or an image, unless the load key is pressed
+abbrev pub IsUnread : Start → Option ℕ → InputNames → RunFault → Type 0
 IsUnread how size names fault.Output = ⊥
-IsUnread how size names fault.Size = is_core_size size ≡ false
+IsUnread how size names fault.Size = is_refused size ≡ true
 IsUnread how size names (fault.File name why) = IsInput names (string_bytes name)
 IsUnread how size names (fault.Unwritten name) = ⊥
 IsUnread how size names (fault.Deck name why) = IsDeck how names (string_bytes name)

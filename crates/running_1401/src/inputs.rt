@@ -1,13 +1,14 @@
 //! The files that a run reads: its program, and its deck.
 ghost use Rattle.std.specs.Prelude.{◌≡◌, true, false, None, Err, IfErr, option_map, string_bytes};
-ghost use Rattle.core_1401.specs.Storage.{is_core_size};
+ghost use Rattle.running_1401.specs.Sizes.{is_refused};
 ghost use Rattle.running_1401.specs.RunFile.{IsOfFile, IsUnread, IsUnreadFile, input_names};
 
 use crate::fault::RunFault;
 use crate::programs::{Program, loaded_machine, program_of};
-use arguments_1401::Start;
+use crate::sizes::is_refused;
+use arguments_1401::{DEFAULT_SIZE, Start};
 use autocoder_1401::Listing;
-use core_1401::{Core, CoreFault};
+use core_1401::CoreFault;
 use cpu_1401::Machine;
 use devices_1401::Card;
 use files_1401::{FileFault, read_whole};
@@ -78,9 +79,9 @@ fn read_program(
     rt: &(impl Files + AllocGlobal),
     file: String,
     language: Language,
-    size: u16,
+    size: Option<u16>,
 ) -> Result<Inputs, RunFault>
-    requires { is_core_size size ≡ true }
+    requires { is_refused size ≡ false }
     ensures { IfErr result (IsUnread Start.Entry size (input_names (string_bytes file) None)) }
 {
     let text = read_file(rt, file)?;
@@ -98,13 +99,13 @@ fn read_program(
 fn read_loader(
     rt: &(impl Files + Eprint + AllocGlobal),
     file: String,
-    size: u16,
+    size: Option<u16>,
 ) -> Result<Inputs, RunFault>
-    requires { is_core_size size ≡ true }
+    requires { is_refused size ≡ false }
     ensures { IfErr result (IsUnread Start.LoadKey size (input_names (string_bytes file) None)) }
 {
     let cards = read_cards(rt, file)?;
-    match Machine::power_on(rt.alloc(), size) {
+    match Machine::power_on(rt.alloc(), size.unwrap_or(DEFAULT_SIZE)) {
         Ok(machine) => Ok(Inputs {
             machine,
             cards,
@@ -119,21 +120,21 @@ fn read_loader(
 ///
 /// # Errors
 ///
-/// `Size` if there is no core storage of this size; `File` if a file can't be read; `Source`, `Image` or `Deck` if
+/// `Size` if there is no core storage of the size named; `File` if a file can't be read; `Source`, `Image` or `Deck` if
 /// it has no program or is no deck; or `Memory`.
 pub(crate) fn read_inputs(
     rt: &(impl Files + Eprint + AllocGlobal),
     file: String,
     start: Start,
     language: Language,
-    size: u16,
+    size: Option<u16>,
     cards: Option<String>,
 ) -> Result<Inputs, RunFault>
-    ensures size { is_core_size size ≡ false → result ≡ Err RunFault.Size }
+    ensures size { is_refused size ≡ true → result ≡ Err RunFault.Size }
     ensures fault { IfErr result
         (IsUnread start size (input_names (string_bytes file) (option_map string_bytes cards))) }
 {
-    if !Core::is_size(size) {
+    if is_refused(size) {
         return Err(RunFault::Size);
     }
     let mut inputs = match start {

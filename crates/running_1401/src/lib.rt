@@ -10,6 +10,7 @@
 // what a run begins with
 mod inputs;
 pub mod programs;
+pub mod sizes;
 
 // a machine run with a deck; where what comes goes, and who is told
 pub mod deck_running;
@@ -33,5 +34,6 @@ pub use job_report::JobReport;
 pub use programs::{Program, loaded_machine, program_of};
 pub use punch_file::PunchFile;
 pub use running::{ErrorOutput, run_file, tell_ending};
+pub use sizes::{is_refused, size_for};
 pub use tracing::Trace;
 pub use watching::{HowFar, Shown, Unwatched, Watch};

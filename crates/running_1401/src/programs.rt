@@ -1,12 +1,13 @@
 //! The program that a run begins with: a source, or an image.
 ghost use Rattle.std.specs.Prelude.{◌≡◌, true, false, length, nat_lt, Err, IfOk, OnErr};
 ghost use Rattle.std.specs.List.{list_all};
-ghost use Rattle.core_1401.specs.Storage.{is_core_size};
 ghost use Rattle.image_1401.specs.Image.{IsInCore, is_inside};
 ghost use Rattle.running_1401.specs.Program.{IsAssembled, IsImageOf, is_meant_as_image, with_image, with_segment};
 ghost use Rattle.running_1401.specs.Program.{with_segments};
+ghost use Rattle.running_1401.specs.Sizes.{is_refused, size_for};
 
 use crate::fault::RunFault;
+use crate::sizes::size_for;
 use autocoder_1401::{Assembly, Listing, assemble};
 use command_1401::{Command, carry_out};
 use core_1401::CoreFault;
@@ -32,7 +33,8 @@ pub struct Program {
     pub listing: Option<Listing>,
 }
 
-/// The program that a text is the image of, or the source in this language.
+/// The program that a text is the image of, or the source in this language, in core storage of the size that is named;
+/// without one, of the size that the source asks for, or else of 4,000 places.
 ///
 /// # Errors
 ///
@@ -41,11 +43,12 @@ pub fn program_of(
     alloc: Global,
     language: Language,
     text: &[u8],
-    size: u16,
+    size: Option<u16>,
 ) -> Result<Program, RunFault>
-    requires { is_core_size size ≡ true }
+    requires { is_refused size ≡ false }
     ensures image { is_meant_as_image text.now ≡ true → IsImageOf text.now result }
-    ensures source { is_meant_as_image text.now ≡ false → IsAssembled language size text.now result }
+    ensures source { is_meant_as_image text.now ≡ false
+        → IsAssembled language (size_for size language text.now) text.now result }
     ensures in_core { IfOk result (λ program. IsInCore program.image) }
 {
     if is_image(text) {
@@ -57,7 +60,7 @@ pub fn program_of(
             Err(fault) => Err(RunFault::Image(fault)),
         };
     }
-    match assemble(alloc, language, text, size) {
+    match assemble(alloc, language, text, size_for(size, language, text)) {
         Ok(assembly) => {
             let Assembly { image, listing } = assembly;
             Ok(Program {

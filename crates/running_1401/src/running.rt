@@ -1,8 +1,8 @@
 //! What the subcommand `run` does.
-ghost use Rattle.std.specs.Prelude.{◌≡◌, false, Err, IfErr, option_map, string_bytes};
-ghost use Rattle.core_1401.specs.Storage.{is_core_size};
+ghost use Rattle.std.specs.Prelude.{◌≡◌, true, Err, IfErr, option_map, string_bytes};
 ghost use Rattle.running_1401.specs.Run.{job_outcome};
 ghost use Rattle.running_1401.specs.RunFile.{IsFaultOf, IsOfRun, IsUnwritten, written_names};
+ghost use Rattle.running_1401.specs.Sizes.{is_refused};
 
 use crate::deck_running::{Broken, run_started};
 use crate::ending::Ending;
@@ -150,7 +150,7 @@ pub fn run_file<R: Files + Print + Eprint + Clock + AllocGlobal>(
     error_output: ErrorOutput,
     job: Job,
 ) -> Result<(), RunFault>
-    ensures size { is_core_size job.size ≡ false → result ≡ Err RunFault.Size }
+    ensures size { is_refused job.size ≡ true → result ≡ Err RunFault.Size }
 
     // No halt is told as a fault, and no size that there is; a deck that loads itself is neither source nor image; and
     // a fault of a file names one of the job's.
