@@ -364,25 +364,79 @@ OF_OLD_DECKS = [
         "               job  Wages, March 1962: 100 $ [x] {y} ~\n               ent  autocoder  of 1962\n"
         "               org  500\n     start     zs   tab\n               mcw  &1,tab&1&x2\n"
         "     tab       dcw  @a&b@\n               end  start\n",
-        "00500 15 ~!513~M5145J4~A&B~A\nEND 00500\n",
+        "IMAGE2 04000\n00500 15 ~!513~M5145J4~A&B~A\nEND 00500\n",
+        [],
+    ),
+    (
+        "               job  Wages, March 1962\n               ctl  66\n     x1        equ  89\n               org  500\n"
+        "     start     zs   x1\n               mcw  tab+x1,x2\n               mcw  &1,x1+1\n     tab       dcw  @ab@\n"
+        "               end  start\n",
+        "IMAGE2 16000\n00500 21 ~!089~M5/9094~M520090~AB~A\nEND 00500\n",
         [],
     ),
     (
         "               ORG  500\n     A         B    A,*,C\n               B    A,/\n               BM   A,B\n"
         "               BIN  A,S\n     B         CC   A,K\n               CCB  A,1\n               SSB  A,4\n"
-        "               MLNS A,B\n               MLZS A,B\n               MLCWAA,B\n               B    A,@X@,,\n"
-        "               BPCB A\n               C    A,B\n               END  A\n",
-        "00500 40 ~B500507C~B500/~V500526K~B500S~F500K~F5001~K500\n"
-        "00540 40 4~D500526~Y500526~L500526~B500582,~B500R~C5005\n00580 03 26~X\nEND 00500\n",
+        "               MLNS A,B\n               CHAIN2\n               B    A,@X@,,\n               END  A\n",
+        "IMAGE2 04000\n00500 40 ~B500507C~B500/~V500526K~B500S~F500K~F5001~K500\n"
+        "00540 19 4~D500526~D~D~B500558,~X\nEND 00500\n",
         [],
     ),
     (
-        "               ORG  500\n     AREA      EQU  700\n               M    +5,AREA\n               SBR  89,AREA\n"
+        "               ORG  500\n     A         MLZS A,A\n               MLCWAA,A\n               BPCB A\n"
+        "               C    A+X0,A+X3\n               XFR  X2\n               B    A\n               END  A\n",
+        "IMAGE2 04000\n00500 30 ~Y500500~L500500~B500R~C5005?0~B500\nEND 00500\n",
+        [],
+    ),
+    (
+        "               ORG  500\n     AREA      EQU  700\n               RT   1,AREA\n               MCW  %U1,AREA,R\n"
+        "               CU   %U2,R\n               WTM  2\n               M    +5,AREA\n               SBR  X1,AREA\n"
         "     SW        NOP  AREA\n               H    1,AREA\n               BCE  SW,AREA,A\n               BCE\n"
         "               MCM  AREA,201\n               END  500\n",
-        "00500 40 ~@541700~H089700~N700~.001700~B514700A~B~P70020\n00540 02 1~E\nEND 00500\n",
-        [3, 4, 6, 8, 9],
+        "IMAGE2 04000\n00500 40 ~M%U1700R~M%U1700R~U%U2R~U%U2M~@567700~H089700\n"
+        "00540 28 ~N700~.001700~B540700A~B~P700201~E\nEND 00500\n",
+        [3, 4, 5, 6, 7, 8, 10, 12, 13],
     ),
+    (
+        "               ORG  500\n               SFX  A\n     LOOP      B    LOOP\n     ENTRY     B    LOOP\n"
+        "               SFX  B\n     LOOP      B    ENTRYA\n               SFX\n               END  ENTRYA\n",
+        "IMAGE2 04000\n00500 12 ~B500~B500~B504\nEND 00504\n",
+        [],
+    ),
+    (
+        "               ORG  700\n     REC       DA   1X5\n               JOB  Fields\n     KEY            1,2\n"
+        "               SFX  A\n     LOW            3,5\n               ZA   LOW\n               SFX\n"
+        "               MLC  KEY,REC\n               B    REC\n               END  REC\n",
+        "IMAGE2 04000\n00700 20 ~  ~   ~?704~M701700~B700\nEND 00700\n",
+        [],
+    ),
+]
+
+# More of them: places, constants of addresses, areas.
+OF_OLD_DECKS += [
+    (
+        "               ORG  340\n     GO        B    LATER\n     HERE      EQU  *+1\n               H    HERE\n"
+        "     BACK      ORG  *+X00\n     LATER     H\n               NOP\n               CHAIN3\n               B    GO\n"
+        "     BUFFER    DS   3\n               ORG  BACK\n               MCW  BUFFER,GO\n               B    GO\n"
+        "               EX   *\n               ORG  *+20\n               B    GO\n               END\n",
+        "IMAGE2 04000\n00340 08 ~B400~.344\n00400 09 ~.~N~N~N~N~B340\n00348 11 ~M411340~B340\n00379 04 ~B340\nEND 00340\n",
+        [],
+    ),
+    (
+        "               ORG  500\n     GO        B    GO\n     TAB       DCW  @ABC@\n               ORG  600\n"
+        "               DSA  TAB+X3\n               DC   -TAB\n     SELF      DSA  *-2\n               H    SELF\n"
+        "               DCW  +GO+1\n               END  GO\n",
+        "IMAGE2 04000\n00500 07 ~B500~ABC\n00600 16 ~5?6D9D~606~.608~501\nEND 00500\n",
+        [],
+    ),
+    (
+        "               ORG  700\n     REC       DA   2X5,C,G\n     KEY            1,2\n     LOW            4\n"
+        "                    5,5\n     GO        A    KEY,LOW\n               C    REC,KEY\n               B    GO\n"
+        "               END\n",
+        "IMAGE2 04000\n00700 29 ~    ~ ~    ~ ~\"~A701703~C700701~B711\nEND 00711\n",
+        [],
+    ),
+    ("               END\n", "IMAGE2 04000\nEND 00333\n", []),
 ]
 
 # What a warning of an instruction says that this machine hasn't got.
@@ -396,8 +450,73 @@ NOT_OF_OLD_DECKS = [
     ("               mlc  1,2,xy", "8 OPERAND", "24: OPERAND: ,xy is more than the operation takes"),
     ("               bcx  1", "6 OPERATION", "16: OPERATION: bcx is no operation; did you mean BCE?"),
     ("               m\t  1", "3 GRAPHIC", "17: GRAPHIC: a tab can't stand in its column"),
-    ("     x1        dcw  #1", "4 LABEL", "6: LABEL: x1 is no label"),
+    ("     x4 y      dcw  #1", "4 LABEL", "6: LABEL: columns 6 to 15 hold more than a label, and an operation begins in column 16"),
+    ("     L         XFR  0", "4 LABEL", "6: LABEL: the operation takes no label"),
+    ("     L         CTL  66", "4 LABEL", "6: LABEL: the operation takes no label"),
+    ("     L         SFX  A", "4 LABEL", "6: LABEL: the operation takes no label"),
+    ("               CTL  37", "8 OPERAND", "22: OPERAND: CTL has the size of core storage in column 22, 1 to 6"),
+    ("               SFX  AB", "8 OPERAND", "21: OPERAND: SFX takes one letter or digit"),
+    ("               CHAIN1", "6 OPERATION",
+     "16: OPERATION: CHAIN stands directly below an instruction, or below another CHAIN"),
+    ("               A    %U1,5", "8 OPERAND", "21: OPERAND: %U1 is neither an address nor a literal"),
+    ("               MU   1,5,R", "8 OPERAND", "21: OPERAND: 1 is no unit, as %U1 is"),
+    ("               RT   X,5", "8 OPERAND", "21: OPERAND: X is no tape, as 1 or %U1 is"),
+    ("               XFR  5+X1", "8 OPERAND", "21: OPERAND: 5+X1 says no value, as a number or a label does"),
+    ("               B    1,UNDEF,X", "7 UNDEFINED", "23: UNDEFINED: UNDEF is the label of no line"),
+    ("               ORG  *+X1", "8 OPERAND", "21: OPERAND: *+X1 says no value, as a number or a label does"),
+    ("     L         EQU  *+X00", "8 OPERAND", None),
+    ("               DA   1X5,G,G", "8 OPERAND", None),
+    ("               DA   1X5,X1", "8 OPERAND", None),
+    ("               DSA  UNDEF,1", "7 UNDEFINED", "21: UNDEFINED: UNDEF is the label of no line"),
+    ("               DSA  +5", "8 OPERAND", "21: OPERAND: +5 is a literal, and an address is asked for"),
+    ("               DSA  4000", "9 OUT OF CORE", "1: OUT OF CORE: a place or an address isn't in core"),
+    ("               DCW  -UNDEF", "7 UNDEFINED", "22: UNDEFINED: UNDEF is the label of no line"),
 ]
+
+
+# Sources that the wider language doesn't take for the lines above one, each with the number of that line and what is told.
+TOGETHER_REFUSED = [
+    ("     TAG       DCW  #3\n               CHAIN2\n", 2, "6 OPERATION",
+     "16: OPERATION: CHAIN stands directly below an instruction, or below another CHAIN"),
+    ("               H\n               JOB  X\n               CHAIN2\n", 3, "6 OPERATION",
+     "16: OPERATION: CHAIN stands directly below an instruction, or below another CHAIN"),
+    ("               H\n               CHAIN100\n", 2, "8 OPERAND", "21: OPERAND: 100 is no number from 1 to 99"),
+    ("               CTL  66\n               CTL  66\n", 2, "6 OPERATION", "16: OPERATION: there is a CTL already"),
+    ("     X1        DCW  #1\n     X1        EQU  89\n", 2, "5 DOUBLE LABEL",
+     "6: DOUBLE LABEL: line 1 has the label X1 already"),
+    ("               SFX  A\n     TAG       DCW  #1\n               SFX\n               B    TAG\n", 4, "7 UNDEFINED", None),
+]
+
+
+def sizes_asked():
+    """A source of the wider language says how large core storage is, unless the command line does."""
+    with tempfile.TemporaryDirectory() as folder:
+        source = Path(folder) / "old.source"
+        call = [PROGRAM, "assemble", "--language", "ibm", source]
+        for digit, size in zip("123456", (1400, 2000, 4000, 8000, 12000, 16000)):
+            source.write_text(f"               CTL  6{digit}1\n               END  {size - 1}\n")
+            expect(f"CTL asks for {size} places", run(call), 0, f"IMAGE2 {size:05}\nEND {size - 1:05}\n")
+            source.write_text(f"               CTL  6{digit}\n               END  {size}\n")
+            expect(f"no place {size} of them", run(call), 1, "", "ibm1401: line 2: 9 OUT OF CORE\n")
+            if size < 16000:
+                both = run([*call, "--size", "16000"])
+                expect(f"--size goes before CTL's {size}", both, 0, f"IMAGE2 16000\nEND {size:05}\n")
+                listed = f"0001{'':16}{'':15}CTL  6{digit}\n..."
+                expect("CTL is listed as a comment is", run([*call, "--size", "16000", "--list"]), 0, listed)
+        for columns in "", "6", "6 11":
+            source.write_text(f"               CTL  {columns}\n               END  3999\n")
+            expect(f"CTL '{columns}' asks for no size", run(call), 0, "IMAGE2 04000\nEND 03999\n")
+        source.write_text("               CTL  61\n               END  1399\n")
+        for size in "1400", "2000", "4000":
+            expect(f"--size {size} beside CTL", run([*call, "--size", size]), 0, f"IMAGE2 0{size}\nEND 01399\n")
+        expect("--size 1401 beside CTL", run([*call, "--size", "1401"]), 1, "", "ibm1401: size refused\n")
+        source.write_text("               ctl  66\n               ORG  15998\n     GO        H\n               DCW  #1\n               END  GO\n")
+        ran = run([PROGRAM, "run", "--language", "ibm", source])
+        expect("run: a halt at the end of CTL's places", ran, 0, "", "...")
+        ran = run([PROGRAM, "run", "--language", "ibm", source, "--size", "8000"])
+        expect("run: --size goes before CTL", ran, 1, "", "ibm1401: line 2: 9 OUT OF CORE\n")
+        ran = run([PROGRAM, "run", "--language", "ibm", source, "--size", "1401"])
+        expect("run: a size refused beside CTL", ran, 1, "", "ibm1401: size refused\n")
 
 
 def languages():
@@ -407,9 +526,9 @@ def languages():
         call = [PROGRAM, "assemble", "--language", "ibm"]
         for lines, image, warned in OF_OLD_DECKS:
             source.write_text(lines)
-            expect("a source of an old deck", run([*call, source]), 0, f"IMAGE2 04000\n{image}")
+            expect("a source of an old deck", run([*call, source]), 0, image)
             told = "".join(f"old.source:{line}:{NOT_FITTED}\n" for line in warned)
-            expect("its warnings", run([*call, "--all", "old.source"], cwd=folder), 0, f"IMAGE2 04000\n{image}", told)
+            expect("its warnings", run([*call, "--all", "old.source"], cwd=folder), 0, image, told)
             listing = run([*call, "--list", source])
             shown = [line[20:] for line in listing.stdout.decode().splitlines() if line[:4] != "    "]
             tell("its listing has the lines as they are", "" if shown == lines.splitlines() else "others")
@@ -418,7 +537,14 @@ def languages():
             source.write_text(f"{statement}\n               END  0\n")
             expect(f"{statement.strip()}: refused", run([*call, source]), 1, "", f"ibm1401: line 1: {fault}\n")
             all_told = run([*call, "--all", "old.source"], cwd=folder)
-            expect(f"{statement.strip()}: told", all_told, 1, "", f"old.source:1:{told}\n")
+            expect(f"{statement.strip()}: told", all_told, 1, "", f"old.source:1:{told}\n" if told else "old.source:1:...")
+        for lines, number, fault, told in TOGETHER_REFUSED:
+            source.write_text(f"{lines}               END  0\n")
+            expect(f"{lines.splitlines()[-1].strip()}: refused", run([*call, source]), 1, "", f"ibm1401: line {number}: {fault}\n")
+            if told:
+                ran = run([*call, "--all", "old.source"], cwd=folder)
+                expect(f"{lines.splitlines()[-1].strip()}: told", ran, 1, "", f"old.source:{number}:{told}\n")
+        sizes_asked()
         for example in sorted((TOP / "examples").glob("*.source")):
             for words in [], ["--list"], ["--symbols", "--xref"], ["--all"]:
                 plain = run([PROGRAM, "assemble", *words, example])
@@ -466,8 +592,8 @@ def old_decks():
     with tempfile.TemporaryDirectory() as folder:
         source = Path(folder) / "old.source"
         for statement, told, instead in rows:
-            source.write_text(f"{'':15}{statement}\n{LABELS}")
-            refused = f"ibm1401: line 1: {told}\n"
+            source.write_text(f"{'':15}NOP\n{'':15}{statement}\n{LABELS}")
+            refused = f"ibm1401: line 2: {told}\n"
             expect(f"an old {statement}", run([PROGRAM, "assemble", source]), 1, "", refused)
             wider = run([PROGRAM, "assemble", "--language", "ibm", source])
             if instead.startswith("*taken*"):
