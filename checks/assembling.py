@@ -377,9 +377,9 @@ OF_OLD_DECKS = [
     (
         "               ORG  500\n     A         B    A,*,C\n               B    A,/\n               BM   A,B\n"
         "               BIN  A,S\n     B         CC   A,K\n               CCB  A,1\n               SSB  A,4\n"
-        "               MLNS A,B\n               CHAIN2\n               B    A,@X@,,\n               END  A\n",
+        "               MLNS A,B\n               CHAIN2\n               B    A,@X@,,\n               C    A,B\n               END  A\n",
         "IMAGE2 04000\n00500 40 ~B500507C~B500/~V500526K~B500S~F500K~F5001~K500\n"
-        "00540 19 4~D500526~D~D~B500558,~X\nEND 00500\n",
+        "00540 26 4~D500526~D~D~B500565,~C500526~X\nEND 00500\n",
         [],
     ),
     (
@@ -399,8 +399,8 @@ OF_OLD_DECKS = [
     ),
     (
         "               ORG  500\n               SFX  A\n     LOOP      B    LOOP\n     ENTRY     B    LOOP\n"
-        "               SFX  B\n     LOOP      B    ENTRYA\n               SFX\n               END  ENTRYA\n",
-        "IMAGE2 04000\n00500 12 ~B500~B500~B504\nEND 00504\n",
+        "               SFX  B\n     LOOP      B    ENTRYA\n               B    LOOP\n               SFX\n               END  ENTRYA\n",
+        "IMAGE2 04000\n00500 16 ~B500~B500~B504~B508\nEND 00504\n",
         [],
     ),
     (

@@ -16,7 +16,7 @@ import threading
 import time
 from pathlib import Path
 
-from checks.page import PageRoom, after, body, get
+from checks.page import PageRoom, after, body, expect_unchanged, get
 from checks.report import REPLY_SECONDS, TOP, Counts, tell
 
 # How many looks stand for ten minutes of them, at four a second.
