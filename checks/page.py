@@ -18,9 +18,11 @@ SEED = 1401
 # How many connections stay silent while a request is answered, and within how many seconds it has to be.
 SILENT = 40
 PROMPT = 1.0
-# How many times a picture is asked for before it counts as missing: a page closes a connection of which nothing comes
-# within a second, and then the machine may be what it was all the same.
+# How many times a page is asked before it counts as silent, how many seconds later, and how often that may be so in
+# all: it closes a connection of which nothing comes within a second, as where the system lets the asker wait.
 ASKED = 5
+PAUSE = 0.1
+SILENCES = 3
 # How much more memory the program may have after the damaged requests, in kilobytes.
 MORE_KILOBYTES = 4_096
 
@@ -98,11 +100,24 @@ def exchange(port, request):
     return response
 
 
+class Silent:
+    """How many requests a page has closed without an answer."""
+
+    times = 0
+
+
 def get(port, target, **fields):
-    """The response to a GET request of the page's own host, or of another where the fields name one."""
+    """The response to a GET request of the page's own host, or of another where the fields name one. It is asked again
+    where nothing comes back."""
     fields = {"Host": f"127.0.0.1:{port}", **fields}
     head = "".join(f"{name.replace('_', '-')}: {value}\r\n" for name, value in fields.items())
-    return exchange(port, f"GET {target} HTTP/1.1\r\n{head}\r\n".encode())
+    for _ in range(ASKED):
+        response = exchange(port, f"GET {target} HTTP/1.1\r\n{head}\r\n".encode())
+        if response:
+            break
+        Silent.times += 1
+        time.sleep(PAUSE)
+    return response
 
 
 def post(port, line, count, **fields):
@@ -131,14 +146,10 @@ def field(response, name):
 
 
 def after(room, seat=1):
-    """After how many commands the machine is, as a picture tells; or what was answered in its place, time and again."""
-    for _ in range(ASKED):
-        response = get(room.port + seat - 1, "/picture?core=0&paper=0")
-        found = re.search(rb"^AFTER (\d+)$", body(response), re.M)
-        if found:
-            return int(found[1])
-        time.sleep(PROMPT)
-    return response[:80]
+    """After how many commands the machine is, as a picture tells; or what is answered in its place."""
+    response = get(room.port + seat - 1, "/picture?core=0&paper=0")
+    found = re.search(rb"^AFTER (\d+)$", body(response), re.M)
+    return int(found[1]) if found else response[:80]
 
 
 def expect_unchanged(name, room, before):
@@ -386,3 +397,5 @@ def page_requests():
     count = after(room)
     expect_status("the page is served after all that", get(room.port, "/"), 200)
     room.ended("a room with pages ends", count)
+    again = "" if Silent.times <= SILENCES else f"no more than {SILENCES} may"
+    tell(f"{Silent.times} requests had to be made again", again)
