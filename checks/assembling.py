@@ -513,6 +513,12 @@ def sizes_asked():
         source.write_text("               ctl  66\n               ORG  15998\n     GO        H\n               DCW  #1\n               END  GO\n")
         ran = run([PROGRAM, "run", "--language", "ibm", source])
         expect("run: a halt at the end of CTL's places", ran, 0, "", "...")
+        printed = Path(folder) / "printed.source"
+        printed.write_text("               ctl  66\n     GO        CS   332\n               W\n               H\n"
+                           "               DCW  #1\n               END\n")
+        for output in ">&-", ">/dev/full":
+            closed = run(["bash", "-c", f'"$0" run --language ibm "$1" {output}', PROGRAM, printed])
+            expect(f"run --language ibm {output}", closed, 1, "", "ibm1401: cannot write\n")
         ran = run([PROGRAM, "run", "--language", "ibm", source, "--size", "8000"])
         expect("run: --size goes before CTL", ran, 1, "", "ibm1401: line 2: 9 OUT OF CORE\n")
         ran = run([PROGRAM, "run", "--language", "ibm", source, "--size", "1401"])

@@ -190,9 +190,14 @@ def disassemblies(refusing):
 
 
 def jobs(refusing):
-    """A source that is run with its deck: what went out is a beginning of the paper. The end is told in any case."""
+    """A source that is run with its deck, in each language."""
+    return job_in(refusing, "plain") + job_in(refusing, "ibm")
+
+
+def job_in(refusing, language):
+    """What went out of a run is a beginning of the paper. The end is told in any case."""
     source = TOP / "examples/sales.source"
-    words = ["run", source, "--cards", source.with_suffix(".cards"), "--switches", "A"]
+    words = ["run", source, "--cards", source.with_suffix(".cards"), "--switches", "A", "--language", language]
     whole = run([PROGRAM, *words])
     plain = re.sub(rb" \(line [^)]*\)", b"", whole.stderr)
     faults = [MEMORY, b"ibm1401: line 0: 1 MEMORY\n"]
@@ -206,7 +211,8 @@ def jobs(refusing):
         is_whole = (ran.returncode, ran.stdout, ran.stderr) == (0, whole.stdout, whole.stderr)
         return "without an effect", "" if is_whole else f"{ran}"
 
-    return refusing.each("run", job, ["memory refused", "line 0: 1 MEMORY", "without the instruction"])
+    ends = ["memory refused", "line 0: 1 MEMORY", "without the instruction"]
+    return refusing.each(f"run --language {language}", job, ends)
 
 
 def served_end(how):
