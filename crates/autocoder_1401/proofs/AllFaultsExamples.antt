@@ -13,7 +13,7 @@ use Rattle.autocoder_1401.specs.declared.fault.AsmKind.TheVariants as kinds
 -- all faults of a source in 4,000 places, with all tables open
 told_of : List ℕ → List AsmFault
 unfolding columns_of instructions assembler_operations graphics
-told_of source = all_faults 4000 (lines_in Plain source)
+told_of source = all_faults Plain 4000 (lines_in Plain source)
 
 -- the field below a DA that can't be read only follows from it
 lost_areas : told_of (codes "     REC       DA   2Y4\n     KEY            3,4\n               END  0\n")

@@ -10,18 +10,20 @@ use Rattle.std.proofs.lemmas.List.{take_all, length-drop}
 use Rattle.std.proofs.lemmas.List.Elements.{All-nil, All-cons, All-append, All-weaker}
 use Rattle.std.proofs.lemmas.Option.{slice_get_past, slice_get-get_or}
 use Rattle.source_1401.specs.Statement.{is_end}
+use Rattle.source_1401.specs.declared.language.Language.{Language}
 use Rattle.source_1401.specs.declared.statement.Line.{Line}
 use Rattle.source_1401.specs.declared.statement.Statement.{Statement}
 use Rattle.autocoder_1401.specs.AllFaults.{told_faults, told_end, faults_from, line_faults}
 use Rattle.autocoder_1401.specs.OwnFault.{before_next, is_own, told}
 use Rattle.autocoder_1401.specs.AllFaults.{or_outside, all_faults, first_in}
-use Rattle.autocoder_1401.specs.OwnFault.{nothing_before, declared_anywhere}
+use Rattle.autocoder_1401.specs.OwnFault.{nothing_before}
 use Rattle.autocoder_1401.specs.AllFaults.{fault_in, IsFaultThere, IsThere, IsTold}
 use Rattle.autocoder_1401.specs.OwnFault.{own_bad_operation, own_undefined}
 use Rattle.autocoder_1401.specs.Assembly.{fault_or, unless_fault}
 use Rattle.autocoder_1401.specs.FirstFault.{place_behind, place_at, has_fault, scanned, lowest, or_behind, first_of}
 use Rattle.autocoder_1401.specs.FirstFault.{first_fault_from, first_fault, up_to_end_has, bad_operation, undefined}
-use Rattle.autocoder_1401.specs.Symbols.{Declared, declared_at}
+use Rattle.autocoder_1401.specs.Known.{Declared, declared_at}
+use Rattle.autocoder_1401.specs.Symbols.{Sites, sites_anywhere}
 use Rattle.autocoder_1401.specs.Values.{first_outside}
 use Rattle.autocoder_1401.specs.declared.own_fault.Before.{Before}
 use Rattle.autocoder_1401.specs.declared.fault.AsmFault.{AsmFault}
@@ -39,7 +41,7 @@ first_of_two number told None rest behind same later = rw same (later refl)
 first_of_two number told (Some kind) rest behind same later = rw same refl
 
 -- what is told first is the first fault
-first_told : (declared anywhere : Declared) (this : Before) (lines : List Line) → this.is_clean ≡ true
+first_told : (declared : Declared) (anywhere : Sites) (this : Before) (lines : List Line) → this.is_clean ≡ true
     → first_in (faults_from declared anywhere this lines) ≡ first_fault_from declared this.at lines
 first_told declared anywhere this [] clean = by this.at.is_ended refl
   where
@@ -53,14 +55,16 @@ first_told declared anywhere this (line ∷ lines) clean =
     same : told declared anywhere this line ≡ lowest declared this.at line
     same = rw clean refl
 
-first_of_lines : (lines : List Line) → first_in (line_faults lines) ≡ first_fault lines
-first_of_lines lines = first_told (declared_at lines) (declared_anywhere lines) nothing_before lines refl
+first_of_lines : (language : Language) (lines : List Line)
+    → first_in (line_faults language lines) ≡ first_fault language lines
+first_of_lines language lines =
+    first_told (declared_at language lines) (sites_anywhere lines) nothing_before lines refl
 
 -- if no fault of a line is told, the assembler has no other than what isn't in core
-pub only_outside : {X : Type 0} (size : ℕ) (lines : List Line) (answer : X) → line_faults lines ≡ []
-    → fault_in (unless_fault size lines answer) ≡ first_outside size lines
-only_outside {X} size lines answer none =
-    let clean : first_fault lines ≡ None = sym (first_of_lines lines) ∙ ap first_in none in
+pub only_outside : {X : Type 0} (language : Language) (size : ℕ) (lines : List Line) (answer : X) → line_faults language lines ≡ []
+    → fault_in (unless_fault language size lines answer) ≡ first_outside size lines
+only_outside {X} language size lines answer none =
+    let clean : first_fault language lines ≡ None = sym (first_of_lines language lines) ∙ ap first_in none in
     ap (λ first. fault_in (fault_or first (fault_or (first_outside size lines) (Ok answer)))) clean
     ∙ by (first_outside size lines)
   where
@@ -69,28 +73,28 @@ only_outside {X} size lines answer none =
     by (Some fault) = refl
 
 -- what the assembler tells if no fault of a line is told
-pub one_outside : {X : Type 0} (size : ℕ) (lines : List Line) (answer : X) (told : List AsmFault) (fault : AsmFault)
-    → told ≡ line_faults lines → told ≡ [] → Some fault ≡ fault_in (unless_fault size lines answer)
-    → told ++ fault ∷ [] ≡ all_faults size lines
-one_outside {X} size lines answer told fault same empty tells =
-    let none : line_faults lines ≡ [] = sym same ∙ empty in
-    let outside : first_outside size lines ≡ Some fault = sym (only_outside size lines answer none) ∙ sym tells in
+pub one_outside : {X : Type 0} (language : Language) (size : ℕ) (lines : List Line) (answer : X) (told : List AsmFault) (fault : AsmFault)
+    → told ≡ line_faults language lines → told ≡ [] → Some fault ≡ fault_in (unless_fault language size lines answer)
+    → told ++ fault ∷ [] ≡ all_faults language size lines
+one_outside {X} language size lines answer told fault same empty tells =
+    let none : line_faults language lines ≡ [] = sym same ∙ empty in
+    let outside : first_outside size lines ≡ Some fault = sym (only_outside language size lines answer none) ∙ sym tells in
     rw (empty, none, outside) refl
 
 -- the first of all is what the assembler tells
-pub first_of_all : {X : Type 0} (size : ℕ) (lines : List Line) (answer : X)
-    → first_in (all_faults size lines) ≡ fault_in (unless_fault size lines answer)
-first_of_all {X} size lines answer = by (line_faults lines) refl
+pub first_of_all : {X : Type 0} (language : Language) (size : ℕ) (lines : List Line) (answer : X)
+    → first_in (all_faults language size lines) ≡ fault_in (unless_fault language size lines answer)
+first_of_all {X} language size lines answer = by (line_faults language lines) refl
   where
     outside : (found : Option AsmFault) → first_in (or_outside [] found) ≡ found
     outside None = refl
     outside (Some fault) = refl
 
-    by : (told : List AsmFault) → line_faults lines ≡ told
-        → first_in (or_outside told (first_outside size lines)) ≡ fault_in (unless_fault size lines answer)
-    by [] is = outside (first_outside size lines) ∙ sym (only_outside size lines answer is)
+    by : (told : List AsmFault) → line_faults language lines ≡ told
+        → first_in (or_outside told (first_outside size lines)) ≡ fault_in (unless_fault language size lines answer)
+    by [] is = outside (first_outside size lines) ∙ sym (only_outside language size lines answer is)
     by (fault ∷ faults) is =
-        let first : first_fault lines ≡ Some fault = sym (first_of_lines lines) ∙ ap first_in is in
+        let first : first_fault language lines ≡ Some fault = sym (first_of_lines language lines) ∙ ap first_in is in
         sym (ap (λ found. fault_in (fault_or found (fault_or (first_outside size lines) (Ok answer)))) first)
 
 -- a test that holds of no more statements
@@ -106,7 +110,7 @@ looser at line less more wider holds =
     by (Some of) e = wider of e
 
 -- a fault of its own is one
-own_is_there : (declared anywhere : Declared) (this : Before) (line : Line) (kind : AsmKind)
+own_is_there : (declared : Declared) (anywhere : Sites) (this : Before) (line : Line) (kind : AsmKind)
     → is_own declared anywhere this line kind ≡ true → has_fault declared this.at line kind ≡ true
 own_is_there declared anywhere this line kinds.Memory own = own
 own_is_there declared anywhere this line kinds.LongLine own = own
@@ -128,7 +132,7 @@ own_is_there declared anywhere this line kinds.AfterEnd own =
     (and_parts (has_fault declared this.at line kinds.AfterEnd) (not this.is_past_end) own).0
 
 -- what is told of a line is a fault of it
-told_is_there : (declared anywhere : Declared) (this : Before) (line : Line) (kind : AsmKind)
+told_is_there : (declared : Declared) (anywhere : Sites) (this : Before) (line : Line) (kind : AsmKind)
     → told declared anywhere this line ≡ Some kind → has_fault declared this.at line kind ≡ true
 told_is_there declared anywhere this line kind = by this.is_clean
   where
@@ -163,7 +167,7 @@ end_is_there declared lines i this whole here = by this.at.is_ended refl
     by true is = rw is (All-nil (IsThere declared lines))
     by false is = rw is (lost (not this.is_clean && this.lost_end) is)
 
-each_from : (declared anywhere : Declared) (lines rest : List Line) (i : ℕ) (this : Before) → rest ≡ drop i lines
+each_from : (declared : Declared) (anywhere : Sites) (lines rest : List Line) (i : ℕ) (this : Before) → rest ≡ drop i lines
     → i ≤ length lines → this.at ≡ place_at lines i
     → All (IsThere declared lines) (faults_from declared anywhere this rest)
 each_from declared anywhere lines [] i this left inside here =
@@ -197,21 +201,21 @@ each_from declared anywhere lines (line ∷ rest) i this left inside here =
         }) (All-nil (IsThere declared lines))
 
 -- each that is told is there
-pub each_of_all : (size : ℕ) (lines : List Line) → All (IsTold size lines) (all_faults size lines)
-each_of_all size lines =
-    by (line_faults lines) refl
-    (each_from (declared_at lines) (declared_anywhere lines) lines lines 0 nothing_before refl (omega arith) refl)
+pub each_of_all : (language : Language) (size : ℕ) (lines : List Line) → All (IsTold language size lines) (all_faults language size lines)
+each_of_all language size lines =
+    by (line_faults language lines) refl
+    (each_from (declared_at language lines) (sites_anywhere lines) lines lines 0 nothing_before refl (omega arith) refl)
   where
-    outside : (clean : first_fault lines ≡ None) → (found : Option AsmFault) → first_outside size lines ≡ found
-        → All (IsTold size lines) (or_outside [] found)
-    outside clean None e = All-nil (IsTold size lines)
+    outside : (clean : first_fault language lines ≡ None) → (found : Option AsmFault) → first_outside size lines ≡ found
+        → All (IsTold language size lines) (or_outside [] found)
+    outside clean None e = All-nil (IsTold language size lines)
     outside clean (Some fault) e =
-        All-cons (IsTold size lines) fault [] (inr (clean, found_outside size lines (Some fault) (sym e)))
-        (All-nil (IsTold size lines))
+        All-cons (IsTold language size lines) fault [] (inr (clean, found_outside size lines (Some fault) (sym e)))
+        (All-nil (IsTold language size lines))
 
-    by : (told : List AsmFault) → line_faults lines ≡ told → All (IsThere (declared_at lines) lines) told
-        → All (IsTold size lines) (or_outside told (first_outside size lines))
+    by : (told : List AsmFault) → line_faults language lines ≡ told → All (IsThere (declared_at language lines) lines) told
+        → All (IsTold language size lines) (or_outside told (first_outside size lines))
     by [] is each =
-        outside (sym (first_of_lines lines) ∙ ap first_in is) (first_outside size lines) refl
+        outside (sym (first_of_lines language lines) ∙ ap first_in is) (first_outside size lines) refl
     by (fault ∷ faults) is each =
-        All-weaker (IsThere (declared_at lines) lines) (IsTold size lines) (λ told. inl) (fault ∷ faults) each
+        All-weaker (IsThere (declared_at language lines) lines) (IsTold language size lines) (λ told. inl) (fault ∷ faults) each

@@ -11,6 +11,7 @@ use Rattle.autocoder_1401.specs.Assembly.{assembly_in}
 use Rattle.autocoder_1401.specs.Cells.{plain, marked}
 use Rattle.autocoder_1401.specs.Listing.{number_text, address_text, characters_text, without_last_blanks}
 use Rattle.autocoder_1401.specs.Listing.{listing_line, spelling}
+use Rattle.autocoder_1401.specs.Listing.{literal_spelling, base_spelling, adjustment_spelling, index_spelling}
 use Rattle.autocoder_1401.specs.Segments.{cut}
 use Rattle.autocoder_1401.specs.declared.assembly.Assembly.{Assembly}
 use Rattle.autocoder_1401.specs.declared.fault.AsmFault.{AsmFault}
@@ -19,7 +20,8 @@ use Rattle.autocoder_1401.specs.declared.fault.AsmKind.TheVariants as kinds
 -- what a source is in so many places, with all tables open
 in_places : ℕ → List ℕ → Result Assembly AsmFault
 unfolding columns_of instructions assembler_operations graphics number_text address_text characters_text
-    without_last_blanks listing_line spelling digits
+    without_last_blanks listing_line spelling literal_spelling base_spelling adjustment_spelling
+    index_spelling digits
 in_places size source = assembly_in Plain size source
 
 -- the same in 4,000 places

@@ -18,6 +18,7 @@ use Rattle.bcd_1401.specs.declared.cell.Cell.{Cell}
 use Rattle.core_1401.specs.Storage.{is_core_size, blank}
 use Rattle.image_1401.specs.Image.{is_inside, IsInCore}
 use Rattle.source_1401.specs.declared.constant.Constant.{Constant}
+use Rattle.source_1401.specs.declared.constant.Constant.TheVariants as constants
 use Rattle.source_1401.specs.declared.mnemonic.Instruction.{Instruction}
 use Rattle.source_1401.specs.declared.operands.Operand.TheVariants as operands
 use Rattle.source_1401.specs.declared.operands.OperandField.{OperandField}
@@ -41,18 +42,21 @@ use Rattle.source_1401.specs.declared.statement.Line.{Line}
 use Rattle.source_1401.specs.Operands.{count_of}
 use Rattle.autocoder_1401.specs.Assembly.{entry_in_row, entry_by, entry_with, entry_in, image_of}
 use Rattle.autocoder_1401.specs.Cells.{address_or_zero, plain, marked, with_word_mark, operand_codes, d_codes}
-use Rattle.autocoder_1401.specs.Cells.{constant_codes, constant_cells, literal_cells, with_mark_at, with_field}
+use Rattle.autocoder_1401.specs.Cells.{constant_codes, constant_cells, literal_codes, literal_cells, with_mark_at, with_field}
 use Rattle.autocoder_1401.specs.Cells.{area_cells, chain_cells, instruction_cells, signed_codes, field_cells}
 use Rattle.autocoder_1401.specs.Cells.{address_constant_cells, group_mark}
 use Rattle.autocoder_1401.specs.Cells.{repeated, areas_cells, contents_cells, row_cells, body_cells, statement_cells}
 use Rattle.autocoder_1401.specs.Cells.{numbered, cells_from}
 use Rattle.autocoder_1401.specs.Cells.{fields_behind}
 use Rattle.autocoder_1401.specs.Characters.{char_of, char_with, characters_of, codes_in}
+use Rattle.autocoder_1401.specs.Literals.{key_length}
 use Rattle.autocoder_1401.specs.declared.characters.Characters.{Characters}
 use Rattle.autocoder_1401.specs.declared.fault.AsmKind.TheVariants as kinds
+use Rattle.autocoder_1401.specs.declared.literals.LiteralKey.{LiteralKey}
+use Rattle.autocoder_1401.specs.declared.literals.LiteralKey.TheVariants as keys
 use Rattle.autocoder_1401.specs.Placement.{Placement, nothing_placed, instruction_length, constant_length, areas_length}
 use Rattle.autocoder_1401.specs.Placement.{chain_length, contents_length, entry_value, pending}
-use Rattle.autocoder_1401.specs.Placement.{behind_literals, after_line, placed}
+use Rattle.autocoder_1401.specs.Placement.{behind_literals, own_value, start_by, start_of, after_line, placed}
 use Rattle.autocoder_1401.specs.PlacementLaws.{total}
 use Rattle.autocoder_1401.specs.Segments.{start_or_zero, closed, goes_on, cut}
 use Rattle.autocoder_1401.specs.Values.{is_in_core, are_in_core}
@@ -107,7 +111,7 @@ operand_length : (all : Placement) (here : ℤ) (field : OperandField)
 operand_length all here fields.Absent = omega arith
 operand_length all here fields.Malformed = omega arith
 operand_length all here (fields.Operand (operands.Address address)) = omega arith
-operand_length all here (fields.Operand (operands.Literal constant)) = omega arith
+operand_length all here (fields.Operand (operands.Literal literal)) = omega arith
 operand_length all here (fields.Operand (operands.Unit unit)) = omega arith
 
 d_length : (d : Option ℕ) → length (d_codes d) ≡ option_map_or (λ (graphic : ℕ). 1) d 0
@@ -159,7 +163,7 @@ signed_length : (all : Placement) (here : ℤ) (is_negative : Bool) (field : Ope
 signed_length all here is_negative fields.Absent = omega arith
 signed_length all here is_negative fields.Malformed = omega arith
 signed_length all here is_negative (fields.Operand (operands.Address address)) = omega arith
-signed_length all here is_negative (fields.Operand (operands.Literal constant)) = omega arith
+signed_length all here is_negative (fields.Operand (operands.Literal literal)) = omega arith
 signed_length all here is_negative (fields.Operand (operands.Unit unit)) = omega arith
 
 address_constant_few : (all : Placement) (here : ℤ) (constant : AddressConstant)
@@ -215,56 +219,55 @@ chain_few chain = by chain.operation refl
         rw e (omega (arith, all))
 
 -- what literals take, one after the other
-pub behind_total : (from : ℤ) (literals : List Characters) → behind_literals from literals
+pub behind_total : (from : ℤ) (literals : List LiteralKey) → behind_literals from literals
     ≡ from +ℤ pos (total literals)
 behind_total from [] = sym (+ℤ_idr from)
 behind_total from (literal ∷ literals) =
-    behind_total (from +ℤ pos literal.len) literals ∙ +ℤ_assoc from (pos literal.len) (pos (total literals))
+    behind_total (from +ℤ pos (key_length literal)) literals
+    ∙ +ℤ_assoc from (pos (key_length literal)) (pos (total literals))
 
-literals_few : (literals : List Characters) → length (flat_map literal_cells literals) ≤ total literals
-literals_few [] = omega arith
-literals_few (literal ∷ literals) =
+literal_few : (all : Placement) (literal : LiteralKey) → length (literal_codes all literal) ≤ key_length literal
+literal_few all (keys.Characters characters) = codes_few characters
+literal_few all (keys.Address literal) = omega arith
+literal_few all (keys.Area literal) = codes_few (characters_of (constants.Blanks literal.places))
+
+literals_few : (all : Placement) (literals : List LiteralKey)
+    → length (flat_map (literal_cells all) literals) ≤ total literals
+literals_few all [] = omega arith
+literals_few all (literal ∷ literals) =
     omega (
       arith,
-      length-append (literal_cells literal) (flat_map literal_cells literals),
-      marked_length (codes_in literal),
-      codes_few literal,
-      literals_few literals,
+      length-append (literal_cells all literal) (flat_map (literal_cells all) literals),
+      marked_length (literal_codes all literal),
+      literal_few all literal,
+      literals_few all literals,
     )
 
 -- literals that are in core, one after the other
-literals_below : (size : ℕ) (this : Placement) → size ≤ 16000 → literals_outside size this ≡ false
-    → are_below size (numbered (address_or_zero this.next) (flat_map literal_cells (pending this))) ≡ true
-literals_below size this small inside = by (pending this) refl
+literals_below : (size : ℕ) (all : Placement) (from : ℤ) (literals : List LiteralKey) → size ≤ 16000
+    → literals_outside size from literals ≡ false
+    → are_below size (numbered (address_or_zero from) (flat_map (literal_cells all) literals)) ≡ true
+literals_below size all from [] small inside = refl
+literals_below size all from (literal ∷ literals) small inside =
+    let used = literal ∷ literals in
+    let core : are_in_core size from (behind_literals from used) ≡ true =
+    not-false (are_in_core size from (behind_literals from used)) (some_core used (omega arith) inside) in
+    let n = total used in
+    let fits : are_in_core size from (from +ℤ pos n) ≡ true =
+    ap (are_in_core size from) (sym (behind_total from used)) ∙ core in
+    numbered_below size (address_or_zero from) (flat_map (literal_cells all) used)
+    (λ some.
+    let few = literals_few all used in
+    let whole = place_inside size from n small (omega (arith, some, few)) fits in
+    omega (arith, whole, few))
   where
-    some_core : (used : List Characters) → 0 < length used
-        → (nat_lt 0 (length used) && not (are_in_core size this.next (behind_literals this.next used))) ≡ false
-        → not (are_in_core size this.next (behind_literals this.next used)) ≡ false
+    some_core : (used : List LiteralKey) → 0 < length used → literals_outside size from used ≡ false
+        → not (are_in_core size from (behind_literals from used)) ≡ false
     some_core used some h =
-        elim (and_cases (nat_lt 0 (length used))
-        (not (are_in_core size this.next (behind_literals this.next used))) h) [
+        elim (and_cases (nat_lt 0 (length used)) (not (are_in_core size from (behind_literals from used))) h) [
           | inl none ↦ absurd (both_ways (nat_lt 0 (length used)) none (lt-ltb 0 (length used) some))
           | inr core ↦ core
         ]
-
-    by : (literals : List Characters) → pending this ≡ literals
-        → are_below size (numbered (address_or_zero this.next) (flat_map literal_cells literals)) ≡ true
-    by [] is = refl
-    by (literal ∷ literals) is =
-        let core : are_in_core size this.next (behind_literals this.next (literal ∷ literals)) ≡ true =
-        not-false (are_in_core size this.next (behind_literals this.next (literal ∷ literals)))
-        (some_core (literal ∷ literals) (omega arith)
-        (sym (ap (λ (used : List Characters). nat_lt 0 (length used)
-        && not (are_in_core size this.next (behind_literals this.next used))) is)
-        ∙ inside)) in
-        let n = total (literal ∷ literals) in
-        let fits : are_in_core size this.next (this.next +ℤ pos n) ≡ true =
-        ap (are_in_core size this.next) (sym (behind_total this.next (literal ∷ literals))) ∙ core in
-        numbered_below size (address_or_zero this.next) (flat_map literal_cells (literal ∷ literals))
-        (λ some.
-        let few = literals_few (literal ∷ literals) in
-        let whole = place_inside size this.next n small (omega (arith, some, few)) fits in
-        omega (arith, whole, few))
 
 -- none of two is so if one of them isn't
 pub neither : (x y : Bool) → (x || y) ≡ false → (x ≡ false) × (y ≡ false)
@@ -296,32 +299,41 @@ contents_below size all this (contents.AddressConstant constant) lines small ins
     (address_constant_few all last constant)
 
 row_below : (size : ℕ) (all this : Placement) (row : Description) (step : Next) (lines : List Line) → size ≤ 16000
-    → places_outside size this.next (contents_length row.contents) ≡ false → next_outside size this step ≡ false
-    → are_below size (numbered (address_or_zero this.next) (row_cells all this row step lines)) ≡ true
+    → places_outside size this.next (contents_length row.contents) ≡ false → next_outside size this row step ≡ false
+    → are_below size (numbered (address_or_zero (start_by this row step)) (row_cells all this row step lines)) ≡ true
 row_below size all this row next.Behind lines small places literals =
     contents_below size all this row.contents lines small places
-row_below size all this row next.Literals lines small places literals = literals_below size this small literals
+row_below size all this row next.Literals lines small places literals =
+    literals_below size all this.next (pending this) small literals
 row_below size all this row next.Value lines small places literals = refl
+row_below size all this row next.LiteralsAtValue lines small places literals =
+    literals_below size all (own_value this row.addressing) (pending this) small literals
 
 body_below : (size : ℕ) (all this : Placement) (body : Body) (lines : List Line) → size ≤ 16000
     → body_outside size all this body ≡ false
-    → are_below size (numbered (address_or_zero this.next) (body_cells all this body lines)) ≡ true
+    → are_below size
+    (numbered (address_or_zero (start_by this (describe body) (describe body).next)) (body_cells all this body lines))
+    ≡ true
 body_below size all this body lines small inside =
     let row = describe body in
     let places = places_outside size this.next (contents_length row.contents) in
-    let literals = next_outside size this row.next in
+    let literals = next_outside size this row row.next in
     let parts = neither places literals
     (neither (places || literals) (addresses_outside size all this row row.addressing) inside).0 in
     row_below size all this row row.next lines small parts.0 parts.1
 
 line_below : (size : ℕ) (all this : Placement) (line : Line) (lines : List Line) → size ≤ 16000
     → line_outside size all this line ≡ false
-    → are_below size (numbered (address_or_zero this.next) (statement_cells all this line.statement lines)) ≡ true
+    → are_below size
+    (numbered (address_or_zero (start_of this line.statement)) (statement_cells all this line.statement lines))
+    ≡ true
 line_below size all this line lines small inside = by line.statement inside
   where
     by : (statement : Option Statement)
         → option_map_or (λ (found : Statement). body_outside size all this found.body) statement false ≡ false
-        → are_below size (numbered (address_or_zero this.next) (statement_cells all this statement lines)) ≡ true
+        → are_below size
+        (numbered (address_or_zero (start_of this statement)) (statement_cells all this statement lines))
+        ≡ true
     by None h = refl
     by (Some statement) h = body_below size all this statement.body lines small h
 
@@ -345,7 +357,8 @@ pub cells_below : (size : ℕ) (all : Placement) (number : ℕ) (this : Placemen
 cells_below size all number this [] small none = refl
 cells_below size all number this (line ∷ lines) small none =
     let parts = one_line size all number this line lines none in
-    let first = numbered (address_or_zero this.next) (statement_cells all this line.statement lines) in
+    let first =
+    numbered (address_or_zero (start_of this line.statement)) (statement_cells all this line.statement lines) in
     let more = cells_from all (after_line this line) lines in
     list_all-append (λ (cell : ℕ × Cell). nat_lt cell.0 size) first more
     ∙ and_from (are_below size first) (are_below size more) (line_below size all this line lines small parts.0)
@@ -397,6 +410,7 @@ row_entry : (size : ℕ) (all this : Placement) (row : Description) (asked : Add
 row_entry size all this row addressing.Nothing behind bounds h low = low
 row_entry size all this row (addressing.Addresses of) behind bounds h low = low
 row_entry size all this row (addressing.EarlierValue of) behind bounds h low = low
+row_entry size all this row (addressing.Equal of) behind bounds h low = low
 row_entry size all this row (addressing.Value of) behind bounds h low = low
 row_entry size all this row (addressing.Entry of) behind bounds h low =
     let value = entry_value all of.a in
@@ -409,7 +423,7 @@ body_entry size all this body behind bounds h low =
     let places = places_outside size this.next (contents_length row.contents) in
     let addresses = addresses_outside size all this row row.addressing in
     row_entry size all this row row.addressing behind bounds
-    (neither (places || next_outside size this row.next) addresses h).1 low
+    (neither (places || next_outside size this row row.next) addresses h).1 low
 
 line_entry : (size : ℕ) (all this : Placement) (line : Line) (behind : ℤ) → (0 < size) × (size ≤ 16000)
     → line_outside size all this line ≡ false → address_or_zero behind < size

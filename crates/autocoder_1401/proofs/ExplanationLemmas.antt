@@ -12,8 +12,9 @@ use Rattle.autocoder_1401.specs.AllFaults.{fault_in}
 use Rattle.autocoder_1401.specs.Assembly.{unless_fault}
 use Rattle.autocoder_1401.specs.Explanation.{explained, whole_line, explained_from, explained_lines}
 use Rattle.autocoder_1401.specs.Explanation.{or_outside_explained, all_explained, faults_of}
-use Rattle.autocoder_1401.specs.OwnFault.{before_next, nothing_before, declared_anywhere, told}
-use Rattle.autocoder_1401.specs.Symbols.{Declared, declared_at}
+use Rattle.autocoder_1401.specs.OwnFault.{before_next, nothing_before, told}
+use Rattle.autocoder_1401.specs.Known.{Declared, declared_at}
+use Rattle.autocoder_1401.specs.Symbols.{Sites, sites_anywhere}
 use Rattle.autocoder_1401.specs.Values.{first_outside}
 use Rattle.autocoder_1401.specs.declared.explanation.Cause.{Cause}
 use Rattle.autocoder_1401.specs.declared.explanation.Cause.TheVariants as causes
@@ -28,7 +29,7 @@ use Rattle.autocoder_1401.proofs.ReadingLemmas.{as_many_said}
 pub columns_stay : (columns : List ℕ) → length columns ≡ 80 → columns_of columns ≡ columns
 columns_stay columns full = SourceLineLemmas.columns_stay columns full
 
-one_told : (language : Language) (declared anywhere : Declared) (lines : List Line) (number : ℕ) (source : List ℕ)
+one_told : (language : Language) (declared : Declared) (anywhere : Sites) (lines : List Line) (number : ℕ) (source : List ℕ)
     (line : Line) (kind : Option AsmKind)
     → faults_of (explained language declared anywhere lines number source line kind) ≡ told_faults number kind
 one_told language declared anywhere lines number source line None = refl
@@ -38,7 +39,7 @@ faults_alone : (cause : Cause) (faults : List AsmFault) → faults_of (map (whol
 faults_alone cause [] = refl
 faults_alone cause (fault ∷ faults) = ap (λ more. fault ∷ more) (faults_alone cause faults)
 
-told_from : (language : Language) (declared anywhere : Declared) (all : List Line) (this : Before) (lines : List Line)
+told_from : (language : Language) (declared : Declared) (anywhere : Sites) (all : List Line) (this : Before) (lines : List Line)
     (sources : List (List ℕ)) → length lines ≡ length sources
     → faults_of (explained_from language declared anywhere all this lines sources)
     ≡ faults_from declared anywhere this lines
@@ -54,10 +55,10 @@ told_from language declared anywhere all this (line ∷ lines) (source ∷ sourc
     (told_from language declared anywhere all (before_next declared this line) lines sources (omega (arith, as_many)))
 
 pub told_lines : (language : Language) (sources : List (List ℕ)) → faults_of (explained_lines language sources)
-    ≡ line_faults (lines_said language sources)
+    ≡ line_faults language (lines_said language sources)
 told_lines language sources =
     let lines = lines_said language sources in
-    told_from language (declared_at lines) (declared_anywhere lines) lines nothing_before lines sources
+    told_from language (declared_at language lines) (sites_anywhere lines) lines nothing_before lines sources
     (as_many_said language sources)
 
 with_outside : (explanations : List Explanation) (outside : Option AsmFault)
@@ -67,7 +68,7 @@ with_outside [] (Some outside) = refl
 with_outside (first ∷ more) outside = refl
 
 pub told_all : (language : Language) (size : ℕ) (sources : List (List ℕ)) → faults_of (all_explained language size sources)
-    ≡ all_faults size (lines_said language sources)
+    ≡ all_faults language size (lines_said language sources)
 told_all language size sources =
     with_outside (explained_lines language sources) (first_outside size (lines_said language sources))
     ∙ ap (λ faults. or_outside faults (first_outside size (lines_said language sources)))
@@ -75,27 +76,27 @@ told_all language size sources =
 
 -- if no line has a fault, none is told
 pub none_told : (language : Language) (sources : List (List ℕ)) → explained_lines language sources ≡ []
-    → line_faults (lines_said language sources) ≡ []
+    → line_faults language (lines_said language sources) ≡ []
 none_told language sources none = sym (told_lines language sources) ∙ ap faults_of none
 
 -- of a source whose lines have no fault, what the assembler tells
 pub outside_explained : {X : Type 0} (language : Language) (size : ℕ) (sources : List (List ℕ)) (answer : X)
     (told : List Explanation) (fault : AsmFault) → told ≡ explained_lines language sources → told ≡ []
-    → Some fault ≡ fault_in (unless_fault size (lines_said language sources) answer)
+    → Some fault ≡ fault_in (unless_fault language size (lines_said language sources) answer)
     → told ++ whole_line causes.OutOfCore fault ∷ [] ≡ all_explained language size sources
 outside_explained {X} language size sources answer told fault same empty tells =
     let none : explained_lines language sources ≡ [] = sym same ∙ empty in
     let outside : first_outside size (lines_said language sources) ≡ Some fault =
-    sym (only_outside size (lines_said language sources) answer (none_told language sources none)) ∙ sym tells in
+    sym (only_outside language size (lines_said language sources) answer (none_told language sources none)) ∙ sym tells in
     rw (empty, none, outside) refl
 
 -- and that it tells nothing
 pub nothing_explained : {X : Type 0} (language : Language) (size : ℕ) (sources : List (List ℕ)) (answer : X)
     (told : List Explanation) → told ≡ explained_lines language sources → told ≡ []
-    → None ≡ fault_in (unless_fault size (lines_said language sources) answer)
+    → None ≡ fault_in (unless_fault language size (lines_said language sources) answer)
     → told ≡ all_explained language size sources
 nothing_explained {X} language size sources answer told same empty tells =
     let none : explained_lines language sources ≡ [] = sym same ∙ empty in
     let inside : first_outside size (lines_said language sources) ≡ None =
-    sym (only_outside size (lines_said language sources) answer (none_told language sources none)) ∙ sym tells in
+    sym (only_outside language size (lines_said language sources) answer (none_told language sources none)) ∙ sym tells in
     rw (empty, none, inside) refl

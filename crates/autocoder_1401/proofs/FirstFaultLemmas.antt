@@ -11,7 +11,8 @@ use Rattle.source_1401.specs.declared.label.Label.{Label}
 use Rattle.source_1401.specs.declared.statement.Line.{Line}
 use Rattle.autocoder_1401.specs.declared.fault.AsmKind.TheVariants as kinds
 use Rattle.autocoder_1401.specs.declared.first_fault.LineContext.{LineContext}
-use Rattle.autocoder_1401.specs.Symbols.{Declared}
+use Rattle.autocoder_1401.specs.Known.{Declared}
+use Rattle.autocoder_1401.specs.Symbols.{Sites}
 use Rattle.autocoder_1401.specs.FirstFault.{areas_behind, place_behind, place_at, has_fault, IsClean, AreClean}
 use Rattle.autocoder_1401.specs.FirstFault.{IsFaultAt, IsFirstFault}
 
@@ -62,6 +63,6 @@ no_end declared lines i at clean low high here unended =
       here = subst (λ r. IsFaultAt declared lines (length lines) r kinds.NoEnd) (sym past) (refl, refl, none);
     }
 
--- from equal at each label to equal as a whole
-pub same_declared : (one other : Declared) → ((label : Label) → one label ≡ other label) → one ≡ other
-same_declared one other same = λ i label. same label i
+-- from equal at each symbol to equal as a whole
+pub same_sites : (one other : Sites) → ((label : Label) → one label ≡ other label) → one ≡ other
+same_sites one other same = λ i label. same label i

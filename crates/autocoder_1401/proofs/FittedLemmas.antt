@@ -12,7 +12,7 @@ use Rattle.source_1401.specs.Description.{describe}
 use Rattle.source_1401.specs.Mnemonic.{ARow, AnOwnRow, instructions, assembler_operations, instruction_in, either_operation}
 use Rattle.source_1401.specs.Operands.{count_of, d_at, d_by, d_of, first_operand, second_operand, is_ended, is_malformed, operands_of}
 use Rattle.source_1401.specs.Operands.{has_malformed, read_operand, operand_in, operand_of, field_of}
-use Rattle.source_1401.specs.Operands.{field_with, begins_literal}
+use Rattle.source_1401.specs.Operands.{as_literal, field_with, begins_literal}
 use Rattle.source_1401.specs.Punctuation.{comma}
 use Rattle.source_1401.specs.Statement.{body_by, body_of, body_with, has_bad_operands, span_of}
 use Rattle.source_1401.specs.declared.address.Address.{Address}
@@ -177,18 +177,18 @@ row_is_fitted row columns all good =
 -- the plain language has no units
 abbrev is_no_unit : Operand → Bool
 is_no_unit (operands.Address address) = true
-is_no_unit (operands.Literal constant) = true
+is_no_unit (operands.Literal literal) = true
 is_no_unit (operands.Unit unit) = false
 
 no_unit_in : (operand : Option Operand) → option_map_or is_no_unit operand true ≡ true
     → is_unit (field_with operand) ≡ false
 no_unit_in None e = refl
 no_unit_in (Some (operands.Address address)) e = refl
-no_unit_in (Some (operands.Literal constant)) e = refl
+no_unit_in (Some (operands.Literal literal)) e = refl
 no_unit_in (Some (operands.Unit unit)) e = absurd (true≢false (sym e))
 
 literal_is_no_unit : (constant : Option Constant)
-    → option_map_or is_no_unit (option_map operands.Literal constant) true ≡ true
+    → option_map_or is_no_unit (option_map as_literal constant) true ≡ true
 literal_is_no_unit None = refl
 literal_is_no_unit (Some constant) = refl
 
@@ -203,7 +203,7 @@ word_is_no_unit (byte ∷ more) =
     no_unit_in (operand_of Plain (byte ∷ more)) (by (begins_literal byte))
   where
     by : (is_literal : Bool)
-        → option_map_or is_no_unit (cond is_literal (option_map operands.Literal (constant_of (byte ∷ more)))
+        → option_map_or is_no_unit (cond is_literal (option_map as_literal (constant_of (byte ∷ more)))
         (option_map operands.Address (address_of Plain (byte ∷ more)))) true
         ≡ true
     by true = literal_is_no_unit (constant_of (byte ∷ more))

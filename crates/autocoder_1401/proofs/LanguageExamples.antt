@@ -21,6 +21,7 @@ use Rattle.autocoder_1401.specs.CrossReference.{reference_line, references_text}
 use Rattle.autocoder_1401.specs.Explanation.{all_explained}
 use Rattle.autocoder_1401.specs.Listing.{graphic_of, number_text, address_text, characters_text, without_last_blanks}
 use Rattle.autocoder_1401.specs.Listing.{listing_line, spelling}
+use Rattle.autocoder_1401.specs.Listing.{literal_spelling, base_spelling, adjustment_spelling, index_spelling}
 use Rattle.autocoder_1401.specs.Placement.{next_hundred}
 use Rattle.autocoder_1401.specs.SymbolTable.{length_text, symbol_line, symbols_text}
 use Rattle.autocoder_1401.specs.Warnings.{all_warnings}
@@ -35,7 +36,8 @@ use Rattle.autocoder_1401.specs.declared.warning.WarningKind.TheVariants as warn
 -- what a source is in 4,000 places, with all tables open
 stands_for : List ℕ → Result Assembly AsmFault
 unfolding columns_of instructions assembler_operations wide_instructions wide_operations graphics wider_line
-    wide_line_with number_text address_text characters_text without_last_blanks listing_line spelling digits
+    wide_line_with number_text address_text characters_text without_last_blanks listing_line spelling literal_spelling base_spelling adjustment_spelling
+    index_spelling digits
 stands_for source = assembly_in Ibm 4000 source
 
 -- a cell by its graphic, with a tilde before it if it has a word mark

@@ -21,13 +21,14 @@ use Rattle.autocoder_1401.specs.Assembly.{lines_in, assembly_with, assembly_in, 
 use Rattle.autocoder_1401.specs.FirstFault.{bad_label, bad_operation, bad_operands, is_field, lowest, or_behind}
 use Rattle.autocoder_1401.specs.FirstFault.{place_behind, first_place, first_fault_from, first_fault, IsClean}
 use Rattle.autocoder_1401.specs.Languages.{MeansTheSame, AgreesWithPlain}
-use Rattle.autocoder_1401.specs.Symbols.{Declared, declared_at}
+use Rattle.autocoder_1401.specs.Known.{Declared, declared_at}
 use Rattle.autocoder_1401.specs.Values.{first_outside}
 use Rattle.autocoder_1401.specs.declared.assembly.Assembly.{Assembly}
 use Rattle.autocoder_1401.specs.declared.fault.AsmFault.{AsmFault}
 use Rattle.autocoder_1401.specs.declared.fault.AsmKind.{AsmKind}
 use Rattle.autocoder_1401.specs.declared.fault.AsmKind.TheVariants as kinds
 use Rattle.autocoder_1401.specs.declared.first_fault.LineContext.{LineContext}
+use Rattle.autocoder_1401.proofs.ChainsLemmas.{clean_in_wider}
 use Rattle.autocoder_1401.proofs.LowestLemmas.{clean_line}
 
 all_four : (bad_label lacks_label known bad_operands : Bool) → bad_label ≡ false → lacks_label ≡ false → known ≡ true
@@ -57,6 +58,7 @@ undivided (bodies.Transfer of) e = refl
 undivided (bodies.Chain chain) e = refl
 undivided (bodies.AddressConstant constant) e = refl
 undivided (bodies.LabelledOrigin of) e = refl
+undivided (bodies.LiteralOrigin of) e = refl
 undivided (bodies.WideField None) e = refl
 undivided (bodies.WideField (Some span)) e = refl
 undivided (bodies.WideEquate of) e = refl
@@ -119,22 +121,29 @@ all_sound declared at (line ∷ lines) none =
     by (Some kind) e behind rest = cc
 
 -- a source in which the plain language finds no fault says the same in each language
-pub lines_alike : (language : Language) (source : List ℕ) → first_fault (lines_in Plain source) ≡ None
+pub lines_alike : (language : Language) (source : List ℕ) → first_fault Plain (lines_in Plain source) ≡ None
     → lines_in language source ≡ lines_in Plain source
 lines_alike Plain source none = refl
 lines_alike Ibm source none =
     sound_lines_said (lines_of source)
-    (all_sound (declared_at (lines_in Plain source)) first_place (lines_in Plain source) none)
+    (all_sound (declared_at Plain (lines_in Plain source)) first_place (lines_in Plain source) none)
 
 -- lines that stand for anything have no fault
-none_found : {X : Type 0} (size : ℕ) (lines : List Line) (answer value : X) → unless_fault size lines answer ≡ Ok value
-    → first_fault lines ≡ None
-none_found {X} size lines answer value e = by (first_fault lines) refl e
+none_found : {X : Type 0} (language : Language) (size : ℕ) (lines : List Line) (answer value : X)
+    → unless_fault language size lines answer ≡ Ok value → first_fault language lines ≡ None
+none_found {X} language size lines answer value e = by (first_fault language lines) refl e
   where
-    by : (found : Option AsmFault) → first_fault lines ≡ found
-        → fault_or found (fault_or (first_outside size lines) (Ok answer)) ≡ Ok value → first_fault lines ≡ None
+    by : (found : Option AsmFault) → first_fault language lines ≡ found
+        → fault_or found (fault_or (first_outside size lines) (Ok answer)) ≡ Ok value
+        → first_fault language lines ≡ None
     by None none rest = none
     by (Some fault) some rest = cc
+
+-- what the plain language takes has no fault in each language
+clean_in_each : (language : Language) (lines : List Line) → first_fault Plain lines ≡ None
+    → first_fault language lines ≡ None
+clean_in_each Plain lines none = none
+clean_in_each Ibm lines none = clean_in_wider lines none
 
 -- the law of the languages
 pub agrees_with_plain : (language : Language) (size : ℕ) (source : List ℕ) → AgreesWithPlain language size source
@@ -144,9 +153,15 @@ agrees_with_plain language size source = by (assembly_in Plain size source) refl
         → IfOk answer (MeansTheSame language size source)
     by (Err fault) e = tt
     by (Ok plain) e =
-        let none = none_found size (lines_in Plain source) (assembly_with size (lines_in Plain source) source) plain e in
+        let said = lines_in Plain source in
+        let answer = assembly_with size said source in
+        let none = none_found Plain size said answer plain e in
         let alike = lines_alike language source none in
+        let same_fault : first_fault language said ≡ first_fault Plain said =
+        clean_in_each language said none ∙ sym none in
         record {
           lines = alike;
-          assembly = ap (λ (lines : List Line). unless_fault size lines (assembly_with size lines source)) alike ∙ e;
+          assembly =
+              ap (λ (lines : List Line). unless_fault language size lines (assembly_with size lines source)) alike
+              ∙ ap (λ first. fault_or first (fault_or (first_outside size said) (Ok answer))) same_fault ∙ e;
         }

@@ -2,6 +2,8 @@ mod AllFaultsExamples
 pub mod AllFaultsLemmas
 mod AssemblyExamples
 pub mod CellsLemmas
+mod ChainsExamples
+pub mod ChainsLemmas
 pub mod CharactersLemmas
 pub mod CoreLemmas
 pub mod CrossReferenceLemmas
@@ -16,8 +18,10 @@ pub mod LanguageLemmas
 pub mod LawLemmas
 pub mod LowestLemmas
 pub mod PlacementLawLemmas
+mod PlacingExamples
 pub mod PlacingLemmas
 pub mod ReadingLemmas
 pub mod StandingLemmas
+pub mod SymbolsLemmas
 mod TablesExamples
 mod WarningsExamples

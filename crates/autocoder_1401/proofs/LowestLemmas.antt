@@ -6,7 +6,7 @@ use Rattle.autocoder_1401.specs.declared.fault.AsmKind.{AsmKind}
 use Rattle.autocoder_1401.specs.declared.fault.AsmKind.TheVariants as kinds
 use Rattle.autocoder_1401.specs.declared.first_fault.LineContext.{LineContext}
 use Rattle.autocoder_1401.specs.Fault.{rank}
-use Rattle.autocoder_1401.specs.Symbols.{Declared}
+use Rattle.autocoder_1401.specs.Known.{Declared}
 use Rattle.autocoder_1401.specs.FirstFault.{has_fault, first_of, scanned, lowest, IsClean, IsLowest}
 
 -- a kind is in a list

@@ -6,8 +6,8 @@ use Rattle.std.specs.List.{list_any}
 use Rattle.std.proofs.Math.IntN.{+ℤ_assoc, +ℤ_idr}
 use Rattle.std.proofs.lemmas.List.{map-append}
 use Rattle.source_1401.specs.Statement.{well_formed}
-use Rattle.source_1401.specs.declared.constant.Constant.{Constant}
 use Rattle.source_1401.specs.declared.label.Label.{Label}
+use Rattle.source_1401.specs.declared.literal.Literal.{Literal}
 use Rattle.source_1401.specs.declared.operands.Operand.TheVariants as operands
 use Rattle.source_1401.specs.declared.operands.OperandField.{OperandField}
 use Rattle.source_1401.specs.declared.operands.OperandField.TheVariants as fields
@@ -23,26 +23,27 @@ use Rattle.source_1401.specs.declared.description.Next.TheVariants as next
 use Rattle.source_1401.specs.declared.statement.Body.{Body}
 use Rattle.source_1401.specs.declared.statement.Statement.{Statement}
 use Rattle.source_1401.specs.declared.statement.Line.{Line}
-use Rattle.autocoder_1401.specs.Characters.{characters_of, same_characters}
+use Rattle.autocoder_1401.specs.Literals.{key_of, same_key}
 use Rattle.autocoder_1401.specs.Placement.{Placement, nothing_placed, pending, with_literal, with_operand, with_uses}
 use Rattle.autocoder_1401.specs.Placement.{with_areas, moved, behind_row, behind_body, with_label, label_value}
 use Rattle.autocoder_1401.specs.Placement.{after_line, placed, value_so_far}
 use Rattle.autocoder_1401.specs.PlacementLaws.{row_length, body_length, length_with, lengths_from, origin_by, origin_in}
 use Rattle.autocoder_1401.specs.PlacementLaws.{origin_with, AreNoOrigins, literal_in, uses_by, uses_in, uses_with, uses}
-use Rattle.autocoder_1401.specs.PlacementLaws.{with_use}
+use Rattle.autocoder_1401.specs.PlacementLaws.{total, with_use}
 use Rattle.autocoder_1401.specs.PlacementLaws.{IsPlacedInTurn}
-use Rattle.autocoder_1401.specs.declared.characters.Characters.{Characters}
+use Rattle.autocoder_1401.specs.declared.literals.LiteralKey.{LiteralKey}
+use Rattle.autocoder_1401.specs.declared.placing.SymbolValue.{SymbolValue}
 use Rattle.autocoder_1401.proofs.CoreLemmas.{behind_total}
 use Rattle.autocoder_1401.proofs.StandingLemmas.{stands_behind}
 
 -- a literal and an operand leave the next place
-literal_next : (this : Placement) (constant : Constant) → (with_literal this constant).next ≡ this.next
-literal_next this constant = by (list_any (same_characters (characters_of constant)) this.literals)
+literal_next : (this : Placement) (literal : Literal) → (with_literal this literal).next ≡ this.next
+literal_next this literal = by (list_any (same_key (key_of literal)) this.literals)
   where
     by : (b : Bool)
         → (if b then this else record this {
-          literals = this.literals ++ characters_of constant ∷ [];
-          spellings = this.spellings ++ constant ∷ [];
+          literals = this.literals ++ key_of literal ∷ [];
+          spellings = this.spellings ++ literal ∷ [];
         }).next
         ≡ this.next
     by true = refl
@@ -52,7 +53,7 @@ operand_next : (this : Placement) (field : OperandField) → (with_operand this 
 operand_next this fields.Absent = refl
 operand_next this fields.Malformed = refl
 operand_next this (fields.Operand (operands.Address address)) = refl
-operand_next this (fields.Operand (operands.Literal constant)) = literal_next this constant
+operand_next this (fields.Operand (operands.Literal literal)) = literal_next this literal
 operand_next this (fields.Operand (operands.Unit unit)) = refl
 
 -- a body moves the next place by its length, but for an origin
@@ -66,6 +67,7 @@ uses_next : (this : Placement) (asked : Addressing) → (with_uses this asked).n
 uses_next this addressing.Nothing = refl
 uses_next this (addressing.Addresses of) = operand_next (with_operand this of.a) of.b ∙ operand_next this of.a
 uses_next this (addressing.EarlierValue of) = refl
+uses_next this (addressing.Equal of) = refl
 uses_next this (addressing.Value of) = refl
 uses_next this (addressing.Entry of) = refl
 
@@ -79,22 +81,23 @@ moved_next : (this : Placement) (row : Description) (step : Next) → origin_by 
 moved_next this row next.Behind none = refl
 moved_next this row next.Literals none = behind_total this.next (pending this)
 moved_next this row next.Value none = cc
+moved_next this row next.LiteralsAtValue none = cc
 
 body_next : (this : Placement) (body : Body) → origin_in body ≡ None
     → (behind_body this body).next ≡ this.next +ℤ pos (body_length this body)
 body_next this body none = row_next this (describe body) ∙ moved_next this (describe body) (describe body).next none
 
 -- a label leaves the next place and the literals
-label_next : (this : Placement) (label : Option Label) (value : ℤ) → (with_label this label value).next ≡ this.next
+label_next : (this : Placement) (label : Option Label) (value : SymbolValue) → (with_label this label value).next ≡ this.next
 label_next this None value = refl
 label_next this (Some label) value = refl
 
-label_literals : (this : Placement) (label : Option Label) (value : ℤ)
+label_literals : (this : Placement) (label : Option Label) (value : SymbolValue)
     → (with_label this label value).literals ≡ this.literals
 label_literals this None value = refl
 label_literals this (Some label) value = refl
 
-label_spellings : (this : Placement) (label : Option Label) (value : ℤ)
+label_spellings : (this : Placement) (label : Option Label) (value : SymbolValue)
     → (with_label this label value).spellings ≡ this.spellings
 label_spellings this None value = refl
 label_spellings this (Some label) value = refl
@@ -125,40 +128,47 @@ fold_append this [] behind = refl
 fold_append this (line ∷ before) behind = fold_append (after_line this line) before behind
 
 origin_next : (this : Placement) (line : Line) (of : Operands) → origin_with line.statement ≡ Some of
-    → (after_line this line).next ≡ value_so_far this.values this.next of.a
+    → (after_line this line).next
+    ≡ value_so_far this.values this.next of.a +ℤ pos (length_with this line.statement)
 origin_next this line of is = by line.statement is
   where
     moved_to : (row : Description) (step : Next) → origin_by step row.addressing ≡ Some of
-        → (moved this row step).next ≡ value_so_far this.values this.next of.a
+        → (moved this row step).next ≡ value_so_far this.values this.next of.a +ℤ pos (row_length this row step)
     moved_to row next.Behind h = cc
     moved_to row next.Literals h = cc
     moved_to row next.Value h =
         let same : operands_in row.addressing ≡ of = cc in
         ap (λ (given : Operands). value_so_far this.values this.next given.a) same
+        ∙ sym (+ℤ_idr (value_so_far this.values this.next of.a))
+    moved_to row next.LiteralsAtValue h =
+        let same : operands_in row.addressing ≡ of = cc in
+        behind_total (value_so_far this.values this.next (operands_in row.addressing).a) (pending this)
+        ∙ ap (λ (given : Operands). value_so_far this.values this.next given.a +ℤ pos (total (pending this))) same
 
     body : (given : Body) → origin_in given ≡ Some of
-        → (behind_body this given).next ≡ value_so_far this.values this.next of.a
+        → (behind_body this given).next
+        ≡ value_so_far this.values this.next of.a +ℤ pos (body_length this given)
     body given h = row_next this (describe given) ∙ moved_to (describe given) (describe given).next h
 
     by : (statement : Option Statement) → origin_with statement ≡ Some of
         → (after_line this (record { bytes = line.bytes; statement = statement })).next
-        ≡ value_so_far this.values this.next of.a
+        ≡ value_so_far this.values this.next of.a +ℤ pos (length_with this statement)
     by None h = cc
     by (Some statement) h =
         label_next (behind_body this statement.body) (well_formed statement.label) (label_value this statement.body)
         ∙ body statement.body h
 
 -- a literal that is used goes last, unless it is there
-literal_use : (this : Placement) (constant : Constant)
-    → (with_literal this constant).literals ≡ with_use this.literals (characters_of constant)
-literal_use this constant = by (list_any (same_characters (characters_of constant)) this.literals)
+literal_use : (this : Placement) (literal : Literal)
+    → (with_literal this literal).literals ≡ with_use this.literals (key_of literal)
+literal_use this literal = by (list_any (same_key (key_of literal)) this.literals)
   where
     by : (b : Bool)
         → (if b then this else record this {
-          literals = this.literals ++ characters_of constant ∷ [];
-          spellings = this.spellings ++ constant ∷ [];
+          literals = this.literals ++ key_of literal ∷ [];
+          spellings = this.spellings ++ literal ∷ [];
         }).literals
-        ≡ (if b then this.literals else this.literals ++ characters_of constant ∷ [])
+        ≡ (if b then this.literals else this.literals ++ key_of literal ∷ [])
     by true = refl
     by false = refl
 
@@ -167,10 +177,10 @@ operand_use : (this : Placement) (field : OperandField)
 operand_use this fields.Absent = refl
 operand_use this fields.Malformed = refl
 operand_use this (fields.Operand (operands.Address address)) = refl
-operand_use this (fields.Operand (operands.Literal constant)) = literal_use this constant
+operand_use this (fields.Operand (operands.Literal literal)) = literal_use this literal
 operand_use this (fields.Operand (operands.Unit unit)) = refl
 
-uses_append : (used first second : List Characters)
+uses_append : (used first second : List LiteralKey)
     → fold with_use used (first ++ second) ≡ fold with_use (fold with_use used first) second
 uses_append used [] second = refl
 uses_append used (literal ∷ first) second = uses_append (with_use used literal) first second
@@ -185,15 +195,17 @@ moved_literals : (this : Placement) (row : Description) (step : Next) → (moved
 moved_literals this row next.Behind = refl
 moved_literals this row next.Literals = refl
 moved_literals this row next.Value = refl
+moved_literals this row next.LiteralsAtValue = refl
 
 uses_use : (this : Placement) (asked : Addressing)
     → (with_uses this asked).literals ≡ fold with_use this.literals (uses_by asked)
 uses_use this addressing.Nothing = refl
 uses_use this (addressing.Addresses of) =
     operand_use (with_operand this of.a) of.b
-    ∙ ap (λ (used : List Characters). fold with_use used (literal_in of.b)) (operand_use this of.a)
+    ∙ ap (λ (used : List LiteralKey). fold with_use used (literal_in of.b)) (operand_use this of.a)
     ∙ sym (uses_append this.literals (literal_in of.a) (literal_in of.b))
 uses_use this (addressing.EarlierValue of) = refl
+uses_use this (addressing.Equal of) = refl
 uses_use this (addressing.Value of) = refl
 uses_use this (addressing.Entry of) = refl
 
@@ -202,7 +214,7 @@ body_use this body =
     let row = describe body in
     let on = moved this row row.next in
     uses_use (with_areas on this.next row.areas) row.addressing
-    ∙ ap (λ (used : List Characters). fold with_use used (uses_by row.addressing))
+    ∙ ap (λ (used : List LiteralKey). fold with_use used (uses_by row.addressing))
     (areas_literals on this.next row.areas ∙ moved_literals this row row.next)
 
 line_use : (this : Placement) (line : Line)
@@ -222,33 +234,33 @@ lines_use : (this : Placement) (lines : List Line)
 lines_use this [] = refl
 lines_use this (line ∷ lines) =
     lines_use (after_line this line) lines
-    ∙ ap (λ (used : List Characters). fold with_use used (uses lines)) (line_use this line)
+    ∙ ap (λ (used : List LiteralKey). fold with_use used (uses lines)) (line_use this line)
     ∙ sym (uses_append this.literals (uses_with line.statement) (uses lines))
 
 -- the spellings are those of the literals
 abbrev IsSpelled : Placement → Type 0
-IsSpelled this = map characters_of this.spellings ≡ this.literals
+IsSpelled this = map key_of this.spellings ≡ this.literals
 
-literal_spelled : (this : Placement) (constant : Constant) → IsSpelled this → IsSpelled (with_literal this constant)
-literal_spelled this constant so_far = by (list_any (same_characters (characters_of constant)) this.literals)
+literal_spelled : (this : Placement) (literal : Literal) → IsSpelled this → IsSpelled (with_literal this literal)
+literal_spelled this literal so_far = by (list_any (same_key (key_of literal)) this.literals)
   where
     by : (b : Bool)
         → IsSpelled (if b then this
         else record this {
-          literals = this.literals ++ characters_of constant ∷ [];
+          literals = this.literals ++ key_of literal ∷ [];
           spellings =
-              this.spellings ++ constant ∷ [];
+              this.spellings ++ literal ∷ [];
         })
     by true = so_far
     by false =
-        map-append characters_of this.spellings (constant ∷ [])
-        ∙ ap (λ (used : List Characters). used ++ characters_of constant ∷ []) so_far
+        map-append key_of this.spellings (literal ∷ [])
+        ∙ ap (λ (used : List LiteralKey). used ++ key_of literal ∷ []) so_far
 
 operand_spelled : (this : Placement) (field : OperandField) → IsSpelled this → IsSpelled (with_operand this field)
 operand_spelled this fields.Absent so_far = so_far
 operand_spelled this fields.Malformed so_far = so_far
 operand_spelled this (fields.Operand (operands.Address address)) so_far = so_far
-operand_spelled this (fields.Operand (operands.Literal constant)) so_far = literal_spelled this constant so_far
+operand_spelled this (fields.Operand (operands.Literal literal)) so_far = literal_spelled this literal so_far
 operand_spelled this (fields.Operand (operands.Unit unit)) so_far = so_far
 
 areas_spelled : (this : Placement) (first : ℤ) (role : AreaRole) → IsSpelled this → IsSpelled (with_areas this first role)
@@ -261,12 +273,14 @@ moved_spelled : (this : Placement) (row : Description) (step : Next) → IsSpell
 moved_spelled this row next.Behind so_far = so_far
 moved_spelled this row next.Literals so_far = so_far
 moved_spelled this row next.Value so_far = so_far
+moved_spelled this row next.LiteralsAtValue so_far = so_far
 
 uses_spelled : (this : Placement) (asked : Addressing) → IsSpelled this → IsSpelled (with_uses this asked)
 uses_spelled this addressing.Nothing so_far = so_far
 uses_spelled this (addressing.Addresses of) so_far =
     operand_spelled (with_operand this of.a) of.b (operand_spelled this of.a so_far)
 uses_spelled this (addressing.EarlierValue of) so_far = so_far
+uses_spelled this (addressing.Equal of) so_far = so_far
 uses_spelled this (addressing.Value of) so_far = so_far
 uses_spelled this (addressing.Entry of) so_far = so_far
 
@@ -287,7 +301,7 @@ line_spelled this line so_far = by line.statement
         let behind = behind_body this statement.body in
         let label = well_formed statement.label in
         let value = label_value this statement.body in
-        ap (map characters_of) (label_spellings behind label value) ∙ body_spelled this statement.body so_far
+        ap (map key_of) (label_spellings behind label value) ∙ body_spelled this statement.body so_far
         ∙ sym (label_literals behind label value)
 
 lines_spelled : (this : Placement) (lines : List Line) → IsSpelled this → IsSpelled (fold after_line this lines)

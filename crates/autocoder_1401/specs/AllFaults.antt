@@ -3,17 +3,19 @@ use Rattle.std.specs.Prelude.{◌≡◌, ℕ, ◌+◌, ◌⊎◌, true, false, n
 use Rattle.std.specs.Prelude.{length, slice_get, Option, Some, None, Result, Ok, Err}
 use Rattle.std.specs.List.{list_any}
 use Rattle.source_1401.specs.Statement.{is_end}
+use Rattle.source_1401.specs.declared.language.Language.{Language}
 use Rattle.source_1401.specs.declared.statement.Line.{Line}
 use Rattle.autocoder_1401.specs.FirstFault.{place_at}
 use Rattle.autocoder_1401.specs.FirstFault.{has_fault, first_fault}
 use Rattle.autocoder_1401.specs.Laws.{IsFirstOutside}
-use Rattle.autocoder_1401.specs.Symbols.{Declared, declared_at}
+use Rattle.autocoder_1401.specs.Known.{Declared, declared_at}
+use Rattle.autocoder_1401.specs.Symbols.{Sites, sites_anywhere}
 use Rattle.autocoder_1401.specs.Values.{first_outside}
 use Rattle.autocoder_1401.specs.declared.own_fault.Before.{Before}
 use Rattle.autocoder_1401.specs.declared.fault.AsmFault.{AsmFault}
 use Rattle.autocoder_1401.specs.declared.fault.AsmKind.{AsmKind}
 use Rattle.autocoder_1401.specs.declared.fault.AsmKind.TheVariants as kinds
-use Rattle.autocoder_1401.specs.OwnFault.{declared_anywhere, nothing_before, before_next, told}
+use Rattle.autocoder_1401.specs.OwnFault.{nothing_before, before_next, told}
 
 -- a fault of this kind at this line, if there is one
 abbrev pub told_faults : ℕ → Option AsmKind → List AsmFault
@@ -26,15 +28,15 @@ told_end this =
     if this.at.is_ended then [] else if not this.is_clean && this.lost_end then []
     else told_faults this.at.number (Some kinds.NoEnd)
 
-abbrev pub faults_from : Declared → Declared → Before → List Line → List AsmFault
+abbrev pub faults_from : Declared → Sites → Before → List Line → List AsmFault
 faults_from declared anywhere this [] = told_end this
 faults_from declared anywhere this (line ∷ lines) =
     told_faults this.at.number (told declared anywhere this line)
     ++ faults_from declared anywhere (before_next declared this line) lines
 
 -- the faults of lines, but for what isn't in core
-abbrev pub line_faults : List Line → List AsmFault
-line_faults lines = faults_from (declared_at lines) (declared_anywhere lines) nothing_before lines
+abbrev pub line_faults : Language → List Line → List AsmFault
+line_faults language lines = faults_from (declared_at language lines) (sites_anywhere lines) nothing_before lines
 
 -- the faults of lines; of lines without any, the first of which something isn't in core
 abbrev pub or_outside : List AsmFault → Option AsmFault → List AsmFault
@@ -42,8 +44,8 @@ or_outside [] None = []
 or_outside [] (Some outside) = outside ∷ []
 or_outside (fault ∷ faults) outside = fault ∷ faults
 
-abbrev pub all_faults : ℕ → List Line → List AsmFault
-all_faults size lines = or_outside (line_faults lines) (first_outside size lines)
+abbrev pub all_faults : Language → ℕ → List Line → List AsmFault
+all_faults language size lines = or_outside (line_faults language lines) (first_outside size lines)
 
 -- the first of them
 abbrev pub first_in : List AsmFault → Option AsmFault
@@ -67,6 +69,7 @@ pub record IsThere (declared : Declared) (lines : List Line) (fault : AsmFault) 
   pub there : IsFaultThere declared lines index (slice_get lines index) fault.kind
 
 -- the line that it names has this fault; or all lines have none, and it is the first of which something isn't in core
-abbrev pub IsTold : ℕ → List Line → AsmFault → Type 0
-IsTold size lines fault =
-    IsThere (declared_at lines) lines fault ⊎ ((first_fault lines ≡ None) × IsFirstOutside size lines fault)
+abbrev pub IsTold : Language → ℕ → List Line → AsmFault → Type 0
+IsTold language size lines fault =
+    IsThere (declared_at language lines) lines fault
+    ⊎ ((first_fault language lines ≡ None) × IsFirstOutside size lines fault)

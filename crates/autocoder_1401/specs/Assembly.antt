@@ -13,11 +13,11 @@ use Rattle.source_1401.specs.declared.statement.Statement.{Statement}
 use Rattle.source_1401.specs.declared.statement.Line.{Line}
 use Rattle.autocoder_1401.specs.Cells.{address_or_zero, cells_from}
 use Rattle.autocoder_1401.specs.FirstFault.{first_fault, IsFaultless, IsFirstFault}
+use Rattle.autocoder_1401.specs.Known.{declared_at}
 use Rattle.autocoder_1401.specs.Laws.{IsFirstOutside}
 use Rattle.autocoder_1401.specs.Listing.{listing_with, listing_of}
 use Rattle.autocoder_1401.specs.Placement.{Placement, nothing_placed, entry_value, placed}
 use Rattle.autocoder_1401.specs.Segments.{segments_of}
-use Rattle.autocoder_1401.specs.Symbols.{declared_at}
 use Rattle.autocoder_1401.specs.Values.{first_outside}
 use Rattle.autocoder_1401.specs.declared.assembly.Assembly.{Assembly}
 use Rattle.autocoder_1401.specs.declared.fault.AsmFault.{AsmFault}
@@ -31,6 +31,7 @@ abbrev pub entry_in_row : Placement → Addressing → ℤ → ℤ
 entry_in_row all addressing.Nothing behind = behind
 entry_in_row all (addressing.Addresses of) behind = behind
 entry_in_row all (addressing.EarlierValue of) behind = behind
+entry_in_row all (addressing.Equal of) behind = behind
 entry_in_row all (addressing.Value of) behind = behind
 entry_in_row all (addressing.Entry of) behind = entry_value all of.a
 
@@ -78,16 +79,18 @@ abbrev pub assembly_of : Language → ℕ → List ℕ → Assembly
 assembly_of language size source = assembly_with size (lines_in language source) source
 
 -- the first fault of lines, and else the answer
-abbrev pub unless_fault : {X : Type 0} → ℕ → List Line → X → Result X AsmFault
-unless_fault size lines answer = fault_or (first_fault lines) (fault_or (first_outside size lines) (Ok answer))
+abbrev pub unless_fault : {X : Type 0} → Language → ℕ → List Line → X → Result X AsmFault
+unless_fault language size lines answer =
+    fault_or (first_fault language lines) (fault_or (first_outside size lines) (Ok answer))
 
 -- the image and the listing of a source, or its fault
 abbrev pub assembly_in : Language → ℕ → List ℕ → Result Assembly AsmFault
-assembly_in language size source = unless_fault size (lines_in language source) (assembly_of language size source)
+assembly_in language size source =
+    unless_fault language size (lines_in language source) (assembly_of language size source)
 
 -- a fault of lines: the first line that has one, and its lowest kind; or, of lines without a fault, the first of which
 -- something isn't in core
-abbrev pub IsFaultOf : ℕ → List Line → AsmFault → Type 0
-IsFaultOf size lines fault =
-    IsFirstFault (declared_at lines) lines fault
-    ⊎ (IsFaultless (declared_at lines) lines × IsFirstOutside size lines fault)
+abbrev pub IsFaultOf : Language → ℕ → List Line → AsmFault → Type 0
+IsFaultOf language size lines fault =
+    IsFirstFault (declared_at language lines) lines fault
+    ⊎ (IsFaultless (declared_at language lines) lines × IsFirstOutside size lines fault)

@@ -12,6 +12,7 @@ use Rattle.core_1401.specs.Address.{addresses, spelling_of}
 use Rattle.core_1401.specs.Storage.{blank}
 use Rattle.source_1401.specs.declared.address.Address.{Address}
 use Rattle.source_1401.specs.declared.constant.Constant.{Constant}
+use Rattle.source_1401.specs.declared.constant.Constant.TheVariants as constants
 use Rattle.source_1401.specs.declared.mnemonic.Instruction.{Instruction}
 use Rattle.source_1401.specs.declared.operands.Operand.TheVariants as operands
 use Rattle.source_1401.specs.declared.operands.OperandField.{OperandField}
@@ -32,10 +33,13 @@ use Rattle.source_1401.specs.declared.description.Next.TheVariants as next
 use Rattle.source_1401.specs.declared.statement.Body.{Body}
 use Rattle.source_1401.specs.declared.statement.Statement.{Statement}
 use Rattle.source_1401.specs.declared.statement.Line.{Line}
-use Rattle.autocoder_1401.specs.Characters.{char_of, characters_of, codes_in, same_characters}
-use Rattle.autocoder_1401.specs.Placement.{Placement, pending, instruction_length, chain_length, after_line}
+use Rattle.autocoder_1401.specs.Characters.{char_of, characters_of, codes_in}
+use Rattle.autocoder_1401.specs.Literals.{key_of, same_key}
+use Rattle.autocoder_1401.specs.Placement.{Placement, pending, instruction_length, chain_length, address_index}
+use Rattle.autocoder_1401.specs.Placement.{start_of, after_line}
 use Rattle.autocoder_1401.specs.Values.{address_value, last_place}
-use Rattle.autocoder_1401.specs.declared.characters.Characters.{Characters}
+use Rattle.autocoder_1401.specs.declared.literals.LiteralKey.{LiteralKey}
+use Rattle.autocoder_1401.specs.declared.literals.LiteralKey.TheVariants as keys
 
 -- the place that a value is the address of; one that is no address counts as 0, and is a fault of its line
 abbrev pub address_or_zero : ℤ → ℕ
@@ -65,25 +69,32 @@ abbrev pub indexed : ℕ → ℕ → List ℕ
 indexed index place = with_index (index % 4) (spelling_of place)
 
 abbrev pub address_codes : Placement → ℤ → Address → List ℕ
-address_codes all here address = indexed address.index (address_or_zero (address_value all here address))
+address_codes all here address =
+    indexed (address_index all.values address) (address_or_zero (address_value all here address))
 
 -- the address of a constant with a minus sign is 16,000 less its place, modulo 16,000
 abbrev pub signed_place : Bool → ℕ → ℕ
 signed_place false place = place
 signed_place true place = (addresses - place) % addresses
 
+-- the address of a constant or a literal with a sign
+abbrev pub signed_address : Placement → ℤ → Bool → Address → List ℕ
+signed_address all here is_negative address =
+    indexed (address_index all.values address)
+    (signed_place is_negative (address_or_zero (address_value all here address)))
+
 abbrev pub signed_codes : Placement → ℤ → Bool → OperandField → List ℕ
 signed_codes all here is_negative fields.Absent = []
 signed_codes all here is_negative fields.Malformed = []
 signed_codes all here is_negative (fields.Operand (operands.Address address)) =
-    indexed address.index (signed_place is_negative (address_or_zero (address_value all here address)))
-signed_codes all here is_negative (fields.Operand (operands.Literal constant)) = []
+    signed_address all here is_negative address
+signed_codes all here is_negative (fields.Operand (operands.Literal literal)) = []
 signed_codes all here is_negative (fields.Operand (operands.Unit unit)) = []
 
 -- the units place of a literal
-abbrev pub literal_value : Placement → Characters → ℤ
+abbrev pub literal_value : Placement → LiteralKey → ℤ
 literal_value all literal =
-    unwrap_or (option_and_then (λ i. slice_get all.addresses i) (position (same_characters literal) all.literals))
+    unwrap_or (option_and_then (λ i. slice_get all.addresses i) (position (same_key literal) all.literals))
     (pos 0)
 
 -- a unit is assembled as it is written
@@ -95,8 +106,8 @@ abbrev pub operand_codes : Placement → ℤ → OperandField → List ℕ
 operand_codes all here fields.Absent = []
 operand_codes all here fields.Malformed = []
 operand_codes all here (fields.Operand (operands.Address address)) = address_codes all here address
-operand_codes all here (fields.Operand (operands.Literal constant)) =
-    spelling_of (address_or_zero (literal_value all (characters_of constant)))
+operand_codes all here (fields.Operand (operands.Literal literal)) =
+    spelling_of (address_or_zero (literal_value all (key_of literal)))
 operand_codes all here (fields.Operand (operands.Unit unit)) = unit_codes unit.graphics
 
 abbrev pub d_codes : Option ℕ → List ℕ
@@ -130,9 +141,15 @@ abbrev pub address_constant_cells : Placement → ℤ → AddressConstant → Li
 address_constant_cells all here constant =
     field_cells constant.is_marked (signed_codes all here constant.is_negative constant.operands.a)
 
+-- the characters of a literal: those of a constant, an address, which is counted from a symbol, or blanks
+abbrev pub literal_codes : Placement → LiteralKey → List ℕ
+literal_codes all (keys.Characters characters) = codes_in characters
+literal_codes all (keys.Address literal) = signed_address all (pos 0) literal.is_negative literal.address
+literal_codes all (keys.Area literal) = codes_in (characters_of (constants.Blanks literal.places))
+
 -- literals, each with a word mark at its high place
-abbrev pub literal_cells : Characters → List Cell
-literal_cells literal = with_word_mark (codes_in literal)
+abbrev pub literal_cells : Placement → LiteralKey → List Cell
+literal_cells all literal = with_word_mark (literal_codes all literal)
 
 -- the fields directly after areas, comments and headings aside
 abbrev pub fields_by : AreaRole → List Span → List Span
@@ -202,8 +219,9 @@ contents_cells all this (contents.AddressConstant constant) lines =
 -- the cells that a statement places: its own, or literals
 abbrev pub row_cells : Placement → Placement → Description → Next → List Line → List Cell
 row_cells all this row next.Behind lines = contents_cells all this row.contents lines
-row_cells all this row next.Literals lines = flat_map literal_cells (pending this)
+row_cells all this row next.Literals lines = flat_map (literal_cells all) (pending this)
 row_cells all this row next.Value lines = []
+row_cells all this row next.LiteralsAtValue lines = flat_map (literal_cells all) (pending this)
 
 -- the cells that a body places, with these lines after it
 abbrev pub body_cells : Placement → Placement → Body → List Line → List Cell
@@ -222,5 +240,5 @@ numbered at (cell ∷ cells) = (at, cell) ∷ numbered (at + 1) cells
 abbrev pub cells_from : Placement → Placement → List Line → List (ℕ × Cell)
 cells_from all this [] = []
 cells_from all this (line ∷ lines) =
-    numbered (address_or_zero this.next) (statement_cells all this line.statement lines)
+    numbered (address_or_zero (start_of this line.statement)) (statement_cells all this line.statement lines)
     ++ cells_from all (after_line this line) lines

@@ -1,7 +1,6 @@
--- The characters of constants and literals (Autocoder, "Literals", "DCW").
-use Rattle.std.specs.Prelude.{ℕ, ◌-◌, ◌==◌, nat_lt, Bool, ◌&&◌, if◌then◌else◌, List, map, take, replicate, position}
+-- The characters of constants (Autocoder, "Literals", "DCW").
+use Rattle.std.specs.Prelude.{ℕ, ◌-◌, ◌==◌, nat_lt, if◌then◌else◌, List, map, take, replicate, position}
 use Rattle.std.specs.Prelude.{unwrap_or, slice_index, slice_set}
-use Rattle.std.specs.Cmp.Lexicographic.{pointwise}
 use Rattle.bcd_1401.specs.Character.{with_zone_of}
 use Rattle.bcd_1401.specs.Graphic.{graphics}
 use Rattle.source_1401.specs.declared.constant.Text.{Text}
@@ -39,7 +38,3 @@ char_with code = if nat_lt code 64 then code else 0
 -- the list of them
 abbrev pub codes_in : Characters → List ℕ
 codes_in this = map char_with (take this.len this.codes)
-
--- literals are equal if their characters are
-abbrev pub same_characters : Characters → Characters → Bool
-same_characters one other = pointwise ◌==◌ one.codes other.codes && (one.len == other.len)

@@ -1,14 +1,22 @@
 -- The faults of a line, and the first line of a source that has one, with its lowest kind (own).
-use Rattle.std.specs.Prelude.{◌≡◌, ℕ, ◌+◌, ◌<◌, Bool, true, false, not, ◌&&◌, ◌||◌, nat_lt, if◌then◌else◌, List, []}
+use Rattle.std.specs.Prelude.{◌≡◌, ℕ, ◌+◌, ◌<◌, ◌==◌, Bool, true, false, not, ◌&&◌, ◌||◌, nat_lt, if◌then◌else◌, List, []}
 use Rattle.std.specs.Prelude.{◌∷◌, length, take, fold, slice_get, slice_index_or, Option, Some, None, is_none, is_some}
 use Rattle.std.specs.Option.{option_map, option_map_or}
 use Rattle.std.specs.List.{list_any}
+use Rattle.source_1401.specs.AreaLiterals.{DeclaredAreas, areas_of_line}
 use Rattle.source_1401.specs.Statement.{has_bad_label, has_bad_operands, is_end, lacks_field_label}
 use Rattle.source_1401.specs.declared.label.Label.{Label}
 use Rattle.source_1401.specs.declared.label.LabelField.{LabelField}
 use Rattle.source_1401.specs.declared.label.LabelField.TheVariants as labels
+use Rattle.source_1401.specs.declared.language.Language.{Language}
+use Rattle.source_1401.specs.declared.language.Language.TheVariants as languages
+use Rattle.source_1401.specs.declared.literal.AreaLiteral.{AreaLiteral}
+use Rattle.source_1401.specs.declared.literal.Literal.{Literal}
+use Rattle.source_1401.specs.declared.literal.Literal.TheVariants as literals
 use Rattle.source_1401.specs.declared.address.Base.{Base}
 use Rattle.source_1401.specs.declared.address.Base.TheVariants as bases
+use Rattle.source_1401.specs.declared.literal.Literal.{Literal}
+use Rattle.source_1401.specs.declared.literal.Literal.TheVariants as literals
 use Rattle.source_1401.specs.declared.operands.Operand.TheVariants as operands
 use Rattle.source_1401.specs.declared.operands.OperandField.{OperandField}
 use Rattle.source_1401.specs.declared.operands.OperandField.TheVariants as fields
@@ -25,7 +33,9 @@ use Rattle.source_1401.specs.declared.statement.LineCheck.TheVariants as bytes
 use Rattle.source_1401.specs.declared.statement.Statement.{Statement}
 use Rattle.source_1401.specs.declared.statement.Line.{Line}
 use Rattle.autocoder_1401.specs.Fault.{rank}
-use Rattle.autocoder_1401.specs.Symbols.{Declared, is_before, declared_at}
+use Rattle.autocoder_1401.specs.Known.{Declared, declared_at, known_of, is_known_before}
+use Rattle.autocoder_1401.specs.Symbols.{Sites, is_before, is_label_before}
+use Rattle.autocoder_1401.specs.declared.symbols.Declaration.{Declaration}
 use Rattle.autocoder_1401.specs.declared.fault.AsmKind.{AsmKind}
 use Rattle.autocoder_1401.specs.declared.fault.AsmKind.TheVariants as kinds
 use Rattle.autocoder_1401.specs.declared.fault.AsmFault.{AsmFault}
@@ -65,10 +75,27 @@ is_field (roles.Divides span) = true
 abbrev pub bad_label : Option ℕ → Statement → Bool
 bad_label areas this = has_bad_label this || (lacks_field_label this && is_some areas)
 
-abbrev pub double_label : Declared → ℕ → LabelField → Bool
-double_label declared number labels.Absent = false
-double_label declared number labels.Malformed = false
-double_label declared number (labels.Label label) = is_before number (declared label)
+abbrev pub double_label : Sites → ℕ → LabelField → Bool
+double_label sites number labels.Absent = false
+double_label sites number labels.Malformed = false
+double_label sites number (labels.Label label) = is_before number (sites label)
+
+-- an area literal with so many places
+abbrev pub is_area : ℕ → Option Declaration → Bool
+is_area places None = false
+is_area places (Some declaration) = option_map_or (λ (other : ℕ). other == places) declaration.area false
+
+-- an area literal whose symbol is a label, of the line itself or of one above it, or an area above it of other places
+abbrev pub double_area : Sites → Option AreaLiteral → Bool
+double_area sites None = false
+double_area sites (Some area) = not (is_area area.places (sites area.label))
+
+abbrev pub double_areas : Sites → DeclaredAreas → Bool
+double_areas sites areas = double_area sites areas.0 || double_area sites areas.1
+
+-- a label or an area literal whose symbol is declared already
+abbrev pub is_double : Sites → ℕ → DeclaredAreas → LabelField → Bool
+is_double sites number areas label = double_label sites number label || double_areas sites areas
 
 -- a field under no areas is no operation
 abbrev pub bad_operation : Option ℕ → Body → Bool
@@ -82,29 +109,46 @@ symbol_in_base bases.Here = None
 symbol_in_base (bases.Register number) = None
 symbol_in_base bases.NextHundred = None
 
+-- the symbol in a literal: that of its address, or of its area
+abbrev pub symbol_in_literal : Literal → Option Label
+symbol_in_literal (literals.Constant constant) = None
+symbol_in_literal (literals.Address literal) = symbol_in_base literal.address.base
+symbol_in_literal (literals.Area literal) = Some literal.label
+
 abbrev pub symbol_in : OperandField → Option Label
 symbol_in fields.Absent = None
 symbol_in fields.Malformed = None
 symbol_in (fields.Operand (operands.Address address)) = symbol_in_base address.base
-symbol_in (fields.Operand (operands.Literal constant)) = None
+symbol_in (fields.Operand (operands.Literal literal)) = symbol_in_literal literal
 symbol_in (fields.Operand (operands.Unit unit)) = None
 
 -- a symbol that no line declares
-abbrev pub is_undefined : Declared → OperandField → Bool
-is_undefined declared field = option_map_or (λ label. is_none (declared label)) (symbol_in field) false
+abbrev pub is_undefined : Sites → OperandField → Bool
+is_undefined sites field = option_map_or (λ label. is_none (sites label)) (symbol_in field) false
 
--- a symbol that no earlier line declares
-abbrev pub is_undefined_before : Declared → ℕ → OperandField → Bool
-is_undefined_before declared number field =
-    option_map_or (λ label. not (is_before number (declared label))) (symbol_in field) false
+-- ORG and LTORG may name a symbol whose value is known above them
+abbrev pub is_unknown_before : Declared → ℕ → OperandField → Bool
+is_unknown_before declared number field =
+    option_map_or (λ label. not (is_known_before number (known_of declared label))) (symbol_in field) false
 
--- some values take the labels of earlier lines alone
+-- EQU may name a label of an earlier line, in the wider language one whose value is known above it
+abbrev pub may_equal : Language → Declared → ℕ → Label → Bool
+may_equal languages.Plain declared number label = is_label_before number (declared.sites label)
+may_equal languages.Ibm declared number label = is_known_before number (known_of declared label)
+
+abbrev pub is_unequal : Declared → ℕ → OperandField → Bool
+is_unequal declared number field =
+    option_map_or (λ label. not (may_equal declared.language declared number label)) (symbol_in field) false
+
+-- addresses take any symbol that is declared, and some values those that are known above them
 abbrev pub undefined_in : Declared → ℕ → Addressing → Bool
 undefined_in declared number addressing.Nothing = false
-undefined_in declared number (addressing.Addresses of) = is_undefined declared of.a || is_undefined declared of.b
-undefined_in declared number (addressing.EarlierValue of) = is_undefined_before declared number of.a
-undefined_in declared number (addressing.Value of) = is_undefined declared of.a
-undefined_in declared number (addressing.Entry of) = is_undefined declared of.a
+undefined_in declared number (addressing.Addresses of) =
+    is_undefined declared.sites of.a || is_undefined declared.sites of.b
+undefined_in declared number (addressing.EarlierValue of) = is_unknown_before declared number of.a
+undefined_in declared number (addressing.Equal of) = is_unequal declared number of.a
+undefined_in declared number (addressing.Value of) = is_undefined declared.sites of.a
+undefined_in declared number (addressing.Entry of) = is_undefined declared.sites of.a
 
 abbrev pub undefined : Declared → ℕ → Body → Bool
 undefined declared number body = undefined_in declared number (describe body).addressing
@@ -148,7 +192,8 @@ has_fault declared at line kinds.LongLine = is_long line.bytes
 has_fault declared at line kinds.Graphic = is_foreign line.bytes
 has_fault declared at line kinds.Label = up_to_end_has at line (bad_label at.areas)
 has_fault declared at line kinds.DoubleLabel =
-    up_to_end_has at line (λ (this : Statement). double_label declared at.number this.label)
+    up_to_end_has at line
+    (λ (this : Statement). is_double declared.sites at.number (areas_of_line line) this.label)
 has_fault declared at line kinds.Operation =
     up_to_end_has at line (λ (this : Statement). bad_operation at.areas this.body)
 has_fault declared at line kinds.Undefined =
@@ -173,11 +218,11 @@ scanned =
 abbrev pub lowest : Declared → LineContext → Line → Option AsmKind
 lowest declared at line = first_of (has_fault declared at line) scanned
 
--- the lowest kind that a statement up to END has
-abbrev pub lowest_in : Declared → LineContext → Statement → Option AsmKind
-lowest_in declared at this =
+-- the lowest kind that a statement up to END has, of a line with these area literals
+abbrev pub lowest_in : Declared → LineContext → DeclaredAreas → Statement → Option AsmKind
+lowest_in declared at areas this =
     if bad_label at.areas this then Some kinds.Label
-    else if double_label declared at.number this.label then Some kinds.DoubleLabel
+    else if is_double declared.sites at.number areas this.label then Some kinds.DoubleLabel
     else if bad_operation at.areas this.body then Some kinds.Operation
     else if undefined declared at.number this.body then Some kinds.Undefined
     else if bad_operands at.areas this.body then Some kinds.Operand
@@ -194,8 +239,8 @@ first_fault_from declared at [] = if at.is_ended then None else Some (record { l
 first_fault_from declared at (line ∷ lines) =
     or_behind at.number (lowest declared at line) (first_fault_from declared (place_behind at line) lines)
 
-abbrev pub first_fault : List Line → Option AsmFault
-first_fault lines = first_fault_from (declared_at lines) first_place lines
+abbrev pub first_fault : Language → List Line → Option AsmFault
+first_fault language lines = first_fault_from (declared_at language lines) first_place lines
 
 -- the place of the line with this index: its number, whether one of those before it is an END, and the areas before it
 abbrev pub place_at : List Line → ℕ → LineContext

@@ -2,6 +2,7 @@ pub mod AllFaults
 pub mod Assembly
 pub mod Built
 pub mod Cells
+pub mod Chains
 pub mod Characters
 pub mod CrossReference
 pub mod Explanation
@@ -10,9 +11,11 @@ pub mod Filling
 pub mod FirstFault
 pub mod Fitted
 pub mod KeptLine
+pub mod Known
 pub mod Languages
 pub mod Laws
 pub mod Listing
+pub mod Literals
 pub mod Noted
 pub mod OwnFault
 pub mod Placement

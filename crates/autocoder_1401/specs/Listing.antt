@@ -1,6 +1,7 @@
 -- The lines of a listing (Autocoder, "Assembler Control"; their columns own).
-use Rattle.std.specs.Prelude.{ℕ, ◌+◌, ◌-◌, List, [], ◌∷◌, ◌++◌, length, map, take, drop, slice_index}
-use Rattle.std.specs.Prelude.{ℤ, nat_abs, if◌then◌else◌, Option, Some, None, codes}
+use Rattle.std.specs.Prelude.{ℕ, ◌+◌, ◌-◌, Bool, List, [], ◌∷◌, ◌++◌, length, map, take, drop, slice_index}
+use Rattle.std.specs.Prelude.{ℤ, pos, nat_abs, int_lt, if◌then◌else◌, Option, Some, None, codes}
+use Rattle.std.specs.Ordering.{int_eq}
 use Rattle.std.specs.List.{suffix_len}
 use Rattle.bcd_1401.specs.Graphic.{graphics}
 use Rattle.bcd_1401.specs.declared.cell.Cell.{Cell}
@@ -8,6 +9,8 @@ use Rattle.notation_1401.specs.Digits.{digits_in}
 use Rattle.source_1401.specs.Constant.{bytes_of}
 use Rattle.source_1401.specs.SourceLine.{padded, is_blank}
 use Rattle.source_1401.specs.Context.{lines_said}
+use Rattle.source_1401.specs.declared.address.Base.{Base}
+use Rattle.source_1401.specs.declared.address.Base.TheVariants as bases
 use Rattle.source_1401.specs.declared.constant.Constant.{Constant}
 use Rattle.source_1401.specs.declared.constant.Constant.TheVariants as constants
 use Rattle.source_1401.specs.Description.{describe}
@@ -16,12 +19,15 @@ use Rattle.source_1401.specs.declared.description.Addressing.TheVariants as addr
 use Rattle.source_1401.specs.declared.description.Next.{Next}
 use Rattle.source_1401.specs.declared.description.Next.TheVariants as next
 use Rattle.source_1401.specs.declared.language.Language.{Language}
+use Rattle.source_1401.specs.declared.literal.Literal.{Literal}
+use Rattle.source_1401.specs.declared.literal.Literal.TheVariants as literals
 use Rattle.source_1401.specs.declared.statement.Body.{Body}
 use Rattle.source_1401.specs.declared.statement.Statement.{Statement}
 use Rattle.source_1401.specs.declared.statement.Line.{Line}
 use Rattle.autocoder_1401.specs.Cells.{contents_cells, literal_cells}
-use Rattle.autocoder_1401.specs.Characters.{characters_of}
-use Rattle.autocoder_1401.specs.Placement.{Placement, nothing_placed, point_value, behind_literal, after_line, placed}
+use Rattle.autocoder_1401.specs.Literals.{key_of}
+use Rattle.autocoder_1401.specs.Placement.{Placement, nothing_placed, point_value, behind_literal, start_of, after_line}
+use Rattle.autocoder_1401.specs.Placement.{placed}
 
 -- the number of a line in at least four digits; four blanks for a line that isn't in the source
 unfoldable pub number_text : Option ℕ → List ℕ
@@ -60,20 +66,53 @@ spelling (constants.Plus digits) = codes "+" ++ bytes_of digits
 spelling (constants.Minus digits) = codes "-" ++ bytes_of digits
 spelling (constants.Blanks count) = codes "#" ++ digits_in 1 count
 
--- the lines of literals that are placed one after the other, each as it was first written
-abbrev pub literal_lines : ℤ → List Constant → List (List ℕ)
-literal_lines from [] = []
-literal_lines from (literal ∷ literals) =
-    listing_line None (Some from) (literal_cells (characters_of literal)) (spelling literal)
-    ∷ literal_lines (behind_literal from (characters_of literal)) literals
+-- what an address is counted from, as a source writes it
+unfoldable pub base_spelling : Base → List ℕ
+base_spelling (bases.Number number) = digits_in 1 number
+base_spelling (bases.Symbol label) = without_last_blanks label.text
+base_spelling bases.Here = codes "*"
+base_spelling (bases.Register number) = codes "X" ++ digits_in 1 number
+base_spelling bases.NextHundred = codes "*+X00"
+
+abbrev pub sign_spelling : Bool → List ℕ
+sign_spelling is_negative = if is_negative then codes "-" else codes "+"
+
+-- an adjustment, but for 0
+unfoldable pub adjustment_spelling : ℤ → List ℕ
+adjustment_spelling adjustment =
+    if int_eq adjustment (pos 0) then []
+    else sign_spelling (int_lt adjustment (pos 0)) ++ digits_in 1 (nat_abs adjustment)
+
+-- an index register, or +X0, if it is named
+unfoldable pub index_spelling : Option ℕ → List ℕ
+index_spelling None = []
+index_spelling (Some index) = codes "+X" ++ digits_in 1 index
+
+-- a literal as a source writes it
+unfoldable pub literal_spelling : Literal → List ℕ
+literal_spelling (literals.Constant constant) = spelling constant
+literal_spelling (literals.Address literal) =
+    sign_spelling literal.is_negative ++ base_spelling literal.address.base
+    ++ adjustment_spelling literal.address.adjustment
+    ++ index_spelling literal.address.index
+literal_spelling (literals.Area literal) =
+    without_last_blanks literal.label.text ++ codes "#" ++ digits_in 1 literal.places
+
+-- the lines of literals that are placed one after the other, each as it was first written, with all that is placed
+abbrev pub literal_lines : Placement → ℤ → List Literal → List (List ℕ)
+literal_lines all from [] = []
+literal_lines all from (literal ∷ literals) =
+    listing_line None (Some from) (literal_cells all (key_of literal)) (literal_spelling literal)
+    ∷ literal_lines all (behind_literal from (key_of literal)) literals
 
 -- how the literals were first written that a body places
-abbrev pub literals_by : Placement → Next → List Constant
+abbrev pub literals_by : Placement → Next → List Literal
 literals_by this next.Behind = []
 literals_by this next.Literals = drop (length this.addresses) this.spellings
 literals_by this next.Value = []
+literals_by this next.LiteralsAtValue = drop (length this.addresses) this.spellings
 
-abbrev pub literals_at : Placement → Body → List Constant
+abbrev pub literals_at : Placement → Body → List Literal
 literals_at this body = literals_by this (describe body).next
 
 -- what is placed by the lines whose labels an operand may name: some name the labels before them alone, the others all
@@ -81,10 +120,12 @@ abbrev pub placed_for : Placement → Placement → Addressing → Placement
 placed_for all this addressing.Nothing = this
 placed_for all this (addressing.Addresses of) = this
 placed_for all this (addressing.EarlierValue of) = this
+placed_for all this (addressing.Equal of) = this
 placed_for all this (addressing.Value of) = all
 placed_for all this (addressing.Entry of) = all
 
--- the address of a body: its first place, that of a field in the first area; the value of EQU, ORG, EX and END
+-- the address of a body: its first place, that of a field in the first area; the value of EQU, ORG, LTORG, EX and
+-- END
 abbrev pub address_at : Placement → Placement → Body → ℤ
 address_at all this body =
     let row = describe body in point_value (placed_for all this row.addressing) this row row.shows
@@ -97,8 +138,9 @@ address_shown all this body = if (describe body).is_remark then None else Some (
 abbrev pub cells_at : Placement → Placement → Body → List Line → List Cell
 cells_at all this body lines = contents_cells all this (describe body).contents lines
 
--- how the literals were first written that a line places: before EX and END each has a line of its own
-abbrev pub literals_in : Placement → Option Statement → List Constant
+-- how the literals were first written that a line places: before EX, END and LTORG each has a line of its
+-- own
+abbrev pub literals_in : Placement → Option Statement → List Literal
 literals_in this None = []
 literals_in this (Some statement) = literals_at this statement.body
 
@@ -114,7 +156,7 @@ abbrev pub listing_from : Placement → Placement → ℕ → List Line → List
 listing_from all this number [] sources = []
 listing_from all this number (line ∷ lines) [] = []
 listing_from all this number (line ∷ lines) (source ∷ sources) =
-    literal_lines this.next (literals_in this line.statement)
+    literal_lines all (start_of this line.statement) (literals_in this line.statement)
     ++ line_for all this number source line.statement lines
     ∷ listing_from all (after_line this line) (number + 1) lines sources
 

@@ -1,29 +1,26 @@
 -- The faults of a line that don't only follow from one told before (own).
-use Rattle.std.specs.Prelude.{ℕ, Bool, true, false, not, ◌&&◌, ◌||◌, if◌then◌else◌, List}
+use Rattle.std.specs.Prelude.{ℕ, Bool, true, false, not, ◌&&◌, ◌||◌, if◌then◌else◌}
 use Rattle.std.specs.Prelude.{Option, Some, None, is_none, is_some}
 use Rattle.std.specs.Option.{option_map_or}
+use Rattle.source_1401.specs.AreaLiterals.{DeclaredAreas}
 use Rattle.source_1401.specs.Description.{describe}
 use Rattle.source_1401.specs.declared.description.Addressing.{Addressing}
 use Rattle.source_1401.specs.declared.description.Addressing.TheVariants as addressing
 use Rattle.source_1401.specs.declared.description.AreaRole.{AreaRole}
 use Rattle.source_1401.specs.declared.description.AreaRole.TheVariants as roles
 use Rattle.source_1401.specs.declared.description.Description.{Description}
-use Rattle.source_1401.specs.declared.label.Label.{Label}
 use Rattle.source_1401.specs.declared.operands.OperandField.{OperandField}
 use Rattle.source_1401.specs.declared.statement.Body.{Body}
 use Rattle.source_1401.specs.declared.statement.Line.{Line}
 use Rattle.source_1401.specs.declared.statement.Statement.{Statement}
-use Rattle.autocoder_1401.specs.FirstFault.{first_place, place_behind, is_field, bad_label, double_label}
+use Rattle.autocoder_1401.specs.FirstFault.{first_place, place_behind, is_field, bad_label, is_double}
 use Rattle.autocoder_1401.specs.FirstFault.{bad_operation, is_undefined, undefined, bad_operands, up_to_end_has}
 use Rattle.autocoder_1401.specs.FirstFault.{has_fault, first_of, scanned, lowest}
-use Rattle.autocoder_1401.specs.Symbols.{Declared, first_from}
+use Rattle.autocoder_1401.specs.Known.{Declared}
+use Rattle.autocoder_1401.specs.Symbols.{Sites}
 use Rattle.autocoder_1401.specs.declared.own_fault.Before.{Before}
 use Rattle.autocoder_1401.specs.declared.fault.AsmKind.{AsmKind}
 use Rattle.autocoder_1401.specs.declared.fault.AsmKind.TheVariants as kinds
-
--- the first line with a label, END or not
-abbrev pub declared_anywhere : List Line → Label → Option ℕ
-declared_anywhere lines label = first_from 1 lines label
 
 -- before the first line of a source
 abbrev pub nothing_before : Before
@@ -62,34 +59,35 @@ own_bad_operation this body =
     bad_operation this.at.areas body && not (this.lost_areas && is_field (describe body).areas)
 
 -- a symbol that only lines after END declare, which are faulty themselves
-abbrev pub is_late : Declared → Declared → OperandField → Bool
-is_late declared anywhere field = is_undefined declared field && not (is_undefined anywhere field)
+abbrev pub is_late : Declared → Sites → OperandField → Bool
+is_late declared anywhere field = is_undefined declared.sites field && not (is_undefined anywhere field)
 
-abbrev pub undefined_anywhere : Declared → Declared → Addressing → Bool
+abbrev pub undefined_anywhere : Declared → Sites → Addressing → Bool
 undefined_anywhere declared anywhere addressing.Nothing = false
 undefined_anywhere declared anywhere (addressing.Addresses of) =
     is_undefined anywhere of.a || is_undefined anywhere of.b
 undefined_anywhere declared anywhere (addressing.EarlierValue of) = not (is_late declared anywhere of.a)
+undefined_anywhere declared anywhere (addressing.Equal of) = not (is_late declared anywhere of.a)
 undefined_anywhere declared anywhere (addressing.Value of) = is_undefined anywhere of.a
 undefined_anywhere declared anywhere (addressing.Entry of) = is_undefined anywhere of.a
 
 -- an undefined symbol that no line after END declares either
-abbrev pub own_undefined : Declared → Declared → ℕ → Body → Bool
+abbrev pub own_undefined : Declared → Sites → ℕ → Body → Bool
 own_undefined declared anywhere number body =
     undefined declared number body && undefined_anywhere declared anywhere (describe body).addressing
 
--- the lowest kind of a statement's own faults up to END
-abbrev pub own_in : Declared → Declared → Before → Statement → Option AsmKind
-own_in declared anywhere this of =
+-- the lowest kind of a statement's own faults up to END, of a line with these area literals
+abbrev pub own_in : Declared → Sites → Before → DeclaredAreas → Statement → Option AsmKind
+own_in declared anywhere this areas of =
     if bad_label this.at.areas of then Some kinds.Label
-    else if double_label declared this.at.number of.label then Some kinds.DoubleLabel
+    else if is_double declared.sites this.at.number areas of.label then Some kinds.DoubleLabel
     else if own_bad_operation this of.body then Some kinds.Operation
     else if own_undefined declared anywhere this.at.number of.body then Some kinds.Undefined
     else if bad_operands this.at.areas of.body then Some kinds.Operand
     else None
 
 -- a line has a fault of this kind that doesn't only follow from a line told before; of those after END, the first
-abbrev pub is_own : Declared → Declared → Before → Line → AsmKind → Bool
+abbrev pub is_own : Declared → Sites → Before → Line → AsmKind → Bool
 is_own declared anywhere this line kinds.Memory = false
 is_own declared anywhere this line kinds.LongLine = has_fault declared this.at line kinds.LongLine
 is_own declared anywhere this line kinds.Graphic = has_fault declared this.at line kinds.Graphic
@@ -106,6 +104,6 @@ is_own declared anywhere this line kinds.AfterEnd =
     has_fault declared this.at line kinds.AfterEnd && not this.is_past_end
 
 -- what is told of a line: the lowest kind of its own faults; of the first line with a fault, the lowest of all
-abbrev pub told : Declared → Declared → Before → Line → Option AsmKind
+abbrev pub told : Declared → Sites → Before → Line → Option AsmKind
 told declared anywhere this line =
     if this.is_clean then lowest declared this.at line else first_of (is_own declared anywhere this line) scanned

@@ -8,9 +8,11 @@ use Rattle.indexmap.specs.IndexMap.{insert_entry}
 use Rattle.source_1401.specs.Operands.{count_of}
 use Rattle.source_1401.specs.Statement.{well_formed}
 use Rattle.source_1401.specs.declared.label.Label.{Label}
+use Rattle.source_1401.specs.declared.address.Address.{Address}
 use Rattle.source_1401.specs.declared.address.Base.{Base}
 use Rattle.source_1401.specs.declared.address.Base.TheVariants as bases
 use Rattle.source_1401.specs.declared.constant.Constant.{Constant}
+use Rattle.source_1401.specs.declared.literal.Literal.{Literal}
 use Rattle.source_1401.specs.declared.operands.Operand.TheVariants as operands
 use Rattle.source_1401.specs.declared.operands.OperandField.{OperandField}
 use Rattle.source_1401.specs.declared.operands.OperandField.TheVariants as fields
@@ -32,21 +34,27 @@ use Rattle.source_1401.specs.declared.description.Point.TheVariants as point
 use Rattle.source_1401.specs.declared.statement.Body.{Body}
 use Rattle.source_1401.specs.declared.statement.Statement.{Statement}
 use Rattle.source_1401.specs.declared.statement.Line.{Line}
-use Rattle.autocoder_1401.specs.Characters.{characters_of, same_characters}
+use Rattle.autocoder_1401.specs.Characters.{characters_of}
+use Rattle.autocoder_1401.specs.Literals.{key_of, same_key, key_length}
 use Rattle.autocoder_1401.specs.Symbols.{same_label}
-use Rattle.autocoder_1401.specs.declared.characters.Characters.{Characters}
+use Rattle.autocoder_1401.specs.declared.literals.LiteralKey.{LiteralKey}
+use Rattle.autocoder_1401.specs.declared.literals.LiteralKey.TheVariants as keys
+use Rattle.autocoder_1401.specs.declared.placing.SymbolValue.{SymbolValue}
 
--- what is placed so far: the next place, the first place of the last areas, the place of the first instruction, the next
--- place as it was before END, the labels' values, the literals in order of first use with what each was first written
--- as, and the units places of those that are placed
+-- what is placed so far: the next place, the first place of the last areas, the place that the labels of their fields
+-- are counted from and the index of these, the place of the first instruction, the next place as it was before END, the
+-- labels' values, the literals in order of first use with what each was first written as, and the units places of those
+-- that are placed
 pub record Placement : Type 0 where
   pub next : ℤ
   pub areas : ℤ
+  pub fields_from : ℤ
+  pub fields_index : ℕ
   pub first_instruction : Option ℤ
   pub before_end : ℤ
-  pub values : List (Label × ℤ)
-  pub literals : List Characters
-  pub spellings : List Constant
+  pub values : List (Label × SymbolValue)
+  pub literals : List LiteralKey
+  pub spellings : List Literal
   pub addresses : List ℤ
 
 -- where a program is placed without ORG
@@ -59,6 +67,8 @@ nothing_placed =
     record {
       next = usual_place;
       areas = usual_place;
+      fields_from = usual_place;
+      fields_index = 0;
       first_instruction = None;
       before_end = usual_place;
       values = [];
@@ -106,12 +116,19 @@ register_value number = pos (84 + 5 * number)
 abbrev pub next_hundred : ℤ → ℤ
 next_hundred at = if int_le (pos 0) at then pos (nat_abs (at +ℤ pos 99) / 100 * 100) else pos 0
 
--- the value of a symbol by these values of labels
-abbrev pub symbol_value : List (Label × ℤ) → Label → ℤ
-symbol_value values label = unwrap_or (lookup (same_label label) values) (pos 0)
+-- what a symbol is that no label has
+abbrev pub no_symbol : SymbolValue
+no_symbol = record { value = pos 0; index = 0 }
+
+-- a symbol by these values of labels
+abbrev pub symbol_by : List (Label × SymbolValue) → Label → SymbolValue
+symbol_by values label = unwrap_or (lookup (same_label label) values) no_symbol
+
+abbrev pub symbol_value : List (Label × SymbolValue) → Label → ℤ
+symbol_value values label = (symbol_by values label).value
 
 -- the value of what an address is counted from, with this place for an asterisk
-abbrev pub base_value : List (Label × ℤ) → ℤ → Base → ℤ
+abbrev pub base_value : List (Label × SymbolValue) → ℤ → Base → ℤ
 base_value values here (bases.Number number) = pos number
 base_value values here (bases.Symbol label) = symbol_value values label
 base_value values here bases.Here = here
@@ -119,19 +136,40 @@ base_value values here (bases.Register number) = register_value number
 base_value values here bases.NextHundred = next_hundred here
 
 -- the value of an operand by these values of labels, with this place for an asterisk
-abbrev pub value_so_far : List (Label × ℤ) → ℤ → OperandField → ℤ
+abbrev pub value_so_far : List (Label × SymbolValue) → ℤ → OperandField → ℤ
 value_so_far values here fields.Absent = pos 0
 value_so_far values here fields.Malformed = pos 0
 value_so_far values here (fields.Operand (operands.Address address)) =
     base_value values here address.base +ℤ address.adjustment
-value_so_far values here (fields.Operand (operands.Literal constant)) = pos 0
+value_so_far values here (fields.Operand (operands.Literal literal)) = pos 0
 value_so_far values here (fields.Operand (operands.Unit unit)) = pos 0
 
--- an asterisk is the next place in ORG, and in other values the last place before it
+-- the index of a symbol as the base of an address; no other base has one
+abbrev pub base_index : List (Label × SymbolValue) → Base → ℕ
+base_index values (bases.Number number) = 0
+base_index values (bases.Symbol label) = (symbol_by values label).index
+base_index values bases.Here = 0
+base_index values (bases.Register number) = 0
+base_index values bases.NextHundred = 0
+
+-- the index of an address: the one that it names, +X0 for none among them, and else that of its symbol
+abbrev pub address_index : List (Label × SymbolValue) → Address → ℕ
+address_index values address = unwrap_or address.index (base_index values address.base)
+
+-- the index of an operand by these values of labels
+abbrev pub index_so_far : List (Label × SymbolValue) → OperandField → ℕ
+index_so_far values fields.Absent = 0
+index_so_far values fields.Malformed = 0
+index_so_far values (fields.Operand (operands.Address address)) = address_index values address
+index_so_far values (fields.Operand (operands.Literal literal)) = 0
+index_so_far values (fields.Operand (operands.Unit unit)) = 0
+
+-- an asterisk is the next place in ORG and LTORG, and in other values the last place before it
 abbrev pub asterisk_place : ℤ → Next → ℤ
 asterisk_place place next.Behind = place +ℤ negsuc 0
 asterisk_place place next.Literals = place +ℤ negsuc 0
 asterisk_place place next.Value = place
+asterisk_place place next.LiteralsAtValue = place
 
 -- where a program begins: the value of END, or without an operand the place of its first instruction
 abbrev pub entry_value : Placement → OperandField → ℤ
@@ -141,44 +179,59 @@ entry_value all (fields.Operand operand) =
     value_so_far all.values (asterisk_place all.before_end next.Literals) (fields.Operand operand)
 
 -- the literals that are used and not placed
-abbrev pub pending : Placement → List Characters
+abbrev pub pending : Placement → List LiteralKey
 pending this = drop (length this.addresses) this.literals
 
 -- the place after literals that begin at a place
-abbrev pub behind_literal : ℤ → Characters → ℤ
-behind_literal from literal = from +ℤ pos literal.len
+abbrev pub behind_literal : ℤ → LiteralKey → ℤ
+behind_literal from literal = from +ℤ pos (key_length literal)
 
-abbrev pub behind_literals : ℤ → List Characters → ℤ
+abbrev pub behind_literals : ℤ → List LiteralKey → ℤ
 behind_literals from literals = fold behind_literal from literals
 
 -- the units places of literals that begin at a place
-abbrev pub units_from : ℤ → List Characters → List ℤ
+abbrev pub units_from : ℤ → List LiteralKey → List ℤ
 units_from from [] = []
 units_from from (literal ∷ literals) =
     (behind_literal from literal +ℤ negsuc 0) ∷ units_from (behind_literal from literal) literals
 
 -- a literal that is used: a new one goes last
-abbrev pub with_literal : Placement → Constant → Placement
-with_literal this constant =
-    if list_any (same_characters (characters_of constant)) this.literals then this
+abbrev pub with_literal : Placement → Literal → Placement
+with_literal this literal =
+    if list_any (same_key (key_of literal)) this.literals then this
     else record this {
-      literals = this.literals ++ characters_of constant ∷ [];
+      literals = this.literals ++ key_of literal ∷ [];
       spellings =
-          this.spellings ++ constant ∷ [];
+          this.spellings ++ literal ∷ [];
     }
 
 abbrev pub with_operand : Placement → OperandField → Placement
 with_operand this fields.Absent = this
 with_operand this fields.Malformed = this
 with_operand this (fields.Operand (operands.Address address)) = this
-with_operand this (fields.Operand (operands.Literal constant)) = with_literal this constant
+with_operand this (fields.Operand (operands.Literal literal)) = with_literal this literal
 with_operand this (fields.Operand (operands.Unit unit)) = this
 
--- EX and END place the literals that are used and not placed
+-- the label of an area literal is its units place, and has no index
+abbrev pub with_area : List (Label × SymbolValue) → ℤ → LiteralKey → List (Label × SymbolValue)
+with_area values units (keys.Characters characters) = values
+with_area values units (keys.Address literal) = values
+with_area values units (keys.Area literal) =
+    insert_entry same_label values literal.label (record { value = units; index = 0 })
+
+-- the values of labels with those of the literals that begin at a place
+abbrev pub with_area_labels : List (Label × SymbolValue) → ℤ → List LiteralKey → List (Label × SymbolValue)
+with_area_labels values from [] = values
+with_area_labels values from (literal ∷ literals) =
+    let behind = behind_literal from literal in
+    with_area_labels (with_area values (behind +ℤ negsuc 0) literal) behind literals
+
+-- EX, END and LTORG place the literals that are used and not placed
 abbrev pub with_pending : Placement → Placement
 with_pending this =
     record this {
       next = behind_literals this.next (pending this);
+      values = with_area_labels this.values this.next (pending this);
       addresses =
           this.addresses ++ units_from this.next (pending this);
     }
@@ -191,17 +244,28 @@ abbrev pub with_uses : Placement → Addressing → Placement
 with_uses this addressing.Nothing = this
 with_uses this (addressing.Addresses of) = with_operand (with_operand this of.a) of.b
 with_uses this (addressing.EarlierValue of) = this
+with_uses this (addressing.Equal of) = this
 with_uses this (addressing.Value of) = this
 with_uses this (addressing.Entry of) = this
+
+-- the place that the labels of fields of areas are counted from: the first place of the areas, or 0 where they ask for it
+abbrev pub counted_from : ℤ → Option Areas → ℤ
+counted_from first None = first
+counted_from first (Some made) = if made.counts_from_zero then pos 0 else first
+
+-- the index that the labels of fields of areas have
+abbrev pub index_of_fields : Option Areas → ℕ
+index_of_fields made = option_map_or (λ (of : Areas). of.index) made 0
 
 -- areas begin at this place
 abbrev pub with_areas : Placement → ℤ → AreaRole → Placement
 with_areas this first areas.Ends = this
 with_areas this first areas.Keeps = this
-with_areas this first (areas.Makes made) = record this { areas = first }
+with_areas this first (areas.Makes made) =
+    record this { areas = first; fields_from = counted_from first made; fields_index = index_of_fields made }
 with_areas this first (areas.Divides span) = this
 
--- the value of ORG, by the values so far
+-- the value of ORG and of LTORG, by the values so far
 abbrev pub own_value : Placement → Addressing → ℤ
 own_value this asked = value_so_far this.values (asterisk_place this.next next.Value) (operands_in asked).a
 
@@ -210,6 +274,18 @@ abbrev pub moved : Placement → Description → Next → Placement
 moved this row next.Behind = with_next this (this.next +ℤ pos (contents_length row.contents))
 moved this row next.Literals = with_pending this
 moved this row next.Value = with_next this (own_value this row.addressing)
+moved this row next.LiteralsAtValue = with_pending (with_next this (own_value this row.addressing))
+
+-- where a statement places its cells: from the next place on, but those of LTORG from its value on
+abbrev pub start_by : Placement → Description → Next → ℤ
+start_by this row next.Behind = this.next
+start_by this row next.Literals = this.next
+start_by this row next.Value = this.next
+start_by this row next.LiteralsAtValue = own_value this row.addressing
+
+abbrev pub start_of : Placement → Option Statement → ℤ
+start_of this None = this.next
+start_of this (Some statement) = start_by this (describe statement.body) (describe statement.body).next
 
 -- the place of the first instruction, once contents begin at a place
 abbrev pub first_of_two : Option ℤ → ℤ → Contents → Option ℤ
@@ -227,6 +303,7 @@ abbrev pub end_of_two : ℤ → ℤ → Addressing → ℤ
 end_of_two before place addressing.Nothing = before
 end_of_two before place (addressing.Addresses of) = before
 end_of_two before place (addressing.EarlierValue of) = before
+end_of_two before place (addressing.Equal of) = before
 end_of_two before place (addressing.Value of) = before
 end_of_two before place (addressing.Entry of) = place
 
@@ -252,6 +329,7 @@ abbrev pub asked_value : Placement → Placement → Next → Addressing → ℤ
 asked_value by this step addressing.Nothing = pos 0
 asked_value by this step (addressing.Addresses of) = value_so_far by.values (asterisk_place this.next step) of.a
 asked_value by this step (addressing.EarlierValue of) = value_so_far by.values (asterisk_place this.next step) of.a
+asked_value by this step (addressing.Equal of) = value_so_far by.values (asterisk_place this.next step) of.a
 asked_value by this step (addressing.Value of) = value_so_far by.values (asterisk_place this.next step) of.a
 asked_value by this step (addressing.Entry of) = entry_value by of.a
 
@@ -260,14 +338,25 @@ abbrev pub point_value : Placement → Placement → Description → Point → �
 point_value by this row point.First = this.next
 point_value by this row point.Last = this.next +ℤ pos (contents_length row.contents) +ℤ negsuc 0
 point_value by this row (point.InArea place) = this.areas +ℤ pos place +ℤ negsuc 0
+point_value by this row (point.Counted place) = this.fields_from +ℤ pos place +ℤ negsuc 0
 point_value by this row point.Value = asked_value by this row.next row.addressing
 
--- the value of a label: the units place of a constant, the last place of DS, the last place of a field in the first
--- area, the value of EQU, and else the first place
-abbrev pub label_value : Placement → Body → ℤ
-label_value this body = point_value this this (describe body) (describe body).names
+-- the index of what a statement's point names: a field of areas has that of their fields, and EQU that of its operand
+abbrev pub point_index : Placement → Description → Point → ℕ
+point_index this row point.First = 0
+point_index this row point.Last = 0
+point_index this row (point.InArea place) = 0
+point_index this row (point.Counted place) = this.fields_index
+point_index this row point.Value = index_so_far this.values (operands_in row.addressing).a
 
-abbrev pub with_label : Placement → Option Label → ℤ → Placement
+-- the value of a label: the units place of a constant, the last place of DS, the last place of a field in the first
+-- area, the value of EQU, and else the first place; and its index
+abbrev pub label_value : Placement → Body → SymbolValue
+label_value this body =
+    let row = describe body in
+    record { value = point_value this this row row.names; index = point_index this row row.names }
+
+abbrev pub with_label : Placement → Option Label → SymbolValue → Placement
 with_label this None value = this
 with_label this (Some label) value = record this { values = insert_entry same_label this.values label value }
 

@@ -17,20 +17,22 @@ use Rattle.source_1401.specs.declared.statement.Body.{Body}
 use Rattle.source_1401.specs.declared.statement.Statement.{Statement}
 use Rattle.source_1401.specs.declared.statement.Line.{Line}
 use Rattle.autocoder_1401.specs.Cells.{literal_value}
-use Rattle.autocoder_1401.specs.Characters.{characters_of, same_characters}
-use Rattle.autocoder_1401.specs.Placement.{Placement, pending, contents_length, value_so_far, after_line, placed}
-use Rattle.autocoder_1401.specs.declared.characters.Characters.{Characters}
+use Rattle.autocoder_1401.specs.Literals.{key_of, same_key, key_length}
+use Rattle.autocoder_1401.specs.Placement.{Placement, pending, contents_length, value_so_far, start_of, after_line}
+use Rattle.autocoder_1401.specs.Placement.{placed}
+use Rattle.autocoder_1401.specs.declared.literals.LiteralKey.{LiteralKey}
 
 -- how many places literals take
-abbrev pub total : List Characters → ℕ
+abbrev pub total : List LiteralKey → ℕ
 total [] = 0
-total (literal ∷ literals) = literal.len + total literals
+total (literal ∷ literals) = key_length literal + total literals
 
--- how many places a body takes: EX and END those of the literals that they place
+-- how many places a body takes: EX, END and LTORG those of the literals that they place
 abbrev pub row_length : Placement → Description → Next → ℕ
 row_length this row next.Behind = contents_length row.contents
 row_length this row next.Literals = total (pending this)
 row_length this row next.Value = 0
+row_length this row next.LiteralsAtValue = total (pending this)
 
 abbrev pub body_length : Placement → Body → ℕ
 body_length this body = row_length this (describe body) (describe body).next
@@ -49,6 +51,7 @@ abbrev pub origin_by : Next → Addressing → Option Operands
 origin_by next.Behind asked = None
 origin_by next.Literals asked = None
 origin_by next.Value asked = Some (operands_in asked)
+origin_by next.LiteralsAtValue asked = Some (operands_in asked)
 
 abbrev pub origin_in : Body → Option Operands
 origin_in body = origin_by (describe body).next (describe body).addressing
@@ -62,11 +65,12 @@ abbrev pub AreNoOrigins : List Line → Type 0
 AreNoOrigins [] = Unit {0}
 AreNoOrigins (line ∷ lines) = (origin_with line.statement ≡ None) × AreNoOrigins lines
 
--- EX and END place literals
+-- EX, END and LTORG place literals
 abbrev pub places_by : Next → Bool
 places_by next.Behind = false
 places_by next.Literals = true
 places_by next.Value = false
+places_by next.LiteralsAtValue = true
 
 abbrev pub places_in : Body → Bool
 places_in body = places_by (describe body).next
@@ -76,53 +80,58 @@ places_with None = false
 places_with (Some statement) = places_in statement.body
 
 -- the literal that an operand is
-abbrev pub literal_in : OperandField → List Characters
+abbrev pub literal_in : OperandField → List LiteralKey
 literal_in fields.Absent = []
 literal_in fields.Malformed = []
 literal_in (fields.Operand (operands.Address address)) = []
-literal_in (fields.Operand (operands.Literal constant)) = characters_of constant ∷ []
+literal_in (fields.Operand (operands.Literal literal)) = key_of literal ∷ []
 literal_in (fields.Operand (operands.Unit unit)) = []
 
 -- the literals that a body uses
-abbrev pub uses_by : Addressing → List Characters
+abbrev pub uses_by : Addressing → List LiteralKey
 uses_by addressing.Nothing = []
 uses_by (addressing.Addresses of) = literal_in of.a ++ literal_in of.b
 uses_by (addressing.EarlierValue of) = []
+uses_by (addressing.Equal of) = []
 uses_by (addressing.Value of) = []
 uses_by (addressing.Entry of) = []
 
-abbrev pub uses_in : Body → List Characters
+abbrev pub uses_in : Body → List LiteralKey
 uses_in body = uses_by (describe body).addressing
 
-abbrev pub uses_with : Option Statement → List Characters
+abbrev pub uses_with : Option Statement → List LiteralKey
 uses_with None = []
 uses_with (Some statement) = uses_in statement.body
 
 -- the literals that lines use, in their order, each as often as it is used
-abbrev pub uses : List Line → List Characters
+abbrev pub uses : List Line → List LiteralKey
 uses lines = flat_map (λ (line : Line). uses_with line.statement) lines
 
 -- a literal after those that were used before it, unless it is one of them
-abbrev pub with_use : List Characters → Characters → List Characters
-with_use used literal = if list_any (same_characters literal) used then used else used ++ literal ∷ []
+abbrev pub with_use : List LiteralKey → LiteralKey → List LiteralKey
+with_use used literal = if list_any (same_key literal) used then used else used ++ literal ∷ []
 
 -- how lines are placed, whatever is before and after them
 pub record IsPlacedInTurn (lines : List Line) : Type 0 where
   -- After lines without an origin the next place is the one before them and their lengths.
   pub since : (before since rest : List Line) → lines ≡ before ++ since ++ rest → AreNoOrigins since
       → (placed (before ++ since)).next ≡ (placed before).next +ℤ pos (lengths_from (placed before) since)
-  -- After an origin it is the value of its operand, in which an asterisk is the place before it.
+  -- After an origin it is the value of its operand, in which an asterisk is the place before it, and the length of the
+  -- literals that it places.
   pub origin : (before : List Line) (line : Line) (rest : List Line) (of : Operands) → lines ≡ before ++ line ∷ rest
       → origin_with line.statement ≡ Some of
-      → (placed (before ++ line ∷ [])).next ≡ value_so_far (placed before).values (placed before).next of.a
+      → (placed (before ++ line ∷ [])).next
+      ≡ value_so_far (placed before).values (placed before).next of.a
+      +ℤ pos (length_with (placed before) line.statement)
   -- The literals are those that are used, each once, in the order of their first use,
   pub literals : (placed lines).literals ≡ fold with_use [] (uses lines)
   -- and each is kept as it was written there.
-  pub spelled : map characters_of (placed lines).spellings ≡ (placed lines).literals
-  -- EX and END place the literals that are used and not placed, in this order, one after the other from the next place
-  -- on: the units place of each, which operands name, is as far on as it and those in front of it are long.
-  pub standing : (before : List Line) (line : Line) (rest : List Line) (k : ℕ) (literal : Characters)
+  pub spelled : map key_of (placed lines).spellings ≡ (placed lines).literals
+  -- EX, END and LTORG place the literals that are used and not placed, in this order, one after the other, from the next
+  -- place on, and those of LTORG from its value on: the units place of each, which operands name, is as far on as it and
+  -- those in front of it are long.
+  pub standing : (before : List Line) (line : Line) (rest : List Line) (k : ℕ) (literal : LiteralKey)
       → lines ≡ before ++ line ∷ rest → places_with line.statement ≡ true
       → slice_get (pending (placed before)) k ≡ Some literal
       → literal_value (placed lines) literal
-      ≡ (placed before).next +ℤ pos (total (take (k + 1) (pending (placed before)))) +ℤ negsuc 0
+      ≡ start_of (placed before) line.statement +ℤ pos (total (take (k + 1) (pending (placed before)))) +ℤ negsuc 0

@@ -1,8 +1,9 @@
 -- The symbol table of a source (own).
-use Rattle.std.specs.Prelude.{ℕ, ◌+◌, ◌-◌, List, [], ◌∷◌, ◌++◌, Option, None, Some, codes}
+use Rattle.std.specs.Prelude.{ℕ, ◌+◌, ◌-◌, Bool, if◌then◌else◌, List, [], ◌∷◌, ◌++◌, Option, None, Some, codes}
 use Rattle.std.specs.Option.{option_map}
-use Rattle.std.specs.List.{flat_map}
+use Rattle.std.specs.List.{flat_map, list_any}
 use Rattle.notation_1401.specs.Digits.{digits_in}
+use Rattle.source_1401.specs.AreaLiterals.{areas_of_line}
 use Rattle.source_1401.specs.Description.{describe}
 use Rattle.source_1401.specs.Statement.{well_formed}
 use Rattle.source_1401.specs.declared.description.AreaRole.{AreaRole}
@@ -11,12 +12,16 @@ use Rattle.source_1401.specs.declared.description.Description.{Description}
 use Rattle.source_1401.specs.declared.description.Point.{Point}
 use Rattle.source_1401.specs.declared.description.Point.TheVariants as point
 use Rattle.source_1401.specs.declared.label.Label.{Label}
+use Rattle.source_1401.specs.declared.literal.AreaLiteral.{AreaLiteral}
 use Rattle.source_1401.specs.declared.statement.Body.{Body}
 use Rattle.source_1401.specs.declared.statement.Line.{Line}
 use Rattle.source_1401.specs.declared.statement.Span.{Span}
 use Rattle.source_1401.specs.declared.statement.Statement.{Statement}
 use Rattle.autocoder_1401.specs.Listing.{address_text}
-use Rattle.autocoder_1401.specs.Placement.{Placement, contents_length, symbol_value, placed}
+use Rattle.autocoder_1401.specs.Literals.{same_key}
+use Rattle.autocoder_1401.specs.Placement.{Placement, nothing_placed, contents_length, symbol_value, after_line}
+use Rattle.autocoder_1401.specs.Placement.{placed}
+use Rattle.autocoder_1401.specs.declared.literals.LiteralKey.TheVariants as keys
 use Rattle.autocoder_1401.specs.declared.symbol_table.Symbol.{Symbol}
 
 -- how many places a field of an area has
@@ -30,11 +35,13 @@ field_length (areas.Makes made) = None
 field_length (areas.Divides span) = option_map span_length span
 
 -- how many places a label names: those of an instruction, a constant, DS or all areas of DA with their group mark, or of
--- the field of one area; EQU names a value alone, and ORG a place at which nothing begins
+-- the field of one area; EQU names a value alone, and ORG and LTORG a place at which
+-- nothing begins
 abbrev pub length_by : Description → Point → Option ℕ
 length_by row point.First = Some (contents_length row.contents)
 length_by row point.Last = Some (contents_length row.contents)
 length_by row (point.InArea place) = field_length row.areas
+length_by row (point.Counted place) = field_length row.areas
 length_by row point.Value = None
 
 abbrev pub length_named : Description → Option ℕ
@@ -62,15 +69,47 @@ abbrev pub listed : Option Symbol → List Symbol
 listed None = []
 listed (Some symbol) = symbol ∷ []
 
+-- an area literal declares its label where it is used first
+abbrev pub is_used : Placement → AreaLiteral → Bool
+is_used this literal = list_any (same_key (keys.Area literal)) this.literals
+
+abbrev pub area_symbol : Placement → Placement → ℕ → AreaLiteral → List Symbol
+area_symbol all this number literal =
+    if is_used this literal then []
+    else record {
+      label = literal.label;
+      value = symbol_value all.values literal.label;
+      length = Some literal.places;
+      line = number;
+    } ∷ []
+
+abbrev pub area_symbols : Placement → Placement → ℕ → Option AreaLiteral → List Symbol
+area_symbols all this number None = []
+area_symbols all this number (Some literal) = area_symbol all this number literal
+
+-- the area literal that the second of two operands is, unless the first is the same
+abbrev pub second_area : Option AreaLiteral → Option AreaLiteral → Option AreaLiteral
+second_area None second = second
+second_area (Some first) None = None
+second_area (Some first) (Some second) = if same_key (keys.Area first) (keys.Area second) then None else Some second
+
+-- the symbols that a line of this number declares: its label, and those of the area literals that it uses first, in the
+-- order of its addresses
+abbrev pub symbols_at : Placement → Placement → ℕ → Line → List Symbol
+symbols_at all this number line =
+    let literals = areas_of_line line in
+    listed (symbol_at all number line.statement) ++ area_symbols all this number literals.0
+    ++ area_symbols all this number (second_area literals.0 literals.1)
+
 -- the symbols that lines declare, in their order, counting lines from this number
-abbrev pub symbols_from : Placement → ℕ → List Line → List Symbol
-symbols_from all number [] = []
-symbols_from all number (line ∷ lines) =
-    listed (symbol_at all number line.statement) ++ symbols_from all (number + 1) lines
+abbrev pub symbols_from : Placement → Placement → ℕ → List Line → List Symbol
+symbols_from all this number [] = []
+symbols_from all this number (line ∷ lines) =
+    symbols_at all this number line ++ symbols_from all (after_line this line) (number + 1) lines
 
 -- the symbols of a source, in the order of the lines that declare them
 abbrev pub symbols_in : List Line → List Symbol
-symbols_in lines = symbols_from (placed lines) 1 lines
+symbols_in lines = symbols_from (placed lines) nothing_placed 1 lines
 
 -- a length in five digits; five blanks if there is none
 unfoldable pub length_text : Option ℕ → List ℕ
@@ -85,6 +124,6 @@ symbol_line symbol =
     ++ digits_in 4 symbol.line
     ++ codes "\n"
 
--- the symbol table of lines: a line for each label
+-- the symbol table of lines: a line for each label, of a line or of an area literal
 abbrev pub symbols_text : List Line → List ℕ
 symbols_text lines = flat_map symbol_line (symbols_in lines)

@@ -3,6 +3,8 @@ use Rattle.std.specs.Prelude.{ℕ, ◌+◌, Bool, false, not, ◌&&◌, ◌||◌
 use Rattle.std.specs.Prelude.{pos, negsuc, ◌+ℤ◌, int_le, int_lt, Option, Some, None}
 use Rattle.std.specs.Option.{option_map_or}
 use Rattle.source_1401.specs.declared.address.Address.{Address}
+use Rattle.source_1401.specs.declared.literal.Literal.{Literal}
+use Rattle.source_1401.specs.declared.literal.Literal.TheVariants as literals
 use Rattle.source_1401.specs.declared.operands.Operand.TheVariants as operands
 use Rattle.source_1401.specs.declared.operands.OperandField.{OperandField}
 use Rattle.source_1401.specs.declared.operands.OperandField.TheVariants as fields
@@ -16,9 +18,10 @@ use Rattle.source_1401.specs.declared.statement.Body.{Body}
 use Rattle.source_1401.specs.declared.statement.Statement.{Statement}
 use Rattle.source_1401.specs.declared.statement.Line.{Line}
 use Rattle.autocoder_1401.specs.Placement.{Placement, nothing_placed, contents_length, pending}
-use Rattle.autocoder_1401.specs.Placement.{behind_literals, base_value, asked_value, entry_value, after_line, placed}
+use Rattle.autocoder_1401.specs.Placement.{behind_literals, start_by, base_value, asked_value, entry_value, after_line, placed}
 use Rattle.autocoder_1401.specs.declared.fault.AsmKind.TheVariants as kinds
 use Rattle.autocoder_1401.specs.declared.fault.AsmFault.{AsmFault}
+use Rattle.autocoder_1401.specs.declared.literals.LiteralKey.{LiteralKey}
 
 -- the value of an address before indexing, with this place for an asterisk
 abbrev pub address_value : Placement → ℤ → Address → ℤ
@@ -40,31 +43,41 @@ last_place first length = first +ℤ pos length +ℤ negsuc 0
 abbrev pub places_outside : ℕ → ℤ → ℕ → Bool
 places_outside size first length = nat_lt 0 length && not (are_in_core size first (first +ℤ pos length))
 
--- an address whose value isn't in core; a literal is looked at where it is placed, and a unit is no address
+-- a literal of an address whose value isn't in core; it is counted from a symbol, so no place is an asterisk in it
+abbrev pub literal_outside : ℕ → Placement → Literal → Bool
+literal_outside size all (literals.Constant constant) = false
+literal_outside size all (literals.Address literal) = not (is_in_core size (address_value all (pos 0) literal.address))
+literal_outside size all (literals.Area literal) = false
+
+-- an address whose value isn't in core, as an operand or as a literal; the places of a literal are looked at where it is
+-- placed, and a unit is no address
 abbrev pub operand_outside : ℕ → Placement → ℤ → OperandField → Bool
 operand_outside size all here fields.Absent = false
 operand_outside size all here fields.Malformed = false
 operand_outside size all here (fields.Operand (operands.Address address)) =
     not (is_in_core size (address_value all here address))
-operand_outside size all here (fields.Operand (operands.Literal constant)) = false
+operand_outside size all here (fields.Operand (operands.Literal literal)) = literal_outside size all literal
 operand_outside size all here (fields.Operand (operands.Unit unit)) = false
 
--- a literal that is placed here and isn't in core
-abbrev pub literals_outside : ℕ → Placement → Bool
-literals_outside size this =
-    nat_lt 0 (length (pending this)) && not (are_in_core size this.next (behind_literals this.next (pending this)))
+-- literals that are placed from here on and aren't in core
+abbrev pub literals_outside : ℕ → ℤ → List LiteralKey → Bool
+literals_outside size from literals =
+    nat_lt 0 (length literals) && not (are_in_core size from (behind_literals from literals))
 
--- literals that are placed here and aren't in core
-abbrev pub next_outside : ℕ → Placement → Next → Bool
-next_outside size this next.Behind = false
-next_outside size this next.Literals = literals_outside size this
-next_outside size this next.Value = false
+-- literals that a statement places and that aren't in core
+abbrev pub next_outside : ℕ → Placement → Description → Next → Bool
+next_outside size this row next.Behind = false
+next_outside size this row next.Literals = literals_outside size (start_by this row next.Literals) (pending this)
+next_outside size this row next.Value = false
+next_outside size this row next.LiteralsAtValue =
+    literals_outside size (start_by this row next.LiteralsAtValue) (pending this)
 
 -- a value that isn't in core; the next place may be the one after the last
 abbrev pub value_outside : ℕ → ℤ → Next → Bool
 value_outside size value next.Behind = not (is_in_core size value)
 value_outside size value next.Literals = not (is_in_core size value)
 value_outside size value next.Value = not (are_in_core size value value)
+value_outside size value next.LiteralsAtValue = not (are_in_core size value value)
 
 -- an address or a value that isn't in core
 abbrev pub addresses_outside : ℕ → Placement → Placement → Description → Addressing → Bool
@@ -74,6 +87,8 @@ addresses_outside size all this row (addressing.Addresses of) =
     operand_outside size all last of.a || operand_outside size all last of.b
 addresses_outside size all this row (addressing.EarlierValue of) =
     value_outside size (asked_value this this row.next (addressing.EarlierValue of)) row.next
+addresses_outside size all this row (addressing.Equal of) =
+    value_outside size (asked_value this this row.next (addressing.Equal of)) row.next
 addresses_outside size all this row (addressing.Value of) =
     value_outside size (asked_value all this row.next (addressing.Value of)) row.next
 addresses_outside size all this row (addressing.Entry of) = not (is_in_core size (entry_value all of.a))
@@ -81,7 +96,7 @@ addresses_outside size all this row (addressing.Entry of) = not (is_in_core size
 -- a place of a statement that isn't in core, a literal that it places, or a value
 abbrev pub row_outside : ℕ → Placement → Placement → Description → Bool
 row_outside size all this row =
-    places_outside size this.next (contents_length row.contents) || next_outside size this row.next
+    places_outside size this.next (contents_length row.contents) || next_outside size this row row.next
     || addresses_outside size all this row row.addressing
 
 abbrev pub body_outside : ℕ → Placement → Placement → Body → Bool

@@ -1,6 +1,6 @@
 -- What a source without a fault says and hardly means (own).
 use Rattle.std.specs.Prelude.{ℕ, ◌+◌, ◌==◌, Bool, true, false, not, ◌&&◌, ◌||◌, if◌then◌else◌, List, [], ◌∷◌, ◌++◌, pos, nat_le, slice_get}
-use Rattle.std.specs.Prelude.{Option, Some, None}
+use Rattle.std.specs.Prelude.{Option, Some, None, unwrap_or}
 use Rattle.std.specs.List.{list_any}
 use Rattle.std.specs.Option.{option_map_or, option_and_then}
 use Rattle.std.specs.Ordering.{int_eq}
@@ -16,6 +16,8 @@ use Rattle.source_1401.specs.declared.description.Contents.{Contents}
 use Rattle.source_1401.specs.declared.description.Contents.TheVariants as contents
 use Rattle.source_1401.specs.declared.description.Description.{Description}
 use Rattle.source_1401.specs.declared.label.Label.{Label}
+use Rattle.source_1401.specs.declared.literal.Literal.{Literal}
+use Rattle.source_1401.specs.declared.literal.Literal.TheVariants as literals
 use Rattle.source_1401.specs.declared.mnemonic.Instruction.{Instruction}
 use Rattle.source_1401.specs.declared.operands.Operand.TheVariants as operands
 use Rattle.source_1401.specs.declared.operands.OperandField.{OperandField}
@@ -70,11 +72,16 @@ is_plus (constants.Plus digits) = true
 is_plus (constants.Minus digits) = false
 is_plus (constants.Blanks count) = false
 
+abbrev pub is_plus_in : Literal → Bool
+is_plus_in (literals.Constant constant) = is_plus constant
+is_plus_in (literals.Address literal) = false
+is_plus_in (literals.Area literal) = false
+
 abbrev pub is_plus_literal : OperandField → Bool
 is_plus_literal fields.Absent = false
 is_plus_literal fields.Malformed = false
 is_plus_literal (fields.Operand (operands.Address address)) = false
-is_plus_literal (fields.Operand (operands.Literal constant)) = is_plus constant
+is_plus_literal (fields.Operand (operands.Literal literal)) = is_plus_in literal
 is_plus_literal (fields.Operand (operands.Unit unit)) = false
 
 -- an instruction that brings no sign into its fields: a comparison, a branch, and a sum with a literal that has a plus
@@ -104,9 +111,30 @@ signed_symbol (contents.AddressConstant constant) of = symbol_in of.a
 abbrev pub signed_label : Description → Option Label
 signed_label row = signed_symbol row.contents (operands_in row.addressing)
 
+-- the symbol of an address that an instruction may take from a literal
+abbrev pub addressed_in_literal : Literal → Option Label
+addressed_in_literal (literals.Constant constant) = None
+addressed_in_literal (literals.Address literal) = symbol_in_base literal.address.base
+addressed_in_literal (literals.Area literal) = None
+
+abbrev pub addressed_in : OperandField → Option Label
+addressed_in fields.Absent = None
+addressed_in fields.Malformed = None
+addressed_in (fields.Operand (operands.Address address)) = None
+addressed_in (fields.Operand (operands.Literal literal)) = addressed_in_literal literal
+addressed_in (fields.Operand (operands.Unit unit)) = None
+
+-- the address of the field with this label is a literal
+abbrev pub is_addressed : Label → Operands → Bool
+is_addressed label of = has_label label (addressed_in of.a) || has_label label (addressed_in of.b)
+
+-- a statement may bring a sign into the field with this label
+abbrev pub signs : Label → Description → Bool
+signs label row = has_label label (signed_label row) || is_addressed label (operands_in row.addressing)
+
 abbrev pub is_signed_in : Label → Line → Bool
 is_signed_in label line =
-    option_map_or (λ (this : Statement). has_label label (signed_label (describe this.body))) line.statement false
+    option_map_or (λ (this : Statement). signs label (describe this.body)) line.statement false
 
 -- a chain of instructions of this operation
 abbrev pub is_chain_of : ℕ → Chain → Bool
@@ -164,7 +192,7 @@ abbrev pub is_unit : OperandField → Bool
 is_unit fields.Absent = false
 is_unit fields.Malformed = false
 is_unit (fields.Operand (operands.Address address)) = false
-is_unit (fields.Operand (operands.Literal constant)) = false
+is_unit (fields.Operand (operands.Literal literal)) = false
 is_unit (fields.Operand (operands.Unit unit)) = true
 
 -- an instruction that the machine never carries out: one of another length, or one with a unit, which it hasn't got
@@ -220,22 +248,27 @@ has_sign (constants.Plus digits) = true
 has_sign (constants.Minus digits) = true
 has_sign (constants.Blanks count) = false
 
+abbrev pub has_sign_in : Literal → Bool
+has_sign_in (literals.Constant constant) = has_sign constant
+has_sign_in (literals.Address literal) = false
+has_sign_in (literals.Area literal) = false
+
 abbrev pub is_signed_literal : OperandField → Bool
 is_signed_literal fields.Absent = false
 is_signed_literal fields.Malformed = false
 is_signed_literal (fields.Operand (operands.Address address)) = false
-is_signed_literal (fields.Operand (operands.Literal constant)) = has_sign constant
+is_signed_literal (fields.Operand (operands.Literal literal)) = has_sign_in literal
 is_signed_literal (fields.Operand (operands.Unit unit)) = false
 
 -- a symbol alone, without an adjustment and an index register
 abbrev pub is_lone : Address → Bool
-is_lone address = int_eq address.adjustment (pos 0) && (address.index == 0)
+is_lone address = int_eq address.adjustment (pos 0) && (unwrap_or address.index 0 == 0)
 
 abbrev pub lone_symbol : OperandField → Option Label
 lone_symbol fields.Absent = None
 lone_symbol fields.Malformed = None
 lone_symbol (fields.Operand (operands.Address address)) = if is_lone address then symbol_in_base address.base else None
-lone_symbol (fields.Operand (operands.Literal constant)) = None
+lone_symbol (fields.Operand (operands.Literal literal)) = None
 lone_symbol (fields.Operand (operands.Unit unit)) = None
 
 -- the label of a number without a sign, into which no line brings one

@@ -8,14 +8,16 @@ ghost use Rattle.autocoder_1401.specs.Fault.{IsMemory};
 ghost use Rattle.autocoder_1401.specs.Languages.{AgreesWithPlain};
 ghost use Rattle.autocoder_1401.specs.OwnFault.{nothing_before};
 ghost use Rattle.autocoder_1401.specs.Symbols.{same_label};
+ghost use Rattle.autocoder_1401.specs.View.{symbols_view};
 
 use crate::assembly::assemble_image;
 use crate::fault::{AsmFault, AsmKind};
 use crate::hashing::SourceHashing;
 use crate::kept_line::KeptLine;
+use crate::known::{Symbols, declared};
 use crate::own_fault::{Before, told_of};
 use crate::reading::read_lines;
-use crate::symbols::{Labels, declared, declared_anywhere};
+use crate::symbols::{Sites, sites_anywhere};
 use source_1401::Language;
 use std::alloc::Global;
 
@@ -44,14 +46,14 @@ fn put_end(faults: &mut Vec<AsmFault>, before: Before) -> Result<(), AsmFault>
 
 /// Adds the faults of lines that these declare.
 fn put_faults(
-    labels: &Labels,
-    anywhere: &Labels,
+    symbols: &Symbols,
+    anywhere: &Sites,
     lines: &[KeptLine],
     faults: &mut Vec<AsmFault>,
 ) -> Result<(), AsmFault>
     requires { length lines.now < 2 ^ 32 }
     ensures ok { OnOk result (faults.new.items ≡ faults.old.items
-        ++ faults_from (get same_label labels.now) (get same_label anywhere.now) nothing_before lines.now) }
+        ++ faults_from (symbols_view symbols.now) (get same_label anywhere.now) nothing_before lines.now) }
     ensures err { IfErr result IsMemory }
 {
     let mut before = Before::NOTHING;
@@ -59,9 +61,9 @@ fn put_faults(
         put_told(
             faults,
             before.at.number,
-            told_of(labels, anywhere, before, line),
+            told_of(symbols, anywhere, before, line),
         )?;
-        before = before.next(labels, line);
+        before = before.next(symbols, line);
     }
     put_end(faults, before)?;
     Ok(())
@@ -71,16 +73,17 @@ fn put_faults(
 fn line_faults(
     alloc: Global,
     hashing: SourceHashing,
+    language: Language,
     lines: &[KeptLine],
 ) -> Result<Vec<AsmFault>, AsmFault>
     requires { length lines.now < 2 ^ 32 }
-    ensures ok { IfOk result (λ faults. faults.items ≡ line_faults lines.now) }
+    ensures ok { IfOk result (λ faults. faults.items ≡ line_faults language lines.now) }
     ensures err { IfErr result IsMemory }
 {
-    let labels = declared(alloc, hashing, lines)?;
-    let anywhere = declared_anywhere(alloc, hashing, lines)?;
+    let symbols = declared(alloc, hashing, language, lines)?;
+    let anywhere = sites_anywhere(alloc, hashing, lines)?;
     let mut faults = Vec::new(alloc);
-    put_faults(&labels, &anywhere, lines, &mut faults)?;
+    put_faults(&symbols, &anywhere, lines, &mut faults)?;
     Ok(faults)
 }
 
@@ -90,11 +93,11 @@ fn source_faults(
     language: Language,
     source: &[u8],
 ) -> Result<Vec<AsmFault>, AsmFault>
-    ensures ok { IfOk result (λ faults. faults.items ≡ line_faults (lines_in language source.now)) }
+    ensures ok { IfOk result (λ faults. faults.items ≡ line_faults language (lines_in language source.now)) }
     ensures err { IfErr result IsMemory }
 {
     let lines = read_lines(alloc, language, source)?;
-    let faults = line_faults(alloc, SourceHashing::from_source(source), &lines)?;
+    let faults = line_faults(alloc, SourceHashing::from_source(source), language, &lines)?;
     Ok(faults)
 }
 
@@ -123,8 +126,8 @@ fn add_outside(
     size: u16,
     faults: &mut Vec<AsmFault>,
 ) -> Result<(), AsmFault>
-    requires { faults.old.items ≡ line_faults (lines_in language source.now) }
-    ensures ok { OnOk result (faults.new.items ≡ all_faults size (lines_in language source.now)) }
+    requires { faults.old.items ≡ line_faults language (lines_in language source.now) }
+    ensures ok { OnOk result (faults.new.items ≡ all_faults language size (lines_in language source.now)) }
     ensures err { IfErr result IsMemory }
 {
     if faults.is_empty() {
@@ -151,7 +154,7 @@ pub fn faults(
     source: &[u8],
     size: u16,
 ) -> Result<Vec<AsmFault>, AsmFault>
-    ensures ok { IfOk result (λ faults. faults.items ≡ all_faults size (lines_in language source.now)) }
+    ensures ok { IfOk result (λ faults. faults.items ≡ all_faults language size (lines_in language source.now)) }
 
     // The first of them is the fault that the assembler tells; there is none exactly if it assembles.
     ensures first { IfOk result (λ faults. first_in faults.items ≡ fault_in (assembly_in language size source.now)) }
@@ -160,7 +163,7 @@ pub fn faults(
     ensures plain { AgreesWithPlain language size source.now }
 
     // Each is a fault of the line that it names.
-    ensures each { IfOk result (λ faults. All (IsTold size (lines_in language source.now)) faults.items) }
+    ensures each { IfOk result (λ faults. All (IsTold language size (lines_in language source.now)) faults.items) }
     ensures err { IfErr result IsMemory }
 {
     let mut faults = source_faults(alloc, language, source)?;

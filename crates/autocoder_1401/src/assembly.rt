@@ -1,7 +1,7 @@
 //! The passes of the assembler, in their order.
 ghost use Rattle.std.specs.Prelude.{◌≡◌, ◌<◌, ◌^◌, ◌⊎◌, length, None, Some, true, IfOk, IfErr, OnOk, IfNone, IfSome};
 ghost use Rattle.autocoder_1401.specs.Fault.{IsMemory, Gives};
-ghost use Rattle.autocoder_1401.specs.Symbols.{declared_at};
+ghost use Rattle.autocoder_1401.specs.Known.{declared_at};
 ghost use Rattle.autocoder_1401.specs.FirstFault.{first_fault, IsFaultless, IsFirstFault};
 ghost use Rattle.core_1401.specs.Storage.{is_core_size};
 ghost use Rattle.image_1401.specs.Image.{IsInCore};
@@ -20,11 +20,11 @@ use crate::fault::AsmFault;
 use crate::first_fault::first_fault;
 use crate::hashing::SourceHashing;
 use crate::kept_line::KeptLine;
+use crate::known::declared;
 use crate::listing::Listing;
 use crate::outputs::{make_listing, make_segments};
 use crate::placing::{Placing, place_all};
 use crate::reading::read_lines;
-use crate::symbols::declared;
 use image_1401::{Image, Segments};
 use source_1401::{Addressing, Language, Statement};
 use std::alloc::Global;
@@ -33,16 +33,18 @@ use std::alloc::Global;
 fn scan(
     alloc: Global,
     hashing: SourceHashing,
+    language: Language,
     lines: &[KeptLine],
 ) -> Result<Option<AsmFault>, AsmFault>
     requires { length lines.now < 2 ^ 32 }
-    ensures ok { IfOk result (λ fault. fault ≡ first_fault lines.now) }
-    ensures faultless { IfOk result (λ fault. IfNone fault (IsFaultless (declared_at lines.now) lines.now)) }
-    ensures first { IfOk result (λ fault. IfSome fault (λ f. IsFirstFault (declared_at lines.now) lines.now f)) }
+    ensures ok { IfOk result (λ fault. fault ≡ first_fault language lines.now) }
+    ensures faultless { IfOk result (λ fault. IfNone fault (IsFaultless (declared_at language lines.now) lines.now)) }
+    ensures first { IfOk result
+        (λ fault. IfSome fault (λ f. IsFirstFault (declared_at language lines.now) lines.now f)) }
     ensures err { IfErr result IsMemory }
 {
-    let labels = declared(alloc, hashing, lines)?;
-    let fault = first_fault(&labels, lines);
+    let symbols = declared(alloc, hashing, language, lines)?;
+    let fault = first_fault(&symbols, lines);
     Ok(fault)
 }
 
@@ -60,6 +62,7 @@ fn entry(all: &Placing, lines: &[KeptLine]) -> Result<i64, AsmFault>
             Addressing::Nothing
             | Addressing::Addresses(_)
             | Addressing::EarlierValue(_)
+            | Addressing::Equal(_)
             | Addressing::Value(_) => {},
         }
     }
@@ -70,16 +73,18 @@ fn entry(all: &Placing, lines: &[KeptLine]) -> Result<i64, AsmFault>
 pub(crate) fn place_lines(
     alloc: Global,
     hashing: SourceHashing,
+    language: Language,
     lines: &[KeptLine],
 ) -> Result<Placing, AsmFault>
     requires { length lines.now < 2 ^ 32 }
     ensures ok { IfOk result (λ all. places_of all ≡ placed lines.now) }
-    ensures none { OnOk result (first_fault lines.now ≡ None) }
-    ensures faultless { OnOk result (IsFaultless (declared_at lines.now) lines.now) }
+    ensures none { OnOk result (first_fault language lines.now ≡ None) }
+    ensures faultless { OnOk result (IsFaultless (declared_at language lines.now) lines.now) }
     ensures first { IfErr result (λ fault. IsMemory fault
-        ⊎ ((first_fault lines.now ≡ Some fault) × IsFirstFault (declared_at lines.now) lines.now fault)) }
+        ⊎ ((first_fault language lines.now ≡ Some fault)
+        × IsFirstFault (declared_at language lines.now) lines.now fault)) }
 {
-    if let Some(fault) = scan(alloc, hashing, lines)? {
+    if let Some(fault) = scan(alloc, hashing, language, lines)? {
         return Err(fault);
     }
     let all = place_all(alloc, hashing, lines)?;
@@ -170,7 +175,7 @@ pub fn assemble(
 
     // Only a source without a fault has them.
     ensures faultless { OnOk result
-        (IsFaultless (declared_at (lines_in language source.now)) (lines_in language source.now)) }
+        (IsFaultless (declared_at language (lines_in language source.now)) (lines_in language source.now)) }
 
     // All of the image is in core.
     ensures in_core { is_core_size size ≡ true → IfOk result (λ assembly. IsInCore assembly.image) }
@@ -180,16 +185,17 @@ pub fn assemble(
     ensures segments { is_core_size size ≡ true → IfOk result (λ assembly.
         IsCutOf (placed_cells (lines_in language source.now)) assembly.image.segments) }
 
-    // Placement advance by the lengths of the lines, and from the value of an origin after one; literals are kept once
-    // each in the order of their first use, and EX and END place them one after the other.
+    // Places advance by the lengths of the lines, and from the value of an origin after one; literals are kept once each
+    // in the order of their first use, and EX, END and LTORG place them one after the other.
     ensures placement { OnOk result (IsPlacedInTurn (lines_in language source.now)) }
 
     // A fault is the lowest of the first line that has one, or that something of a faultless source isn't in core.
-    ensures first { IfErr result (λ fault. IsMemory fault ⊎ IsFaultOf size (lines_in language source.now) fault) }
+    ensures first { IfErr result
+        (λ fault. IsMemory fault ⊎ IsFaultOf language size (lines_in language source.now) fault) }
 {
     let lines = read_lines(alloc, language, source)?;
     let hashing = SourceHashing::from_source(source);
-    let all = place_lines(alloc, hashing, &lines)?;
+    let all = place_lines(alloc, hashing, language, &lines)?;
     let assembly = make_assembly(alloc, &all, source, &lines, size)?;
     Ok(assembly)
 }
@@ -215,7 +221,7 @@ pub fn assemble_image(
 
     // Only a source without a fault has one.
     ensures faultless { OnOk result
-        (IsFaultless (declared_at (lines_in language source.now)) (lines_in language source.now)) }
+        (IsFaultless (declared_at language (lines_in language source.now)) (lines_in language source.now)) }
 
     // All of it is in core.
     ensures in_core { is_core_size size ≡ true → IfOk result IsInCore }
@@ -228,11 +234,12 @@ pub fn assemble_image(
     ensures placement { OnOk result (IsPlacedInTurn (lines_in language source.now)) }
 
     // A fault is the lowest of the first line that has one, or that something of a faultless source isn't in core.
-    ensures first { IfErr result (λ fault. IsMemory fault ⊎ IsFaultOf size (lines_in language source.now) fault) }
+    ensures first { IfErr result
+        (λ fault. IsMemory fault ⊎ IsFaultOf language size (lines_in language source.now) fault) }
 {
     let lines = read_lines(alloc, language, source)?;
     let hashing = SourceHashing::from_source(source);
-    let all = place_lines(alloc, hashing, &lines)?;
+    let all = place_lines(alloc, hashing, language, &lines)?;
     let image = make_image(alloc, &all, &lines, size)?;
     Ok(image)
 }

@@ -8,18 +8,21 @@ ghost use Rattle.autocoder_1401.specs.Cells.{address_or_zero, plain, with_word_m
 ghost use Rattle.autocoder_1401.specs.Cells.{operand_codes, d_codes, operands_cells, instruction_cells, constant_cells, literal_cells};
 ghost use Rattle.autocoder_1401.specs.Cells.{fields_behind, with_mark_at, with_field, repeated, areas_cells};
 ghost use Rattle.autocoder_1401.specs.Cells.{unit_codes, chain_cells, contents_cells, row_cells, statement_cells};
-ghost use Rattle.autocoder_1401.specs.Cells.{signed_place, field_cells, address_constant_cells, group_mark};
+ghost use Rattle.autocoder_1401.specs.Cells.{signed_place, signed_address, field_cells, address_constant_cells};
+ghost use Rattle.autocoder_1401.specs.Cells.{group_mark};
+ghost use Rattle.autocoder_1401.specs.Placement.{start_of};
 ghost use Rattle.autocoder_1401.specs.View.{places_of};
 
 use crate::characters::{Characters, char_of, char_with};
 use crate::fault::AsmFault;
 use crate::kept_line::KeptLine;
+use crate::literals::LiteralKey;
 use crate::placing::{Placing, instruction_length, last_place};
 use bcd_1401::{Cell, Char};
 use core_1401::{ADDRESSES, encode};
 use source_1401::{
-    AddressConstant, AreaRole, Areas, Chain, Constant, Contents, Description, Instruction, Next,
-    Operand, OperandField, Operands, Span, Statement, Unit,
+    Address, AddressConstant, AreaRole, Areas, Chain, Constant, Contents, Description, Instruction,
+    Next, Operand, OperandField, Operands, Span, Statement, Unit,
 };
 use std::alloc::Global;
 
@@ -110,10 +113,10 @@ fn address_chars(address: u16, index: u8) -> [Char; 3]
 
 impl Placing {
     /// The units place of a literal, once all is placed.
-    fn literal_value(&self, literal: &Characters) -> i64
-        ensures { result ≡ literal_value (places_of self.now) literal.now }
+    fn literal_value(&self, literal: LiteralKey) -> i64
+        ensures { result ≡ literal_value (places_of self.now) literal }
     {
-        let Some(i) = self.literals.get_index_of(literal) else {
+        let Some(i) = self.literals.get_index_of(&literal) else {
             return 0;
         };
         self.addresses.get(i).copied().unwrap_or(0)
@@ -133,10 +136,11 @@ impl Placing {
         match field {
             OperandField::Operand(Operand::Address(address)) => {
                 let value = self.address_value(here, address)?;
-                put_chars(out, &address_chars(address_or_zero(value), address.index))?;
+                let index = self.address_index(address);
+                put_chars(out, &address_chars(address_or_zero(value), index))?;
             },
-            OperandField::Operand(Operand::Literal(constant)) => {
-                let value = self.literal_value(&Characters::from_constant(constant));
+            OperandField::Operand(Operand::Literal(literal)) => {
+                let value = self.literal_value(LiteralKey::from_literal(literal));
                 put_chars(out, &encode(address_or_zero(value)))?;
             },
             OperandField::Operand(Operand::Unit(unit)) => put_chars(out, &unit_chars(unit))?,
@@ -167,6 +171,17 @@ impl Placing {
         address_or_zero(self.next)
     }
 
+    /// The address from which a line places its cells; 0 if it is none.
+    pub(crate) fn start_address(&self, line: &KeptLine) -> Result<u16, AsmFault>
+        ensures value { IfOk result
+            (λ at. at ≡ address_or_zero (start_of (places_of self.now) line.now.statement)) }
+        ensures range { IfOk result (λ at. at < addresses) }
+        ensures err { IfErr result IsMemory }
+    {
+        let start = self.start_of(line)?;
+        Ok(address_or_zero(start))
+    }
+
     /// Puts an instruction.
     fn put_instruction(
         &self,
@@ -188,6 +203,22 @@ impl Placing {
         Ok(())
     }
 
+    /// The characters of an address with a sign, once all is placed, with this place for an asterisk.
+    fn signed_address(
+        &self,
+        here: i64,
+        is_negative: bool,
+        address: Address,
+    ) -> Result<[Char; 3], AsmFault>
+        ensures value { IfOk result
+            (λ chars. chars ≡ signed_address (places_of self.now) here is_negative address) }
+        ensures err { IfErr result IsMemory }
+    {
+        let value = self.address_value(here, address)?;
+        let place = signed_place(is_negative, address_or_zero(value));
+        Ok(address_chars(place, self.address_index(address)))
+    }
+
     /// Puts an address constant of which this is the last place.
     fn put_address_constant(
         &self,
@@ -201,9 +232,7 @@ impl Placing {
     {
         match constant.operands.a {
             OperandField::Operand(Operand::Address(address)) => {
-                let value = self.address_value(here, address)?;
-                let place = signed_place(constant.is_negative, address_or_zero(value));
-                let chars = address_chars(place, address.index);
+                let chars = self.signed_address(here, constant.is_negative, address)?;
                 put_field(out, &chars, constant.is_marked)
             },
             OperandField::Operand(Operand::Literal(_) | Operand::Unit(_))
@@ -225,7 +254,7 @@ fn put_d(d: Option<u8>, out: &mut Vec<Cell>) -> Result<(), AsmFault>
 }
 
 /// Puts a constant.
-pub(crate) fn put_constant(
+fn put_constant(
     constant: Option<Constant>,
     marked: bool,
     out: &mut Vec<Cell>,
@@ -262,13 +291,36 @@ fn put_field(out: &mut Vec<Cell>, chars: &[Char], is_marked: bool) -> Result<(),
     }
 }
 
-/// Puts literals.
-fn put_literals(literals: &[Characters], out: &mut Vec<Cell>) -> Result<(), AsmFault>
-    ensures ok { OnOk result (out.new.items ≡ out.old.items ++ flat_map literal_cells literals.now) }
+/// Puts a literal, once all is placed.
+pub(crate) fn put_literal(
+    all: &Placing,
+    literal: LiteralKey,
+    out: &mut Vec<Cell>,
+) -> Result<(), AsmFault>
+    ensures ok { OnOk result (out.new.items ≡ out.old.items ++ literal_cells (places_of all.now) literal) }
+    ensures err { IfErr result IsMemory }
+{
+    match literal {
+        LiteralKey::Characters(characters) => put_marked(out, characters.as_slice()),
+        LiteralKey::Address(literal) => {
+            let chars = all.signed_address(0, literal.is_negative, literal.address)?;
+            put_field(out, &chars, true)
+        },
+        LiteralKey::Area(literal) => {
+            let blanks = Characters::from_constant(Constant::Blanks(literal.places));
+            put_marked(out, blanks.as_slice())
+        },
+    }
+}
+
+/// Puts literals, once all is placed.
+fn put_literals(all: &Placing, literals: &[LiteralKey], out: &mut Vec<Cell>) -> Result<(), AsmFault>
+    ensures ok { OnOk result
+        (out.new.items ≡ out.old.items ++ flat_map (literal_cells (places_of all.now)) literals.now) }
     ensures err { IfErr result IsMemory }
 {
     for literal in literals {
-        put_marked(out, literal.as_slice())?;
+        put_literal(all, *literal, out)?;
     }
     Ok(())
 }
@@ -419,7 +471,7 @@ pub(crate) fn put_row(
 {
     match row.next {
         Next::Behind => put_contents(alloc, all, so_far, row.contents, lines, out),
-        Next::Literals => put_literals(so_far.pending(), out),
+        Next::Literals | Next::LiteralsAtValue => put_literals(all, so_far.pending(), out),
         Next::Value => Ok(()),
     }
 }

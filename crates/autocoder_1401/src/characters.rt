@@ -1,4 +1,4 @@
-//! The characters of constants and literals.
+//! The characters of constants.
 ghost use Rattle.std.specs.Prelude.{◌≡◌, ◌<◌, map, take};
 ghost use Rattle.autocoder_1401.specs.Characters.{char_of, unsigned, over_units, with_sign, characters_of, char_with};
 

@@ -11,6 +11,7 @@ ghost use Rattle.autocoder_1401.specs.Fault.{IsMemory};
 ghost use Rattle.autocoder_1401.specs.Languages.{AgreesWithPlain};
 ghost use Rattle.autocoder_1401.specs.OwnFault.{nothing_before, told};
 ghost use Rattle.autocoder_1401.specs.Symbols.{same_label};
+ghost use Rattle.autocoder_1401.specs.View.{symbols_view};
 ghost use Rattle.autocoder_1401.specs.declared.explanation.Cause.TheVariants.{NoEnd, OutOfCore};
 
 use crate::all_faults::fault_of;
@@ -18,19 +19,20 @@ use crate::explanation::{Cause, Explanation, WHOLE_LINE, explain};
 use crate::fault::{AsmFault, AsmKind};
 use crate::hashing::SourceHashing;
 use crate::kept_line::KeptLine;
+use crate::known::{Symbols, declared};
 use crate::own_fault::{Before, told_of};
 use crate::reading::read_lines;
-use crate::symbols::{Labels, declared, declared_anywhere};
+use crate::symbols::{Sites, sites_anywhere};
 use source_1401::{Language, split_line};
 use std::alloc::Global;
 
-/// What declares labels: the lines, up to END or all of them.
+/// What is declared: by the lines up to END, and by all of them.
 #[derive(Drop)]
 struct Declarations {
-    /// For each label the line up to END that declares it.
-    labels: Labels,
-    /// For each label the first line that has it.
-    anywhere: Labels,
+    /// What the lines up to END declare.
+    symbols: Symbols,
+    /// Where each symbol is declared, by those after END too.
+    anywhere: Sites,
 }
 
 /// Adds the fault of a line with what is wrong, if one is told of it.
@@ -44,19 +46,19 @@ fn put_explained(
     explanations: &mut Vec<Explanation>,
 ) -> Result<(), AsmFault>
     ensures ok { OnOk result (explanations.new.items ≡ explanations.old.items
-        ++ explained language (get same_label this.now.labels) (get same_label this.now.anywhere) lines.now
+        ++ explained language (symbols_view this.now.symbols) (get same_label this.now.anywhere) lines.now
         before.at.number source.now line.now
-        (told (get same_label this.now.labels) (get same_label this.now.anywhere) before line.now)) }
+        (told (symbols_view this.now.symbols) (get same_label this.now.anywhere) before line.now)) }
     ensures err { IfErr result IsMemory }
 {
-    if let Some(kind) = told_of(&this.labels, &this.anywhere, before, line) {
+    if let Some(kind) = told_of(&this.symbols, &this.anywhere, before, line) {
         let fault = AsmFault {
             line: before.at.number,
             kind,
         };
         let explanation = explain(
             language,
-            &this.labels,
+            &this.symbols,
             &this.anywhere,
             lines,
             fault,
@@ -99,7 +101,7 @@ fn put_all_explained(
     requires as_many { length lines.now ≡ length (lines_of source.now) }
     requires few { length lines.now < 2 ^ 32 }
     ensures ok { OnOk result (explanations.new.items ≡ explanations.old.items
-        ++ explained_from language (get same_label this.now.labels) (get same_label this.now.anywhere) lines.now
+        ++ explained_from language (symbols_view this.now.symbols) (get same_label this.now.anywhere) lines.now
         nothing_before lines.now (lines_of source.now)) }
     ensures err { IfErr result IsMemory }
 {
@@ -110,7 +112,7 @@ fn put_all_explained(
             unreachable!()
         };
         put_explained(language, this, lines, before, text, line, explanations)?;
-        before = before.next(&this.labels, line);
+        before = before.next(&this.symbols, line);
         sources = behind;
     }
     put_explained_end(before, explanations)?;
@@ -131,9 +133,9 @@ fn line_explanations(
     ensures ok { IfOk result (λ v. v.items ≡ explained_lines language (lines_of source.now)) }
     ensures err { IfErr result IsMemory }
 {
-    let labels = declared(alloc, hashing, lines)?;
-    let anywhere = declared_anywhere(alloc, hashing, lines)?;
-    let this = Declarations { labels, anywhere };
+    let symbols = declared(alloc, hashing, language, lines)?;
+    let anywhere = sites_anywhere(alloc, hashing, lines)?;
+    let this = Declarations { symbols, anywhere };
     let mut explanations = Vec::new(alloc);
     put_all_explained(language, &this, source, lines, &mut explanations)?;
     Ok(explanations)
@@ -202,7 +204,7 @@ pub fn explained_faults(
     ensures ok { IfOk result (λ v. v.items ≡ all_explained language size (lines_of source.now)) }
 
     // They are all faults of the source.
-    ensures faults { IfOk result (λ v. faults_of v.items ≡ all_faults size (lines_in language source.now)) }
+    ensures faults { IfOk result (λ v. faults_of v.items ≡ all_faults language size (lines_in language source.now)) }
 
     // The first of them is the fault that the assembler tells; there is none exactly if it assembles.
     ensures first { IfOk result (λ v. first_in (faults_of v.items) ≡ fault_in (assembly_in language size source.now)) }
@@ -211,7 +213,7 @@ pub fn explained_faults(
     ensures plain { AgreesWithPlain language size source.now }
 
     // Each is a fault of the line that it names.
-    ensures each { IfOk result (λ v. All (IsTold size (lines_in language source.now)) (faults_of v.items)) }
+    ensures each { IfOk result (λ v. All (IsTold language size (lines_in language source.now)) (faults_of v.items)) }
     ensures err { IfErr result IsMemory }
 {
     let mut explanations = source_explanations(alloc, language, source)?;

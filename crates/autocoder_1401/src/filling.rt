@@ -3,7 +3,7 @@ ghost use Rattle.std.specs.Prelude.{◌≡◌, ◌∷◌, ◌++◌, [], fold, le
 ghost use Rattle.autocoder_1401.specs.Cells.{address_or_zero, numbered, statement_cells, cells_from};
 ghost use Rattle.autocoder_1401.specs.Fault.{IsMemory};
 ghost use Rattle.autocoder_1401.specs.Filling.{with_cell, addresses_from, addresses_of, filled};
-ghost use Rattle.autocoder_1401.specs.Placement.{after_line, nothing_placed, placed};
+ghost use Rattle.autocoder_1401.specs.Placement.{after_line, nothing_placed, placed, start_of};
 ghost use Rattle.autocoder_1401.specs.View.{places_of};
 
 use crate::cells::cells_of;
@@ -60,7 +60,7 @@ impl FilledSoFar {
         behind: &[KeptLine],
     ) -> Result<(), AsmFault>
         ensures storage { OnOk result (self.new.storage.items ≡ fold with_cell self.old.storage.items
-            (numbered (address_or_zero (places_of self.old.so_far).next)
+            (numbered (address_or_zero (start_of (places_of self.old.so_far) line.now.statement))
             (statement_cells (places_of all.now) (places_of self.old.so_far) line.now.statement behind.now))) }
         ensures addresses { OnOk result (self.new.addresses.items
             ≡ self.old.addresses.items ++ address_or_zero (places_of self.old.so_far).next ∷ []) }
@@ -69,9 +69,9 @@ impl FilledSoFar {
         ensures err { IfErr result IsMemory }
     {
         let cells = cells_of(alloc, all, &self.so_far, line, behind)?;
-        let address = self.so_far.address();
-        put_cells(&mut self.storage, address, &cells)?;
-        self.addresses.push(address)?;
+        let start = self.so_far.start_address(line)?;
+        put_cells(&mut self.storage, start, &cells)?;
+        self.addresses.push(self.so_far.address())?;
         self.so_far.place(line)?;
         Ok(())
     }

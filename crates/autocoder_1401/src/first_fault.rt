@@ -1,19 +1,22 @@
 //! The first line with a fault, and its lowest kind.
 ghost use Rattle.std.specs.Prelude.{◌≡◌, ◌+◌, ◌<◌, ◌^◌, length, IfNone, IfSome};
 ghost use Rattle.indexmap.specs.IndexMap.{get};
-ghost use Rattle.autocoder_1401.specs.Symbols.{same_label, is_before};
+ghost use Rattle.autocoder_1401.specs.Symbols.{same_label};
+ghost use Rattle.autocoder_1401.specs.View.{symbols_view};
 ghost use Rattle.autocoder_1401.specs.FirstFault.{first_place, place_behind, areas_behind, bad_label};
-ghost use Rattle.autocoder_1401.specs.FirstFault.{double_label, bad_operation, symbol_in, is_undefined};
-ghost use Rattle.autocoder_1401.specs.FirstFault.{is_undefined_before, undefined, is_past_areas, bad_operands};
+ghost use Rattle.autocoder_1401.specs.FirstFault.{double_label, is_area, double_area, is_double, bad_operation};
+ghost use Rattle.autocoder_1401.specs.FirstFault.{symbol_in_base, symbol_in_literal, symbol_in, is_undefined};
+ghost use Rattle.autocoder_1401.specs.FirstFault.{is_unknown_before, may_equal, is_unequal, undefined, is_past_areas, bad_operands};
 ghost use Rattle.autocoder_1401.specs.FirstFault.{lowest_in, lowest, first_fault_from, IsClean, IsLowest, IsFaultless};
 ghost use Rattle.autocoder_1401.specs.FirstFault.{IsFirstFault};
 
 use crate::fault::{AsmFault, AsmKind};
 use crate::kept_line::KeptLine;
-use crate::symbols::Labels;
+use crate::known::{Symbols, is_known_before};
+use crate::symbols::{Declaration, Sites, is_before, is_label_before};
 use source_1401::{
-    Addressing, AreaRole, Base, Body, Label, LabelField, LineCheck, Operand, OperandField,
-    Statement,
+    Addressing, AreaLiteral, AreaRole, Base, Body, DeclaredAreas, Label, LabelField, Language,
+    LineCheck, Literal, Operand, OperandField, Statement,
 };
 
 /// What the lines before a line tell of it.
@@ -98,91 +101,165 @@ impl LineContext {
     }
 }
 
-/// Whether a line before this one declares a label.
-fn is_before(number: u64, declared: Option<u64>) -> bool
-    ensures { result ≡ is_before number declared }
-{
-    match declared {
-        Some(line) => line < number,
-        None => false,
-    }
-}
-
-/// Whether an earlier line has the label.
-pub(crate) fn has_double_label(labels: &Labels, number: u64, field: LabelField) -> bool
-    ensures { result ≡ double_label (get same_label labels.now) number field }
+/// Whether an earlier line declares the label.
+pub(crate) fn has_double_label(sites: &Sites, number: u64, field: LabelField) -> bool
+    ensures { result ≡ double_label (get same_label sites.now) number field }
 {
     match field {
-        LabelField::Label(label) => is_before(number, labels.get(&label).copied()),
+        LabelField::Label(label) => is_before(number, sites.get(&label).copied()),
         LabelField::Absent | LabelField::Malformed => false,
     }
 }
 
-/// The symbol that an operand names.
-pub(crate) fn symbol_in(field: OperandField) -> Option<Label>
-    ensures { result ≡ symbol_in field }
+/// Whether a declaration is an area literal with so many places.
+fn is_area(places: u8, declared: Option<Declaration>) -> bool
+    ensures { result ≡ is_area places declared }
 {
-    match field {
-        OperandField::Operand(Operand::Address(address)) => match address.base {
-            Base::Symbol(label) => Some(label),
-            Base::Number(_) | Base::Here | Base::Register(_) | Base::NextHundred => None,
-        },
-        OperandField::Operand(Operand::Literal(_) | Operand::Unit(_))
-        | OperandField::Absent
-        | OperandField::Malformed => None,
+    match declared {
+        Some(
+            Declaration {
+                area: Some(other),
+                ..
+            },
+        ) => other == places,
+        Some(Declaration { area: None, .. }) | None => false,
     }
 }
 
-/// Whether an operand's symbol is the label of no line.
-pub(crate) fn is_undefined(labels: &Labels, field: OperandField) -> bool
-    ensures { result ≡ is_undefined (get same_label labels.now) field }
+/// Whether an area literal's symbol is declared already, and not as the same area.
+pub(crate) fn is_double_area(sites: &Sites, area: Option<AreaLiteral>) -> bool
+    ensures { result ≡ double_area (get same_label sites.now) area }
 {
-    match symbol_in(field) {
-        Some(label) => labels.get(&label).is_none(),
+    match area {
+        Some(area) => !is_area(area.places, sites.get(&area.label).copied()),
         None => false,
     }
 }
 
-/// Whether an operand's symbol is the label of no earlier line.
-fn is_undefined_before(labels: &Labels, number: u64, field: OperandField) -> bool
-    ensures { result ≡ is_undefined_before (get same_label labels.now) number field }
+/// Whether a label or an area literal of a line has a symbol that is declared already.
+pub(crate) fn has_double(
+    sites: &Sites,
+    number: u64,
+    areas: DeclaredAreas,
+    field: LabelField,
+) -> bool
+    ensures { result ≡ is_double (get same_label sites.now) number areas field }
+{
+    has_double_label(sites, number, field)
+        || is_double_area(sites, areas.0)
+        || is_double_area(sites, areas.1)
+}
+
+/// The symbol that an address is counted from.
+fn symbol_in_base(base: Base) -> Option<Label>
+    ensures { result ≡ symbol_in_base base }
+{
+    match base {
+        Base::Symbol(label) => Some(label),
+        Base::Number(_) | Base::Here | Base::Register(_) | Base::NextHundred => None,
+    }
+}
+
+/// The symbol in a literal.
+fn symbol_in_literal(literal: Literal) -> Option<Label>
+    ensures { result ≡ symbol_in_literal literal }
+{
+    match literal {
+        Literal::Constant(_) => None,
+        Literal::Address(literal) => symbol_in_base(literal.address.base),
+        Literal::Area(literal) => Some(literal.label),
+    }
+}
+
+/// The symbol that an operand names, as an address or in a literal.
+pub(crate) fn symbol_in(field: OperandField) -> Option<Label>
+    ensures { result ≡ symbol_in field }
+{
+    match field {
+        OperandField::Operand(Operand::Address(address)) => symbol_in_base(address.base),
+        OperandField::Operand(Operand::Literal(literal)) => symbol_in_literal(literal),
+        OperandField::Operand(Operand::Unit(_)) | OperandField::Absent | OperandField::Malformed =>
+            None,
+    }
+}
+
+/// Whether an operand's symbol is declared by no line.
+pub(crate) fn is_undefined(sites: &Sites, field: OperandField) -> bool
+    ensures { result ≡ is_undefined (get same_label sites.now) field }
 {
     match symbol_in(field) {
-        Some(label) => !is_before(number, labels.get(&label).copied()),
+        Some(label) => sites.get(&label).is_none(),
+        None => false,
+    }
+}
+
+/// Whether ORG or LTORG on the line of this number can't name an operand's symbol.
+fn is_unknown_before(symbols: &Symbols, number: u64, field: OperandField) -> bool
+    ensures { result ≡ is_unknown_before (symbols_view symbols.now) number field }
+{
+    match symbol_in(field) {
+        Some(label) => !is_known_before(number, symbols.known(label)),
+        None => false,
+    }
+}
+
+/// Whether EQU on the line of this number may name a symbol.
+fn may_equal(symbols: &Symbols, number: u64, label: Label) -> bool
+    ensures { result ≡ may_equal (symbols_view symbols.now).language (symbols_view symbols.now) number label }
+{
+    match symbols.language {
+        Language::Plain => is_label_before(number, symbols.sites.get(&label).copied()),
+        Language::Ibm => is_known_before(number, symbols.known(label)),
+    }
+}
+
+/// Whether EQU on the line of this number can't name an operand's symbol.
+fn is_unequal(symbols: &Symbols, number: u64, field: OperandField) -> bool
+    ensures { result ≡ is_unequal (symbols_view symbols.now) number field }
+{
+    match symbol_in(field) {
+        Some(label) => !may_equal(symbols, number, label),
         None => false,
     }
 }
 
 /// Whether a line here names a symbol that it can't.
-pub(crate) fn has_undefined(labels: &Labels, number: u64, body: Body) -> bool
-    ensures { result ≡ undefined (get same_label labels.now) number body }
+pub(crate) fn has_undefined(symbols: &Symbols, number: u64, body: Body) -> bool
+    ensures { result ≡ undefined (symbols_view symbols.now) number body }
 {
+    let sites = &symbols.sites;
     match body.describe().addressing {
         Addressing::Nothing => false,
         Addressing::Addresses(operands) => {
-            is_undefined(labels, operands.a) || is_undefined(labels, operands.b)
+            is_undefined(sites, operands.a) || is_undefined(sites, operands.b)
         },
-        Addressing::EarlierValue(operands) => is_undefined_before(labels, number, operands.a),
+        Addressing::EarlierValue(operands) => is_unknown_before(symbols, number, operands.a),
+        Addressing::Equal(operands) => is_unequal(symbols, number, operands.a),
         Addressing::Value(operands) | Addressing::Entry(operands) => {
-            is_undefined(labels, operands.a)
+            is_undefined(sites, operands.a)
         },
     }
 }
 
-/// The lowest kind of fault of a statement up to END.
-fn lowest_in_statement(labels: &Labels, at: LineContext, statement: Statement) -> Option<AsmKind>
-    ensures { result ≡ lowest_in (get same_label labels.now) at statement }
+/// The lowest kind of fault of a statement up to END, of a line with these area literals.
+fn lowest_in_statement(
+    symbols: &Symbols,
+    at: LineContext,
+    areas: DeclaredAreas,
+    statement: Statement,
+) -> Option<AsmKind>
+    ensures { result ≡ lowest_in (symbols_view symbols.now) at areas statement }
 {
     if at.has_bad_label(statement) {
         return Some(AsmKind::Label);
     }
-    if has_double_label(labels, at.number, statement.label) {
+    if has_double(&symbols.sites, at.number, areas, statement.label) {
         return Some(AsmKind::DoubleLabel);
     }
     if at.has_bad_operation(statement.body) {
         return Some(AsmKind::Operation);
     }
-    if has_undefined(labels, at.number, statement.body) {
+    if has_undefined(symbols, at.number, statement.body) {
         return Some(AsmKind::Undefined);
     }
     if at.has_bad_operands(statement) {
@@ -192,38 +269,40 @@ fn lowest_in_statement(labels: &Labels, at: LineContext, statement: Statement) -
 }
 
 /// The first kind that a line is found to have.
-fn lowest_of(labels: &Labels, at: LineContext, line: &KeptLine) -> Option<AsmKind>
-    ensures { result ≡ lowest (get same_label labels.now) at line.now }
+fn lowest_of(symbols: &Symbols, at: LineContext, line: &KeptLine) -> Option<AsmKind>
+    ensures { result ≡ lowest (symbols_view symbols.now) at line.now }
 {
     match (line.line().bytes, line.line().statement) {
         (LineCheck::Long, _) => Some(AsmKind::LongLine),
         (LineCheck::Foreign, _) => Some(AsmKind::Graphic),
         (LineCheck::Good, None) => None,
         (LineCheck::Good, Some(_)) if at.is_ended => Some(AsmKind::AfterEnd),
-        (LineCheck::Good, Some(statement)) => lowest_in_statement(labels, at, statement),
+        (LineCheck::Good, Some(statement)) => {
+            lowest_in_statement(symbols, at, line.line().areas(), statement)
+        },
     }
 }
 
 /// The lowest kind of a line's faults.
-pub(crate) fn lowest_kind(labels: &Labels, at: LineContext, line: &KeptLine) -> Option<AsmKind>
-    ensures value { result ≡ lowest (get same_label labels.now) at line.now }
-    ensures clean { IfNone result (IsClean (get same_label labels.now) at line.now) }
-    ensures lowest { IfSome result (λ kind. IsLowest (get same_label labels.now) at line.now kind) }
+pub(crate) fn lowest_kind(symbols: &Symbols, at: LineContext, line: &KeptLine) -> Option<AsmKind>
+    ensures value { result ≡ lowest (symbols_view symbols.now) at line.now }
+    ensures clean { IfNone result (IsClean (symbols_view symbols.now) at line.now) }
+    ensures lowest { IfSome result (λ kind. IsLowest (symbols_view symbols.now) at line.now kind) }
 {
-    let kind = lowest_of(labels, at, line);
+    let kind = lowest_of(symbols, at, line);
     kind
 }
 
 /// The first line with a fault, and its lowest kind.
-pub(crate) fn first_fault(labels: &Labels, lines: &[KeptLine]) -> Option<AsmFault>
+pub(crate) fn first_fault(symbols: &Symbols, lines: &[KeptLine]) -> Option<AsmFault>
     requires { length lines.now < 2 ^ 32 }
-    ensures value { result ≡ first_fault_from (get same_label labels.now) first_place lines.now }
-    ensures faultless { IfNone result (IsFaultless (get same_label labels.now) lines.now) }
-    ensures first { IfSome result (λ fault. IsFirstFault (get same_label labels.now) lines.now fault) }
+    ensures value { result ≡ first_fault_from (symbols_view symbols.now) first_place lines.now }
+    ensures faultless { IfNone result (IsFaultless (symbols_view symbols.now) lines.now) }
+    ensures first { IfSome result (λ fault. IsFirstFault (symbols_view symbols.now) lines.now fault) }
 {
     let mut at = LineContext::FIRST;
     for line in lines {
-        if let Some(kind) = lowest_kind(labels, at, line) {
+        if let Some(kind) = lowest_kind(symbols, at, line) {
             return Some(AsmFault {
                 line: at.number,
                 kind,

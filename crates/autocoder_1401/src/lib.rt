@@ -14,11 +14,14 @@ pub mod assembly; // the passes, in their order
 mod reading; // a source as its lines, each with its neighbours
 mod kept_line; // a line, as it is kept
 mod hashing; // how labels and literals are hashed
-mod symbols; // which line declares a label
+mod symbols; // which line declares a symbol
+mod chains; // what a label stands for whose EQU names one without a value so far
+mod known; // from which line on the value of a symbol is known
 mod first_fault; // faults of kinds 2 to 8, 10 and 11
 mod placing; // where statements and literals are placed
 mod values; // the values of addresses, and what isn't in core: kind 9
-mod characters; // the characters of constants and literals
+mod characters; // the characters of constants
+mod literals; // what makes two literals one
 mod cells; // the cells of a line
 mod segments; // the cells, cut into segments
 mod printing; // the parts of a line of the listing

@@ -5,22 +5,24 @@ ghost use Rattle.source_1401.specs.SourceLine.{lines_of};
 ghost use Rattle.source_1401.specs.Statement.{line_of};
 ghost use Rattle.autocoder_1401.specs.Fault.{IsMemory};
 ghost use Rattle.autocoder_1401.specs.Cells.{literal_cells};
-ghost use Rattle.autocoder_1401.specs.Characters.{characters_of};
-ghost use Rattle.autocoder_1401.specs.Listing.{listing_line, spelling, literal_lines, literals_at, address_at};
+ghost use Rattle.autocoder_1401.specs.Literals.{key_of};
+ghost use Rattle.autocoder_1401.specs.Listing.{listing_line, literal_spelling, literal_lines, literals_at, address_at};
 ghost use Rattle.autocoder_1401.specs.Listing.{address_shown};
 ghost use Rattle.autocoder_1401.specs.Listing.{cells_at};
 ghost use Rattle.autocoder_1401.specs.Listing.{literals_in, line_for, listing_from};
-ghost use Rattle.autocoder_1401.specs.Placement.{nothing_placed, after_line};
+ghost use Rattle.autocoder_1401.specs.Placement.{nothing_placed, start_of, after_line};
 ghost use Rattle.autocoder_1401.specs.View.{places_of};
 
-use crate::cells::{put_constant, put_contents};
-use crate::characters::Characters;
+use crate::cells::{put_contents, put_literal};
 use crate::fault::AsmFault;
 use crate::kept_line::KeptLine;
+use crate::literals::LiteralKey;
 use crate::placing::{Placing, checked_sum};
-use crate::printing::{cut_last_blanks, put_address, put_characters, put_number, put_spelling};
+use crate::printing::{
+    cut_last_blanks, put_address, put_characters, put_literal_spelling, put_number,
+};
 use bcd_1401::Cell;
-use source_1401::{Addressing, Body, Constant, Next, Statement};
+use source_1401::{Addressing, Body, Literal, Next, Statement};
 use std::alloc::Global;
 use std::marker::Model;
 
@@ -98,38 +100,44 @@ fn listing_line(
 /// Adds the lines of literals that are placed one after the other from a place on.
 fn put_literal_lines(
     alloc: Global,
+    all: &Placing,
     from: i64,
-    literals: &[Constant],
+    literals: &[Literal],
     lines: &mut Vec<ListingLine>,
 ) -> Result<(), AsmFault>
-    ensures ok { OnOk result (lines.new.items ≡ lines.old.items ++ literal_lines from literals.now) }
+    ensures ok { OnOk result
+        (lines.new.items ≡ lines.old.items ++ literal_lines (places_of all.now) from literals.now) }
     ensures err { IfErr result IsMemory }
 {
     let mut next = from;
     for literal in literals {
-        let characters = Characters::from_constant(*literal);
-        lines.push(literal_line(alloc, next, *literal)?)?;
-        next = checked_sum(next, i64::from(characters.len))?;
+        lines.push(literal_line(alloc, all, next, *literal)?)?;
+        next = checked_sum(next, i64::from(LiteralKey::from_literal(*literal).len()))?;
     }
     Ok(())
 }
 
 /// The line of a literal that is placed at a place.
-fn literal_line(alloc: Global, from: i64, literal: Constant) -> Result<ListingLine, AsmFault>
-    ensures ok { IfOk result (λ line. line
-        ≡ listing_line None (Some from) (literal_cells (characters_of literal)) (spelling literal)) }
+fn literal_line(
+    alloc: Global,
+    all: &Placing,
+    from: i64,
+    literal: Literal,
+) -> Result<ListingLine, AsmFault>
+    ensures ok { IfOk result (λ line. line ≡ listing_line None (Some from)
+        (literal_cells (places_of all.now) (key_of literal)) (literal_spelling literal)) }
     ensures err { IfErr result IsMemory }
 {
     let mut cells = Vec::new(alloc);
-    put_constant(Some(literal), true, &mut cells)?;
+    put_literal(all, LiteralKey::from_literal(literal), &mut cells)?;
     let mut source = Vec::new(alloc);
-    put_spelling(&mut source, literal)?;
+    put_literal_spelling(&mut source, literal)?;
     listing_line(alloc, None, Some(from), &cells, &source)
 }
 
 impl Placing {
     /// How the literals were first written that are used and not placed.
-    fn pending_spellings(&self) -> &[Constant]
+    fn pending_spellings(&self) -> &[Literal]
         ensures { result.now ≡ drop (length (places_of self.now).addresses) (places_of self.now).spellings }
     {
         let first = self.addresses.len();
@@ -142,11 +150,11 @@ impl Placing {
     }
 
     /// How the literals were first written that a body here places.
-    fn literals_at(&self, body: Body) -> &[Constant]
+    fn literals_at(&self, body: Body) -> &[Literal]
         ensures { result.now ≡ literals_at (places_of self.now) body }
     {
         match body.describe().next {
-            Next::Literals => self.pending_spellings(),
+            Next::Literals | Next::LiteralsAtValue => self.pending_spellings(),
             Next::Behind | Next::Value => &[],
         }
     }
@@ -159,9 +167,10 @@ impl Placing {
         let row = body.describe();
         match row.addressing {
             Addressing::Value(_) | Addressing::Entry(_) => self.point_value(all, row, row.shows),
-            Addressing::Nothing | Addressing::Addresses(_) | Addressing::EarlierValue(_) => {
-                self.point_value(self, row, row.shows)
-            },
+            Addressing::Nothing
+            | Addressing::Addresses(_)
+            | Addressing::EarlierValue(_)
+            | Addressing::Equal(_) => self.point_value(self, row, row.shows),
         }
     }
 
@@ -196,7 +205,7 @@ impl Placing {
     }
 
     /// How the literals were first written that a line here places.
-    fn literals_in(&self, line: &KeptLine) -> &[Constant]
+    fn literals_in(&self, line: &KeptLine) -> &[Literal]
         ensures { result.now ≡ literals_in (places_of self.now) line.now.statement }
     {
         match line.line().statement {
@@ -209,14 +218,17 @@ impl Placing {
     fn put_literals_of(
         &self,
         alloc: Global,
+        all: &Placing,
         line: &KeptLine,
         lines: &mut Vec<ListingLine>,
     ) -> Result<(), AsmFault>
         ensures ok { OnOk result (lines.new.items ≡ lines.old.items
-            ++ literal_lines (places_of self.now).next (literals_in (places_of self.now) line.now.statement)) }
+            ++ literal_lines (places_of all.now) (start_of (places_of self.now) line.now.statement)
+            (literals_in (places_of self.now) line.now.statement)) }
         ensures err { IfErr result IsMemory }
     {
-        put_literal_lines(alloc, self.next, self.literals_in(line), lines)
+        let from = self.start_of(line)?;
+        put_literal_lines(alloc, all, from, self.literals_in(line), lines)
     }
 
     /// The line of the listing for a line of the source here, with these lines after it.
@@ -255,12 +267,13 @@ impl Placing {
         lines: &mut Vec<ListingLine>,
     ) -> Result<(), AsmFault>
         ensures listed { OnOk result (lines.new.items ≡ lines.old.items
-            ++ (literal_lines (places_of self.now).next (literals_in (places_of self.now) line.now.statement)
+            ++ (literal_lines (places_of all.now) (start_of (places_of self.now) line.now.statement)
+            (literals_in (places_of self.now) line.now.statement)
             ++ line_for (places_of all.now) (places_of self.now) number source.now line.now.statement behind.now
             ∷ [])) }
         ensures err { IfErr result IsMemory }
     {
-        self.put_literals_of(alloc, line, lines)?;
+        self.put_literals_of(alloc, all, line, lines)?;
         lines.push(self.line_for(alloc, all, number, source, line, behind)?)?;
         Ok(())
     }

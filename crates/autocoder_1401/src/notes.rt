@@ -8,7 +8,8 @@ ghost use Rattle.autocoder_1401.specs.Fault.{IsMemory};
 ghost use Rattle.autocoder_1401.specs.Noted.{known_of};
 ghost use Rattle.autocoder_1401.specs.Symbols.{has_label, same_label};
 ghost use Rattle.autocoder_1401.specs.Warnings.{is_unsigned, is_number, number_label, is_number_in, is_plus_literal};
-ghost use Rattle.autocoder_1401.specs.Warnings.{brings_no_sign, last_field, signed_symbol, signed_label, is_signed_in};
+ghost use Rattle.autocoder_1401.specs.Warnings.{brings_no_sign, last_field, signed_symbol, signed_label, addressed_in, is_addressed};
+ghost use Rattle.autocoder_1401.specs.Warnings.{is_signed_in};
 ghost use Rattle.autocoder_1401.specs.Warnings.{is_chain_of, has_operation, is_named, is_number_of, is_signed};
 ghost use Rattle.autocoder_1401.specs.Warnings.{known_in};
 
@@ -18,8 +19,8 @@ use crate::hashing::SourceHashing;
 use crate::kept_line::KeptLine;
 use indexmap::IndexSet;
 use source_1401::{
-    Chain, Constant, Contents, Description, Instruction, Label, LabelField, Operand, OperandField,
-    Operands, Statement,
+    Chain, Constant, Contents, Description, Instruction, Label, LabelField, Literal, Operand,
+    OperandField, Operands, Statement,
 };
 use std::alloc::Global;
 
@@ -127,7 +128,7 @@ fn is_plus_literal(field: OperandField) -> bool
 {
     matches!(
         field,
-        OperandField::Operand(Operand::Literal(Constant::Plus(_)))
+        OperandField::Operand(Operand::Literal(Literal::Constant(Constant::Plus(_))))
     )
 }
 
@@ -175,7 +176,49 @@ fn signed_label(row: Description) -> Option<Label>
     }
 }
 
-/// Adds the label of a field into which a line may bring a sign.
+/// The symbol of an address that an instruction may take from a literal.
+fn addressed_in(field: OperandField) -> Option<Label>
+    ensures { result ≡ addressed_in field }
+{
+    match field {
+        OperandField::Operand(Operand::Literal(Literal::Address(_))) => symbol_in(field),
+        OperandField::Operand(
+            Operand::Literal(Literal::Constant(_) | Literal::Area(_))
+            | Operand::Address(_)
+            | Operand::Unit(_),
+        )
+        | OperandField::Absent
+        | OperandField::Malformed => None,
+    }
+}
+
+/// Adds the labels whose addresses are literals among these operands.
+fn note_addressed(labels: &mut LabelSet, operands: Operands) -> Result<(), AsmFault>
+    ensures noted { OnOk result ((other : ALabel) → contains same_label labels.new other
+        ≡ (contains same_label labels.old other || is_addressed other operands)) }
+    ensures err { IfErr result IsMemory }
+{
+    note(labels, addressed_in(operands.a))?;
+    note(labels, addressed_in(operands.b))?;
+    Ok(())
+}
+
+/// Adds a label, if there is one, and those whose addresses are literals among these operands.
+fn note_with_addressed(
+    labels: &mut LabelSet,
+    label: Option<Label>,
+    operands: Operands,
+) -> Result<(), AsmFault>
+    ensures noted { OnOk result ((other : ALabel) → contains same_label labels.new other
+        ≡ (contains same_label labels.old other || (has_label other label || is_addressed other operands))) }
+    ensures err { IfErr result IsMemory }
+{
+    note(labels, label)?;
+    note_addressed(labels, operands)?;
+    Ok(())
+}
+
+/// Adds the labels of fields into which a line may bring a sign.
 fn note_signed(labels: &mut LabelSet, line: &KeptLine) -> Result<(), AsmFault>
     ensures noted { OnOk result ((other : ALabel) → contains same_label labels.new other
         ≡ (contains same_label labels.old other || is_signed_in other line.now)) }
@@ -184,7 +227,8 @@ fn note_signed(labels: &mut LabelSet, line: &KeptLine) -> Result<(), AsmFault>
     let Some(Statement { body, .. }) = line.line().statement else {
         return Ok(());
     };
-    note(labels, signed_label(body.describe()))?;
+    let row = body.describe();
+    note_with_addressed(labels, signed_label(row), row.addressing.operands())?;
     Ok(())
 }
 

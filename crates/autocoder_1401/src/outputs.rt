@@ -7,7 +7,7 @@ ghost use Rattle.autocoder_1401.specs.Built.{built};
 ghost use Rattle.autocoder_1401.specs.Cells.{address_or_zero, numbered, statement_cells, cells_from};
 ghost use Rattle.autocoder_1401.specs.Fault.{IsMemory};
 ghost use Rattle.autocoder_1401.specs.Listing.{literal_lines, literals_in, line_for, listing_from};
-ghost use Rattle.autocoder_1401.specs.Placement.{nothing_placed, after_line};
+ghost use Rattle.autocoder_1401.specs.Placement.{nothing_placed, start_of, after_line};
 ghost use Rattle.autocoder_1401.specs.Segments.{segments_of};
 ghost use Rattle.autocoder_1401.specs.Values.{first_outside_from};
 ghost use Rattle.autocoder_1401.specs.View.{places_of};
@@ -49,7 +49,7 @@ impl SegmentsSoFar {
         behind: &[KeptLine],
     ) -> Result<(), AsmFault>
         ensures built { OnOk result ((rest : List (ℕ × ACell)) → built self.new.builder rest
-            ≡ built self.old.builder (numbered (address_or_zero (places_of self.old.so_far).next)
+            ≡ built self.old.builder (numbered (address_or_zero (start_of (places_of self.old.so_far) line.now.statement))
             (statement_cells (places_of all.now) (places_of self.old.so_far) line.now.statement behind.now) ++ rest)) }
         ensures placed { OnOk result
             (places_of self.new.so_far ≡ after_line (places_of self.old.so_far) line.now) }
@@ -102,7 +102,7 @@ impl ListingSoFar {
         behind: &[KeptLine],
     ) -> Result<(), AsmFault>
         ensures listed { OnOk result (self.new.listing.items ≡ self.old.listing.items
-            ++ (literal_lines (places_of self.old.so_far).next
+            ++ (literal_lines (places_of all.now) (start_of (places_of self.old.so_far) line.now.statement)
             (literals_in (places_of self.old.so_far) line.now.statement)
             ++ line_for (places_of all.now) (places_of self.old.so_far) number source.now line.now.statement behind.now
             ∷ [])) }

@@ -4,12 +4,14 @@ ghost use Rattle.indexmap.specs.IndexMap.{get};
 ghost use Rattle.autocoder_1401.specs.OwnFault.{loses_areas_at, before_next, own_bad_operation, is_late};
 ghost use Rattle.autocoder_1401.specs.OwnFault.{undefined_anywhere, own_undefined, own_in, told};
 ghost use Rattle.autocoder_1401.specs.Symbols.{same_label};
+ghost use Rattle.autocoder_1401.specs.View.{symbols_view};
 
 use crate::fault::AsmKind;
-use crate::first_fault::{LineContext, has_double_label, has_undefined, is_undefined, lowest_kind};
+use crate::first_fault::{LineContext, has_double, has_undefined, is_undefined, lowest_kind};
 use crate::kept_line::KeptLine;
-use crate::symbols::Labels;
-use source_1401::{Addressing, AreaRole, Body, LineCheck, OperandField, Statement};
+use crate::known::Symbols;
+use crate::symbols::Sites;
+use source_1401::{Addressing, AreaRole, Body, DeclaredAreas, LineCheck, OperandField, Statement};
 
 /// What the lines before a line tell of its faults.
 #[derive(Clone, Copy, Debug, PartialEq, Eq)]
@@ -50,12 +52,12 @@ impl Before {
     }
 
     /// What is before the line after this one.
-    pub(crate) fn next(self, labels: &Labels, line: &KeptLine) -> Before
+    pub(crate) fn next(self, symbols: &Symbols, line: &KeptLine) -> Before
         requires { self.at.number < 2 ^ 33 }
-        ensures { result ≡ before_next (get same_label labels.now) self line.now }
+        ensures { result ≡ before_next (symbols_view symbols.now) self line.now }
     {
         let at = self.at.behind(line);
-        let is_clean = self.is_clean && lowest_kind(labels, self.at, line).is_none();
+        let is_clean = self.is_clean && lowest_kind(symbols, self.at, line).is_none();
         match line.line().statement {
             Some(Statement { body, .. }) => Before {
                 at,
@@ -82,22 +84,24 @@ impl Before {
 }
 
 /// Whether an operand's symbol is the label of lines after END alone.
-fn is_late(labels: &Labels, anywhere: &Labels, field: OperandField) -> bool
-    ensures { result ≡ is_late (get same_label labels.now) (get same_label anywhere.now) field }
+fn is_late(symbols: &Symbols, anywhere: &Sites, field: OperandField) -> bool
+    ensures { result ≡ is_late (symbols_view symbols.now) (get same_label anywhere.now) field }
 {
-    is_undefined(labels, field) && !is_undefined(anywhere, field)
+    is_undefined(&symbols.sites, field) && !is_undefined(anywhere, field)
 }
 
 /// Whether a symbol here is the label of no line, those after END included.
-fn is_undefined_anywhere(labels: &Labels, anywhere: &Labels, addressing: Addressing) -> bool
-    ensures { result ≡ undefined_anywhere (get same_label labels.now) (get same_label anywhere.now) addressing }
+fn is_undefined_anywhere(symbols: &Symbols, anywhere: &Sites, addressing: Addressing) -> bool
+    ensures { result ≡ undefined_anywhere (symbols_view symbols.now) (get same_label anywhere.now) addressing }
 {
     match addressing {
         Addressing::Nothing => false,
         Addressing::Addresses(operands) => {
             is_undefined(anywhere, operands.a) || is_undefined(anywhere, operands.b)
         },
-        Addressing::EarlierValue(operands) => !is_late(labels, anywhere, operands.a),
+        Addressing::EarlierValue(operands) | Addressing::Equal(operands) => !is_late(
+            symbols, anywhere, operands.a,
+        ),
         Addressing::Value(operands) | Addressing::Entry(operands) => {
             is_undefined(anywhere, operands.a)
         },
@@ -105,32 +109,33 @@ fn is_undefined_anywhere(labels: &Labels, anywhere: &Labels, addressing: Address
 }
 
 /// Whether a line here names a symbol that it can't, and not because END is too early.
-fn has_own_undefined(labels: &Labels, anywhere: &Labels, number: u64, body: Body) -> bool
-    ensures { result ≡ own_undefined (get same_label labels.now) (get same_label anywhere.now) number body }
+fn has_own_undefined(symbols: &Symbols, anywhere: &Sites, number: u64, body: Body) -> bool
+    ensures { result ≡ own_undefined (symbols_view symbols.now) (get same_label anywhere.now) number body }
 {
-    has_undefined(labels, number, body)
-        && is_undefined_anywhere(labels, anywhere, body.describe().addressing)
+    has_undefined(symbols, number, body)
+        && is_undefined_anywhere(symbols, anywhere, body.describe().addressing)
 }
 
-/// The lowest kind of a line's own faults, of a statement up to END.
+/// The lowest kind of a line's own faults, of a statement up to END with these area literals.
 fn own_in_statement(
-    labels: &Labels,
-    anywhere: &Labels,
+    symbols: &Symbols,
+    anywhere: &Sites,
     before: Before,
+    areas: DeclaredAreas,
     statement: Statement,
 ) -> Option<AsmKind>
-    ensures { result ≡ own_in (get same_label labels.now) (get same_label anywhere.now) before statement }
+    ensures { result ≡ own_in (symbols_view symbols.now) (get same_label anywhere.now) before areas statement }
 {
     if before.at.has_bad_label(statement) {
         return Some(AsmKind::Label);
     }
-    if has_double_label(labels, before.at.number, statement.label) {
+    if has_double(&symbols.sites, before.at.number, areas, statement.label) {
         return Some(AsmKind::DoubleLabel);
     }
     if before.has_own_bad_operation(statement.body) {
         return Some(AsmKind::Operation);
     }
-    if has_own_undefined(labels, anywhere, before.at.number, statement.body) {
+    if has_own_undefined(symbols, anywhere, before.at.number, statement.body) {
         return Some(AsmKind::Undefined);
     }
     if before.at.has_bad_operands(statement) {
@@ -141,15 +146,15 @@ fn own_in_statement(
 
 /// What is told of a line.
 pub(crate) fn told_of(
-    labels: &Labels,
-    anywhere: &Labels,
+    symbols: &Symbols,
+    anywhere: &Sites,
     before: Before,
     line: &KeptLine,
 ) -> Option<AsmKind>
-    ensures { result ≡ told (get same_label labels.now) (get same_label anywhere.now) before line.now }
+    ensures { result ≡ told (symbols_view symbols.now) (get same_label anywhere.now) before line.now }
 {
     if before.is_clean {
-        return lowest_kind(labels, before.at, line);
+        return lowest_kind(symbols, before.at, line);
     }
     match (line.line().bytes, line.line().statement) {
         (LineCheck::Long, _) => Some(AsmKind::LongLine),
@@ -162,6 +167,8 @@ pub(crate) fn told_of(
                 Some(AsmKind::AfterEnd)
             }
         },
-        (LineCheck::Good, Some(statement)) => own_in_statement(labels, anywhere, before, statement),
+        (LineCheck::Good, Some(statement)) => {
+            own_in_statement(symbols, anywhere, before, line.line().areas(), statement)
+        },
     }
 }

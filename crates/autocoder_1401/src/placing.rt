@@ -2,16 +2,19 @@
 ghost use Rattle.std.specs.Prelude.{◌≡◌, ◌+◌, ◌*◌, ◌<◌, ◌≤◌, ◌+ℤ◌, ◌++◌, Some, drop, fold, IfOk, IfErr, OnOk};
 ghost use Rattle.indexmap.specs.IndexMap.{get};
 ghost use Rattle.source_1401.specs.Statement.{well_formed};
-ghost use Rattle.autocoder_1401.specs.Characters.{same_characters};
+ghost use Rattle.autocoder_1401.specs.Literals.{same_key};
 ghost use Rattle.autocoder_1401.specs.Fault.{IsMemory};
 ghost use Rattle.autocoder_1401.specs.Symbols.{same_label};
 ghost use Rattle.autocoder_1401.specs.Placement.{nothing_placed, with_literal, with_operand, with_pending, with_uses};
-ghost use Rattle.autocoder_1401.specs.Placement.{pending, behind_literals, units_from, instruction_length};
-ghost use Rattle.autocoder_1401.specs.Placement.{constant_length, areas_length, chain_length, contents_length};
-ghost use Rattle.autocoder_1401.specs.Placement.{register_value, next_hundred, symbol_value, base_value, value_so_far};
+ghost use Rattle.autocoder_1401.specs.Placement.{pending, behind_literals, units_from, with_area, with_area_labels};
+ghost use Rattle.autocoder_1401.specs.Placement.{instruction_length, constant_length, areas_length, chain_length};
+ghost use Rattle.autocoder_1401.specs.Placement.{contents_length};
+ghost use Rattle.autocoder_1401.specs.Placement.{register_value, next_hundred, no_symbol, symbol_by, symbol_value};
+ghost use Rattle.autocoder_1401.specs.Placement.{base_value, value_so_far, base_index, address_index, index_so_far};
 ghost use Rattle.autocoder_1401.specs.Placement.{asterisk_place, entry_value, asked_value, first_of_two, end_of_two};
-ghost use Rattle.autocoder_1401.specs.Placement.{with_ends, point_value, moved, gone_on, behind_row, with_label};
-ghost use Rattle.autocoder_1401.specs.Placement.{after_line, placed};
+ghost use Rattle.autocoder_1401.specs.Placement.{counted_from, index_of_fields, with_areas, own_value, start_by, start_of};
+ghost use Rattle.autocoder_1401.specs.Placement.{with_ends, point_value, point_index, label_value, moved, gone_on};
+ghost use Rattle.autocoder_1401.specs.Placement.{behind_row, with_label, after_line, placed};
 ghost use Rattle.autocoder_1401.specs.Values.{last_place};
 ghost use Rattle.autocoder_1401.specs.View.{places_of};
 ghost use Rattle.source_1401.specs.Operands.{count_of};
@@ -20,15 +23,33 @@ use crate::characters::Characters;
 use crate::fault::AsmFault;
 use crate::hashing::SourceHashing;
 use crate::kept_line::KeptLine;
+use crate::literals::LiteralKey;
 use indexmap::{IndexMap, IndexSet};
 use source_1401::{
-    Addressing, AreaRole, Areas, Base, Chain, Constant, Contents, Description, Label, LabelField,
-    Next, Operand, OperandField, Operands, Point, Statement,
+    Address, Addressing, AreaRole, Areas, Base, Body, Chain, Constant, Contents, Description,
+    Label, LabelField, Literal, Next, Operand, OperandField, Operands, Point, Statement,
 };
 use std::alloc::Global;
 
 /// Where a program is placed without ORG.
 const USUAL_PLACE: i64 = 333;
+
+/// What a symbol stands for.
+#[derive(Clone, Copy, Debug, PartialEq, Eq)]
+pub(crate) struct SymbolValue {
+    /// Its value.
+    pub value: i64,
+    /// The number of the index register that an operand takes from it, 0 for none.
+    pub index: u8,
+}
+
+impl SymbolValue {
+    /// A symbol that no label has.
+    const NONE: SymbolValue = SymbolValue { value: 0, index: 0 };
+}
+
+/// The values of labels.
+pub(crate) type Values = IndexMap<Label, SymbolValue, SourceHashing>;
 
 /// What is placed so far.
 #[derive(Drop)]
@@ -37,16 +58,20 @@ pub(crate) struct Placing {
     pub next: i64,
     /// The first place of the last areas.
     pub areas: i64,
+    /// The place that the labels of their fields are counted from.
+    pub fields_from: i64,
+    /// The index that the labels of their fields have.
+    pub fields_index: u8,
     /// The place of the first instruction.
     pub first_instruction: Option<i64>,
     /// The next place as it was before END.
     pub before_end: i64,
     /// The values of labels.
-    pub values: IndexMap<Label, i64, SourceHashing>,
+    pub values: Values,
     /// The literals in the order of their first use.
-    pub literals: IndexSet<Characters, SourceHashing>,
+    pub literals: IndexSet<LiteralKey, SourceHashing>,
     /// How each of them was first written.
-    pub spellings: Vec<Constant>,
+    pub spellings: Vec<Literal>,
     /// The units places of those that are placed.
     pub addresses: Vec<i64>,
     /// How labels and literals are hashed.
@@ -176,6 +201,7 @@ fn end_of_two(before: i64, place: i64, addressing: Addressing) -> i64
         Addressing::Nothing
         | Addressing::Addresses(_)
         | Addressing::EarlierValue(_)
+        | Addressing::Equal(_)
         | Addressing::Value(_) => before,
     }
 }
@@ -187,7 +213,7 @@ fn asterisk_place(next: i64, step: Next) -> Result<i64, AsmFault>
 {
     match step {
         Next::Behind | Next::Literals => checked_sum(next, -1),
-        Next::Value => Ok(next),
+        Next::Value | Next::LiteralsAtValue => Ok(next),
     }
 }
 
@@ -198,22 +224,75 @@ pub(crate) fn register_value(number: u8) -> i64
     84 + 5 * i64::from(number)
 }
 
+/// The place that the labels of fields of areas are counted from, which begin at a place.
+fn counted_from(first: i64, areas: Option<Areas>) -> i64
+    ensures { result ≡ counted_from first areas }
+{
+    match areas {
+        Some(areas) if areas.counts_from_zero => 0,
+        Some(_) | None => first,
+    }
+}
+
+/// The index that the labels of fields of areas have.
+fn index_of_fields(areas: Option<Areas>) -> u8
+    ensures { result ≡ index_of_fields areas }
+{
+    match areas {
+        Some(areas) => areas.index,
+        None => 0,
+    }
+}
+
 /// The place after literals that begin at a place.
-pub(crate) fn behind_literals(from: i64, literals: &[Characters]) -> Result<i64, AsmFault>
+pub(crate) fn behind_literals(from: i64, literals: &[LiteralKey]) -> Result<i64, AsmFault>
     ensures value { IfOk result (λ behind. behind ≡ behind_literals from literals.now) }
     ensures err { IfErr result IsMemory }
 {
     let mut next = from;
-    for characters in literals {
-        next = checked_sum(next, i64::from(characters.len))?;
+    for literal in literals {
+        next = checked_sum(next, i64::from(literal.len()))?;
     }
     Ok(next)
 }
 
-/// Placement literals from a place on, and says which place is next.
+/// Gives the label of an area literal its units place.
+fn give_area(values: &mut Values, units: i64, literal: LiteralKey) -> Result<(), AsmFault>
+    ensures ok { OnOk result (values.new.entries ≡ with_area values.old.entries units literal) }
+    ensures err { IfErr result IsMemory }
+{
+    match literal {
+        LiteralKey::Area(area) => {
+            let value = SymbolValue {
+                value: units,
+                index: 0,
+            };
+            values.insert(area.label, value)?;
+        },
+        LiteralKey::Characters(_) | LiteralKey::Address(_) => {},
+    }
+    Ok(())
+}
+
+/// Gives the labels of area literals that begin at a place their units places.
+fn give_areas(values: &mut Values, from: i64, literals: &[LiteralKey]) -> Result<(), AsmFault>
+    ensures ok { OnOk result (values.new.entries ≡ with_area_labels values.old.entries from literals.now) }
+    ensures err { IfErr result IsMemory }
+{
+    let mut next = from;
+    for literal in literals {
+        let behind = checked_sum(next, i64::from(literal.len()))?;
+        let units = checked_sum(behind, -1)?;
+        give_area(values, units, *literal)?;
+        next = behind;
+    }
+    Ok(())
+}
+
+/// Places literals from a place on, and says which place is next.
 fn place_literals(
     from: i64,
-    literals: &[Characters],
+    literals: &[LiteralKey],
     addresses: &mut Vec<i64>,
 ) -> Result<i64, AsmFault>
     ensures next { IfOk result (λ next. next ≡ behind_literals from literals.now) }
@@ -221,8 +300,8 @@ fn place_literals(
     ensures err { IfErr result IsMemory }
 {
     let mut next = from;
-    for characters in literals {
-        let behind = checked_sum(next, i64::from(characters.len))?;
+    for literal in literals {
+        let behind = checked_sum(next, i64::from(literal.len()))?;
         addresses.push(checked_sum(behind, -1)?)?;
         next = behind;
     }
@@ -230,7 +309,7 @@ fn place_literals(
 }
 
 /// The literals from an index on.
-fn behind(literals: &IndexSet<Characters, SourceHashing>, first: usize) -> &[Characters]
+fn behind(literals: &IndexSet<LiteralKey, SourceHashing>, first: usize) -> &[LiteralKey]
     ensures { result.now ≡ drop first literals.now.keys }
 {
     let all = literals.as_slice();
@@ -249,6 +328,8 @@ impl Placing {
         Placing {
             next: USUAL_PLACE,
             areas: USUAL_PLACE,
+            fields_from: USUAL_PLACE,
+            fields_index: 0,
             first_instruction: None,
             before_end: USUAL_PLACE,
             values: IndexMap::with_hasher(alloc, hashing),
@@ -260,17 +341,27 @@ impl Placing {
     }
 
     /// The literals that are used and not placed.
-    pub(crate) fn pending(&self) -> &[Characters]
+    pub(crate) fn pending(&self) -> &[LiteralKey]
         ensures { result.now ≡ pending (places_of self.now) }
     {
         behind(&self.literals, self.addresses.len())
+    }
+
+    /// A symbol by the values so far.
+    pub(crate) fn symbol(&self, label: Label) -> SymbolValue
+        ensures { result ≡ symbol_by (places_of self.now).values label }
+    {
+        self.values
+            .get(&label)
+            .copied()
+            .unwrap_or(SymbolValue::NONE)
     }
 
     /// The value of a symbol by the values so far.
     pub(crate) fn symbol_value(&self, label: Label) -> i64
         ensures { result ≡ symbol_value (places_of self.now).values label }
     {
-        self.values.get(&label).copied().unwrap_or(0)
+        self.symbol(label).value
     }
 
     /// The value so far of what an address is counted from, with this place for an asterisk.
@@ -303,6 +394,38 @@ impl Placing {
         }
     }
 
+    /// The index of a symbol as the base of an address, by the values so far.
+    fn base_index(&self, base: Base) -> u8
+        ensures { result ≡ base_index (places_of self.now).values base }
+    {
+        match base {
+            Base::Symbol(label) => self.symbol(label).index,
+            Base::Number(_) | Base::Here | Base::Register(_) | Base::NextHundred => 0,
+        }
+    }
+
+    /// The index of an address by the values so far.
+    pub(crate) fn address_index(&self, address: Address) -> u8
+        ensures { result ≡ address_index (places_of self.now).values address }
+    {
+        match address.index {
+            Some(index) => index,
+            None => self.base_index(address.base),
+        }
+    }
+
+    /// The index of an operand by the values so far.
+    fn index_so_far(&self, field: OperandField) -> u8
+        ensures { result ≡ index_so_far (places_of self.now).values field }
+    {
+        match field {
+            OperandField::Operand(Operand::Address(address)) => self.address_index(address),
+            OperandField::Operand(Operand::Literal(_) | Operand::Unit(_))
+            | OperandField::Absent
+            | OperandField::Malformed => 0,
+        }
+    }
+
     /// Where a program begins by the operand of END, once all is placed.
     pub(crate) fn entry_value(&self, field: OperandField) -> Result<i64, AsmFault>
         ensures value { IfOk result (λ value. value ≡ entry_value (places_of self.now) field) }
@@ -328,6 +451,7 @@ impl Placing {
             Addressing::Nothing => Ok(0),
             Addressing::Addresses(operands)
             | Addressing::EarlierValue(operands)
+            | Addressing::Equal(operands)
             | Addressing::Value(operands) => {
                 by.value_so_far(asterisk_place(self.next, row.next)?, operands.a)
             },
@@ -350,12 +474,38 @@ impl Placing {
             Point::First => Ok(self.next),
             Point::Last => last_place(self.next, contents_length(row.contents)),
             Point::InArea(place) => checked_sum(checked_sum(self.areas, i64::from(place))?, -1),
+            Point::Counted(place) => {
+                checked_sum(checked_sum(self.fields_from, i64::from(place))?, -1)
+            },
             Point::Value => self.asked_value(by, row),
         }
     }
 
+    /// The index of what a statement's point names.
+    fn point_index(&self, row: Description, point: Point) -> u8
+        ensures { result ≡ point_index (places_of self.now) row point }
+    {
+        match point {
+            Point::First | Point::Last | Point::InArea(_) => 0,
+            Point::Counted(_) => self.fields_index,
+            Point::Value => self.index_so_far(row.addressing.operands().a),
+        }
+    }
+
+    /// The value of a statement's label, and its index.
+    fn label_value(&self, body: Body) -> Result<SymbolValue, AsmFault>
+        ensures value { IfOk result (λ value. value ≡ label_value (places_of self.now) body) }
+        ensures err { IfErr result IsMemory }
+    {
+        let row = body.describe();
+        Ok(SymbolValue {
+            value: self.point_value(self, row, row.names)?,
+            index: self.point_index(row, row.names),
+        })
+    }
+
     /// Gives a label its value.
-    fn give(&mut self, field: LabelField, value: i64) -> Result<(), AsmFault>
+    fn give(&mut self, field: LabelField, value: SymbolValue) -> Result<(), AsmFault>
         ensures ok { OnOk result (places_of self.new ≡ with_label (places_of self.old) (well_formed field) value) }
         ensures err { IfErr result IsMemory }
     {
@@ -365,17 +515,17 @@ impl Placing {
         Ok(())
     }
 
-    /// Notes that a constant is used as a literal.
-    fn note_literal(&mut self, constant: Constant) -> Result<(), AsmFault>
-        ensures ok { OnOk result (places_of self.new ≡ with_literal (places_of self.old) constant) }
+    /// Notes that a literal is used.
+    fn note_literal(&mut self, literal: Literal) -> Result<(), AsmFault>
+        ensures ok { OnOk result (places_of self.new ≡ with_literal (places_of self.old) literal) }
         ensures err { IfErr result IsMemory }
     {
-        let characters = Characters::from_constant(constant);
-        if self.literals.contains(&characters) {
+        let key = LiteralKey::from_literal(literal);
+        if self.literals.contains(&key) {
             return Ok(());
         }
-        self.literals.insert(characters)?;
-        self.spellings.push(constant)?;
+        self.literals.insert(key)?;
+        self.spellings.push(literal)?;
         Ok(())
     }
 
@@ -385,22 +535,53 @@ impl Placing {
         ensures err { IfErr result IsMemory }
     {
         match field {
-            OperandField::Operand(Operand::Literal(constant)) => self.note_literal(constant),
+            OperandField::Operand(Operand::Literal(literal)) => self.note_literal(literal),
             OperandField::Operand(Operand::Address(_) | Operand::Unit(_))
             | OperandField::Absent
             | OperandField::Malformed => Ok(()),
         }
     }
 
-    /// Placement the literals that are used and not placed.
+    /// Places the literals that are used and not placed.
     fn place_pending(&mut self) -> Result<(), AsmFault>
         ensures ok { OnOk result (places_of self.new ≡ with_pending (places_of self.old)) }
         ensures err { IfErr result IsMemory }
     {
         let first = self.addresses.len();
         let literals = behind(&self.literals, first);
+        give_areas(&mut self.values, self.next, literals)?;
         self.next = place_literals(self.next, literals, &mut self.addresses)?;
         Ok(())
+    }
+
+    /// The value of ORG and of LTORG, by the values so far.
+    fn own_value(&self, addressing: Addressing) -> Result<i64, AsmFault>
+        ensures value { IfOk result (λ value. value ≡ own_value (places_of self.now) addressing) }
+        ensures err { IfErr result IsMemory }
+    {
+        self.value_so_far(self.next, addressing.operands().a)
+    }
+
+    /// Where a statement of this row places its cells.
+    pub(crate) fn start_by(&self, row: Description) -> Result<i64, AsmFault>
+        ensures value { IfOk result (λ start. start ≡ start_by (places_of self.now) row row.next) }
+        ensures err { IfErr result IsMemory }
+    {
+        match row.next {
+            Next::Behind | Next::Literals | Next::Value => Ok(self.next),
+            Next::LiteralsAtValue => self.own_value(row.addressing),
+        }
+    }
+
+    /// Where a line places its cells.
+    pub(crate) fn start_of(&self, line: &KeptLine) -> Result<i64, AsmFault>
+        ensures value { IfOk result (λ start. start ≡ start_of (places_of self.now) line.now.statement) }
+        ensures err { IfErr result IsMemory }
+    {
+        match line.line().statement {
+            Some(Statement { body, .. }) => self.start_by(body.describe()),
+            None => Ok(self.next),
+        }
     }
 
     /// Moves the next place on, and places the literals used so far if the statement does.
@@ -413,8 +594,10 @@ impl Placing {
                 self.next = checked_sum(self.next, i64::from(contents_length(row.contents)))?;
             },
             Next::Literals => self.place_pending()?,
-            Next::Value => {
-                self.next = self.value_so_far(self.next, row.addressing.operands().a)?;
+            Next::Value => self.next = self.own_value(row.addressing)?,
+            Next::LiteralsAtValue => {
+                self.next = self.own_value(row.addressing)?;
+                self.place_pending()?;
             },
         }
         Ok(())
@@ -432,10 +615,25 @@ impl Placing {
             },
             Addressing::Nothing
             | Addressing::EarlierValue(_)
+            | Addressing::Equal(_)
             | Addressing::Value(_)
             | Addressing::Entry(_) => {},
         }
         Ok(())
+    }
+
+    /// Notes that areas begin at a place, if the statement makes them.
+    fn note_areas(&mut self, first: i64, role: AreaRole)
+        ensures { places_of self.new ≡ with_areas (places_of self.old) first role }
+    {
+        match role {
+            AreaRole::Makes(made) => {
+                self.areas = first;
+                self.fields_from = counted_from(first, made);
+                self.fields_index = index_of_fields(made);
+            },
+            AreaRole::Ends | AreaRole::Keeps | AreaRole::Divides(_) => {},
+        }
     }
 
     /// Goes on after a statement, and notes and places its literals.
@@ -445,10 +643,7 @@ impl Placing {
     {
         let first = self.next;
         self.move_on(row)?;
-        match row.areas {
-            AreaRole::Makes(_) => self.areas = first,
-            AreaRole::Ends | AreaRole::Keeps | AreaRole::Divides(_) => {},
-        }
+        self.note_areas(first, row.areas);
         self.note_uses(row.addressing)
     }
 
@@ -460,19 +655,35 @@ impl Placing {
         self.before_end = before_end;
     }
 
+    /// The place of the first instruction, once a statement is at the next place.
+    fn first_behind(&self, row: Description) -> Option<i64>
+        ensures { result
+            ≡ first_of_two (places_of self.now).first_instruction (places_of self.now).next row.contents }
+    {
+        first_of_two(self.first_instruction, self.next, row.contents)
+    }
+
+    /// The next place as it was before END, once a statement is at the next place.
+    fn end_behind(&self, row: Description) -> i64
+        ensures { result ≡ end_of_two (places_of self.now).before_end (places_of self.now).next row.addressing }
+    {
+        end_of_two(self.before_end, self.next, row.addressing)
+    }
+
     /// Goes on after a statement, notes and places its literals, and notes where the program begins.
+    #[tactic(auto, using(crate::proofs::PlacingLemmas::passed))]
     fn pass(&mut self, row: Description) -> Result<(), AsmFault>
         ensures ok { OnOk result (places_of self.new ≡ behind_row (places_of self.old) row) }
         ensures err { IfErr result IsMemory }
     {
-        let first = first_of_two(self.first_instruction, self.next, row.contents);
-        let before_end = end_of_two(self.before_end, self.next, row.addressing);
+        let first = self.first_behind(row);
+        let before_end = self.end_behind(row);
         self.go_on(row)?;
         self.set_ends(first, before_end);
         Ok(())
     }
 
-    /// Placement a line.
+    /// Places a line.
     pub(crate) fn place(&mut self, line: &KeptLine) -> Result<(), AsmFault>
         ensures ok { OnOk result (places_of self.new ≡ after_line (places_of self.old) line.now) }
         ensures err { IfErr result IsMemory }
@@ -480,14 +691,13 @@ impl Placing {
         let Some(Statement { label, body }) = line.line().statement else {
             return Ok(());
         };
-        let row = body.describe();
-        let value = self.point_value(self, row, row.names)?;
-        self.pass(row)?;
+        let value = self.label_value(body)?;
+        self.pass(body.describe())?;
         self.give(label, value)?;
         Ok(())
     }
 
-    /// Placement lines.
+    /// Places lines.
     fn place_each(&mut self, lines: &[KeptLine]) -> Result<(), AsmFault>
         ensures ok { OnOk result (places_of self.new ≡ fold after_line (places_of self.old) lines.now) }
         ensures err { IfErr result IsMemory }

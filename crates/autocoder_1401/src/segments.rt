@@ -3,6 +3,7 @@ ghost use Rattle.std.specs.Prelude.{◌≡◌, ◌∷◌, ◌++◌, ◌+◌, ◌
 ghost use Rattle.bcd_1401.specs.declared.cell.Cell.{Cell as ACell};
 ghost use Rattle.autocoder_1401.specs.Fault.{IsMemory};
 ghost use Rattle.autocoder_1401.specs.Cells.{address_or_zero, numbered, statement_cells};
+ghost use Rattle.autocoder_1401.specs.Placement.{start_of};
 ghost use Rattle.autocoder_1401.specs.Segments.{start_or_zero, closed, goes_on, segments_of};
 ghost use Rattle.autocoder_1401.specs.View.{places_of};
 ghost use Rattle.autocoder_1401.specs.Built.{built};
@@ -114,12 +115,12 @@ impl Builder {
         behind: &[KeptLine],
     ) -> Result<(), AsmFault>
         ensures built { OnOk result ((rest : List (ℕ × ACell)) → built self.new rest ≡ built self.old
-            (numbered (address_or_zero (places_of so_far.now).next)
+            (numbered (address_or_zero (start_of (places_of so_far.now) line.now.statement))
             (statement_cells (places_of all.now) (places_of so_far.now) line.now.statement behind.now) ++ rest)) }
         ensures err { IfErr result IsMemory }
     {
         let cells = cells_of(alloc, all, so_far, line, behind)?;
-        self.put_all(so_far.address(), &cells)?;
+        self.put_all(so_far.start_address(line)?, &cells)?;
         Ok(())
     }
 

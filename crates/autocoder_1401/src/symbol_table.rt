@@ -3,15 +3,19 @@ ghost use Rattle.std.specs.Prelude.{◌≡◌, ◌<◌, ◌^◌, ◌++◌, lengt
 ghost use Rattle.std.specs.List.{flat_map};
 ghost use Rattle.autocoder_1401.specs.Fault.{IsMemory};
 ghost use Rattle.autocoder_1401.specs.SymbolTable.{span_length, length_named, symbol_with, symbol_at, listed};
+ghost use Rattle.autocoder_1401.specs.SymbolTable.{second_area, area_symbols, symbols_at};
 ghost use Rattle.autocoder_1401.specs.SymbolTable.{symbols_from, length_text, symbol_line};
+ghost use Rattle.autocoder_1401.specs.Placement.{nothing_placed};
 ghost use Rattle.autocoder_1401.specs.View.{places_of};
 
 use crate::fault::AsmFault;
+use crate::hashing::SourceHashing;
 use crate::kept_line::KeptLine;
+use crate::literals::LiteralKey;
 use crate::placing::{Placing, contents_length};
 use crate::printing::put_address;
 use notation_1401::put_digits;
-use source_1401::{AreaRole, Description, Label, LabelField, Point, Span, Statement};
+use source_1401::{AreaLiteral, AreaRole, Description, Label, LabelField, Point, Span, Statement};
 use std::alloc::Global;
 
 /// How many digits a length has.
@@ -46,7 +50,7 @@ fn length_named(row: Description) -> Option<u32>
 {
     match row.names {
         Point::First | Point::Last => Some(contents_length(row.contents)),
-        Point::InArea(_) => match row.areas {
+        Point::InArea(_) | Point::Counted(_) => match row.areas {
             AreaRole::Divides(Some(span)) => Some(span_length(span)),
             AreaRole::Divides(None) | AreaRole::Ends | AreaRole::Keeps | AreaRole::Makes(_) => None,
         },
@@ -88,6 +92,71 @@ fn put_symbol(symbols: &mut Vec<Symbol>, symbol: Option<Symbol>) -> Result<(), A
     Ok(())
 }
 
+/// The area literal that the second of two operands is, unless the first is the same.
+fn second_area(first: Option<AreaLiteral>, second: Option<AreaLiteral>) -> Option<AreaLiteral>
+    ensures { result ≡ second_area first second }
+{
+    match (first, second) {
+        (Some(first), Some(second)) => {
+            if LiteralKey::Area(first) == LiteralKey::Area(second) {
+                None
+            } else {
+                Some(second)
+            }
+        },
+        (None, _) => second,
+        (Some(_), None) => None,
+    }
+}
+
+impl Placing {
+    /// Adds the symbol of an area literal on the line of this number, if there is one and it isn't used before.
+    fn put_area(
+        &self,
+        all: &Placing,
+        number: u64,
+        literal: Option<AreaLiteral>,
+        symbols: &mut Vec<Symbol>,
+    ) -> Result<(), AsmFault>
+        ensures ok { OnOk result (symbols.new.items ≡ symbols.old.items
+            ++ area_symbols (places_of all.now) (places_of self.now) number literal) }
+        ensures err { IfErr result IsMemory }
+    {
+        let Some(literal) = literal else {
+            return Ok(());
+        };
+        if !self.literals.contains(&LiteralKey::Area(literal)) {
+            symbols.push(Symbol {
+                label: literal.label,
+                value: all.symbol_value(literal.label),
+                length: Some(u32::from(literal.places)),
+                line: number,
+            })?;
+        }
+        Ok(())
+    }
+
+    /// Adds the symbols that the line of this number declares: its label, and those of the area literals that it uses
+    /// first.
+    fn put_symbols(
+        &self,
+        all: &Placing,
+        number: u64,
+        line: &KeptLine,
+        symbols: &mut Vec<Symbol>,
+    ) -> Result<(), AsmFault>
+        ensures ok { OnOk result (symbols.new.items ≡ symbols.old.items
+            ++ symbols_at (places_of all.now) (places_of self.now) number line.now) }
+        ensures err { IfErr result IsMemory }
+    {
+        let (first, second) = line.line().areas();
+        put_symbol(symbols, symbol_at(all, number, line))?;
+        self.put_area(all, number, first, symbols)?;
+        self.put_area(all, number, second_area(first, second), symbols)?;
+        Ok(())
+    }
+}
+
 /// The symbols that lines declare, in their order, once all is placed.
 ///
 /// # Errors
@@ -95,16 +164,19 @@ fn put_symbol(symbols: &mut Vec<Symbol>, symbol: Option<Symbol>) -> Result<(), A
 /// `Memory` if there is no room for them.
 pub(crate) fn symbols_of(
     alloc: Global,
+    hashing: SourceHashing,
     all: &Placing,
     lines: &[KeptLine],
 ) -> Result<Vec<Symbol>, AsmFault>
     requires { length lines.now < 2 ^ 32 }
-    ensures ok { IfOk result (λ symbols. symbols.items ≡ symbols_from (places_of all.now) 1 lines.now) }
+    ensures ok { IfOk result (λ symbols. symbols.items ≡ symbols_from (places_of all.now) nothing_placed 1 lines.now) }
     ensures err { IfErr result IsMemory }
 {
     let mut symbols = Vec::new(alloc);
+    let mut so_far = Placing::new(alloc, hashing);
     for (i, line) in lines.iter().enumerate() {
-        put_symbol(&mut symbols, symbol_at(all, i as u64 + 1, line))?;
+        so_far.put_symbols(all, i as u64 + 1, line, &mut symbols)?;
+        so_far.place(line)?;
     }
     Ok(symbols)
 }

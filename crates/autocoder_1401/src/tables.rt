@@ -46,7 +46,7 @@ fn make_tables(
     ensures references { IfOk result (λ made. made.references.items ≡ references_text lines.now) }
     ensures err { IfErr result IsMemory }
 {
-    let symbols = symbols_of(alloc, all, lines)?;
+    let symbols = symbols_of(alloc, hashing, all, lines)?;
     let uses = uses_of(alloc, hashing, lines)?;
     let references = references_text(alloc, &uses, &symbols)?;
     let symbols = symbols_text(alloc, &symbols)?;
@@ -84,7 +84,7 @@ pub fn assemble_with_tables(
 {
     let lines = read_lines(alloc, language, source)?;
     let hashing = SourceHashing::from_source(source);
-    let all = place_lines(alloc, hashing, &lines)?;
+    let all = place_lines(alloc, hashing, language, &lines)?;
     let assembly = make_assembly(alloc, &all, source, &lines, size)?;
     let tables = make_tables(alloc, hashing, &all, &lines, assembly)?;
     Ok(tables)

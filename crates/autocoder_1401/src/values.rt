@@ -1,15 +1,19 @@
 //! The values of addresses, and what of a line isn't in core.
 ghost use Rattle.std.specs.Prelude.{◌≡◌, IfOk, IfErr};
 ghost use Rattle.autocoder_1401.specs.Fault.{IsMemory};
-ghost use Rattle.autocoder_1401.specs.Values.{address_value, is_in_core, are_in_core, operand_outside};
+ghost use Rattle.autocoder_1401.specs.Values.{address_value, is_in_core, are_in_core, literal_outside};
+ghost use Rattle.autocoder_1401.specs.Values.{operand_outside};
 ghost use Rattle.autocoder_1401.specs.Values.{places_outside, literals_outside, next_outside};
 ghost use Rattle.autocoder_1401.specs.Values.{value_outside, addresses_outside, row_outside, line_outside};
 ghost use Rattle.autocoder_1401.specs.View.{places_of};
 
 use crate::fault::AsmFault;
 use crate::kept_line::KeptLine;
+use crate::literals::LiteralKey;
 use crate::placing::{Placing, behind_literals, checked_sum, contents_length, last_place};
-use source_1401::{Address, Addressing, Description, Next, Operand, OperandField, Statement};
+use source_1401::{
+    Address, Addressing, Description, Literal, Next, Operand, OperandField, Statement,
+};
 
 /// Whether a value is the address of a place of core storage of this size.
 fn is_in_core(size: u16, value: i64) -> bool
@@ -31,7 +35,7 @@ fn is_value_outside(size: u16, value: i64, next: Next) -> bool
 {
     match next {
         Next::Behind | Next::Literals => !is_in_core(size, value),
-        Next::Value => !are_in_core(size, value, value),
+        Next::Value | Next::LiteralsAtValue => !are_in_core(size, value, value),
     }
 }
 
@@ -44,6 +48,15 @@ fn are_places_outside(size: u16, first: i64, length: u32) -> Result<bool, AsmFau
     Ok(length > 0 && !are_in_core(size, first, behind))
 }
 
+/// Whether literals that are placed from here on aren't in core.
+fn are_literals_outside(size: u16, from: i64, literals: &[LiteralKey]) -> Result<bool, AsmFault>
+    ensures value { IfOk result (λ outside. outside ≡ literals_outside size from literals.now) }
+    ensures err { IfErr result IsMemory }
+{
+    let behind = behind_literals(from, literals)?;
+    Ok(!literals.is_empty() && !are_in_core(size, from, behind))
+}
+
 impl Placing {
     /// The value of an address before indexing, once all is placed, with this place for an asterisk.
     pub(crate) fn address_value(&self, here: i64, address: Address) -> Result<i64, AsmFault>
@@ -52,6 +65,20 @@ impl Placing {
     {
         let base = self.base_value(here, address.base)?;
         checked_sum(base, i64::from(address.adjustment))
+    }
+
+    /// Whether a literal is an address whose value isn't in core.
+    fn is_literal_outside(&self, size: u16, literal: Literal) -> Result<bool, AsmFault>
+        ensures value { IfOk result (λ outside. outside ≡ literal_outside size (places_of self.now) literal) }
+        ensures err { IfErr result IsMemory }
+    {
+        match literal {
+            Literal::Address(literal) => {
+                let value = self.address_value(0, literal.address)?;
+                Ok(!is_in_core(size, value))
+            },
+            Literal::Constant(_) | Literal::Area(_) => Ok(false),
+        }
     }
 
     /// Whether an operand is an address whose value isn't in core.
@@ -69,29 +96,24 @@ impl Placing {
                 let value = self.address_value(here, address)?;
                 Ok(!is_in_core(size, value))
             },
-            OperandField::Operand(Operand::Literal(_) | Operand::Unit(_))
+            OperandField::Operand(Operand::Literal(literal)) => {
+                self.is_literal_outside(size, literal)
+            },
+            OperandField::Operand(Operand::Unit(_))
             | OperandField::Absent
             | OperandField::Malformed => Ok(false),
         }
     }
 
-    /// Whether a literal that EX or END places here isn't in core.
-    fn are_literals_outside(&self, size: u16) -> Result<bool, AsmFault>
-        ensures value { IfOk result (λ outside. outside ≡ literals_outside size (places_of self.now)) }
-        ensures err { IfErr result IsMemory }
-    {
-        let literals = self.pending();
-        let behind = behind_literals(self.next, literals)?;
-        Ok(!literals.is_empty() && !are_in_core(size, self.next, behind))
-    }
-
     /// Whether literals that a statement here places aren't in core.
-    fn is_next_outside(&self, size: u16, next: Next) -> Result<bool, AsmFault>
-        ensures value { IfOk result (λ outside. outside ≡ next_outside size (places_of self.now) next) }
+    fn is_next_outside(&self, size: u16, row: Description) -> Result<bool, AsmFault>
+        ensures value { IfOk result (λ outside. outside ≡ next_outside size (places_of self.now) row row.next) }
         ensures err { IfErr result IsMemory }
     {
-        match next {
-            Next::Literals => self.are_literals_outside(size),
+        match row.next {
+            Next::Literals | Next::LiteralsAtValue => {
+                are_literals_outside(size, self.start_by(row)?, self.pending())
+            },
             Next::Behind | Next::Value => Ok(false),
         }
     }
@@ -115,7 +137,7 @@ impl Placing {
                 let b = all.is_operand_outside(size, last, operands.b)?;
                 Ok(a || b)
             },
-            Addressing::EarlierValue(_) => {
+            Addressing::EarlierValue(_) | Addressing::Equal(_) => {
                 let value = self.asked_value(self, row)?;
                 Ok(is_value_outside(size, value, row.next))
             },
@@ -138,7 +160,7 @@ impl Placing {
         ensures err { IfErr result IsMemory }
     {
         let places = are_places_outside(size, self.next, contents_length(row.contents))?;
-        let literals = self.is_next_outside(size, row.next)?;
+        let literals = self.is_next_outside(size, row)?;
         let addresses = self.are_addresses_outside(size, all, row)?;
         Ok(places || literals || addresses)
     }

@@ -23,7 +23,7 @@ use crate::placing::{chain_length, instruction_length};
 use crate::reading::read_lines;
 use bcd_1401::{Cell, Char};
 use source_1401::{
-    Base, Chain, Constant, Contents, Instruction, Label, LabelField, Language, Operand,
+    Base, Chain, Constant, Contents, Instruction, Label, LabelField, Language, Literal, Operand,
     OperandField, Operands, Statement,
 };
 use std::alloc::Global;
@@ -149,7 +149,9 @@ fn is_signed_literal(field: OperandField) -> bool
 {
     matches!(
         field,
-        OperandField::Operand(Operand::Literal(Constant::Plus(_) | Constant::Minus(_)))
+        OperandField::Operand(Operand::Literal(Literal::Constant(
+            Constant::Plus(_) | Constant::Minus(_)
+        )))
     )
 }
 
@@ -159,7 +161,7 @@ fn lone_symbol(field: OperandField) -> Option<Label>
 {
     match field {
         OperandField::Operand(Operand::Address(address))
-            if address.adjustment == 0 && address.index == 0 => {
+            if address.adjustment == 0 && address.index.unwrap_or(0) == 0 => {
             match address.base {
                 Base::Symbol(label) => Some(label),
                 Base::Number(_) | Base::Here | Base::Register(_) | Base::NextHundred => None,

@@ -1,7 +1,7 @@
 -- An address that is written is read again.
-use Rattle.std.proofs.Common.{◌≡◌, ℕ, zero, suc, ◌+◌, ◌<◌, false, List, [], ◌∷◌, ◌++◌}
+use Rattle.std.proofs.Common.{◌≡◌, ℕ, zero, suc, ◌+◌, ◌<◌, ◌==◌, false, if◌then◌else◌, List, [], ◌∷◌, ◌++◌}
 use Rattle.std.proofs.Common.{length}
-use Rattle.std.proofs.Common.{take, drop, pos, Some, refl, ap, ◌∙◌, arith, append_assoc}
+use Rattle.std.proofs.Common.{take, drop, pos, Option, None, Some, refl, ap, ◌∙◌, arith, append_assoc}
 use Rattle.std.proofs.Common.{length-append}
 use Rattle.std.proofs.lemmas.Bool.{and_parts}
 use Rattle.std.proofs.Math.Seq.{take-append_seam, drop-append_seam}
@@ -18,12 +18,16 @@ use Rattle.disassembly_1401.specs.Address.{index_text, number_text}
 use Rattle.disassembly_1401.proofs.NumberLemmas.{IsNumber, number_again, short_number_of, no_other, no_higher}
 use Rattle.disassembly_1401.proofs.NumberLemmas.{operand_len-digits, prefix_len-digits}
 
+-- the index register that an address names by this text: none for 0
+abbrev pub named_index : ℕ → Option ℕ
+named_index index = if index == 0 then None else Some index
+
 -- a text that is an index register after an address
 record IsIndex (index : ℕ) (text : List ℕ) : Type 0 where
   goes_on : (rest : List ℕ) → operand_len false (text ++ rest) ≡ length text + operand_len false rest
   ends_the_word : prefix_len is_letter_or_digit text ≡ 0
   no_adjustment : is_adjusted text ≡ false
-  is : index_of Plain text ≡ Some index
+  is : index_of Plain text ≡ Some (named_index index)
 
 index_again : (index : ℕ) → index < 4 → IsIndex index (index_text index)
 index_again zero h = record {
@@ -54,12 +58,12 @@ index_again (suc (suc (suc (suc more)))) h = absurd (omega (arith, h))
 
 -- the address of a number and an index register
 abbrev pub numbered : ℕ → ℕ → Address
-numbered value index = record { base = bases.Number value; adjustment = pos 0; index = index }
+numbered value index = record { base = bases.Number value; adjustment = pos 0; index = named_index index }
 
 -- what a word is, with the parts that it is read by
 address_by : (word rest : List ℕ) (n value index : ℕ) → base_len (word ++ rest) ≡ n → take n (word ++ rest) ≡ word
     → drop n (word ++ rest) ≡ rest → base_of Plain word ≡ Some (bases.Number value) → is_adjusted rest ≡ false
-    → index_of Plain rest ≡ Some index
+    → index_of Plain rest ≡ Some (named_index index)
     → address_of Plain (word ++ rest) ≡ Some (numbered value index)
 address_by word rest n value index e front behind base plain is = rw (e, front, behind, base, plain, is) refl
 

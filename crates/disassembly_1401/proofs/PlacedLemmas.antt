@@ -1,8 +1,8 @@
 -- The cells that the assembler makes of an address and of a d-character.
-use Rattle.std.proofs.Common.{◌≡◌, ℕ, ◌+◌, ◌%◌, ◌<◌, ◌&&◌, nat_lt, Bool, true, false, not, if◌then◌else◌}
+use Rattle.std.proofs.Common.{◌≡◌, ℕ, ◌+◌, ◌==◌, None, Some, ◌%◌, ◌<◌, ◌&&◌, nat_lt, Bool, true, false, not, if◌then◌else◌}
 use Rattle.std.proofs.Common.{[], ◌∷◌}
 use Rattle.std.proofs.Common.{pos, refl, ap, ◌∙◌, arith}
-use Rattle.std.specs.Prelude.{ℤ, int_le, int_lt}
+use Rattle.std.specs.Prelude.{ℤ, int_le, int_lt, unwrap_or}
 use Rattle.std.specs.Str.{bytes_eq}
 use Rattle.std.proofs.lemmas.Bool.{and_parts, false≢true}
 use Rattle.std.proofs.lemmas.Bool.Decides.{nat_tests}
@@ -15,7 +15,7 @@ use Rattle.autocoder_1401.specs.Placement.{Placement}
 use Rattle.disassembly_1401.specs.Address.{register_in}
 use Rattle.disassembly_1401.specs.Assembled.{is_spelling, has_no_mark, IsOwn}
 use Rattle.disassembly_1401.specs.InstructionText.{graphic_of}
-use Rattle.disassembly_1401.proofs.AddressLemmas.{numbered}
+use Rattle.disassembly_1401.proofs.AddressLemmas.{named_index, numbered}
 
 by_place : (value : ℕ) (inside : Bool) → inside ≡ true → (if inside then value else 0) ≡ value
 by_place value true h = refl
@@ -31,6 +31,14 @@ codes_by : (value index place : ℕ) → place ≡ value
     → with_index index (spelling_of place) ≡ with_index index (spelling_of value)
 codes_by value index place e = rw e refl
 
+-- the index register that an address names, or else none
+named_again : (index : ℕ) → unwrap_or (named_index index) 0 ≡ index
+named_again index = by (index == 0) refl
+  where
+    by : (b : Bool) → (index == 0) ≡ b → unwrap_or (if b then None else Some index) 0 ≡ index
+    by true e = grind (arith, nat_tests, e)
+    by false e = refl
+
 -- an address in the assembler's spelling is spelled so again
 pub address_codes_again : (h t u : ℕ) → is_spelling h t u ≡ true → (all : Placement) (here : ℤ)
     → address_codes all here (numbered (value_of h t u) (register_in t)) ≡ h ∷ t ∷ u ∷ []
@@ -38,7 +46,8 @@ address_codes_again h t u spelled all here =
     let parts = and_parts (nat_lt (value_of h t u) addresses)
     (bytes_eq (with_index (register_in t) (spelling_of (value_of h t u))) (h ∷ t ∷ u ∷ [])) spelled in
     let inside : value_of h t u < 16000 = grind (arith, nat_tests, parts.0) in
-    let same : register_in t % 4 ≡ register_in t = omega arith in
+    let same : unwrap_or (named_index (register_in t)) 0 % 4 ≡ register_in t =
+    ap (λ (index : ℕ). index % 4) (named_again (register_in t)) ∙ omega arith in
     let spelt = bytes_eq-Decides (with_index (register_in t) (spelling_of (value_of h t u))) (h ∷ t ∷ u ∷ []) in
     let sum : value_of h t u + 0 ≡ value_of h t u = omega arith in
     ap (λ (index : ℕ). with_index index (spelling_of (address_or_zero (pos (value_of h t u + 0))))) same

@@ -48,7 +48,9 @@ fn operand_help(alloc: Global, flaw: OperandFlaw, word: &str) -> Result<String, 
         OperandFlaw::NoTape => format!(in alloc; "{word} is no tape, as 1 or %U1 is"),
         OperandFlaw::NoTimes => format!(in alloc; "{word} is no number from 1 to 99"),
         OperandFlaw::NoOptions => {
-            format!(in alloc; "{word} isn't G or C, each once, behind the areas")
+            format!(in alloc;
+                "{word} isn't G, C, 0 and one of X1 to X3, each once, behind the areas"
+            )
         }
         OperandFlaw::Literal => format!(in alloc;
             "{word} is a literal, and an address is asked for"
@@ -87,6 +89,11 @@ fn help_of(alloc: Global, explanation: Explanation, word: &str) -> Result<String
         Cause::DeclaredBefore(line) => {
             return format!(in alloc; "line {line} has the label {word} already");
         }
+        Cause::AnotherArea(line) => {
+            return format!(in alloc;
+                "line {line} has {word} already, as an area of another length"
+            );
+        }
         Cause::OperationDisplaced => "the operation begins after column 16",
         Cause::OperationUnknown(None) => {
             return format!(in alloc; "{word} is no operation");
@@ -109,6 +116,19 @@ fn help_of(alloc: Global, explanation: Explanation, word: &str) -> Result<String
             return format!(in alloc;
                 "{word} is the label of line {line}, and EQU and ORG take those of earlier lines"
             );
+        }
+        Cause::KnownLate(line) => {
+            return format!(in alloc;
+                "{word} has its value from line {line} on, and EQU, ORG and LTORG take those of earlier lines"
+            );
+        }
+        Cause::OfLiteral => {
+            return format!(in alloc;
+                "{word} is an area literal, which is placed later than EQU, ORG and LTORG ask for its place"
+            );
+        }
+        Cause::EndlessChain => {
+            return format!(in alloc; "from {word} on EQU leads to EQU without end");
         }
         Cause::BadOperand(flaw) => return operand_help(alloc, flaw, word),
         Cause::PastArea => "the field ends after its area",

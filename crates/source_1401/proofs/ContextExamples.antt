@@ -5,6 +5,7 @@ use Rattle.std.specs.Prelude.{ℤ, pos, codes}
 use Rattle.std.specs.Option.{option_map}
 use Rattle.std.specs.Str.{byte}
 use Rattle.bcd_1401.specs.Graphic.{graphics}
+use Rattle.source_1401.specs.AreaLiterals.{DeclaredAreas, areas_of_line, no_areas}
 use Rattle.source_1401.specs.Context.{lines_said, size_asked}
 use Rattle.source_1401.specs.Description.{describe, operands_in}
 use Rattle.source_1401.specs.Language.{is_sound, wider_line}
@@ -16,7 +17,10 @@ use Rattle.source_1401.specs.WideStatement.{wide_line_with}
 use Rattle.source_1401.specs.declared.address.Base.{Base}
 use Rattle.source_1401.specs.declared.address.Base.TheVariants as bases
 use Rattle.source_1401.specs.declared.label.Label.{Label}
+use Rattle.source_1401.specs.declared.literal.AreaLiteral.{AreaLiteral}
 use Rattle.source_1401.specs.declared.language.Language.TheVariants as languages
+use Rattle.source_1401.specs.declared.literal.Literal.{Literal}
+use Rattle.source_1401.specs.declared.literal.Literal.TheVariants as literals
 use Rattle.source_1401.specs.declared.operands.Operand.{Operand}
 use Rattle.source_1401.specs.declared.operands.Operand.TheVariants as operands
 use Rattle.source_1401.specs.declared.operands.OperandField.{OperandField}
@@ -38,9 +42,15 @@ said texts = lines_said languages.Ibm texts
 body_in : Line → Option Body
 body_in line = option_map (λ (statement : Statement). statement.body) line.statement
 
+base_in_literal : Literal → Option Base
+base_in_literal (literals.Constant constant) = None
+base_in_literal (literals.Address literal) = Some literal.address.base
+base_in_literal (literals.Area area) = Some (bases.Symbol area.label)
+
 base_in : Operand → Option Base
+unfolding base_in_literal
 base_in (operands.Address address) = Some address.base
-base_in (operands.Literal constant) = None
+base_in (operands.Literal literal) = base_in_literal literal
 base_in (operands.Unit unit) = None
 
 base_at : OperandField → Option Base
@@ -62,7 +72,7 @@ unfolding said
 labels_said texts = map label_of_line (said texts)
 
 bases_said : List (List ℕ) → List (Option Base)
-unfolding said body_in base_in base_at base_by base_of_line
+unfolding said body_in base_in_literal base_in base_at base_by base_of_line
 bases_said texts = map base_of_line (said texts)
 
 bodies_said : List (List ℕ) → List (Option Body)
@@ -72,6 +82,10 @@ bodies_said texts = map body_in (said texts)
 sound_said : List (List ℕ) → List Bool
 unfolding said
 sound_said texts = map is_sound (said texts)
+
+areas_said : List (List ℕ) → List DeclaredAreas
+unfolding said
+areas_said texts = map areas_of_line (said texts)
 
 abbrev label : List ℕ → Option Label
 label text = Some (record { text = text })
@@ -120,6 +134,39 @@ a_label_below_makes_a_symbol : bases_said (codes "               ZS   X3" ∷ co
 unfolding bases_said
 a_label_below_makes_a_symbol = refl
 
+-- the symbols of literals too, but for X1 to X3
+symbols_of_literals_have_the_suffix : bases_said (codes "               SFX  A" ∷ codes "               A    +TAG-2+X1,5"
+    ∷ codes "               A    TAG#3" ∷ codes "               A    -X1" ∷ codes "               A    X3#2"
+    ∷ codes "               A    +LABELS" ∷ [])
+    ≡ None ∷ symbol (codes "TAG  A") ∷ symbol (codes "TAG  A") ∷ Some (bases.Register 1) ∷ symbol (codes "X3    ")
+    ∷ symbol (codes "LABELS") ∷ []
+unfolding bases_said
+symbols_of_literals_have_the_suffix = refl
+
+abbrev area : List ℕ → ℕ → Option AreaLiteral
+area text places = Some (record { label = record { text = text }; places = places })
+
+-- whatever else is wrong with the line, but a byte that can't stand in its column
+areas_are_declared_by_instructions : areas_said (codes "               SFX  A" ∷ codes "               A    TAG#3,BUF#50"
+    ∷ codes "     1         B    TAG#4,5,6,7" ∷ codes "               A    5,X1#2" ∷ codes "               ORG  TAG#3"
+    ∷ (codes "               A    TAG#3 " ++ 9 ∷ []) ∷ (codes "               A    TAG#3 " ++ replicate 80 32) ∷ [])
+    ≡ no_areas ∷ (area (codes "TAG  A") 3, area (codes "BUF  A") 50) ∷ (area (codes "TAG  A") 4, None)
+    ∷ (None, area (codes "X1    ") 2) ∷ no_areas ∷ no_areas ∷ (area (codes "TAG  A") 3, None) ∷ []
+unfolding areas_said
+areas_are_declared_by_instructions = refl
+
+an_area_makes_a_symbol : bases_said (codes "               ZS   X2" ∷ codes "               A    +X2"
+    ∷ codes "               A    5,X2#3" ∷ [])
+    ≡ symbol (codes "X2    ") ∷ symbol (codes "X2    ") ∷ Some (bases.Number 5) ∷ []
+unfolding bases_said
+an_area_makes_a_symbol = refl
+
+an_area_with_a_tab_makes_none : bases_said (codes "               ZS   X2" ∷ (codes "               A    X2#3 " ++ 9 ∷ [])
+    ∷ [])
+    ≡ Some (bases.Register 2) ∷ symbol (codes "X2    ") ∷ []
+unfolding bases_said
+an_area_with_a_tab_makes_none = refl
+
 -- the symbols of constants, of ORG, EQU, EX and END
 symbols_of_all_have_the_suffix : bases_said (codes "               SFX  A" ∷ codes "     TAB       DSA  TAB+X3"
     ∷ codes "               DC   -TAB" ∷ codes "     BACK      ORG  TAB" ∷ codes "     L         EQU  TAB+X1"
@@ -158,6 +205,12 @@ nothing_is_repeated_below_the_next_place : drop 2 (bodies_said (codes "         
 unfolding bodies_said
 nothing_is_repeated_below_the_next_place = refl
 
+nothing_is_repeated_below_literals : drop 2 (bodies_said (codes "               H" ∷ codes "               LTORG*"
+    ∷ codes "               CHAIN2" ∷ []))
+    ≡ chain None (Some 2) ∷ []
+unfolding bodies_said
+nothing_is_repeated_below_literals = refl
+
 nothing_is_repeated_below_a_heading : drop 2 (bodies_said (codes "               H" ∷ codes "               JOB  PART 2"
     ∷ codes "               CHAIN100" ∷ []))
     ≡ chain None None ∷ []
@@ -172,7 +225,14 @@ unfolding bodies_said
 a_second_control_is_none = refl
 
 abbrev areas : Bool → Option Body
-areas has_group_mark = Some (bodies.Areas (Some (record { count = 2; length = 5; has_group_mark = has_group_mark })))
+areas has_group_mark =
+    Some (bodies.Areas (Some (record {
+      count = 2;
+      length = 5;
+      has_group_mark = has_group_mark;
+      index = 0;
+      counts_from_zero = false;
+    })))
 
 abbrev span : ℕ → ℕ → Bool → Option Span
 span first last is_marked = Some (record { first = first; last = last; is_marked = is_marked })
@@ -190,7 +250,7 @@ fields_of_both_languages = refl
 abbrev only : Base → ℤ → Operands
 only base adjustment =
     record {
-      a = fields.Operand (operands.Address (record { base = base; adjustment = adjustment; index = 0 }));
+      a = fields.Operand (operands.Address (record { base = base; adjustment = adjustment; index = None }));
       b = fields.Absent;
       d = None;
       is_whole = true;
@@ -222,6 +282,57 @@ these_are_at_fault_by_themselves : sound_said (codes "               ORG  *+X1" 
     ≡ replicate 8 false
 unfolding sound_said
 these_are_at_fault_by_themselves = refl
+
+-- a program that places its literals at two places
+abbrev placed : List (List ℕ)
+placed =
+    codes "               ORG  500" ∷
+    codes "     GO        A    +1,9" ∷
+    codes "               XFR  GO" ∷
+    codes "               LTORG*" ∷
+    codes "               EX   GO" ∷
+    codes "               A    +1,9" ∷
+    codes "               END  GO" ∷ []
+
+nothing_is_wrong_with_placed : sound_said placed ≡ replicate 7 true
+unfolding sound_said
+nothing_is_wrong_with_placed = refl
+
+-- a program with addresses as literals and as constants
+abbrev addressed : List (List ℕ)
+addressed =
+    codes "               ORG  500" ∷
+    codes "     GO        MCW  +TAB,X1" ∷
+    codes "               MCW  SUM#3,SUM" ∷
+    codes "               A    -TAB+1,X1" ∷
+    codes "     TAB       DCW  @ABC@" ∷
+    codes "     BASE      LTORG600" ∷
+    codes "               DSA  TAB+X3" ∷
+    codes "               DC   -TAB" ∷
+    codes "               ORG  BASE" ∷
+    codes "               H    SUM-2" ∷
+    codes "               END  GO" ∷ []
+
+nothing_is_wrong_with_addressed : sound_said addressed ≡ replicate 11 true
+unfolding sound_said
+nothing_is_wrong_with_addressed = refl
+
+-- a record and its keys
+abbrev recorded : List (List ℕ)
+recorded =
+    codes "               ORG  700" ∷
+    codes "     REC       DA   2X5,X1,0,G" ∷
+    codes "     KEY            1,2" ∷
+    codes "     LOW            4" ∷
+    codes "                    5,5" ∷
+    codes "     TAB       EQU  REC-2+X2" ∷
+    codes "               A    KEY,LOW+X0" ∷
+    codes "               MCW  REC,KEY+X2" ∷
+    codes "               END" ∷ []
+
+nothing_is_wrong_with_recorded : sound_said recorded ≡ replicate 9 true
+unfolding sound_said
+nothing_is_wrong_with_recorded = refl
 
 -- with all tables open
 size_said : List ℕ → Option ℕ

@@ -17,13 +17,13 @@ use Rattle.source_1401.specs.Label.{is_digit, label_of, label_in}
 use Rattle.source_1401.specs.Language.{is_sound, line_in}
 use Rattle.source_1401.specs.Mnemonic.{operation_of}
 use Rattle.source_1401.specs.Numbers.{short_number}
-use Rattle.source_1401.specs.Operands.{begins_literal, field_of, field_with, first_operand, second_operand, operand_of}
+use Rattle.source_1401.specs.Operands.{as_literal, begins_literal, field_of, field_with, first_operand, second_operand, operand_of}
 use Rattle.source_1401.specs.Operands.{operand_in, operands_of, read_operand, is_ended}
 use Rattle.source_1401.specs.Punctuation.{comma}
 use Rattle.source_1401.specs.SourceLine.{columns_of, columns_in, is_comment}
 use Rattle.source_1401.specs.Statement.{body_by, bytes_with, line_of, one_address, statement_of}
 use Rattle.source_1401.specs.Symbols.{address_under, base_under, body_under, field_under, is_any, is_labelled}
-use Rattle.source_1401.specs.Symbols.{label_under}
+use Rattle.source_1401.specs.Symbols.{label_under, literal_under}
 use Rattle.source_1401.specs.Symbols.{line_under, no_registers, operand_under, operands_under, statement_under}
 use Rattle.source_1401.specs.declared.address.Address.{Address}
 use Rattle.source_1401.specs.declared.address.Base.{Base}
@@ -37,6 +37,8 @@ use Rattle.source_1401.specs.declared.language.Language.TheVariants.{Plain, Ibm}
 use Rattle.source_1401.specs.declared.mnemonic.Form.{Form}
 use Rattle.source_1401.specs.declared.mnemonic.Operation.{Operation}
 use Rattle.source_1401.specs.declared.mnemonic.Operation.TheVariants as operations
+use Rattle.source_1401.specs.declared.literal.Literal.{Literal}
+use Rattle.source_1401.specs.declared.literal.Literal.TheVariants as literals
 use Rattle.source_1401.specs.declared.operands.Operand.{Operand}
 use Rattle.source_1401.specs.declared.operands.Operand.TheVariants as operands
 use Rattle.source_1401.specs.declared.operands.OperandField.{OperandField}
@@ -81,13 +83,21 @@ with_base this base = record { base = base; adjustment = this.adjustment; index 
 address_stays : (these : Registers) (this : Address) → is_any these ≡ false → address_under (among these) this ≡ this
 address_stays these this none = ap (with_base this) (base_stays these this.base none)
 
+literal_stays : (these : Registers) (this : Literal) → is_any these ≡ false → literal_under (among these) this ≡ this
+literal_stays these (literals.Constant constant) none = refl
+literal_stays these (literals.Address this) none =
+    ap (λ (address : Address). literals.Address (record { is_negative = this.is_negative; address = address }))
+    (address_stays these this.address none)
+literal_stays these (literals.Area this) none = refl
+
 field_stays : (these : Registers) (field : OperandField) → is_any these ≡ false
     → field_under (among these) field ≡ field
 field_stays these fields.Absent none = refl
 field_stays these fields.Malformed none = refl
 field_stays these (fields.Operand (operands.Address address)) none =
     ap (λ (address : Address). fields.Operand (operands.Address address)) (address_stays these address none)
-field_stays these (fields.Operand (operands.Literal constant)) none = refl
+field_stays these (fields.Operand (operands.Literal literal)) none =
+    ap (λ (literal : Literal). fields.Operand (operands.Literal literal)) (literal_stays these literal none)
 field_stays these (fields.Operand (operands.Unit unit)) none = refl
 
 operands_stay : (these : Registers) (this : Operands) → is_any these ≡ false
@@ -117,6 +127,7 @@ body_stays these (bodies.AddressConstant constant) none =
     ap (λ (of : Operands). bodies.AddressConstant (record constant { operands = of }))
     (operands_stay these constant.operands none)
 body_stays these (bodies.LabelledOrigin of) none = ap bodies.LabelledOrigin (operands_stay these of none)
+body_stays these (bodies.LiteralOrigin of) none = ap bodies.LiteralOrigin (operands_stay these of none)
 body_stays these (bodies.WideField span) none = refl
 body_stays these (bodies.WideEquate of) none = ap bodies.WideEquate (operands_stay these of none)
 body_stays these (bodies.WideExecute of) none = ap bodies.WideExecute (operands_stay these of none)
@@ -168,14 +179,14 @@ plain_base these word = by (bytes_eq word (codes "*"))
     by true = refl
     by false = word_stays these (short_number word) word
 
-abbrev whole : Base → ℤ → ℕ → Address
+abbrev whole : Base → ℤ → Option ℕ → Address
 whole base adjustment index = record { base = base; adjustment = adjustment; index = index }
 
 indexed_stays : (rule : SymbolRule) (base : Base) (adjustment : ℤ) (rest : List ℕ) → base_under rule base ≡ base
     → option_map (address_under rule) (indexed Plain base adjustment rest) ≡ indexed Plain base adjustment rest
 indexed_stays rule base adjustment rest e = by (index_of Plain rest)
   where
-    by : (index : Option ℕ)
+    by : (index : Option (Option ℕ))
         → option_map (address_under rule) (option_map (whole base adjustment) index)
         ≡ option_map (whole base adjustment) index
     by None = refl
@@ -222,11 +233,10 @@ plain_operand : (these : Registers) (word : List ℕ)
 plain_operand these [] = refl
 plain_operand these (byte ∷ more) = by (begins_literal byte)
   where
-    as_literal : (constant : Option Constant)
-        → option_map (operand_under (among these)) (option_map operands.Literal constant)
-        ≡ option_map operands.Literal constant
-    as_literal None = refl
-    as_literal (Some constant) = refl
+    as_constant : (constant : Option Constant)
+        → option_map (operand_under (among these)) (option_map as_literal constant) ≡ option_map as_literal constant
+    as_constant None = refl
+    as_constant (Some constant) = refl
 
     as_address : (found : Option Address)
         → option_map (operand_under (among these)) (option_map operands.Address found)
@@ -236,11 +246,11 @@ plain_operand these (byte ∷ more) = by (begins_literal byte)
 
     by : (is_literal : Bool)
         → option_map (operand_under (among these))
-        (cond is_literal (option_map operands.Literal (constant_of (byte ∷ more)))
+        (cond is_literal (option_map as_literal (constant_of (byte ∷ more)))
         (option_map operands.Address (address_of Plain (byte ∷ more))))
-        ≡ cond is_literal (option_map operands.Literal (constant_of (byte ∷ more)))
+        ≡ cond is_literal (option_map as_literal (constant_of (byte ∷ more)))
         (option_map operands.Address (address_of Plain (byte ∷ more)))
-    by true = as_literal (constant_of (byte ∷ more))
+    by true = as_constant (constant_of (byte ∷ more))
     by false = as_address (address_of Plain (byte ∷ more)) ∙ rw (plain_address these (byte ∷ more)) refl
 
 -- the field that a word is

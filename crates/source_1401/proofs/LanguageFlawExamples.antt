@@ -100,6 +100,42 @@ options_twice : flaw (codes "DA   ") (codes "2X5,G,G ") ≡ at 25 3 flaws.NoOpti
 unfolding flaw at
 options_twice = refl
 
+two_index_registers_of_fields : flaw (codes "DA   ") (codes "2X5,X1,X2 ") ≡ at 25 5 flaws.NoOptions
+unfolding flaw at
+two_index_registers_of_fields = refl
+
+literals_at_no_place : flaw (codes "LTORG") (codes "*+X1 ") ≡ at 21 4 flaws.NoValue
+unfolding flaw at
+literals_at_no_place = refl
+
+literals_at_two_places : flaw (codes "LTORG") (codes "600,1 ") ≡ at 24 2 flaws.TooMuch
+unfolding flaw at
+literals_at_two_places = refl
+
+a_literal_for_a_label : flaw (codes "EQU  ") (codes "+5 ") ≡ at 21 2 flaws.Literal
+unfolding flaw at
+a_literal_for_a_label = refl
+
+a_literal_for_the_next_place : flaw (codes "ORG  ") (codes "+TAG-1,5 ") ≡ at 21 6 flaws.NoValue
+unfolding flaw at
+a_literal_for_the_next_place = refl
+
+an_area_as_an_address : flaw (codes "DSA  ") (codes "TAG#3 ") ≡ at 21 5 flaws.Literal
+unfolding flaw at
+an_area_as_an_address = refl
+
+an_adjustment_behind_an_area : flaw (codes "A    ") (codes "TAG#3+1,5 ") ≡ at 21 7 flaws.NoAddress
+unfolding flaw at
+an_adjustment_behind_an_area = refl
+
+an_area_of_too_many_places : flaw (codes "MLNS ") (codes "5,TAG#51 ") ≡ at 23 6 flaws.NoAddress
+unfolding flaw at
+an_area_of_too_many_places = refl
+
+something_behind_literals : flaw (codes "A    ") (codes "TAG#3,+TAB,1 ") ≡ at 31 2 flaws.TooMuch
+unfolding flaw at
+something_behind_literals = refl
+
 options_without_areas : flaw (codes "DA   ") (codes "X5,G ") ≡ at 21 2 flaws.NoAreas
 unfolding flaw at
 options_without_areas = refl

@@ -7,6 +7,7 @@ mod LanguageFlawExamples
 pub mod LanguageFlawLemmas
 pub mod LanguageLemmas
 pub mod NumbersLemmas
+mod LiteralExamples
 mod OperandExamples
 pub mod SizeLemmas
 mod SourceLineExamples

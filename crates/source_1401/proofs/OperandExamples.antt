@@ -83,16 +83,16 @@ these_are_no_constants : map constant_of ([] ∷ codes "@@" ∷ codes "@HI" ∷ 
     ≡ replicate 13 None
 these_are_no_constants = refl
 
-abbrev address : Base → Rattle.std.specs.Prelude.ℤ → ℕ → Option Address
+abbrev address : Base → Rattle.std.specs.Prelude.ℤ → Option ℕ → Option Address
 address base adjustment index = Some (record { base = base; adjustment = adjustment; index = index })
 
 addresses_have_a_base_an_adjustment_and_an_index_register : map (address_of Plain) (codes "5" ∷ codes "00015"
     ∷ codes "TOTAL" ∷ codes "*" ∷ codes "*-3" ∷ codes "TABLE+10+X2" ∷ codes "0+X1" ∷ codes "A-99999" ∷ [])
-    ≡ address (bases.Number 5) (pos 0) 0 ∷ address (bases.Number 15) (pos 0) 0
-    ∷ address (bases.Symbol (named (codes "TOTAL"))) (pos 0) 0 ∷ address bases.Here (pos 0) 0
-    ∷ address bases.Here (negsuc 2) 0
-    ∷ address (bases.Symbol (named (codes "TABLE"))) (pos 10) 2 ∷ address (bases.Number 0) (pos 0) 1
-    ∷ address (bases.Symbol (named (codes "A"))) (negsuc 99998) 0 ∷ []
+    ≡ address (bases.Number 5) (pos 0) None ∷ address (bases.Number 15) (pos 0) None
+    ∷ address (bases.Symbol (named (codes "TOTAL"))) (pos 0) None ∷ address bases.Here (pos 0) None
+    ∷ address bases.Here (negsuc 2) None
+    ∷ address (bases.Symbol (named (codes "TABLE"))) (pos 10) (Some 2) ∷ address (bases.Number 0) (pos 0) (Some 1)
+    ∷ address (bases.Symbol (named (codes "A"))) (negsuc 99998) None ∷ []
 addresses_have_a_base_an_adjustment_and_an_index_register = refl
 
 these_are_no_addresses : map (operand_of Plain) ([] ∷ codes "FOO-X1" ∷ codes "FOO+X1+5" ∷ codes "FOO+X4" ∷ codes "FOO+"
@@ -107,7 +107,7 @@ an_operand_ends_at_a_comma_or_a_blank_outside_of_at_signs : map operand_in (code
 an_operand_ends_at_a_comma_or_a_blank_outside_of_at_signs = refl
 
 abbrev number : ℕ → OperandField
-number n = fields.Operand (operands.Address (record { base = bases.Number n; adjustment = pos 0; index = 0 }))
+number n = fields.Operand (operands.Address (record { base = bases.Number n; adjustment = pos 0; index = None }))
 
 -- the operands of a form
 abbrev read : ℕ → ℕ → DCharacter → List ℕ → Operands
@@ -140,7 +140,7 @@ a_d_character_is_one_column = refl
 two_addresses_and_a_d_character : map (read 2 2 d.Required) (codes "1,2,A" ∷ codes "1,2" ∷ codes "1,A" ∷ [])
     ≡ whole (number 1) (number 2) (Some 65) ∷ partial (number 1) (number 2) None
     ∷ partial (number 1) (fields.Operand
-    (operands.Address (record { base = bases.Symbol (named (codes "A")); adjustment = pos 0; index = 0 }))) None
+    (operands.Address (record { base = bases.Symbol (named (codes "A")); adjustment = pos 0; index = None }))) None
     ∷ []
 two_addresses_and_a_d_character = refl
 

@@ -8,6 +8,7 @@ use Rattle.source_1401.specs.SourceLine.{padded, columns_of}
 use Rattle.source_1401.specs.Mnemonic.{instructions, assembler_operations}
 use Rattle.source_1401.specs.Constant.{text_of}
 use Rattle.source_1401.specs.Statement.{line_of, has_bad_label, has_bad_operands, is_end, label_of_line}
+use Rattle.source_1401.specs.Operands.{as_literal}
 use Rattle.source_1401.specs.declared.label.Label.{Label}
 use Rattle.source_1401.specs.declared.label.LabelField.{LabelField}
 use Rattle.source_1401.specs.declared.label.LabelField.TheVariants as labels
@@ -36,11 +37,11 @@ abbrev named : List ℕ → Label
 named word = record { text = padded 6 word }
 
 abbrev number : ℕ → OperandField
-number n = fields.Operand (operands.Address (record { base = bases.Number n; adjustment = pos 0; index = 0 }))
+number n = fields.Operand (operands.Address (record { base = bases.Number n; adjustment = pos 0; index = None }))
 
 abbrev symbol : List ℕ → OperandField
 symbol word =
-    fields.Operand (operands.Address (record { base = bases.Symbol (named word); adjustment = pos 0; index = 0 }))
+    fields.Operand (operands.Address (record { base = bases.Symbol (named word); adjustment = pos 0; index = None }))
 
 abbrev with : OperandField → OperandField → Operands
 with a b = record { a = a; b = b; d = None; is_whole = true }
@@ -53,7 +54,7 @@ an_origin = refl
 an_instruction_with_a_literal : says (codes "     START     ZA   +5,TOTAL")
     ≡ good (labels.Label (named (codes "START")))
     (bodies.Instruction (record { operation = byte "?"; form = record { least = 0; most = 2; d = d.Never } })
-    (with (fields.Operand (operands.Literal (constants.Plus (text_of (codes "5"))))) (symbol (codes "TOTAL"))))
+    (with (fields.Operand (as_literal (constants.Plus (text_of (codes "5"))))) (symbol (codes "TOTAL"))))
 unfolding says
 an_instruction_with_a_literal = refl
 
@@ -61,7 +62,7 @@ an_address_by_the_instruction_itself : says (codes "               H    *-3")
     ≡ good labels.Absent (bodies.Instruction
     (record { operation = byte "."; form = record { least = 0; most = 1; d = d.Never } })
     (with (fields.Operand
-    (operands.Address (record { base = bases.Here; adjustment = negsuc 2; index = 0 }))) fields.Absent))
+    (operands.Address (record { base = bases.Here; adjustment = negsuc 2; index = None }))) fields.Absent))
 unfolding says
 an_address_by_the_instruction_itself = refl
 
@@ -74,7 +75,7 @@ a_constant_has_a_word_mark_or_none = refl
 
 areas_and_a_field_of_them : map says (codes "     REC       DA   2X4" ∷ codes "     KEY            3,4" ∷ [])
     ≡ good (labels.Label (named (codes "REC")))
-    (bodies.Areas (Some (record { count = 2; length = 4; has_group_mark = false })))
+    (bodies.Areas (Some (record { count = 2; length = 4; has_group_mark = false; index = 0; counts_from_zero = false })))
     ∷ good (labels.Label (named (codes "KEY")))
     (bodies.Field (Some (record { first = 3; last = 4; is_marked = true }))) ∷ []
 unfolding says

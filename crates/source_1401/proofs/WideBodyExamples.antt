@@ -73,10 +73,10 @@ unfolding bad
 not_one_address = refl
 
 abbrev next_hundred : OperandField
-next_hundred = fields.Operand (operands.Address (record { base = bases.NextHundred; adjustment = pos 0; index = 0 }))
+next_hundred = fields.Operand (operands.Address (record { base = bases.NextHundred; adjustment = pos 0; index = None }))
 
 abbrev here : OperandField
-here = fields.Operand (operands.Address (record { base = bases.Here; adjustment = pos 20; index = 0 }))
+here = fields.Operand (operands.Address (record { base = bases.Here; adjustment = pos 20; index = None }))
 
 the_next_place : map (asks (codes "ORG  ")) (codes "*+X00 " ∷ codes "*+20" ∷ codes "X1 " ∷ codes "*+X00,5 " ∷ [])
     ≡ map bodies.LabelledOrigin (one next_hundred true ∷ one here true ∷ one (the (codes "X1")) true
@@ -84,31 +84,46 @@ the_next_place : map (asks (codes "ORG  ")) (codes "*+X00 " ∷ codes "*+20" ∷
 unfolding asks
 the_next_place = refl
 
+literals_at_the_next_place : map (asks (codes "LTORG")) (codes "    " ∷ codes "* " ∷ codes " 600 " ∷ codes "600 "
+    ∷ codes "BACK-1" ∷ codes "*+X00 " ∷ codes "*+20 " ∷ codes "*,5 " ∷ [])
+    ≡ map bodies.LiteralOrigin (replicate 3 (one (the (codes "*")) true) ++ one (the (codes "600")) true
+    ∷ one (the (codes "BACK-1")) true ∷ one next_hundred true ∷ one here true ∷ one (the (codes "*")) false ∷ [])
+unfolding asks
+literals_at_the_next_place = refl
+
+literals_at_no_place : map (bad (codes "LTORG")) (codes "*+X1 " ∷ codes "600+X0 " ∷ codes "600,1 " ∷ codes "+5 "
+    ∷ codes ",5 " ∷ codes "*+X00+1 " ∷ codes "%U1 " ∷ [])
+    ≡ replicate 7 true
+unfolding bad
+literals_at_no_place = refl
+
 no_next_place : map (bad (codes "ORG  ")) (codes "*+X1 " ∷ codes "*+X00+5 " ∷ codes "*+X00,5 "
     ∷ codes "TAB+X00 " ∷ codes "+5 " ∷ codes " *" ∷ codes "TAB+X2 " ∷ [])
     ≡ replicate 7 true
 unfolding bad
 no_next_place = refl
 
--- an asterisk says a value, but the next hundred is for ORG alone
+-- an asterisk says a value, but the next hundred is for ORG and LTORG alone, and an index register for EQU
 values : List Bool
 unfolding bad
 values = bad (codes "EQU  ") (codes "*+1 ") ∷ bad (codes "EX   ") (codes "* ") ∷ bad (codes "XFR  ") (codes "*-3 ")
-    ∷ bad (codes "END  ") (codes "* ") ∷ bad (codes "ORG  ") (codes "* ") ∷ bad (codes "ORG  ") (codes "*+X00 ") ∷ []
+    ∷ bad (codes "END  ") (codes "* ") ∷ bad (codes "ORG  ") (codes "* ") ∷ bad (codes "ORG  ") (codes "*+X00 ")
+    ∷ bad (codes "EQU  ") (codes "TAB-2+X2 ") ∷ bad (codes "EQU  ") (codes "TAB+X0 ")
+    ∷ bad (codes "EQU  ") (codes "X1+X3 ") ∷ []
 
 no_values : List Bool
 unfolding bad
 no_values = bad (codes "EQU  ") (codes "*+X00 ") ∷ bad (codes "EX   ") (codes "*+X00 ")
     ∷ bad (codes "XFR  ") (codes "*+X00 ") ∷ bad (codes "END  ") (codes "*+X00 ")
-    ∷ bad (codes "EQU  ") (codes "TAB+X2 ")
     ∷ bad (codes "EX   ") (codes "5+X1 ") ∷ bad (codes "XFR  ") (codes "*+X3 ") ∷ bad (codes "END  ") (codes "*+X1 ")
-    ∷ bad (codes "EQU  ") (codes "+5 ") ∷ bad (codes "EX   ") (codes "   ") ∷ bad (codes "XFR  ") (codes "1,2 ") ∷ []
+    ∷ bad (codes "EQU  ") (codes "+5 ") ∷ bad (codes "EQU  ") (codes "TAB+X2,1 ") ∷ bad (codes "EQU  ") (codes "   ")
+    ∷ bad (codes "EQU  ") (codes "%U1 ") ∷ bad (codes "EX   ") (codes "   ") ∷ bad (codes "XFR  ") (codes "1,2 ") ∷ []
 
-an_asterisk_is_a_value : values ≡ replicate 6 false
+an_asterisk_is_a_value : values ≡ replicate 9 false
 unfolding values
 an_asterisk_is_a_value = refl
 
-these_are_no_values : no_values ≡ replicate 11 true
+these_are_no_values : no_values ≡ replicate 13 true
 unfolding no_values
 these_are_no_values = refl
 
@@ -122,14 +137,39 @@ ends_good_and_bad : map (bad (codes "END  ")) (codes "   " ∷ codes " GO" ∷ c
 unfolding bad
 ends_good_and_bad = refl
 
+abbrev areas_by : Bool → ℕ → Bool → Option Areas
+areas_by has_group_mark index counts_from_zero =
+    Some (record {
+      count = 2;
+      length = 5;
+      has_group_mark = has_group_mark;
+      index = index;
+      counts_from_zero = counts_from_zero;
+    })
+
 abbrev areas : Bool → Option Areas
-areas has_group_mark = Some (record { count = 2; length = 5; has_group_mark = has_group_mark })
+areas has_group_mark = areas_by has_group_mark 0 false
 
 options_of_areas : map (asks (codes "DA   ")) (codes "2X5 " ∷ codes "2X5,C " ∷ codes "2X5 ,G " ∷ codes "2X5,G "
     ∷ codes "2X5,G,C a remark" ∷ codes "2X5,C,G" ∷ [])
     ≡ map bodies.Areas (replicate 3 (areas false) ++ replicate 3 (areas true))
 unfolding asks
 options_of_areas = refl
+
+options_of_fields : map (asks (codes "DA   ")) (codes "2X5,X1 " ∷ codes "2X5,0 " ∷ codes "2X5,X2,0,G "
+    ∷ codes "2X5,0,C,X3" ∷ codes "2X5,G,X1 a remark" ∷ codes "2X5,0" ∷ [])
+    ≡ map bodies.Areas (areas_by false 1 false ∷ areas_by false 0 true ∷ areas_by true 2 true ∷ areas_by false 3 true
+    ∷ areas_by true 1 false ∷ areas_by false 0 true ∷ [])
+unfolding asks
+options_of_fields = refl
+
+-- one of X1 to X3 at the most
+no_options_of_fields : map (bad (codes "DA   ")) (codes "1X5,X1,X1 " ∷ codes "1X5,X1,X2 " ∷ codes "1X5,0,0 "
+    ∷ codes "1X5,X0 " ∷ codes "1X5,X4 " ∷ codes "1X5,X" ∷ codes "1X5,X,1 " ∷ codes "1X5,X1X2 " ∷ codes "1X5,X1, "
+    ∷ codes "1X5,X10 " ∷ codes "1X5,00 " ∷ codes "1X5,1 " ∷ codes "1X5,0,X1,0 " ∷ [])
+    ≡ replicate 13 true
+unfolding bad
+no_options_of_fields = refl
 
 no_options_of_areas : map (bad (codes "DA   ")) (codes "1X5,G,G " ∷ codes "1X5,C,G,C " ∷ codes "1X5, " ∷ codes "1X5,,G "
     ∷ codes "1X5,GC " ∷ codes "1X5,X " ∷ codes "G,1X5 " ∷ codes "1X5G " ∷ [])

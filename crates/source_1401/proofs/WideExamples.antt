@@ -247,14 +247,15 @@ unfolding asks
 an_assembler_is_this_one = refl
 
 -- an address with X1 to X3 as its base or without index register
-abbrev address : Base → ℤ → ℕ → OperandField
+abbrev address : Base → ℤ → Option ℕ → OperandField
 address base adjustment index =
     fields.Operand (operands.Address (record { base = base; adjustment = adjustment; index = index }))
 
 registers_are_symbols : map (field_of Ibm) (codes "X1" ∷ codes "X1+5" ∷ codes "X1+X2" ∷ codes "X3-1+X1" ∷ codes "5+X0"
     ∷ codes "*+X0" ∷ [])
-    ≡ address (bases.Register 1) (pos 0) 0 ∷ address (bases.Register 1) (pos 5) 0 ∷ address (bases.Register 1) (pos 0) 2
-    ∷ address (bases.Register 3) (negsuc 0) 1 ∷ address (bases.Number 5) (pos 0) 0 ∷ address bases.Here (pos 0) 0 ∷ []
+    ≡ address (bases.Register 1) (pos 0) None ∷ address (bases.Register 1) (pos 5) None
+    ∷ address (bases.Register 1) (pos 0) (Some 2) ∷ address (bases.Register 3) (negsuc 0) (Some 1)
+    ∷ address (bases.Number 5) (pos 0) (Some 0) ∷ address bases.Here (pos 0) (Some 0) ∷ []
 registers_are_symbols = refl
 
 a_register_may_be_a_label : map (label_in Ibm) (codes "X1        " ∷ codes "X3        " ∷ codes "X1,       " ∷ [])

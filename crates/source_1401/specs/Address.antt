@@ -47,13 +47,14 @@ abbrev pub is_no_index : Language → List ℕ → Bool
 is_no_index languages.Plain rest = false
 is_no_index languages.Ibm rest = bytes_eq rest (codes "+X0")
 
--- the index register that an address ends with
-abbrev pub index_of : Language → List ℕ → Option ℕ
+-- the index register that an address ends with, or that it ends with none; +X0 is one by its number
+abbrev pub index_of : Language → List ℕ → Option (Option ℕ)
 index_of language rest =
-    if (length rest == 0) || is_no_index language rest then Some 0
-    else if bytes_eq rest (codes "+X1") then Some 1
-    else if bytes_eq rest (codes "+X2") then Some 2
-    else if bytes_eq rest (codes "+X3") then Some 3
+    if length rest == 0 then Some None
+    else if is_no_index language rest then Some (Some 0)
+    else if bytes_eq rest (codes "+X1") then Some (Some 1)
+    else if bytes_eq rest (codes "+X2") then Some (Some 2)
+    else if bytes_eq rest (codes "+X3") then Some (Some 3)
     else None
 
 abbrev pub indexed : Language → Base → ℤ → List ℕ → Option Address

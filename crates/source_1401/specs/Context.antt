@@ -1,9 +1,12 @@
 -- What lines say with their neighbours (Autocoder, "Control Card", "Suffix", "Chained Instructions"; that comments may
 -- stand within a chain, and that a second CTL is refused, own).
-use Rattle.std.specs.Prelude.{ℕ, true, false, ◌||◌, if◌then◌else◌, List, [], ◌∷◌, map, fold, Option, None, Some}
+use Rattle.std.specs.Prelude.{ℕ, Bool, true, false, ◌||◌, if◌then◌else◌, List, [], ◌∷◌, map, fold, Option, None, Some}
+use Rattle.std.specs.Prelude.{codes}
 use Rattle.std.specs.Option.{option_map}
+use Rattle.std.specs.Str.{str_eq_ignore_ascii_case}
+use Rattle.source_1401.specs.AreaLiterals.{DeclaredAreas, areas_of_line, label_of_area}
 use Rattle.source_1401.specs.Language.{line_in}
-use Rattle.source_1401.specs.SourceLine.{lines_of}
+use Rattle.source_1401.specs.SourceLine.{columns_of, columns_in, lines_of}
 use Rattle.source_1401.specs.Statement.{line_of, label_of_line}
 use Rattle.source_1401.specs.Symbols.{names_register, no_registers, statement_under, line_under}
 use Rattle.source_1401.specs.declared.context.Context.{Context}
@@ -45,6 +48,7 @@ body_below this (bodies.Transfer of) = bodies.Transfer of
 body_below this (bodies.Chain chain) = bodies.Chain (record { operation = this.above; count = chain.count })
 body_below this (bodies.AddressConstant constant) = bodies.AddressConstant constant
 body_below this (bodies.LabelledOrigin of) = bodies.LabelledOrigin of
+body_below this (bodies.LiteralOrigin of) = bodies.LiteralOrigin of
 body_below this (bodies.WideField span) = bodies.WideField span
 body_below this (bodies.WideEquate of) = bodies.WideEquate of
 body_below this (bodies.WideExecute of) = bodies.WideExecute of
@@ -90,6 +94,7 @@ below_body this (bodies.Transfer of) = record this { above = None }
 below_body this (bodies.Chain chain) = this
 below_body this (bodies.AddressConstant constant) = record this { above = None }
 below_body this (bodies.LabelledOrigin of) = record this { above = None }
+below_body this (bodies.LiteralOrigin of) = record this { above = None }
 below_body this (bodies.WideField span) = record this { above = None }
 below_body this (bodies.WideEquate of) = record this { above = None }
 below_body this (bodies.WideExecute of) = record this { above = None }
@@ -119,9 +124,14 @@ registers_with this (Some label) =
       three = this.three || names_register 3 label;
     }
 
--- X1 to X3 as labels, with one more line
+-- X1 to X3 as labels, with those that an instruction's addresses declare
+abbrev pub registers_with_areas : Registers → DeclaredAreas → Registers
+registers_with_areas this areas =
+    registers_with (registers_with this (label_of_area areas.0)) (label_of_area areas.1)
+
+-- X1 to X3 as labels, with one more line: its label, and its area literals
 abbrev pub registers_and : Registers → Line → Registers
-registers_and this line = registers_with this (label_of_line line)
+registers_and this line = registers_with_areas (registers_with this (label_of_line line)) (areas_of_line line)
 
 -- which of X1 to X3 some line has as its label
 abbrev pub registers_of : List Line → Registers
@@ -170,6 +180,7 @@ control_of (bodies.Transfer of) = None
 control_of (bodies.Chain chain) = None
 control_of (bodies.AddressConstant constant) = None
 control_of (bodies.LabelledOrigin of) = None
+control_of (bodies.LiteralOrigin of) = None
 control_of (bodies.WideField span) = None
 control_of (bodies.WideEquate of) = None
 control_of (bodies.WideExecute of) = None
@@ -178,6 +189,10 @@ control_of (bodies.WideEnd of) = None
 abbrev pub control_in : Option Statement → Option SizeField
 control_in None = None
 control_in (Some statement) = control_of statement.body
+
+-- the columns of a line for an operation ask for CTL, in small letters too
+abbrev pub may_be_control : List ℕ → Bool
+may_be_control line = str_eq_ignore_ascii_case (columns_in 16 20 (columns_of line)) (codes "CTL  ")
 
 -- the first CTL counts, whatever is wrong with it
 abbrev pub size_or : Option SizeField → Option ℕ → Option ℕ

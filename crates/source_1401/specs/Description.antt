@@ -58,7 +58,7 @@ field_row rule None = record plain { is_well_formed = false; label = rule; areas
 field_row rule (Some span) =
     record plain {
       label = rule;
-      names = point.InArea span.last;
+      names = point.Counted span.last;
       shows = point.InArea span.first;
       areas = areas.Divides (Some span);
     }
@@ -70,7 +70,7 @@ equate_row of =
       label = label.Required;
       names = point.Value;
       shows = point.Value;
-      addressing = addressing.EarlierValue of;
+      addressing = addressing.Equal of;
     }
 
 abbrev pub origin_row : Operands → Description
@@ -119,9 +119,11 @@ describe (bodies.Areas made) =
 describe (bodies.Field span) = field_row label.OfField span
 describe (bodies.WideField span) = field_row label.Optional span
 describe (bodies.Equate of) = record (equate_row of) { is_well_formed = is_value of }
-describe (bodies.WideEquate of) = record (equate_row of) { is_well_formed = is_wide_value of }
+describe (bodies.WideEquate of) = record (equate_row of) { is_well_formed = is_one_address of }
 describe (bodies.Origin of) = record (origin_row of) { is_well_formed = is_value of; label = label.Forbidden }
 describe (bodies.LabelledOrigin of) = record (origin_row of) { is_well_formed = is_wide_origin of }
+describe (bodies.LiteralOrigin of) =
+    record (origin_row of) { is_well_formed = is_wide_origin of; next = next.LiteralsAtValue }
 describe (bodies.Execute of) = record (execute_row of) { is_well_formed = is_value of }
 describe (bodies.WideExecute of) = record (execute_row of) { is_well_formed = is_wide_value of }
 describe (bodies.End of) = record (end_row of) { is_well_formed = is_value of }
@@ -174,6 +176,7 @@ abbrev pub operands_in : Addressing → Operands
 operands_in addressing.Nothing = record { a = fields.Absent; b = fields.Absent; d = None; is_whole = true }
 operands_in (addressing.Addresses of) = of
 operands_in (addressing.EarlierValue of) = of
+operands_in (addressing.Equal of) = of
 operands_in (addressing.Value of) = of
 operands_in (addressing.Entry of) = of
 
@@ -182,5 +185,6 @@ abbrev pub is_entry : Addressing → Bool
 is_entry addressing.Nothing = false
 is_entry (addressing.Addresses of) = false
 is_entry (addressing.EarlierValue of) = false
+is_entry (addressing.Equal of) = false
 is_entry (addressing.Value of) = false
 is_entry (addressing.Entry of) = true

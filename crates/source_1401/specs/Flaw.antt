@@ -8,7 +8,7 @@ use Rattle.source_1401.specs.Mnemonic.{operation_of}
 use Rattle.source_1401.specs.Nearness.{nearest_mnemonic, word_in}
 use Rattle.source_1401.specs.Operands.{operand_len, behind_operand}
 use Rattle.source_1401.specs.SourceLine.{padded, columns_in, is_blank, is_comment, is_graphic, is_printable}
-use Rattle.source_1401.specs.WideConstant.{is_sign}
+use Rattle.source_1401.specs.Literal.{is_sign}
 use Rattle.source_1401.specs.declared.flaw.OperationFlaw.{OperationFlaw}
 use Rattle.source_1401.specs.declared.flaw.OperationFlaw.TheVariants as operation_flaws
 use Rattle.source_1401.specs.declared.flaw.Stretch.{Stretch}
@@ -41,14 +41,15 @@ foreign_column columns =
 abbrev pub sign_len : List ℕ → ℕ
 sign_len columns = if is_sign (slice_index columns 0) then 1 else 0
 
--- the symbol or the number that the first operand begins with, behind the sign of a constant
+-- the symbol or the number that the first operand begins with, behind the sign of a constant or a literal
 abbrev pub first_base : List ℕ → Stretch
 first_base columns = stretch (21 + sign_len columns) (base_len (drop (sign_len columns) columns))
 
 -- that of the second
 abbrev pub second_base : List ℕ → Stretch
 second_base columns =
-    stretch (21 + (operand_len false columns + 1)) (base_len (drop 1 (behind_operand columns)))
+    let second = drop 1 (behind_operand columns) in
+    stretch (21 + (operand_len false columns + 1) + sign_len second) (base_len (drop (sign_len second) second))
 
 -- what columns hold from the first that isn't blank on
 abbrev pub without_first_blanks : List ℕ → List ℕ

@@ -1,4 +1,5 @@
 pub mod Address
+pub mod AreaLiterals
 pub mod Constant
 pub mod Context
 pub mod Control
@@ -8,6 +9,7 @@ pub mod Heading
 pub mod Label
 pub mod Language
 pub mod LanguageFlaw
+pub mod Literal
 pub mod LoneAddress
 pub mod Mnemonic
 pub mod Nearness

@@ -1,6 +1,6 @@
 -- Operands that are one address, and what it says (Autocoder, "Assembler Control"; an asterisk in the wider language
 -- C24-3258 and J24-1434).
-use Rattle.std.specs.Prelude.{◌==◌, Bool, true, false, not, ◌&&◌, if◌then◌else◌, Option, None, Some, is_some}
+use Rattle.std.specs.Prelude.{Bool, true, false, not, ◌&&◌, if◌then◌else◌, Option, None, Some, is_none, is_some}
 use Rattle.std.specs.Option.{option_map_or}
 use Rattle.source_1401.specs.declared.address.Base.{Base}
 use Rattle.source_1401.specs.declared.address.Base.TheVariants as bases
@@ -20,13 +20,13 @@ abbrev pub is_address : OperandField → Bool
 is_address fields.Absent = false
 is_address fields.Malformed = false
 is_address (fields.Operand (operands.Address address)) = true
-is_address (fields.Operand (operands.Literal constant)) = false
+is_address (fields.Operand (operands.Literal literal)) = false
 is_address (fields.Operand (operands.Unit unit)) = false
 
 -- the base of an address without index register
 abbrev pub base_alone : Operand → Option Base
-base_alone (operands.Address address) = if address.index == 0 then Some address.base else None
-base_alone (operands.Literal constant) = None
+base_alone (operands.Address address) = if is_none address.index then Some address.base else None
+base_alone (operands.Literal literal) = None
 base_alone (operands.Unit unit) = None
 
 abbrev pub base_in : OperandField → Option Base

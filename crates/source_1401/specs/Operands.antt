@@ -1,11 +1,15 @@
 -- The operands of an instruction (Autocoder, "Operand"; the ends of operands own).
 use Rattle.std.specs.Prelude.{ℕ, ◌+◌, ◌==◌, nat_le, nat_lt, Bool, true, false, not, ◌&&◌, ◌||◌, if◌then◌else◌, List, []}
 use Rattle.std.specs.Prelude.{◌∷◌, take, drop, Option, None, Some, is_some}
-use Rattle.std.specs.Option.{option_map}
+use Rattle.std.specs.Option.{option_map, option_or}
 use Rattle.source_1401.specs.Address.{address_of}
 use Rattle.source_1401.specs.Constant.{constant_of}
+use Rattle.source_1401.specs.Literal.{wide_literal_of}
 use Rattle.source_1401.specs.Punctuation.{blank, comma, at_sign, plus_sign, minus_sign}
+use Rattle.source_1401.specs.declared.constant.Constant.{Constant}
 use Rattle.source_1401.specs.declared.language.Language.{Language}
+use Rattle.source_1401.specs.declared.language.Language.TheVariants as languages
+use Rattle.source_1401.specs.declared.literal.Literal.TheVariants as literals
 use Rattle.source_1401.specs.declared.mnemonic.DCharacter.{DCharacter}
 use Rattle.source_1401.specs.declared.mnemonic.DCharacter.TheVariants as d
 use Rattle.source_1401.specs.declared.mnemonic.Form.{Form}
@@ -47,12 +51,23 @@ operand_behind_comma (byte ∷ more) = if byte == comma then lone_operand more e
 abbrev pub begins_literal : ℕ → Bool
 begins_literal byte = (byte == at_sign) || (byte == plus_sign) || (byte == minus_sign)
 
+-- a constant as an operand
+abbrev pub as_literal : Constant → Operand
+as_literal constant = operands.Literal (literals.Constant constant)
+
 -- the address or the literal that a word is
 abbrev pub operand_of : Language → List ℕ → Option Operand
 operand_of language [] = None
 operand_of language (byte ∷ more) =
-    if begins_literal byte then option_map operands.Literal (constant_of (byte ∷ more))
+    if begins_literal byte then option_map as_literal (constant_of (byte ∷ more))
     else option_map operands.Address (address_of language (byte ∷ more))
+
+-- the address or the literal of an instruction that a word is: in the wider language a literal of an address or of an
+-- area too
+abbrev pub instruction_operand_of : Language → List ℕ → Option Operand
+instruction_operand_of languages.Plain word = operand_of languages.Plain word
+instruction_operand_of languages.Ibm word =
+    option_or (operand_of languages.Ibm word) (option_map operands.Literal (wide_literal_of word))
 
 -- a word that should be an address or a literal
 abbrev pub field_with : Option Operand → OperandField
@@ -69,16 +84,20 @@ OperandAndRest = OperandField × List ℕ
 abbrev pub read_operand : Language → List ℕ → OperandAndRest
 read_operand language text = (field_of language (operand_in text), behind_operand text)
 
+abbrev pub read_instruction_operand : Language → List ℕ → OperandAndRest
+read_instruction_operand language text =
+    (field_with (instruction_operand_of language (operand_in text)), behind_operand text)
+
 -- the first address, if the operation can have one, unless the first column is blank
 abbrev pub first_operand : Language → ℕ → List ℕ → OperandAndRest
 first_operand language most text =
     if (most == 0) || is_ended text then (fields.Absent, text) else read_operand language text
 
--- the second follows a comma
+-- the second follows a comma; only an instruction has one
 abbrev pub second_operand : Language → ℕ → List ℕ → OperandAndRest
 second_operand language most [] = (fields.Absent, [])
 second_operand language most (byte ∷ more) =
-    if (byte == comma) && nat_lt 1 most then read_operand language more else (fields.Absent, byte ∷ more)
+    if (byte == comma) && nat_lt 1 most then read_instruction_operand language more else (fields.Absent, byte ∷ more)
 
 -- a d-character is any graphic in one column, and nothing follows it
 abbrev pub lone_d : List ℕ → Option ℕ

@@ -41,7 +41,13 @@ areas_of word =
     let n = position_or_len is_x word in
     option_and_then
     (λ count.
-    option_map (λ length. record { count = count; length = length; has_group_mark = false })
+    option_map (λ length. record {
+      count = count;
+      length = length;
+      has_group_mark = false;
+      index = 0;
+      counts_from_zero = false;
+    })
     (number_between 1 999 (drop 1 (drop n word))))
     (number_between 1 99 (take n word))
 

@@ -10,6 +10,8 @@ use Rattle.source_1401.specs.declared.address.Base.TheVariants as bases
 use Rattle.source_1401.specs.declared.label.Label.{Label}
 use Rattle.source_1401.specs.declared.label.LabelField.{LabelField}
 use Rattle.source_1401.specs.declared.label.LabelField.TheVariants as labels
+use Rattle.source_1401.specs.declared.literal.Literal.{Literal}
+use Rattle.source_1401.specs.declared.literal.Literal.TheVariants as literals
 use Rattle.source_1401.specs.declared.operands.Operand.{Operand}
 use Rattle.source_1401.specs.declared.operands.Operand.TheVariants as operands
 use Rattle.source_1401.specs.declared.operands.OperandField.{OperandField}
@@ -67,9 +69,16 @@ abbrev pub address_under : SymbolRule → Address → Address
 address_under rule this =
     record { base = base_under rule this.base; adjustment = this.adjustment; index = this.index }
 
+abbrev pub literal_under : SymbolRule → Literal → Literal
+literal_under rule (literals.Constant constant) = literals.Constant constant
+literal_under rule (literals.Address this) =
+    literals.Address (record { is_negative = this.is_negative; address = address_under rule this.address })
+literal_under rule (literals.Area this) =
+    literals.Area (record { label = suffixed rule.suffix this.label; places = this.places })
+
 abbrev pub operand_under : SymbolRule → Operand → Operand
 operand_under rule (operands.Address address) = operands.Address (address_under rule address)
-operand_under rule (operands.Literal constant) = operands.Literal constant
+operand_under rule (operands.Literal literal) = operands.Literal (literal_under rule literal)
 operand_under rule (operands.Unit unit) = operands.Unit unit
 
 abbrev pub field_under : SymbolRule → OperandField → OperandField
@@ -103,6 +112,7 @@ body_under rule (bodies.Chain chain) = bodies.Chain chain
 body_under rule (bodies.AddressConstant constant) =
     bodies.AddressConstant (record constant { operands = operands_under rule constant.operands })
 body_under rule (bodies.LabelledOrigin of) = bodies.LabelledOrigin (operands_under rule of)
+body_under rule (bodies.LiteralOrigin of) = bodies.LiteralOrigin (operands_under rule of)
 body_under rule (bodies.WideField span) = bodies.WideField span
 body_under rule (bodies.WideEquate of) = bodies.WideEquate (operands_under rule of)
 body_under rule (bodies.WideExecute of) = bodies.WideExecute (operands_under rule of)

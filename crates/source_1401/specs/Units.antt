@@ -3,8 +3,8 @@ use Rattle.std.specs.Prelude.{ℕ, ◌==◌, Bool, true, false, ◌&&◌, ◌||�
 use Rattle.std.specs.Prelude.{Option, None, Some}
 use Rattle.std.specs.Option.{option_map, option_or}
 use Rattle.source_1401.specs.Label.{is_letter, is_digit}
-use Rattle.source_1401.specs.Operands.{OperandAndRest, behind_operand, field_with, is_ended, operand_in}
-use Rattle.source_1401.specs.Operands.{operand_of, operands_after}
+use Rattle.source_1401.specs.Operands.{OperandAndRest, behind_operand, field_with, instruction_operand_of, is_ended}
+use Rattle.source_1401.specs.Operands.{operand_in, operands_after}
 use Rattle.source_1401.specs.Punctuation.{percent_sign}
 use Rattle.source_1401.specs.declared.language.Language.TheVariants as languages
 use Rattle.source_1401.specs.declared.mnemonic.DCharacter.{DCharacter}
@@ -48,13 +48,13 @@ is_written d.Required = true
 
 -- the operand that a word is where a unit may stand
 abbrev pub unit_or_address : List ℕ → Option Operand
-unit_or_address word = option_or (option_map operands.Unit (unit_of word)) (operand_of languages.Ibm word)
+unit_or_address word = option_or (option_map operands.Unit (unit_of word)) (instruction_operand_of languages.Ibm word)
 
 -- the first operand that a word is: where it may be a unit or an address, a unit only before a d-character
 abbrev pub first_in : FirstOperand → Form → List ℕ → Option Operand
-first_in firsts.Address form word = operand_of languages.Ibm word
+first_in firsts.Address form word = instruction_operand_of languages.Ibm word
 first_in firsts.UnitOrAddress form word =
-    if is_written form.d then unit_or_address word else operand_of languages.Ibm word
+    if is_written form.d then unit_or_address word else instruction_operand_of languages.Ibm word
 first_in firsts.Unit form word = option_map operands.Unit (unit_of word)
 first_in (firsts.Tape letter) form word = option_map operands.Unit (tape_of letter word)
 

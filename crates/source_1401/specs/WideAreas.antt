@@ -1,37 +1,54 @@
 -- The options of DA, and fields of areas (Autocoder, "Define Area", C24-3258 and J24-1434; that C changes nothing own).
-use Rattle.std.specs.Prelude.{ℕ, ◌==◌, true, false, not, ◌&&◌, if◌then◌else◌, List, [], ◌∷◌, Option, None, Some}
+use Rattle.std.specs.Prelude.{ℕ, ◌-◌, ◌==◌, nat_le, true, false, not, ◌&&◌, if◌then◌else◌, List, [], ◌∷◌, Option, None}
+use Rattle.std.specs.Prelude.{Some}
 use Rattle.std.specs.Option.{option_map, option_and_then, option_or}
 use Rattle.std.specs.Str.{byte}
 use Rattle.source_1401.specs.Numbers.{number_between}
 use Rattle.source_1401.specs.Operands.{behind_operand, lone_operand, operand_in}
-use Rattle.source_1401.specs.Punctuation.{blank, comma}
+use Rattle.source_1401.specs.Punctuation.{blank, comma, letter_x}
 use Rattle.source_1401.specs.Statement.{areas_of, span_of}
 use Rattle.source_1401.specs.declared.statement.Areas.{Areas}
 use Rattle.source_1401.specs.declared.statement.Span.{Span}
 use Rattle.source_1401.specs.declared.wide_areas.AreaOptions.{AreaOptions}
 
 abbrev pub no_options : AreaOptions
-no_options = record { has_group_mark = false; is_cleared = false }
+no_options = record { has_group_mark = false; is_cleared = false; index = 0; counts_from_zero = false }
 
--- these options and one more, if it isn't among them
+-- these options and that of a letter or a zero, if it isn't among them
 abbrev pub option_and : AreaOptions → ℕ → Option AreaOptions
 option_and these letter =
     if (letter == byte "G") && not these.has_group_mark then Some (record these { has_group_mark = true })
     else if (letter == byte "C") && not these.is_cleared then Some (record these { is_cleared = true })
+    else if (letter == byte "0") && not these.counts_from_zero then Some (record these { counts_from_zero = true })
+    else None
+
+-- these options and X1, X2 or X3, by its digit, if none of them is among them
+abbrev pub register_and : AreaOptions → ℕ → Option AreaOptions
+register_and these digit =
+    if nat_le (byte "1") digit && nat_le digit (byte "3") && (these.index == 0)
+    then Some (record these { index = digit - byte "0" })
     else None
 
 -- these options, and those that a text has, each behind a comma
 abbrev pub options_and : AreaOptions → List ℕ → Option AreaOptions
 options_and these [] = Some these
 options_and these (parting ∷ []) = if parting == blank then Some these else None
-options_and these (parting ∷ letter ∷ more) =
+options_and these (parting ∷ letter ∷ []) =
+    if parting == blank then Some these else if parting == comma then option_and these letter else None
+options_and these (parting ∷ letter ∷ digit ∷ more) =
     if parting == blank then Some these
-    else if parting == comma then option_and_then (λ those. options_and those more) (option_and these letter)
-    else None
+    else if not (parting == comma) then None
+    else if letter == letter_x then option_and_then (λ those. options_and those more) (register_and these digit)
+    else option_and_then (λ those. options_and those (digit ∷ more)) (option_and these letter)
 
 -- areas with their options; they are cleared in any case
 abbrev pub areas_with : Areas → AreaOptions → Areas
-areas_with areas options = record areas { has_group_mark = options.has_group_mark }
+areas_with areas options =
+    record areas {
+      has_group_mark = options.has_group_mark;
+      index = options.index;
+      counts_from_zero = options.counts_from_zero;
+    }
 
 -- what DA asks for
 abbrev pub wide_areas_of : List ℕ → Option Areas

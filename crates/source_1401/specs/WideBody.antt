@@ -5,6 +5,7 @@ use Rattle.source_1401.specs.Mnemonic.{operation_of}
 use Rattle.source_1401.specs.Numbers.{number_between}
 use Rattle.source_1401.specs.Operands.{lone_operand, operands_of}
 use Rattle.source_1401.specs.Statement.{most_places, one_address}
+use Rattle.source_1401.specs.Units.{wide_operands}
 use Rattle.source_1401.specs.WideAreas.{wide_areas_of, wide_span_of}
 use Rattle.source_1401.specs.WideConstant.{wide_constant}
 use Rattle.source_1401.specs.WideOrigin.{entry_in, origin_in}
@@ -13,11 +14,12 @@ use Rattle.source_1401.specs.declared.mnemonic.Operation.{Operation}
 use Rattle.source_1401.specs.declared.mnemonic.Operation.TheVariants as operations
 use Rattle.source_1401.specs.declared.statement.Body.{Body}
 use Rattle.source_1401.specs.declared.statement.Body.TheVariants as bodies
+use Rattle.source_1401.specs.declared.units.FirstOperand.TheVariants as firsts
 
 -- what an operation with these columns for its operands asks for
 abbrev pub shared_body_with : Operation → List ℕ → Body
 shared_body_with (operations.Instruction instruction) columns =
-    bodies.Instruction instruction (operands_of languages.Ibm instruction.form columns)
+    bodies.Instruction instruction (wide_operands firsts.Address instruction.form columns)
 shared_body_with operations.MarkedConstant columns = wide_constant true columns
 shared_body_with operations.Constant columns = wide_constant false columns
 shared_body_with operations.Space columns = bodies.Space (number_between 1 most_places (lone_operand columns))

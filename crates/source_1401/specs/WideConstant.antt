@@ -1,15 +1,11 @@
 -- Constants of addresses (Autocoder, "Address Constants", C24-3258 and J24-1434).
-use Rattle.std.specs.Prelude.{ℕ, ◌==◌, Bool, true, false, ◌||◌, if◌then◌else◌, List, [], ◌∷◌, slice_index, Option, None}
-use Rattle.std.specs.Prelude.{Some}
-use Rattle.std.specs.Option.{option_and_then}
-use Rattle.source_1401.specs.Address.{address_of}
+use Rattle.std.specs.Prelude.{ℕ, ◌==◌, Bool, true, false, if◌then◌else◌, List, slice_index, Option, None, Some}
 use Rattle.source_1401.specs.Constant.{constant_of}
+use Rattle.source_1401.specs.Literal.{signed_address}
 use Rattle.source_1401.specs.Operands.{behind_operand, is_ended, lone_operand, operand_in, operands_of}
-use Rattle.source_1401.specs.Punctuation.{plus_sign, minus_sign}
+use Rattle.source_1401.specs.Punctuation.{minus_sign}
 use Rattle.source_1401.specs.Statement.{one_address}
 use Rattle.source_1401.specs.declared.address.Address.{Address}
-use Rattle.source_1401.specs.declared.address.Base.{Base}
-use Rattle.source_1401.specs.declared.address.Base.TheVariants as bases
 use Rattle.source_1401.specs.declared.constant.Constant.{Constant}
 use Rattle.source_1401.specs.declared.language.Language.TheVariants as languages
 use Rattle.source_1401.specs.declared.operands.Operand.TheVariants as operands
@@ -18,25 +14,6 @@ use Rattle.source_1401.specs.declared.operands.Operands.{Operands}
 use Rattle.source_1401.specs.declared.statement.AddressConstant.{AddressConstant}
 use Rattle.source_1401.specs.declared.statement.Body.{Body}
 use Rattle.source_1401.specs.declared.statement.Body.TheVariants as bodies
-
--- a symbol, X1 to X3 among them
-abbrev pub is_name : Base → Bool
-is_name (bases.Number number) = false
-is_name (bases.Symbol label) = true
-is_name bases.Here = false
-is_name (bases.Register number) = true
-is_name bases.NextHundred = false
-
-abbrev pub named : Address → Option Address
-named address = if is_name address.base then Some address else None
-
-abbrev pub is_sign : ℕ → Bool
-is_sign byte = (byte == plus_sign) || (byte == minus_sign)
-
--- the address of a symbol that a word has behind its sign
-abbrev pub signed_address : List ℕ → Option Address
-signed_address [] = None
-signed_address (byte ∷ more) = if is_sign byte then option_and_then named (address_of languages.Ibm more) else None
 
 -- an address as the only operand, if nothing follows it
 abbrev pub only : Address → List ℕ → Operands

@@ -85,7 +85,8 @@ wide_operations =
     (codes "SFX  ", own.Suffix) ∷
     (codes "XFR  ", own.Transfer) ∷
     (codes "CHAIN", own.Chain) ∷
-    (codes "DSA  ", own.Address) ∷ []
+    (codes "DSA  ", own.Address) ∷
+    (codes "LTORG", own.LiteralOrigin) ∷ []
 
 -- the row of these columns
 abbrev pub wide_row_of : List ℕ → Option AWideRow

@@ -9,6 +9,7 @@ use Rattle.source_1401.specs.Statement.{one_address}
 use Rattle.source_1401.specs.Units.{wide_operands}
 use Rattle.source_1401.specs.WideBody.{shared_body_of}
 use Rattle.source_1401.specs.WideConstant.{constant_of_address}
+use Rattle.source_1401.specs.WideOrigin.{literal_origin_in}
 use Rattle.source_1401.specs.WideMnemonic.{AWideRow, form_by, wide_operation_of, wide_row_of}
 use Rattle.source_1401.specs.declared.language.Language.TheVariants as languages
 use Rattle.source_1401.specs.declared.statement.Body.{Body}
@@ -38,6 +39,7 @@ wide_body_with own.Suffix columns = bodies.Suffix (suffix_in columns)
 wide_body_with own.Transfer columns = bodies.Transfer (operands_of languages.Ibm one_address columns)
 wide_body_with own.Chain columns = bodies.Chain (chain_in columns)
 wide_body_with own.Address columns = bodies.AddressConstant (constant_of_address columns)
+wide_body_with own.LiteralOrigin columns = bodies.LiteralOrigin (literal_origin_in columns)
 
 abbrev pub wide_body_by : Option WideOperation → List ℕ → List ℕ → Body
 wide_body_by None operation columns = instruction_or_else (wide_row_of operation) operation columns

@@ -11,7 +11,7 @@ use crate::language::Language;
 use crate::numbers::short_number;
 
 /// What an address is counted from.
-#[derive(Clone, Copy, Debug, PartialEq, Eq)]
+#[derive(Clone, Copy, Debug, PartialEq, Eq, Hash)]
 pub enum Base {
     /// A number, of at most five digits.
     Number(u32),
@@ -27,14 +27,14 @@ pub enum Base {
 }
 
 /// An address as the source writes it.
-#[derive(Clone, Copy, Debug, PartialEq, Eq)]
+#[derive(Clone, Copy, Debug, PartialEq, Eq, Hash)]
 pub struct Address {
     /// What it is counted from.
     pub base: Base,
     /// What is added to that, from -99,999 to 99,999.
     pub adjustment: i32,
-    /// The number of the index register, 0 for none.
-    pub index: u8,
+    /// The number of the index register that it names, 0 for `+X0` in the wider language; nothing if it names none.
+    pub index: Option<u8>,
 }
 
 /// How many letters and digits a text begins with.
@@ -112,18 +112,20 @@ fn is_no_index(language: Language, rest: &[u8]) -> bool
     }
 }
 
-/// The index register at the end of an address: 0 if there is none, nothing if it is something else.
-fn index_of(language: Language, rest: &[u8]) -> Option<u8>
+/// What the end of an address says of an index register: that it names none, or which; nothing if it is something else.
+fn index_of(language: Language, rest: &[u8]) -> Option<Option<u8>>
     ensures { result ≡ index_of language rest.now }
 {
-    if rest.is_empty() || is_no_index(language, rest) {
-        Some(0)
+    if rest.is_empty() {
+        Some(None)
+    } else if is_no_index(language, rest) {
+        Some(Some(0))
     } else if rest == b"+X1".as_slice() {
-        Some(1)
+        Some(Some(1))
     } else if rest == b"+X2".as_slice() {
-        Some(2)
+        Some(Some(2))
     } else if rest == b"+X3".as_slice() {
-        Some(3)
+        Some(Some(3))
     } else {
         None
     }

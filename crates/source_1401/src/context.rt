@@ -16,16 +16,20 @@
 //! ```
 ghost use Rattle.std.specs.Prelude.{◌≡◌, true, map, IfSome};
 ghost use Rattle.source_1401.specs.Context.{nothing_above, body_below, statement_in, in_context, suffix_by, below_body};
-ghost use Rattle.source_1401.specs.Context.{below, registers_with, registers_and, with_registers, size_of, control_of};
-ghost use Rattle.source_1401.specs.Context.{control_in, first_size, size_asked};
+ghost use Rattle.source_1401.specs.AreaLiterals.{label_of_area};
+ghost use Rattle.source_1401.specs.Context.{below, registers_with, registers_with_areas, registers_and, with_registers};
+ghost use Rattle.source_1401.specs.Context.{size_of, control_of, control_in, may_be_control, first_size, size_asked};
 ghost use Rattle.source_1401.specs.Control.{is_control_size};
 ghost use Rattle.source_1401.specs.Language.{line_in};
 ghost use Rattle.source_1401.specs.SourceLine.{lines_of};
 ghost use Rattle.source_1401.specs.declared.language.Language.TheVariants as languages;
 
+use crate::area_literals::DeclaredAreas;
+use crate::columns::{columns_in, columns_of};
 use crate::label::Label;
 use crate::language::Language;
 use crate::lines::split_line;
+use crate::literal::AreaLiteral;
 use crate::statement::{Body, Chain, Line, SizeField, Statement, SuffixField};
 use crate::symbols::{Registers, SymbolRule};
 
@@ -76,6 +80,7 @@ impl Context {
             | Body::Transfer(_)
             | Body::AddressConstant(_)
             | Body::LabelledOrigin(_)
+            | Body::LiteralOrigin(_)
             | Body::WideField(_)
             | Body::WideEquate(_)
             | Body::WideExecute(_)
@@ -147,6 +152,7 @@ impl Context {
             | Body::Transfer(_)
             | Body::AddressConstant(_)
             | Body::LabelledOrigin(_)
+            | Body::LiteralOrigin(_)
             | Body::WideField(_)
             | Body::WideEquate(_)
             | Body::WideExecute(_)
@@ -178,6 +184,16 @@ impl SuffixField {
     }
 }
 
+/// The symbol that an area literal declares, if there is one.
+fn label_of(area: Option<AreaLiteral>) -> Option<Label>
+    ensures { result ≡ label_of_area area }
+{
+    match area {
+        Some(area) => Some(area.label),
+        None => None,
+    }
+}
+
 impl Registers {
     /// These, and the one that a label names.
     fn and_label(self, label: Label) -> Registers
@@ -190,14 +206,29 @@ impl Registers {
         }
     }
 
-    /// These, and the one that a line has as its label.
-    pub fn and(self, line: &Line) -> Registers
-        ensures { result ≡ registers_and self line.now }
+    /// These, and the one that a label names, if there is one.
+    fn and_label_of(self, label: Option<Label>) -> Registers
+        ensures { result ≡ registers_with self label }
     {
-        match line.label() {
+        match label {
             Some(label) => self.and_label(label),
             None => self,
         }
+    }
+
+    /// These, and those that area literals declare.
+    fn and_areas(self, areas: DeclaredAreas) -> Registers
+        ensures { result ≡ registers_with_areas self areas }
+    {
+        self.and_label_of(label_of(areas.0))
+            .and_label_of(label_of(areas.1))
+    }
+
+    /// These, and those that a line has as its label, and declares by its area literals.
+    pub fn and(self, line: &Line) -> Registers
+        ensures { result ≡ registers_and self line.now }
+    {
+        self.and_label_of(line.label()).and_areas(line.areas())
     }
 
     /// What a line says, which has its suffix already, where these are labels.
@@ -248,6 +279,7 @@ impl Body {
             | Body::Chain(_)
             | Body::AddressConstant(_)
             | Body::LabelledOrigin(_)
+            | Body::LiteralOrigin(_)
             | Body::WideField(_)
             | Body::WideEquate(_)
             | Body::WideExecute(_)
@@ -268,13 +300,33 @@ impl Line {
     }
 }
 
+/// Whether the columns of a line for an operation ask for CTL, in small letters too.
+fn may_be_control(line: &[u8]) -> bool
+    ensures { result ≡ may_be_control line.now }
+{
+    columns_in(&columns_of(line), 16, 20).eq_ignore_ascii_case(b"CTL  ")
+}
+
+/// What CTL says of the size of core storage on a line in the wider language. Of other lines the operation alone is
+/// looked at.
+#[tactic(auto, using(crate::proofs::SizeLemmas::no_control))]
+fn control_on(line: &[u8]) -> Option<SizeField>
+    ensures { result ≡ control_in (line_in languages.Ibm line.now).statement }
+{
+    if may_be_control(line) {
+        Line::in_language(Language::Ibm, line).control()
+    } else {
+        None
+    }
+}
+
 /// The size that the first CTL of a source in the wider language asks for.
 fn first_size(source: &[u8]) -> Option<u16>
     ensures { result ≡ first_size (map (line_in languages.Ibm) (lines_of source.now)) }
 {
     let mut rest = source;
     while let Some((line, behind)) = split_line(rest) {
-        if let Some(size) = Line::in_language(Language::Ibm, line).control() {
+        if let Some(size) = control_on(line) {
             return size.size();
         }
         rest = behind;

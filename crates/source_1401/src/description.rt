@@ -32,6 +32,8 @@ pub enum Point {
     Last,
     /// This place, counted from 1, of the first of the areas above it.
     InArea(u16),
+    /// This place, counted from 1, as the symbols of the fields of the areas above it count.
+    Counted(u16),
     /// The value of its operand.
     Value,
 }
@@ -45,6 +47,8 @@ pub enum Addressing {
     Addresses(Operands),
     /// A value, with the label of an earlier line.
     EarlierValue(Operands),
+    /// The value of a label, with the label of an earlier line, or in the wider language of any line.
+    Equal(Operands),
     /// A value, with the label of any line.
     Value(Operands),
     /// The same, and it is the address at which the program begins: the source ends here.
@@ -60,6 +64,8 @@ pub enum Next {
     Literals,
     /// It is the value of the operand.
     Value,
+    /// The literals used so far are placed from the value of the operand on, and it is the one after them.
+    LiteralsAtValue,
 }
 
 /// What a statement is to areas (DA).
@@ -156,7 +162,7 @@ fn field_row(label: LabelRule, span: Option<Span>) -> Description
         },
         Some(span) => Description {
             label,
-            names: Point::InArea(span.last),
+            names: Point::Counted(span.last),
             shows: Point::InArea(span.first),
             areas: AreaRole::Divides(Some(span)),
             ..PLAIN
@@ -172,7 +178,7 @@ fn equate_row(operands: Operands) -> Description
         label: LabelRule::Required,
         names: Point::Value,
         shows: Point::Value,
-        addressing: Addressing::EarlierValue(operands),
+        addressing: Addressing::Equal(operands),
         ..PLAIN
     }
 }
@@ -262,7 +268,7 @@ impl Body {
                 ..equate_row(operands)
             },
             Body::WideEquate(operands) => Description {
-                is_well_formed: operands.are_wide_value(),
+                is_well_formed: operands.are_one_address(),
                 ..equate_row(operands)
             },
             Body::Origin(operands) => Description {
@@ -272,6 +278,11 @@ impl Body {
             },
             Body::LabelledOrigin(operands) => Description {
                 is_well_formed: operands.are_wide_origin(),
+                ..origin_row(operands)
+            },
+            Body::LiteralOrigin(operands) => Description {
+                is_well_formed: operands.are_wide_origin(),
+                next: Next::LiteralsAtValue,
                 ..origin_row(operands)
             },
             Body::Execute(operands) => Description {
@@ -344,6 +355,7 @@ impl Addressing {
             },
             Addressing::Addresses(operands)
             | Addressing::EarlierValue(operands)
+            | Addressing::Equal(operands)
             | Addressing::Value(operands)
             | Addressing::Entry(operands) => operands,
         }

@@ -8,10 +8,10 @@ ghost use Rattle.source_1401.specs.SourceLine.{has_foreign_bytes};
 
 use crate::address::base_len;
 use crate::columns::{COLUMNS, are_blank, columns_in, columns_of, is_comment, padded};
+use crate::literal::is_sign;
 use crate::mnemonic::Operation;
 use crate::nearness::{nearest_mnemonic, word_in};
 use crate::operands::operand_len;
-use crate::wide_constant::is_sign;
 use bcd_1401::Char;
 
 /// Columns of a line next to each other.
@@ -36,7 +36,8 @@ pub enum OperandFlaw {
     NoAreas,
     /// No places of a field.
     NoSpan,
-    /// An address that says no value: with an index register, or with an asterisk in the plain language, or a literal.
+    /// An operand that says no value: an address with an index register, or with an asterisk in the plain language, or
+    /// a literal.
     NoValue,
     /// An address is missing.
     AddressMissing,
@@ -56,7 +57,7 @@ pub enum OperandFlaw {
     NoTape,
     /// No number of times, 1 to 99.
     NoTimes,
-    /// No options of areas: G and C, each once, with a comma between them.
+    /// No options of areas: G, C, 0 and one of X1 to X3, each once, with commas between them.
     NoOptions,
     /// A literal, where the operation takes an address alone.
     Literal,
@@ -248,7 +249,7 @@ fn sign_len(columns: &[u8]) -> usize
     }
 }
 
-/// The symbol or the number that the first operand of a line begins with, behind the sign of a constant.
+/// The symbol or the number that the first operand of a line begins with, behind the sign of a constant or a literal.
 pub fn first_base(line: &[u8]) -> Stretch
     ensures { result ≡ first_base (columns_in 21 72 (columns_of line.now)) }
 {
@@ -261,15 +262,17 @@ pub fn first_base(line: &[u8]) -> Stretch
     }
 }
 
-/// The symbol or the number that the second operand of a line begins with.
+/// The symbol or the number that the second operand of a line begins with, behind the sign of a literal.
 pub fn second_base(line: &[u8]) -> Stretch
     ensures { result ≡ second_base (columns_in 21 72 (columns_of line.now)) }
 {
     let columns = columns_of(line);
     let operands = columns_in(&columns, 21, 72);
     let count = operand_len(operands);
+    let second = without_first(&operands[count..]);
+    let skipped = sign_len(second);
     Stretch {
-        column: 21 + (count as u8 + 1),
-        length: base_len(without_first(&operands[count..])) as u8,
+        column: 21 + (count as u8 + 1) + skipped as u8,
+        length: base_len(&second[skipped..]) as u8,
     }
 }

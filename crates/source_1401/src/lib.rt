@@ -20,7 +20,8 @@ pub mod label; // columns 6 to 15
 pub mod mnemonic; // columns 16 to 20
 pub mod nearness; // words that are nearly alike
 pub mod address; // addresses, as they are written
-pub mod constant; // constants and literals
+pub mod constant; // constants
+pub mod literal; // literals, and how those of addresses and areas are written
 pub mod operands; // columns 21 to 72
 pub mod lone_address; // operands that are one address
 pub mod statement; // what a line says
@@ -36,6 +37,7 @@ pub mod wide_body; // what the operations of both languages ask for in the wider
 pub mod wide_statement; // what a line says in the wider language
 pub mod language; // what a line says in each language
 pub mod symbols; // symbols below SFX, and X1 to X3
+pub mod area_literals; // the area literals that a line declares
 pub mod context; // what lines say with their neighbours
 pub mod description; // what each kind of statement asks of the assembler
 pub mod flaw; // which columns of a line are at fault
@@ -43,6 +45,7 @@ pub mod operands_at_fault; // what is wrong with operands, and in which columns
 pub mod language_flaw; // the same in each language
 
 pub use address::{Address, Base};
+pub use area_literals::DeclaredAreas;
 pub use columns::COLUMNS;
 pub use constant::{Constant, TEXT_LENGTH, Text};
 pub use context::{Context, size_asked};
@@ -57,6 +60,7 @@ pub use language_flaw::{
     columns_in_language, foreign_column_in, operand_flaw_in, operation_flaw_in,
 };
 pub use lines::split_line;
+pub use literal::{AddressLiteral, AreaLiteral, Literal};
 pub use mnemonic::{DCharacter, Form, Instruction, Operation};
 pub use nearness::{is_near, nearest_mnemonic, word_in};
 pub use operands::{Operand, OperandField, Operands, Unit};

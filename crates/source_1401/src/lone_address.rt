@@ -73,7 +73,13 @@ impl Operand {
         ensures { result ≡ base_alone self }
     {
         match self {
-            Operand::Address(Address { base, index: 0, .. }) => Some(base),
+            Operand::Address(
+                Address {
+                    base,
+                    index: None,
+                    ..
+                },
+            ) => Some(base),
             Operand::Address(_) | Operand::Literal(_) | Operand::Unit(_) => None,
         }
     }

@@ -1,13 +1,17 @@
 //! The operands of an instruction.
 ghost use Rattle.std.specs.Prelude.{◌≡◌, ◌≤◌, false, length};
+ghost use Rattle.std.specs.Option.{option_map};
 ghost use Rattle.source_1401.specs.Operands.{is_ended, operand_len, operand_in, behind_operand, lone_operand};
 ghost use Rattle.source_1401.specs.Operands.{operand_behind_comma, operand_of, field_of, first_operand, second_operand};
 ghost use Rattle.source_1401.specs.Operands.{lone_d, d_at, d_of, count_of, is_malformed, operands_after, operands_of};
-ghost use Rattle.source_1401.specs.Operands.{has_malformed};
+ghost use Rattle.source_1401.specs.Operands.{has_malformed, as_literal, field_with, instruction_operand_of};
+ghost use Rattle.source_1401.specs.declared.language.Language.TheVariants as languages;
+ghost use Rattle.source_1401.specs.declared.operands.Operand.TheVariants as operands;
 
 use crate::address::Address;
 use crate::constant::Constant;
 use crate::language::Language;
+use crate::literal::Literal;
 use crate::mnemonic::{DCharacter, Form};
 
 /// An input-output unit, as it stands in an instruction: a percent sign, a letter and a digit.
@@ -22,8 +26,8 @@ pub struct Unit {
 pub enum Operand {
     /// An address.
     Address(Address),
-    /// A literal: the address of a constant that the assembler places.
-    Literal(Constant),
+    /// A literal: the address of what the assembler places.
+    Literal(Literal),
     /// A unit, which stands in the place of an address, in the wider language.
     Unit(Unit),
 }
@@ -106,13 +110,66 @@ pub(crate) fn two_operands(text: &[u8]) -> (&[u8], &[u8])
 }
 
 impl Operand {
+    /// A constant as a literal, if there is one.
+    fn constant(constant: Option<Constant>) -> Option<Operand>
+        ensures { result ≡ option_map as_literal constant }
+    {
+        match constant {
+            Some(constant) => Some(Operand::Literal(Literal::Constant(constant))),
+            None => None,
+        }
+    }
+
     /// The address or the literal that a word is, if it is one.
     pub(crate) fn from_word(language: Language, word: &[u8]) -> Option<Operand>
         ensures { result ≡ operand_of language word.now }
     {
         match word {
-            [b'@' | b'+' | b'-', ..] => Constant::from_word(word).map(Operand::Literal),
+            [b'@' | b'+' | b'-', ..] => Operand::constant(Constant::from_word(word)),
             _ => Address::from_word(language, word).map(Operand::Address),
+        }
+    }
+
+    /// The literal, if there is one.
+    fn literal(literal: Option<Literal>) -> Option<Operand>
+        ensures { result ≡ option_map operands.Literal literal }
+    {
+        match literal {
+            Some(literal) => Some(Operand::Literal(literal)),
+            None => None,
+        }
+    }
+
+    /// The address or the literal of an instruction that a word is in the wider language, if it is one.
+    fn of_wide_instruction(word: &[u8]) -> Option<Operand>
+        ensures { result ≡ instruction_operand_of languages.Ibm word.now }
+    {
+        match Operand::from_word(Language::Ibm, word) {
+            Some(operand) => Some(operand),
+            None => Operand::literal(Literal::from_wide_word(word)),
+        }
+    }
+
+    /// The address or the literal of an instruction that a word is, if it is one: in the wider language a literal of an
+    /// address or of an area too.
+    pub(crate) fn of_instruction(language: Language, word: &[u8]) -> Option<Operand>
+        ensures { result ≡ instruction_operand_of language word.now }
+    {
+        match language {
+            Language::Plain => Operand::from_word(Language::Plain, word),
+            Language::Ibm => Operand::of_wide_instruction(word),
+        }
+    }
+}
+
+impl OperandField {
+    /// What an operand is that should be there.
+    pub(crate) fn read(operand: Option<Operand>) -> OperandField
+        ensures { result ≡ field_with operand }
+    {
+        match operand {
+            Some(operand) => OperandField::Operand(operand),
+            None => OperandField::Malformed,
         }
     }
 }
@@ -123,10 +180,22 @@ fn read_operand(language: Language, text: &[u8]) -> (OperandField, &[u8])
     ensures behind { result.1.now ≡ behind_operand text.now }
 {
     let (word, behind) = split_operand(text);
-    match Operand::from_word(language, word) {
-        Some(operand) => (OperandField::Operand(operand), behind),
-        None => (OperandField::Malformed, behind),
-    }
+    (
+        OperandField::read(Operand::from_word(language, word)),
+        behind,
+    )
+}
+
+/// An operand of an instruction, and what follows it.
+fn read_instruction_operand(language: Language, text: &[u8]) -> (OperandField, &[u8])
+    ensures field { result.0 ≡ field_with (instruction_operand_of language (operand_in text.now)) }
+    ensures behind { result.1.now ≡ behind_operand text.now }
+{
+    let (word, behind) = split_operand(text);
+    (
+        OperandField::read(Operand::of_instruction(language, word)),
+        behind,
+    )
 }
 
 /// The first address, if the operation can have one, and what follows it.
@@ -147,7 +216,7 @@ pub(crate) fn second_operand(language: Language, most: u8, rest: &[u8]) -> (Oper
     ensures behind { result.1.now ≡ (second_operand language most rest.now).1 }
 {
     match rest {
-        [b',', more @ ..] if most > 1 => read_operand(language, more),
+        [b',', more @ ..] if most > 1 => read_instruction_operand(language, more),
         _ => (OperandField::Absent, rest),
     }
 }

@@ -1,20 +1,24 @@
 //! What is wrong with operands, and in which columns.
 ghost use Rattle.std.specs.Prelude.{◌≡◌, ◌+◌, ◌≤◌, length};
-ghost use Rattle.source_1401.specs.OperandsAtFault.{flaw_after, flaw_behind, flaw_after_first, operands_flaw, lone_flaw};
-ghost use Rattle.source_1401.specs.OperandsAtFault.{span_flaw, value_flaw, areas_flaw, origin_flaw, address_flaw};
-ghost use Rattle.source_1401.specs.OperandsAtFault.{flaw_with, operand_flaw};
+ghost use Rattle.source_1401.specs.OperandsAtFault.{flaw_after, flaw_behind, flaw_after_first, operands_flaw, first_flaw};
+ghost use Rattle.source_1401.specs.OperandsAtFault.{is_no_first, wide_operands_flaw, lone_flaw, span_flaw};
+ghost use Rattle.source_1401.specs.OperandsAtFault.{begins_with_literal, one_address_flaw, value_flaw, areas_flaw};
+ghost use Rattle.source_1401.specs.OperandsAtFault.{origin_flaw, address_flaw, equal_flaw, instruction_flaw, flaw_with};
+ghost use Rattle.source_1401.specs.OperandsAtFault.{operand_flaw};
 ghost use Rattle.source_1401.specs.SourceLine.{columns_of};
 
 use crate::columns::{columns_in, columns_of};
 use crate::flaw::{Flaw, OperandFlaw, Stretch, without_first};
 use crate::label::bytes_before_blank;
 use crate::language::Language;
+use crate::literal::Literal;
 use crate::mnemonic::{Form, Operation};
 use crate::numbers::number_between;
 use crate::operands::{
-    OperandField, Operands, first_operand, is_ended, operand_len, second_operand,
+    OperandField, Operands, first_operand, is_ended, operand_len, second_operand, split_operand,
 };
 use crate::statement::{AREA_LENGTH, ONE_ADDRESS, areas_of};
+use crate::units::FirstOperand;
 use crate::wide_origin::is_hundred;
 
 /// A flaw of the columns for operands, this many columns after the first of them.
@@ -83,6 +87,43 @@ fn operands_flaw(language: Language, form: Form, columns: &[u8]) -> Flaw
     }
 }
 
+impl FirstOperand {
+    /// What is wrong with one that isn't what it should be.
+    fn flaw(self) -> OperandFlaw
+        ensures { result ≡ first_flaw self }
+    {
+        match self {
+            FirstOperand::Address | FirstOperand::UnitOrAddress => OperandFlaw::NoAddress,
+            FirstOperand::Unit => OperandFlaw::NoUnit,
+            FirstOperand::Tape(_) => OperandFlaw::NoTape,
+        }
+    }
+
+    /// Whether this is missing, or something else.
+    fn is_no_first(self, field: OperandField) -> bool
+        ensures { result ≡ is_no_first self field }
+    {
+        match field {
+            OperandField::Absent => matches!(self, FirstOperand::Unit | FirstOperand::Tape(_)),
+            OperandField::Malformed => true,
+            OperandField::Operand(_) => false,
+        }
+    }
+}
+
+/// What is wrong with the operands of this form, with this first operand.
+pub(crate) fn wide_operands_flaw(first: FirstOperand, form: Form, columns: &[u8]) -> Flaw
+    requires { length columns.now ≤ 52 }
+    ensures { result ≡ wide_operands_flaw first form columns.now }
+{
+    let (a, behind) = first.split(form, columns);
+    if first.is_no_first(a) {
+        flaw_after(0, operand_len(columns), first.flaw())
+    } else {
+        flaw_after_first(Language::Ibm, form, a, behind, columns)
+    }
+}
+
 /// What is wrong with one operand, this many columns after the first of them, or with what follows it.
 pub(crate) fn lone_flaw(kind: OperandFlaw, skipped: usize, columns: &[u8]) -> Flaw
     requires { skipped + length columns.now ≤ 54 }
@@ -117,16 +158,37 @@ fn span_flaw(columns: &[u8]) -> Flaw
     )
 }
 
+/// Whether the first operand is a literal that stands in instructions alone.
+fn begins_with_literal(language: Language, columns: &[u8]) -> bool
+    ensures { result ≡ begins_with_literal language columns.now }
+{
+    match language {
+        Language::Plain => false,
+        Language::Ibm => Literal::from_wide_word(split_operand(columns).0).is_some(),
+    }
+}
+
+/// What is wrong with operands that aren't the one address that they should be: with their form, or this with what they
+/// say.
+fn one_address_flaw(kind: OperandFlaw, language: Language, columns: &[u8]) -> Flaw
+    requires { length columns.now ≤ 52 }
+    ensures { result ≡ one_address_flaw kind language columns.now }
+{
+    if Operands::one_address(language, columns).are_malformed()
+        && !begins_with_literal(language, columns)
+    {
+        operands_flaw(language, ONE_ADDRESS, columns)
+    } else {
+        flaw_after(0, operand_len(columns), kind)
+    }
+}
+
 /// What is wrong with an address that is to say a value.
 pub(crate) fn value_flaw(language: Language, columns: &[u8]) -> Flaw
     requires { length columns.now ≤ 52 }
     ensures { result ≡ value_flaw language columns.now }
 {
-    if Operands::one_address(language, columns).are_malformed() {
-        operands_flaw(language, ONE_ADDRESS, columns)
-    } else {
-        flaw_after(0, operand_len(columns), OperandFlaw::NoValue)
-    }
+    one_address_flaw(OperandFlaw::NoValue, language, columns)
 }
 
 /// What is wrong with areas, or with the options behind them.
@@ -150,7 +212,7 @@ fn areas_flaw(language: Language, columns: &[u8]) -> Flaw
 }
 
 /// What is wrong with the next place that ORG says.
-fn origin_flaw(language: Language, columns: &[u8]) -> Flaw
+pub(crate) fn origin_flaw(language: Language, columns: &[u8]) -> Flaw
     requires { length columns.now ≤ 52 }
     ensures { result ≡ origin_flaw language columns.now }
 {
@@ -162,15 +224,33 @@ fn origin_flaw(language: Language, columns: &[u8]) -> Flaw
     }
 }
 
-/// What is wrong with an address that is to be a constant.
+/// What is wrong with one address in the wider language, with an index register or without.
 pub(crate) fn address_flaw(columns: &[u8]) -> Flaw
     requires { length columns.now ≤ 52 }
     ensures { result ≡ address_flaw columns.now }
 {
-    if Operands::one_address(Language::Ibm, columns).are_malformed() {
-        operands_flaw(Language::Ibm, ONE_ADDRESS, columns)
-    } else {
-        flaw_after(0, operand_len(columns), OperandFlaw::Literal)
+    one_address_flaw(OperandFlaw::Literal, Language::Ibm, columns)
+}
+
+/// What is wrong with an address whose value is to be that of a label.
+fn equal_flaw(language: Language, columns: &[u8]) -> Flaw
+    requires { length columns.now ≤ 52 }
+    ensures { result ≡ equal_flaw language columns.now }
+{
+    match language {
+        Language::Plain => value_flaw(Language::Plain, columns),
+        Language::Ibm => address_flaw(columns),
+    }
+}
+
+/// What is wrong with the operands of an instruction.
+fn instruction_flaw(language: Language, form: Form, columns: &[u8]) -> Flaw
+    requires { length columns.now ≤ 52 }
+    ensures { result ≡ instruction_flaw language form columns.now }
+{
+    match language {
+        Language::Plain => operands_flaw(Language::Plain, form, columns),
+        Language::Ibm => wide_operands_flaw(FirstOperand::Address, form, columns),
     }
 }
 
@@ -180,14 +260,17 @@ pub(crate) fn flaw_with(language: Language, operation: Operation, columns: &[u8]
     ensures { result ≡ flaw_with language operation columns.now }
 {
     match operation {
-        Operation::Instruction(instruction) => operands_flaw(language, instruction.form, columns),
+        Operation::Instruction(instruction) => {
+            instruction_flaw(language, instruction.form, columns)
+        },
         Operation::MarkedConstant | Operation::Constant => {
             lone_flaw(OperandFlaw::NoConstant, 0, columns)
         },
         Operation::Space => lone_flaw(OperandFlaw::NoCount, 0, columns),
         Operation::Areas => areas_flaw(language, columns),
         Operation::Field => span_flaw(columns),
-        Operation::Equate | Operation::Execute | Operation::End => value_flaw(language, columns),
+        Operation::Equate => equal_flaw(language, columns),
+        Operation::Execute | Operation::End => value_flaw(language, columns),
         Operation::Origin => origin_flaw(language, columns),
     }
 }

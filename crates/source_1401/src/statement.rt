@@ -27,6 +27,10 @@ pub struct Areas {
     pub length: u16,
     /// Whether a group mark with a word mark stands behind the last, in the wider language.
     pub has_group_mark: bool,
+    /// The index register that the symbols of their fields have, 0 for none; one in the wider language alone.
+    pub index: u8,
+    /// Whether the symbols of their fields count from 000, in the wider language.
+    pub counts_from_zero: bool,
 }
 
 /// The places of a field in each area.
@@ -124,6 +128,8 @@ pub enum Body {
     AddressConstant(AddressConstant),
     /// ORG, in the wider language: the next place, which it may give a label before.
     LabelledOrigin(Operands),
+    /// LTORG, in the wider language: the next place, likewise, from which literals are placed.
+    LiteralOrigin(Operands),
     /// A field of areas, in the wider language: with a label or without.
     WideField(Option<Span>),
     /// EQU, in the wider language: the value may be counted from an asterisk.
@@ -192,6 +198,8 @@ pub(crate) fn areas_of(word: &[u8]) -> Option<Areas>
         count: count as u8,
         length: length as u16,
         has_group_mark: false,
+        index: 0,
+        counts_from_zero: false,
     })
 }
 

@@ -2,11 +2,13 @@
 ghost use Rattle.std.specs.Prelude.{◌≡◌};
 ghost use Rattle.std.specs.Option.{option_map};
 ghost use Rattle.source_1401.specs.Symbols.{register_name, names_register, is_register, suffixed, no_registers};
-ghost use Rattle.source_1401.specs.Symbols.{is_any, is_labelled, base_under, operand_under, field_under};
+ghost use Rattle.source_1401.specs.Symbols.{is_any, is_labelled, base_under, address_under, literal_under};
+ghost use Rattle.source_1401.specs.Symbols.{operand_under, field_under};
 ghost use Rattle.source_1401.specs.Symbols.{operands_under, body_under, label_under, statement_under, line_under};
 
 use crate::address::{Address, Base};
 use crate::label::{Label, LabelField};
+use crate::literal::{AddressLiteral, AreaLiteral, Literal};
 use crate::operands::{Operand, OperandField, Operands};
 use crate::statement::{AddressConstant, Body, Line, Statement};
 
@@ -128,17 +130,46 @@ impl Base {
     }
 }
 
+impl Address {
+    /// The address with its symbol as the rule reads it.
+    fn under(self, rule: SymbolRule) -> Address
+        ensures { result ≡ address_under rule self }
+    {
+        Address {
+            base: self.base.under(rule),
+            ..self
+        }
+    }
+}
+
+impl Literal {
+    /// The literal with its symbol as the rule reads it.
+    fn under(self, rule: SymbolRule) -> Literal
+        ensures { result ≡ literal_under rule self }
+    {
+        match self {
+            Literal::Constant(_) => self,
+            Literal::Address(this) => Literal::Address(AddressLiteral {
+                address: this.address.under(rule),
+                ..this
+            }),
+            Literal::Area(this) => Literal::Area(AreaLiteral {
+                label: this.label.with_suffix(rule.suffix),
+                ..this
+            }),
+        }
+    }
+}
+
 impl Operand {
     /// The operand with its symbol as the rule reads it.
     fn under(self, rule: SymbolRule) -> Operand
         ensures { result ≡ operand_under rule self }
     {
         match self {
-            Operand::Address(address) => Operand::Address(Address {
-                base: address.base.under(rule),
-                ..address
-            }),
-            Operand::Literal(_) | Operand::Unit(_) => self,
+            Operand::Address(address) => Operand::Address(address.under(rule)),
+            Operand::Literal(literal) => Operand::Literal(literal.under(rule)),
+            Operand::Unit(_) => self,
         }
     }
 }
@@ -187,6 +218,7 @@ impl Body {
                 ..constant
             }),
             Body::LabelledOrigin(operands) => Body::LabelledOrigin(operands.under(rule)),
+            Body::LiteralOrigin(operands) => Body::LiteralOrigin(operands.under(rule)),
             Body::WideEquate(operands) => Body::WideEquate(operands.under(rule)),
             Body::WideExecute(operands) => Body::WideExecute(operands.under(rule)),
             Body::WideEnd(operands) => Body::WideEnd(operands.under(rule)),

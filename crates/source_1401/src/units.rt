@@ -64,7 +64,7 @@ fn unit_or_address(word: &[u8]) -> Option<Operand>
 {
     match unit_of(word) {
         Some(unit) => Some(Operand::Unit(unit)),
-        None => Operand::from_word(Language::Ibm, word),
+        None => Operand::of_instruction(Language::Ibm, word),
     }
 }
 
@@ -76,7 +76,7 @@ impl FirstOperand {
         match self {
             FirstOperand::UnitOrAddress if form.d.is_written() => unit_or_address(word),
             FirstOperand::Address | FirstOperand::UnitOrAddress => {
-                Operand::from_word(Language::Ibm, word)
+                Operand::of_instruction(Language::Ibm, word)
             },
             FirstOperand::Unit => unit_of(word).map(Operand::Unit),
             FirstOperand::Tape(letter) => tape_of(letter, word).map(Operand::Unit),
@@ -92,10 +92,7 @@ impl FirstOperand {
             return (OperandField::Absent, text);
         }
         let (word, behind) = split_operand(text);
-        match self.in_word(form, word) {
-            Some(operand) => (OperandField::Operand(operand), behind),
-            None => (OperandField::Malformed, behind),
-        }
+        (OperandField::read(self.in_word(form, word)), behind)
     }
 }
 

@@ -2,8 +2,8 @@
 ghost use Rattle.std.specs.Prelude.{◌≡◌};
 ghost use Rattle.std.specs.Option.{option_map};
 ghost use Rattle.source_1401.specs.Numbers.{number_between};
-ghost use Rattle.source_1401.specs.WideAreas.{option_and, options_and, areas_with, wide_areas_of, place_alone};
-ghost use Rattle.source_1401.specs.WideAreas.{wide_span_of};
+ghost use Rattle.source_1401.specs.WideAreas.{option_and, register_and, options_and, areas_with, wide_areas_of};
+ghost use Rattle.source_1401.specs.WideAreas.{place_alone, wide_span_of};
 
 use crate::numbers::number_between;
 use crate::operands::{is_ended, lone_operand, split_operand};
@@ -16,6 +16,10 @@ pub struct AreaOptions {
     pub has_group_mark: bool,
     /// C: the areas are cleared, as they are without it.
     pub is_cleared: bool,
+    /// X1, X2 or X3, by its number: the index register of the symbols of the fields; 0 for none.
+    pub index: u8,
+    /// 0: the symbols of the fields count from 000.
+    pub counts_from_zero: bool,
 }
 
 impl AreaOptions {
@@ -23,9 +27,11 @@ impl AreaOptions {
     const NONE: AreaOptions = AreaOptions {
         has_group_mark: false,
         is_cleared: false,
+        index: 0,
+        counts_from_zero: false,
     };
 
-    /// These, and the one of this letter; nothing if it is unknown, or among them already.
+    /// These, and the one of this letter, or of a zero; nothing if it is unknown, or among them already.
     fn with(self, letter: u8) -> Option<AreaOptions>
         ensures { result ≡ option_and self letter }
     {
@@ -36,6 +42,23 @@ impl AreaOptions {
             }),
             b'C' if !self.is_cleared => Some(AreaOptions {
                 is_cleared: true,
+                ..self
+            }),
+            b'0' if !self.counts_from_zero => Some(AreaOptions {
+                counts_from_zero: true,
+                ..self
+            }),
+            _ => None,
+        }
+    }
+
+    /// These, and X1, X2 or X3, by its digit; nothing if it is none of them, or one is among them already.
+    fn with_register(self, digit: u8) -> Option<AreaOptions>
+        ensures { result ≡ register_and self digit }
+    {
+        match digit {
+            b'1'..=b'3' if self.index == 0 => Some(AreaOptions {
+                index: digit - b'0',
                 ..self
             }),
             _ => None,
@@ -55,8 +78,15 @@ impl AreaOptions {
         if *parting != b',' {
             return None;
         }
-        let these = self.with(*letter)?;
-        these.and(more)
+        if *letter != b'X' {
+            let these = self.with(*letter)?;
+            return these.and(more);
+        }
+        let [digit, behind @ ..] = more else {
+            return None;
+        };
+        let those = self.with_register(*digit)?;
+        those.and(behind)
     }
 }
 
@@ -67,6 +97,8 @@ impl Areas {
     {
         Areas {
             has_group_mark: options.has_group_mark,
+            index: options.index,
+            counts_from_zero: options.counts_from_zero,
             ..self
         }
     }

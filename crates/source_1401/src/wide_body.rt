@@ -6,6 +6,7 @@ use crate::language::Language;
 use crate::mnemonic::Operation;
 use crate::operands::{Operands, lone_operand};
 use crate::statement::{Body, space_of};
+use crate::units::FirstOperand;
 use crate::wide_areas::{wide_areas_of, wide_span_of};
 
 impl Body {
@@ -16,7 +17,7 @@ impl Body {
         match operation {
             Operation::Instruction(instruction) => Body::Instruction(
                 instruction,
-                Operands::from_columns(Language::Ibm, instruction.form, columns),
+                Operands::from_wide_columns(FirstOperand::Address, instruction.form, columns),
             ),
             Operation::MarkedConstant => Body::wide_constant(true, columns),
             Operation::Constant => Body::wide_constant(false, columns),

@@ -1,40 +1,18 @@
 //! Constants of addresses: DSA, and what DCW and DC take in the wider language.
-ghost use Rattle.std.specs.Prelude.{◌≡◌, ◌==◌, slice_index};
+ghost use Rattle.std.specs.Prelude.{◌≡◌};
+ghost use Rattle.source_1401.specs.Literal.{signed_address};
 ghost use Rattle.source_1401.specs.Operands.{operand_in};
-ghost use Rattle.source_1401.specs.Punctuation.{minus_sign};
-ghost use Rattle.source_1401.specs.WideConstant.{is_name, named, is_sign, signed_address, only, constant_by};
-ghost use Rattle.source_1401.specs.WideConstant.{address_or_none, wide_constant, constant_of_address};
+ghost use Rattle.source_1401.specs.WideConstant.{only, constant_by, address_or_none, wide_constant};
+ghost use Rattle.source_1401.specs.WideConstant.{constant_of_address};
 
-use crate::address::{Address, Base};
+use crate::address::Address;
 use crate::constant::Constant;
 use crate::language::Language;
+use crate::literal::{begins_with_minus, signed_address};
 use crate::operands::{Operand, OperandField, Operands, is_ended, lone_operand, split_operand};
 use crate::statement::{AddressConstant, Body};
 
-impl Base {
-    /// Whether it is a symbol, X1 to X3 among them.
-    fn is_name(self) -> bool
-        ensures { result ≡ is_name self }
-    {
-        match self {
-            Base::Symbol(_) | Base::Register(_) => true,
-            Base::Number(_) | Base::Here | Base::NextHundred => false,
-        }
-    }
-}
-
 impl Address {
-    /// The address, if it is that of a symbol.
-    fn named(self) -> Option<Address>
-        ensures { result ≡ named self }
-    {
-        if self.base.is_name() {
-            Some(self)
-        } else {
-            None
-        }
-    }
-
     /// This address as the only operand, if nothing follows it.
     fn only(self, behind: &[u8]) -> Operands
         ensures { result ≡ only self behind.now }
@@ -45,36 +23,6 @@ impl Address {
             d: None,
             is_whole: is_ended(behind),
         }
-    }
-}
-
-/// Whether a byte is a sign.
-pub(crate) fn is_sign(byte: u8) -> bool
-    ensures { result ≡ is_sign byte }
-{
-    byte == b'+' || byte == b'-'
-}
-
-/// The address of a symbol that a word has behind its sign, if it is one.
-fn signed_address(word: &[u8]) -> Option<Address>
-    ensures { result ≡ signed_address word.now }
-{
-    match word {
-        [sign, more @ ..] if is_sign(*sign) => {
-            let address = Address::from_word(Language::Ibm, more)?;
-            address.named()
-        },
-        _ => None,
-    }
-}
-
-/// Whether a text begins with a minus sign.
-fn begins_with_minus(text: &[u8]) -> bool
-    ensures { result ≡ (slice_index text.now 0 == minus_sign) }
-{
-    match text {
-        [first, ..] => *first == b'-',
-        [] => false,
     }
 }
 

@@ -27,6 +27,8 @@ pub enum WideOperation {
     Chain,
     /// DSA: an address as a constant.
     Address,
+    /// LTORG: the next place, at which the literals so far are placed.
+    LiteralOrigin,
 }
 
 /// A form in the table: how many addresses the source writes at least and at most, and the d-character.
@@ -126,7 +128,7 @@ pub(crate) fn wide_instructions() -> &'static [WideRow]
 }
 
 /// The mnemonics of the assembler's own operations that the plain language hasn't.
-static WIDE_OPERATIONS: [WideOwnRow; 7] = [
+static WIDE_OPERATIONS: [WideOwnRow; 8] = [
     (*b"JOB  ", WideOperation::Heading),
     (*b"ENT  ", WideOperation::Assembler),
     (*b"CTL  ", WideOperation::Control),
@@ -134,6 +136,7 @@ static WIDE_OPERATIONS: [WideOwnRow; 7] = [
     (*b"XFR  ", WideOperation::Transfer),
     (*b"CHAIN", WideOperation::Chain),
     (*b"DSA  ", WideOperation::Address),
+    (*b"LTORG", WideOperation::LiteralOrigin),
 ];
 
 /// The table of the assembler's own operations that the plain language hasn't.

@@ -1,6 +1,6 @@
-//! The operands of ORG and END in the wider language.
+//! The operands of ORG, LTORG and END in the wider language.
 ghost use Rattle.std.specs.Prelude.{◌≡◌};
-ghost use Rattle.source_1401.specs.WideOrigin.{is_hundred, origin_in, entry_in};
+ghost use Rattle.source_1401.specs.WideOrigin.{is_hundred, origin_in, here_alone, literal_origin_in, entry_in};
 
 use crate::address::{Address, Base};
 use crate::language::Language;
@@ -34,11 +34,38 @@ impl Operands {
             a: OperandField::Operand(Operand::Address(Address {
                 base: Base::NextHundred,
                 adjustment: 0,
-                index: 0,
+                index: None,
             })),
             b: OperandField::Absent,
             d: None,
             is_whole: is_ended(behind),
+        }
+    }
+
+    /// An asterisk alone.
+    fn here() -> Operands
+        ensures { result ≡ here_alone }
+    {
+        Operands {
+            a: OperandField::Operand(Operand::Address(Address {
+                base: Base::Here,
+                adjustment: 0,
+                index: None,
+            })),
+            b: OperandField::Absent,
+            d: None,
+            is_whole: true,
+        }
+    }
+
+    /// The operand of LTORG: that of ORG, or nothing, which is an asterisk.
+    pub(crate) fn literal_origin(columns: &[u8]) -> Operands
+        ensures { result ≡ literal_origin_in columns.now }
+    {
+        if is_ended(columns) {
+            Operands::here()
+        } else {
+            Operands::origin(columns)
         }
     }
 

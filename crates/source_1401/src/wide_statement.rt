@@ -44,6 +44,7 @@ impl Body {
             )),
             WideOperation::Chain => Body::Chain(Chain::from_columns(columns)),
             WideOperation::Address => Body::AddressConstant(AddressConstant::from_columns(columns)),
+            WideOperation::LiteralOrigin => Body::LiteralOrigin(Operands::literal_origin(columns)),
         }
     }
 

@@ -2,8 +2,9 @@
 
 use source_1401::{
     Address, Addressing, Base, Body, Constant, Flaw, Label, LabelField, LabelRule, Language, Line,
-    LineCheck, Next, Operand, OperandField, OperandFlaw, OperationFlaw, Point, Statement, Stretch,
-    columns_in_language, foreign_column_in, operand_flaw_in, operation_flaw_in, split_line,
+    LineCheck, Literal, Next, Operand, OperandField, OperandFlaw, OperationFlaw, Point, Statement,
+    Stretch, columns_in_language, foreign_column_in, operand_flaw_in, operation_flaw_in,
+    split_line,
 };
 
 /// What a line says, and whether it has a bad label, an unknown operation, bad operands.
@@ -49,7 +50,9 @@ fn a_line_says_its_label_operation_and_operands(rt: HostRuntime) {
         panic!(rt; "no instruction");
     };
     assert_eq!(rt; instruction.operation, b'?');
-    let OperandField::Operand(Operand::Literal(Constant::Plus(digits))) = operands.a else {
+    let OperandField::Operand(Operand::Literal(Literal::Constant(Constant::Plus(digits)))) =
+        operands.a
+    else {
         panic!(rt; "no literal");
     };
     assert_eq!(rt; digits.as_slice(), b"5".as_slice());
@@ -59,7 +62,7 @@ fn a_line_says_its_label_operation_and_operands(rt: HostRuntime) {
         OperandField::Operand(Operand::Address(Address {
             base: Base::Symbol(total),
             adjustment: -1,
-            index: 2,
+            index: Some(2),
         }))
     );
     assert_eq!(rt; (operands.d, operands.is_whole), (None, true));
@@ -184,7 +187,7 @@ fn each_kind_of_statement_has_its_row(rt: HostRuntime) {
         (
             b"     A              2,4",
             LabelRule::OfField,
-            Point::InArea(4),
+            Point::Counted(4),
             Next::Behind,
         ),
         (

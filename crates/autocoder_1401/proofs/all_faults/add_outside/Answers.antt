@@ -9,7 +9,7 @@ use Rattle.autocoder_1401.proofs.all_faults.add_outside.Goals as goal
 pub returns-in_ok-push-clause-ok : goal.returns-in_ok-push-clause-ok
 returns-in_ok-push-clause-ok c =
     c.in_ok-push.ensures.items
-    ∙ one_outside c.args.size (lines_in c.args.language c.args.source.now)
+    ∙ one_outside c.args.language c.args.size (lines_in c.args.language c.args.source.now)
     (assembly_of c.args.language c.args.size c.args.source.now)
     c.args.faults.now.items c.in-Some.fault c.requires
     (nil_from_length c.args.faults.now.items

@@ -4,13 +4,14 @@ use Rattle.indexmap.specs.IndexMap.{get}
 use Rattle.autocoder_1401.specs.AllFaults.{faults_from}
 use Rattle.autocoder_1401.specs.OwnFault.{nothing_before}
 use Rattle.autocoder_1401.specs.Symbols.{same_label}
+use Rattle.autocoder_1401.specs.View.{symbols_view}
 use Rattle.autocoder_1401.proofs.all_faults.put_faults.Given as goal
 
 abbrev pub invariant-loop-line : goal.invariant-loop-line
 invariant-loop-line l = record {
   told : l.faults.items
-      ++ faults_from (get same_label l.labels) (get same_label l.anywhere) l.before (drop l.line-index l.lines)
+      ++ faults_from (symbols_view l.symbols) (get same_label l.anywhere) l.before (drop l.line-index l.lines)
       ≡ l.initial.faults.items
-      ++ faults_from (get same_label l.labels) (get same_label l.anywhere) nothing_before l.lines;
+      ++ faults_from (symbols_view l.symbols) (get same_label l.anywhere) nothing_before l.lines;
   number : l.before.at.number ≡ l.line-index + 1;
 }

@@ -1,26 +1,21 @@
--- The map has what the lines declare.
+-- The symbols are those of the lines.
 use Rattle.std.proofs.Common.{◌∙◌, ap, subst, IfNone, IfSome}
-use Rattle.indexmap.specs.IndexMap.{get}
 use Rattle.autocoder_1401.specs.FirstFault.{first_fault_from, first_place, IsFaultless, IsFirstFault}
-use Rattle.autocoder_1401.specs.Symbols.{same_label, Declared, declared_at}
-use Rattle.autocoder_1401.proofs.FirstFaultLemmas.{same_declared}
+use Rattle.autocoder_1401.specs.Known.{Declared}
 use Rattle.autocoder_1401.proofs.assembly.scan.Goals as goal
 
 pub returns-clause-ok : goal.returns-clause-ok
 returns-clause-ok c =
     c.first_fault-fault.ensures.value
-    ∙ ap (λ (declared : Declared). first_fault_from declared first_place c.args.lines.now)
-    (same_declared (get same_label c.in_ok-labels.labels) (declared_at c.args.lines.now) c.in_ok-labels.ensures.lines)
+    ∙ ap (λ (declared : Declared). first_fault_from declared first_place c.args.lines.now) c.in_ok-symbols.ensures.ok
 
 pub returns-clause-faultless : goal.returns-clause-faultless
 returns-clause-faultless c =
     subst (λ (declared : Declared). IfNone c.first_fault-fault.result (IsFaultless declared c.args.lines.now))
-    (same_declared (get same_label c.in_ok-labels.labels)
-    (declared_at c.args.lines.now) c.in_ok-labels.ensures.lines) c.first_fault-fault.ensures.faultless
+    c.in_ok-symbols.ensures.ok c.first_fault-fault.ensures.faultless
 
 pub returns-clause-first : goal.returns-clause-first
 returns-clause-first c =
     subst (λ (declared : Declared). IfSome c.first_fault-fault.result
     (λ fault. IsFirstFault declared c.args.lines.now fault))
-    (same_declared (get same_label c.in_ok-labels.labels)
-    (declared_at c.args.lines.now) c.in_ok-labels.ensures.lines) c.first_fault-fault.ensures.first
+    c.in_ok-symbols.ensures.ok c.first_fault-fault.ensures.first

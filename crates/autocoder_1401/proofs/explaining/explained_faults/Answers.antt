@@ -18,12 +18,12 @@ pub returns-clause-first : goal.returns-clause-first
 returns-clause-first c =
     ap (λ explanations. first_in (faults_of explanations)) c.in_ok-add_outside_explained.ensures.ok
     ∙ ap first_in (told_all c.args.language c.args.size (lines_of c.args.source.now))
-    ∙ first_of_all c.args.size (lines_in c.args.language c.args.source.now)
+    ∙ first_of_all c.args.language c.args.size (lines_in c.args.language c.args.source.now)
     (assembly_of c.args.language c.args.size c.args.source.now)
 
 pub returns-clause-each : goal.returns-clause-each
 returns-clause-each c =
-    subst (λ (told : List AsmFault). All (IsTold c.args.size (lines_in c.args.language c.args.source.now)) told)
+    subst (λ (told : List AsmFault). All (IsTold c.args.language c.args.size (lines_in c.args.language c.args.source.now)) told)
     (sym (ap faults_of c.in_ok-add_outside_explained.ensures.ok
     ∙ told_all c.args.language c.args.size (lines_of c.args.source.now)))
-    (each_of_all c.args.size (lines_in c.args.language c.args.source.now))
+    (each_of_all c.args.language c.args.size (lines_in c.args.language c.args.source.now))

@@ -1,9 +1,8 @@
 -- One line more is clean, or the source ends without END.
 use Rattle.std.proofs.Common.{ap, subst, ◌∙◌, arith}
 use Rattle.std.proofs.lemmas.Grind.{common_steps}
-use Rattle.indexmap.specs.IndexMap.{get}
 use Rattle.autocoder_1401.specs.FirstFault.{place_behind, IsClean}
-use Rattle.autocoder_1401.specs.Symbols.{same_label}
+use Rattle.autocoder_1401.specs.View.{symbols_view}
 use Rattle.autocoder_1401.proofs.FirstFaultLemmas.{next_place_is, next_clean, no_end}
 use Rattle.autocoder_1401.proofs.first_fault.first_fault.Goals as goal
 
@@ -13,13 +12,13 @@ loop-line-preserved c = record {
   place = next_place_is c.args.lines.now c.loop-line.line-index c.line-item.result c.loop-line.at c.behind-at.result
       c.loop-line-test.true c.loop-line.invariant.place
       (c.behind-at.ensures ∙ ap (place_behind c.loop-line.at) c.line-item.is);
-  clean = next_clean (get same_label c.args.labels.now) c.args.lines.now c.loop-line.line-index c.line-item.result
+  clean = next_clean (symbols_view c.args.symbols.now) c.args.lines.now c.loop-line.line-index c.line-item.result
       c.loop-line.at c.loop-line.invariant.clean c.loop-line-test.true c.loop-line.invariant.place
-      (subst (IsClean (get same_label c.args.labels.now) c.loop-line.at) c.line-item.is c.in_default.ensures.clean);
+      (subst (IsClean (symbols_view c.args.symbols.now) c.loop-line.at) c.line-item.is c.in_default.ensures.clean);
 }
 
 pub returns-else-at-clause-first : goal.returns-else-at-clause-first
 returns-else-at-clause-first c =
-    no_end (get same_label c.args.labels.now) c.args.lines.now c.loop-line.line-index c.loop-line.at
+    no_end (symbols_view c.args.symbols.now) c.args.lines.now c.loop-line.line-index c.loop-line.at
     c.loop-line.invariant.clean c.loop-line-test.false
     c.loop-line.auto.line-index-end c.loop-line.invariant.place c.if-at.false

@@ -3,6 +3,6 @@ use Rattle.std.proofs.Common.{◌≡◌, drop}
 use Rattle.autocoder_1401.specs.Placement.{behind_literals}
 use Rattle.autocoder_1401.proofs.placing.behind_literals.Given as goal
 
-abbrev pub invariant-loop-characters : goal.invariant-loop-characters
-invariant-loop-characters l =
-    behind_literals l.next (drop l.characters-index l.literals) ≡ behind_literals l.from l.literals
+abbrev pub invariant-loop-literal : goal.invariant-loop-literal
+invariant-loop-literal l =
+    behind_literals l.next (drop l.literal-index l.literals) ≡ behind_literals l.from l.literals

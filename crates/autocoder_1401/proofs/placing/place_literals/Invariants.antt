@@ -3,9 +3,9 @@ use Rattle.std.proofs.Common.{◌≡◌, ◌++◌, drop}
 use Rattle.autocoder_1401.specs.Placement.{behind_literals, units_from}
 use Rattle.autocoder_1401.proofs.placing.place_literals.Given as goal
 
-abbrev pub invariant-loop-characters : goal.invariant-loop-characters
-invariant-loop-characters l = record {
-  next : behind_literals l.next (drop l.characters-index l.literals) ≡ behind_literals l.from l.literals;
-  addresses : l.addresses.items ++ units_from l.next (drop l.characters-index l.literals) ≡ l.initial.addresses.items
+abbrev pub invariant-loop-literal : goal.invariant-loop-literal
+invariant-loop-literal l = record {
+  next : behind_literals l.next (drop l.literal-index l.literals) ≡ behind_literals l.from l.literals;
+  addresses : l.addresses.items ++ units_from l.next (drop l.literal-index l.literals) ≡ l.initial.addresses.items
       ++ units_from l.from l.literals;
 }

@@ -1,0 +1,88 @@
+-- The area literals that a line declares (Autocoder, "Area-Defining Literals", C24-3258 and J24-1434; on which lines
+-- own).
+use Rattle.std.specs.Prelude.{Bool, true, false, if◌then◌else◌, Option, None, Some}
+use Rattle.std.specs.Option.{option_map}
+use Rattle.source_1401.specs.declared.label.Label.{Label}
+use Rattle.source_1401.specs.declared.literal.AreaLiteral.{AreaLiteral}
+use Rattle.source_1401.specs.declared.literal.Literal.{Literal}
+use Rattle.source_1401.specs.declared.literal.Literal.TheVariants as literals
+use Rattle.source_1401.specs.declared.operands.Operand.{Operand}
+use Rattle.source_1401.specs.declared.operands.Operand.TheVariants as operands
+use Rattle.source_1401.specs.declared.operands.OperandField.{OperandField}
+use Rattle.source_1401.specs.declared.operands.OperandField.TheVariants as fields
+use Rattle.source_1401.specs.declared.operands.Operands.{Operands}
+use Rattle.source_1401.specs.declared.statement.Body.{Body}
+use Rattle.source_1401.specs.declared.statement.Body.TheVariants as bodies
+use Rattle.source_1401.specs.declared.statement.Line.{Line}
+use Rattle.source_1401.specs.declared.statement.LineCheck.{LineCheck}
+use Rattle.source_1401.specs.declared.statement.LineCheck.TheVariants as bytes
+use Rattle.source_1401.specs.declared.statement.Statement.{Statement}
+
+-- what the first address of an instruction declares, and what the second
+abbrev pub DeclaredAreas : Type 0
+DeclaredAreas = Option AreaLiteral × Option AreaLiteral
+
+abbrev pub no_areas : DeclaredAreas
+no_areas = (None, None)
+
+abbrev pub area_of_literal : Literal → Option AreaLiteral
+area_of_literal (literals.Constant constant) = None
+area_of_literal (literals.Address address) = None
+area_of_literal (literals.Area area) = Some area
+
+abbrev pub area_of_operand : Operand → Option AreaLiteral
+area_of_operand (operands.Address address) = None
+area_of_operand (operands.Literal literal) = area_of_literal literal
+area_of_operand (operands.Unit unit) = None
+
+abbrev pub area_at : OperandField → Option AreaLiteral
+area_at fields.Absent = None
+area_at fields.Malformed = None
+area_at (fields.Operand operand) = area_of_operand operand
+
+abbrev pub areas_in : Operands → DeclaredAreas
+areas_in these = (area_at these.a, area_at these.b)
+
+-- only an instruction has them
+abbrev pub areas_of_body : Body → DeclaredAreas
+areas_of_body bodies.Unknown = no_areas
+areas_of_body (bodies.Instruction instruction of) = areas_in of
+areas_of_body (bodies.MarkedConstant constant) = no_areas
+areas_of_body (bodies.Constant constant) = no_areas
+areas_of_body (bodies.Space places) = no_areas
+areas_of_body (bodies.Areas areas) = no_areas
+areas_of_body (bodies.Field span) = no_areas
+areas_of_body (bodies.Equate of) = no_areas
+areas_of_body (bodies.Origin of) = no_areas
+areas_of_body (bodies.Execute of) = no_areas
+areas_of_body (bodies.End of) = no_areas
+areas_of_body (bodies.Heading is_well_formed) = no_areas
+areas_of_body (bodies.Control size) = no_areas
+areas_of_body bodies.SecondControl = no_areas
+areas_of_body (bodies.Suffix suffix) = no_areas
+areas_of_body (bodies.Transfer of) = no_areas
+areas_of_body (bodies.Chain chain) = no_areas
+areas_of_body (bodies.AddressConstant constant) = no_areas
+areas_of_body (bodies.LabelledOrigin of) = no_areas
+areas_of_body (bodies.LiteralOrigin of) = no_areas
+areas_of_body (bodies.WideField span) = no_areas
+areas_of_body (bodies.WideEquate of) = no_areas
+areas_of_body (bodies.WideExecute of) = no_areas
+areas_of_body (bodies.WideEnd of) = no_areas
+
+abbrev pub areas_of_statement : Option Statement → DeclaredAreas
+areas_of_statement None = no_areas
+areas_of_statement (Some statement) = areas_of_body statement.body
+
+abbrev pub has_foreign : LineCheck → Bool
+has_foreign bytes.Good = false
+has_foreign bytes.Long = false
+has_foreign bytes.Foreign = true
+
+-- the area literals of a line's instruction, whatever else is wrong with it, but if a byte can't stand in its column
+abbrev pub areas_of_line : Line → DeclaredAreas
+areas_of_line this = if has_foreign this.bytes then no_areas else areas_of_statement this.statement
+
+-- the symbol that an area literal declares
+abbrev pub label_of_area : Option AreaLiteral → Option Label
+label_of_area area = option_map (λ (area : AreaLiteral). area.label) area
