@@ -13,11 +13,11 @@ use Rattle.deck_1401.specs.Contents.{card_places, first_from, first_taken, is_bl
 use Rattle.deck_1401.specs.Deck.{AreBrought}
 
 -- storage that has these cells, so many of the next ones, and blanks
-abbrev part_filled : List Cell → ℕ → List Cell → Storage
+abbrev pub part_filled : List Cell → ℕ → List Cell → Storage
 part_filled done covered cells = (done ++ take covered cells) ++ blanks (length cells - covered)
 
 -- a blank is a blank
-same_blank : (char : ℕ) (mark : Bool) → (char == 0) && not mark ≡ true
+pub same_blank : (char : ℕ) (mark : Bool) → (char == 0) && not mark ≡ true
     → ◌≡◌ {A = Cell} (record { char = char; mark = mark }) blank
 same_blank char true h = absurd (false≢true (and_parts (char == 0) false h).1)
 same_blank char false h =
@@ -29,7 +29,7 @@ one_fits : (none : Bool) (count most : ℕ) → count ≤ most → (if none then
 one_fits true count most few = omega arith
 one_fits false count most few = omega arith
 
-fitting_most : (columns marks : ℕ) (cells : List Cell) → fitting columns marks cells ≤ length cells
+pub fitting_most : (columns marks : ℕ) (cells : List Cell) → fitting columns marks cells ≤ length cells
 fitting_most columns marks [] = omega arith
 fitting_most columns marks (cell ∷ cells) =
     let few =
@@ -39,7 +39,7 @@ fitting_most columns marks (cell ∷ cells) =
     omega (arith, few)
 
 -- a cell that is on a card already
-covered_next : (covered : ℕ) (done cells : List Cell) (cell : Cell) → 0 < covered
+pub covered_next : (covered : ℕ) (done cells : List Cell) (cell : Cell) → 0 < covered
     → part_filled done covered (cell ∷ cells) ≡ part_filled (done ++ cell ∷ []) (covered - 1) cells
 covered_next zero done cells cell some = absurd (omega arith)
 covered_next (suc n) done cells cell some =
@@ -50,7 +50,7 @@ covered_next (suc n) done cells cell some =
     ∙ ap (λ (k : ℕ). ((done ++ cell ∷ []) ++ take k cells) ++ blanks (length cells - k)) (sym one_less)
 
 -- nothing is on a card yet
-only_blanks : (done cells : List Cell) (cell : Cell)
+pub only_blanks : (done cells : List Cell) (cell : Cell)
     → part_filled done 0 (cell ∷ cells) ≡ done ++ blanks (suc (length cells))
 only_blanks done cells cell =
     let left : length (cell ∷ cells) - 0 ≡ suc (length cells) = omega arith in
@@ -58,7 +58,7 @@ only_blanks done cells cell =
     ∙ ap (λ (front : List Cell). front ++ blanks (suc (length cells))) (append-nil done)
 
 -- a blank that is on no card
-blank_next : (done cells : List Cell) (cell : Cell) → cell ≡ blank
+pub blank_next : (done cells : List Cell) (cell : Cell) → cell ≡ blank
     → part_filled done 0 (cell ∷ cells) ≡ part_filled (done ++ cell ∷ []) 0 cells
 blank_next done cells cell h =
     let all : length cells ≡ length cells - 0 = omega arith in
@@ -135,7 +135,7 @@ none_taken : (is_empty : Bool) (at : ℕ) (more : Option ℕ) → (if is_empty t
 none_taken true at more h = (refl, h)
 none_taken false at more h = absurd cc
 
-all_blank : (at : ℕ) (cells : List Cell) → first_from at cells ≡ None → cells ≡ blanks (length cells)
+pub all_blank : (at : ℕ) (cells : List Cell) → first_from at cells ≡ None → cells ≡ blanks (length cells)
 all_blank at [] h = refl
 all_blank at (cell ∷ cells) h =
     let parts = none_taken (is_blank cell) at (first_from (at + 1) cells) h in

@@ -30,3 +30,18 @@ fitting_marks columns marks at (cell ∷ cells) =
     one_more (columns == 0) (marks == 0) cell.mark marks at
     (fitting (columns - 1) (if cell.mark then marks - 1 else marks) cells) cell cells refl refl
     (fitting_marks (columns - 1) (if cell.mark then marks - 1 else marks) (at + 1) cells)
+
+-- no more cells fit than there are columns
+one_column : (full none : Bool) (columns n : ℕ) → (columns == 0) ≡ full → n ≤ columns - 1
+    → (if full || none then 0 else n + 1) ≤ columns
+one_column true none columns n e few = omega arith
+one_column false true columns n e few = omega arith
+one_column false false columns n e few =
+    let some : columns ≡ 0 → ⊥ = eqb-false columns 0 e in omega (arith, few)
+
+pub fitting_columns : (columns marks : ℕ) (cells : List Cell) → fitting columns marks cells ≤ columns
+fitting_columns columns marks [] = omega arith
+fitting_columns columns marks (cell ∷ cells) =
+    one_column (columns == 0) (cell.mark && (marks == 0)) columns
+    (fitting (columns - 1) (if cell.mark then marks - 1 else marks) cells) refl
+    (fitting_columns (columns - 1) (if cell.mark then marks - 1 else marks) cells)

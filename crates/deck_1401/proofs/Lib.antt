@@ -1,2 +1,15 @@
+pub mod AddressLemmas
 pub mod BroughtLemmas
+pub mod CardTextLemmas
+pub mod CardsLemmas
+pub mod CellCardLemmas
+pub mod CellLoadLemmas
+pub mod ClearCardLemmas
+pub mod DeckLemmas
+pub mod DeckTextLemmas
 pub mod FittingLemmas
+pub mod LoaderCardLemmas
+pub mod LoadsItselfLemmas
+pub mod PlacesLemmas
+pub mod ProgramLemmas
+pub mod StepLemmas

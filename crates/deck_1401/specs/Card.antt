@@ -1,5 +1,5 @@
 -- The card that brings cells to their places (own): 39 columns for them, and the instructions that load them.
-use Rattle.std.specs.Prelude.{ℕ, ◌+◌, ◌-◌, ◌*◌, ◌==◌, Bool, ◌&&◌, ◌||◌, if◌then◌else◌, List, [], ◌∷◌, ◌++◌, length, map}
+use Rattle.std.specs.Prelude.{ℕ, ◌+◌, ◌-◌, ◌*◌, ◌<◌, ◌==◌, Bool, ◌&&◌, ◌||◌, if◌then◌else◌, List, [], ◌∷◌, ◌++◌, length, map}
 use Rattle.std.specs.Prelude.{drop, take, slice_index, codes, nat_lt}
 use Rattle.std.specs.List.{flat_map}
 use Rattle.bcd_1401.specs.declared.cell.Cell.{Cell}
@@ -12,6 +12,11 @@ use Rattle.deck_1401.specs.Contents.{is_blank}
 -- the graphic of a cell's character
 abbrev pub graphic_of : Cell → ℕ
 graphic_of cell = slice_index graphics cell.char
+
+-- cells whose characters are among the 64
+abbrev pub HaveChars : List Cell → Type 0
+HaveChars [] = Unit {0}
+HaveChars (cell ∷ cells) = (cell.char < 64) × HaveChars cells
 
 -- an address by its three graphics
 unfoldable pub address_text : ℕ → List ℕ

@@ -8,14 +8,14 @@ use Rattle.deck_1401.specs.Contents.{card_places, first_taken, storage_of}
 use Rattle.deck_1401.specs.declared.fault.DeckFault.{DeckFault}
 use Rattle.deck_1401.specs.declared.fault.DeckFault.TheVariants.{Place, Memory}
 
--- it clears a hundred from the last place of storage down, stores in that instruction where the next hundred ends, and does
--- so again until that is 099; then it reads the next card and goes on at 001
+-- it clears a hundred from the last place of storage down, stores in that instruction where the next hundred ends, and
+-- does so again until that is 099; then it reads the next card and goes on at 001
 unfoldable pub clear_card : ℕ → List ℕ
 clear_card size =
     codes ",008015,022029,036040,044051,056060/" ++ address_text (size - 1) ++ codes "H039C039062B036/1001099\n"
 
--- it sets the word marks of the loader, loads 19 blanks to 081, clears the word marks of the first card and those that it
--- needed for this, and reads the next card
+-- it sets the word marks of the loader, loads 19 blanks to 081, clears the word marks of the first card and those that
+-- it needed for this, and reads the next card
 unfoldable pub loader_card : List ℕ
 loader_card = codes ",047055,059063,067071,075079)044056,181L199099)060)081)181/039,0011040\n"
 

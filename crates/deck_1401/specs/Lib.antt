@@ -1,3 +1,4 @@
 pub mod Card
 pub mod Contents
 pub mod Deck
+pub mod Loading

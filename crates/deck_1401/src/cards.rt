@@ -2,7 +2,8 @@
 ghost use Rattle.std.specs.Prelude.{◌≡◌, ◌≤◌, ◌<◌, ◌+◌, ◌∷◌, ◌++◌, true, length, map, drop, take, ℕ, codes, OnOk, IfOk};
 ghost use Rattle.std.specs.List.{flat_map};
 ghost use Rattle.core_1401.specs.Address.{addresses};
-ghost use Rattle.deck_1401.specs.Card.{address_text, card_line, cards_from, cards_text, fitting, graphic_of, load_operation, load_text};
+ghost use Rattle.deck_1401.specs.Card.{HaveChars, address_text, card_line, cards_from, cards_text, fitting, graphic_of};
+ghost use Rattle.deck_1401.specs.Card.{load_operation, load_text};
 ghost use Rattle.deck_1401.specs.Card.{mark_text, marked_places, marks_text, more_columns, most_marks};
 
 use crate::contents::is_blank;
@@ -139,13 +140,15 @@ fn put_next(
     behind: &[Cell],
 ) -> Result<usize, AllocError>
     requires { from + 1 + length behind.now ≤ addresses }
-    ensures { IfOk result (λ left. text.new.items ++ cards_text (cards_from left (from + 1) behind.now)
+    ensures text { IfOk result (λ left. text.new.items ++ cards_text (cards_from left (from + 1) behind.now)
         ≡ text.old.items ++ cards_text (cards_from covered from (first.now ∷ behind.now))) }
+    ensures char { first.now.char < 64 }
 {
+    let is_blank = is_blank(*first);
     if covered > 0 {
         return Ok(covered - 1);
     }
-    if is_blank(*first) {
+    if is_blank {
         return Ok(0);
     }
     let count = fitting(MORE_COLUMNS, MOST_MARKS, behind);
@@ -156,7 +159,8 @@ fn put_next(
 /// Adds the cards of the cells from an address on.
 pub(crate) fn put_cards(text: &mut Vec<u8>, from: u16, cells: &[Cell]) -> Result<(), AllocError>
     requires { from + length cells.now ≤ addresses }
-    ensures { OnOk result (text.new.items ≡ text.old.items ++ cards_text (cards_from 0 from cells.now)) }
+    ensures text { OnOk result (text.new.items ≡ text.old.items ++ cards_text (cards_from 0 from cells.now)) }
+    ensures chars { OnOk result (HaveChars cells.now) }
 {
     let mut covered = 0;
     let mut at = from;

@@ -1,5 +1,5 @@
 //! What core storage holds once it has an image's cells.
-ghost use Rattle.std.specs.Prelude.{◌≡◌, ◌≤◌, true, length, IfOk};
+ghost use Rattle.std.specs.Prelude.{◌≡◌, ◌<◌, ◌≤◌, true, length, IfOk};
 ghost use Rattle.std.specs.List.{list_all};
 ghost use Rattle.core_1401.specs.Address.{addresses};
 ghost use Rattle.core_1401.specs.Storage.{least_core_size};
@@ -16,7 +16,8 @@ pub(crate) const CARD_PLACES: usize = 81;
 
 /// Whether a cell is a blank without a word mark.
 pub(crate) fn is_blank(cell: Cell) -> bool
-    ensures { result ≡ is_blank cell }
+    ensures value { result ≡ is_blank cell }
+    ensures char { cell.char < 64 }
 {
     cell.char.code() == 0 && !cell.mark
 }

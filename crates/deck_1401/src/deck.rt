@@ -1,10 +1,13 @@
 //! All cards of a deck.
 ghost use Rattle.std.specs.Prelude.{◌≡◌, ◌<◌, ◌≤◌, ◌+◌, ◌++◌, None, true, length, drop, codes, IfOk, IfErr, OnOk};
 ghost use Rattle.core_1401.specs.Address.{addresses};
+ghost use Rattle.core_1401.specs.Storage.{is_core_size};
 ghost use Rattle.image_1401.specs.Image.{IsInCore};
+ghost use Rattle.deck_1401.specs.Card.{HaveChars};
 ghost use Rattle.deck_1401.specs.Contents.{card_places, first_taken, storage_of};
 ghost use Rattle.deck_1401.specs.Deck.{AreBrought, IsWhyNoDeck, cards_of, clear_card, deck_text, loader_card, start_card};
 ghost use Rattle.deck_1401.specs.Deck.{storage_deck};
+ghost use Rattle.deck_1401.specs.Loading.{LoadsItself};
 
 use crate::cards::{put_address, put_cards};
 use crate::contents::{CARD_PLACES, first_taken, storage_of};
@@ -43,7 +46,8 @@ fn cards_of(alloc: Global, size: u16, cells: &[Cell], start: u16) -> Result<Vec<
     requires size { size ≤ addresses }
     requires cells { card_places + length cells.now ≤ addresses }
     requires start { start < addresses }
-    ensures { IfOk result (λ text. text.items ≡ cards_of size cells.now start) }
+    ensures text { IfOk result (λ text. text.items ≡ cards_of size cells.now start) }
+    ensures chars { OnOk result (HaveChars cells.now) }
 {
     let mut text = Vec::new(alloc);
     put_clear_card(&mut text, size)?;
@@ -58,12 +62,14 @@ fn cards_of(alloc: Global, size: u16, cells: &[Cell], start: u16) -> Result<Vec<
 /// The deck for core storage with these cells, and this entry, if the places under its cards are blank.
 #[tactic(auto, using(crate::proofs::BroughtLemmas::are_brought))]
 fn checked_deck(alloc: Global, storage: &[Cell], start: u16) -> Result<Vec<u8>, DeckFault>
+    requires core { is_core_size (length storage.now) ≡ true }
     requires size { length storage.now ≤ addresses }
     requires places { card_places ≤ length storage.now }
     requires start { start < addresses }
     ensures ok { IfOk result (λ text. text.items ≡ storage_deck storage.now start) }
     ensures blank { IfOk result (λ text. first_taken storage.now ≡ None) }
     ensures brought { IfOk result (λ text. AreBrought storage.now) }
+    ensures loads { IfOk result (λ text. LoadsItself text.items (length storage.now) storage.now start) }
     ensures err { IfErr result (IsWhyNoDeck storage.now) }
 {
     let (card_area, cells) = storage.split_at(CARD_PLACES);
@@ -89,6 +95,9 @@ pub fn write_deck(alloc: Global, image: &Image) -> Result<Vec<u8>, DeckFault>
 
     // Its cards bring all that storage is to hold.
     ensures brought { IfOk result (λ text. AreBrought (storage_of image.now)) }
+
+    // A machine takes it by the load key: it comes to the image's entry with the image's cells in core storage.
+    ensures loads { IfOk result (λ text. LoadsItself text.items image.now.size (storage_of image.now) image.now.start) }
     ensures err { IfErr result (IsWhyNoDeck (storage_of image.now)) }
 {
     let storage = match storage_of(alloc, image) {

@@ -7,6 +7,8 @@
 //! The first card clears storage from its end down to place 100. The second clears the rest above the card, and sets
 //! the word marks of the loader, which is on each card that follows: it moves the card's columns to their places, sets
 //! their word marks, and reads the next card. The last card clears the places of the card and branches to the entry.
+//! So it is proved of the machine's steps, for each image: one at power-on that takes the deck by the load key comes to
+//! the entry with the image's cells in core storage.
 #![tactic(auto)]
 
 // the cells that an image has, and why it has no deck

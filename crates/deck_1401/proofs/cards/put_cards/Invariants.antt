@@ -1,11 +1,12 @@
 -- What is added, with the cards of the cells that are left, is all of them.
 use Rattle.std.proofs.Common.{◌≡◌, ◌+◌, ◌++◌, length}
-use Rattle.deck_1401.specs.Card.{cards_from, cards_text}
+use Rattle.deck_1401.specs.Card.{HaveChars, cards_from, cards_text}
 use Rattle.deck_1401.proofs.cards.put_cards.Given as goal
 
 abbrev pub invariant-loop-rest : goal.invariant-loop-rest
 invariant-loop-rest l = record {
   text : l.text.items ++ cards_text (cards_from l.covered l.at l.rest) ≡ l.initial.text.items ++ cards_text (cards_from 0 l.from l.cells);
+  chars : HaveChars l.rest → HaveChars l.cells;
   places : l.at + length l.rest ≡ l.from + length l.cells;
 }
 
