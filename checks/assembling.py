@@ -439,6 +439,104 @@ OF_OLD_DECKS += [
     ("               END\n", "IMAGE2 04000\nEND 00333\n", []),
 ]
 
+# Whole sources of the wider language, each with its image: indexes of symbols, literals and areas.
+OF_LITERALS = [
+    (
+        "               ORG  340\n     GO        B    LATER\n     HERE      EQU  *+1\n               H    HERE\n"
+        "     BACK      ORG  *+X00\n     EXIT      H\n               NOP\n     LATER     EQU  EXIT+4\n"
+        "               NOP\n               CHAIN2\n     BUFFER    DS   3\n     TAB       EQU  BUFFER-2+X2\n               ORG  BACK\n"
+        "               MCW  TAB,TAB+X0\n               EX   *\n               END\n",
+        "IMAGE2 04000\n00340 08 ~B404~.344\n00400 05 ~.~N~N~N~N\n00348 07 ~M4!5405\nEND 00340\n",
+    ),
+    (
+        "               ORG  500\n     GO        A    +1,9\n               XFR  GO\n               LTORG*\n"
+        "               EX   GO\n               A    +1,9\n               END  GO\n",
+        "IMAGE2 04000\n00500 15 ~A507009~A~A507009\nEND 00500\n",
+    ),
+    (
+        "               ORG  700\n     REC       DA   2X5,X1,0,G\n     KEY            1,2\n     LOW            4\n"
+        "                    5,5\n               A    KEY,LOW+X0\n               MCW  REC,KEY+X2\n               END\n",
+        "IMAGE2 04000\n00700 25 ~    ~ ~    ~ ~\"~A0'1003~M7000!1\nEND 00711\n",
+    ),
+    (
+        "               ORG  500\n     GO        MCW  +TAB,X1\n               MCW  SUM#3,SUM\n               A    -TAB+1,X1\n"
+        "     TAB       DCW  @ABC@\n     BASE      LTORG600\n               DSA  TAB+X3\n               DC   -TAB\n"
+        "               ORG  BASE\n               H    SUM-2\n               END  GO\n",
+        "IMAGE2 04000\n00500 24 ~M602089~M605605~A608089~ABC\n00600 15 ~523~   ~D7F~5B3D7G\n00524 04 ~.603\nEND 00500\n",
+    ),
+    # an LTORG without an operand, one that places nothing, and a label that is the place before it
+    (
+        "               ORG  500\n     GO        A    @X@,GO\n     HERE      LTORG\n               LTORG600\n"
+        "               H    HERE\n               END  GO\n",
+        "IMAGE2 04000\n00500 08 ~A507500~X\n00600 04 ~.507\nEND 00500\n",
+    ),
+    # EQUs that name each other, with an index register on the way, which one of their own replaces
+    (
+        "               ORG  500\n     GO        B    A\n     D         EQU  GO\n     C         EQU  D+1+X2\n"
+        "     B         EQU  C+1+X1\n     A         EQU  B+1\n               B    B\n               B    C\n               B    D\n"
+        "               B    A+X0\n               B    A+X3\n               END  GO\n",
+        "IMAGE2 04000\n00500 24 ~B5'3~B5'2~B5!1~B500~B503~B5?3\nEND 00500\n",
+    ),
+]
+
+# Sources that the wider language refuses, as 'label operation operands', a dash for no label; the line and the kind.
+REFUSED_TOGETHER = [
+    ("A EQU B / B EQU A / - END", 1, "7 UNDEFINED"),
+    ("A EQU A / - END", 1, "7 UNDEFINED"),
+    ("A EQU B+1 / B EQU C / C EQU B / - END", 1, "7 UNDEFINED"),
+    ("A EQU B / - ORG A / B DCW #1 / - END", 1, "7 UNDEFINED"),
+    ("A EQU B / B EQU C / - ORG A / C EQU 400 / - END", 1, "7 UNDEFINED"),
+    ("- B 5 / - A SUM#3,5 / - ORG SUM / - END", 3, "7 UNDEFINED"),
+    ("- A SUM#3,5 / A EQU SUM / - EX 5 / - LTORG A / - END", 2, "7 UNDEFINED"),
+    ("TAG DCW #3 / - A TAG#3,5 / - END", 2, "5 DOUBLE LABEL"),
+    ("- A TAG#3,5 / TAG DCW #3 / - END", 2, "5 DOUBLE LABEL"),
+    ("TAG A TAG#3,5 / - END", 1, "5 DOUBLE LABEL"),
+    ("- A TAG#3,TAG#4 / - END", 1, "5 DOUBLE LABEL"),
+    ("- A TAG#3,5 / - A 5,TAG#2 / - END", 2, "5 DOUBLE LABEL"),
+    ("X1 DCW #1 / X1 EQU 89 / - END", 2, "5 DOUBLE LABEL"),
+    ("X1 DCW #1 / - A X1#2,5 / - END", 2, "5 DOUBLE LABEL"),
+    ("TAG DCW #3 / - CHAIN 2 / - END", 2, "6 OPERATION"),
+    ("- CTL 66 / - CTL 66 / - END", 2, "6 OPERATION"),
+    ("- CTL 37 / - END", 1, "8 OPERAND"),
+    ("L XFR 0 / - END", 1, "4 LABEL"),
+    ("- ORG *+X1 / - END", 1, "8 OPERAND"),
+    ("- LTORG +5 / - END", 1, "8 OPERAND"),
+    ("- LTORG 5+X1 / - END", 1, "8 OPERAND"),
+    ("- LTORG 5,6 / - END", 1, "8 OPERAND"),
+    ("- DA 1X5,G,G / - END", 1, "8 OPERAND"),
+    ("- DA 1X5,0,0 / - END", 1, "8 OPERAND"),
+    ("- DA 1X5,X1,X2 / - END", 1, "8 OPERAND"),
+    ("- DA 1X5,X4 / - END", 1, "8 OPERAND"),
+    ("- B 1,UNDEF,X / - END", 1, "7 UNDEFINED"),
+    ("- A +UNDEF,5 / - END", 1, "7 UNDEFINED"),
+    ("- A %U1,5 / - END", 1, "8 OPERAND"),
+    ("- A TAG#0,5 / - END", 1, "8 OPERAND"),
+    ("- A TAG#51,5 / - END", 1, "8 OPERAND"),
+    ("- A TAG#3+1,5 / - END", 1, "8 OPERAND"),
+    ("- A +5+X1,5 / - END", 1, "8 OPERAND"),
+    ("- DSA TAG#3 / - END", 1, "8 OPERAND"),
+    ("- DCW TAG#3 / - END", 1, "8 OPERAND"),
+    ("A EQU TAG#3 / - END", 1, "8 OPERAND"),
+    ("- ENT SPS / - END", 1, "8 OPERAND"),
+    ("- DSA UNDEF,1 / - END", 1, "7 UNDEFINED"),
+    ("- DSA A / A EQU 4000 / - END", 1, "9 OUT OF CORE"),
+    ("- A -Q+1,0 / Q EQU 3999 / - END", 1, "9 OUT OF CORE"),
+    ("- A +5,0 / - LTORG 4000 / - END", 2, "9 OUT OF CORE"),
+    ("- A SUM#3,0 / - LTORG 3998 / - END", 2, "9 OUT OF CORE"),
+    ("- LTORG 4001 / - END", 1, "9 OUT OF CORE"),
+    ("- SFX A / TAG DCW #1 / - SFX / - B TAG / - END", 4, "7 UNDEFINED"),
+]
+
+
+def columns(statements):
+    """The lines of a source whose statements are 'label operation operands', parted by ' / ', a dash for no label."""
+    lines = []
+    for statement in statements.split(" / "):
+        label, operation, *operands = statement.split(" ")
+        lines.append(f"     {'' if label == '-' else label:10}{operation:5}{''.join(operands)}\n")
+    return "".join(lines)
+
+
 # What a warning of an instruction says that this machine hasn't got.
 NOT_FITTED = "16: WARNING: this machine has no instruction of this operation and length"
 
@@ -466,7 +564,7 @@ NOT_OF_OLD_DECKS = [
     ("               ORG  *+X1", "8 OPERAND", "21: OPERAND: *+X1 says no value, as a number or a label does"),
     ("     L         EQU  *+X00", "8 OPERAND", None),
     ("               DA   1X5,G,G", "8 OPERAND", None),
-    ("               DA   1X5,X1", "8 OPERAND", None),
+    ("               DA   1X5,X4", "8 OPERAND", "25: OPERAND: X4 isn't G, C, 0 and one of X1 to X3, each once, behind the areas"),
     ("               DSA  UNDEF,1", "7 UNDEFINED", "21: UNDEFINED: UNDEF is the label of no line"),
     ("               DSA  +5", "8 OPERAND", "21: OPERAND: +5 is a literal, and an address is asked for"),
     ("               DSA  4000", "9 OUT OF CORE", "1: OUT OF CORE: a place or an address isn't in core"),
@@ -539,6 +637,15 @@ def languages():
             shown = [line[20:] for line in listing.stdout.decode().splitlines() if line[:4] != "    "]
             tell("its listing has the lines as they are", "" if shown == lines.splitlines() else "others")
             expect("the plain language doesn't take it", run([PROGRAM, "assemble", source]), 1, "", "...")
+        for lines, image in OF_LITERALS:
+            source.write_text(lines)
+            expect("a source with indexes and literals", run([*call, source]), 0, image)
+            expect("the plain language refuses it", run([PROGRAM, "assemble", source]), 1, "", "...")
+        for statements, number, fault in REFUSED_TOGETHER:
+            source.write_text(columns(statements))
+            expect(f"{statements}: refused", run([*call, source]), 1, "", f"ibm1401: line {number}: {fault}\n")
+            told = f"old.source:{number}:..."
+            expect(f"{statements}: told", run([*call, "--all", "old.source"], cwd=folder), 1, "", told)
         for statement, fault, told in NOT_OF_OLD_DECKS:
             source.write_text(f"{statement}\n               END  0\n")
             expect(f"{statement.strip()}: refused", run([*call, source]), 1, "", f"ibm1401: line 1: {fault}\n")

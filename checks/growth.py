@@ -159,10 +159,15 @@ def all_faults(refusing):
     return number + warnings(refusing, "plain") + warnings(refusing, "ibm")
 
 
+# A source with warnings, and what the wider language has beside it: symbols through others, and literals that are placed.
+WARNED = b"     A         BE   A\n     B         C    +5,C\n     C         DCW  0\n"
+OF_WIDER = b"     F         A    +A,T#3\n     E         EQU  F\n     D         EQU  E+1\n               B    D\n               LTORG*\n"
+
+
 def warnings(refusing, language):
     """The warnings of a source in a language: each is told, or that memory was refused, which leaves the image whole."""
     with tempfile.NamedTemporaryFile() as source:
-        source.write(b"     A         BE   A\n     B         C    +5,C\n     C         DCW  0\n               END  A\n")
+        source.write(WARNED + (OF_WIDER if language == "ibm" else b"") + b"               END  A\n")
         source.flush()
         words = [PROGRAM, "assemble", "--all", "--language", language, source.name]
         whole = run(words)
