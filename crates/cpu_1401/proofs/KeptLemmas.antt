@@ -14,7 +14,7 @@ use Rattle.core_1401.specs.Address.{addresses}
 use Rattle.core_1401.specs.Field.{field_len_of}
 use Rattle.core_1401.specs.Storage.{Storage, blank, cell_at, with_char, with_mark}
 use Rattle.cpu_1401.specs.declared.cache_entry.CacheEntry.{CacheEntry}
-use Rattle.cpu_1401.specs.Kept.{entry_count, IsKept, IsCurrent, AreBetween, AreCovered, AreInside, IsPart, IsApart}
+use Rattle.cpu_1401.specs.Kept.{entry_count, AreMarks, IsKept, IsCurrent, AreBetween, AreCovered, AreInside, IsPart, IsApart}
 use Rattle.cpu_1401.specs.Kept.{lowest_written}
 use Rattle.fields_1401.specs.Across.{IsSameBeside, IsSameOutside}
 use Rattle.fields_1401.specs.Places.{is_within, marks_of}
@@ -40,13 +40,12 @@ found entries at k entry all some is e there = record {
 }
 
 -- the cells of an instruction that is kept are there, if its codes are
-pub are_cells : (entries : List CacheEntry) (s : Storage) (at codes : ℕ) (entry : CacheEntry) → IsKept entries at entry
-    → IsCurrent entries (marks_of s) → AreEightCodes s at codes → codes ≡ entry.codes
-    → AreEightCells s at entry.codes entry.marks
-are_cells entries s at codes entry kept current are e = record {
+pub are_cells : (s : Storage) (at codes : ℕ) (entry : CacheEntry) → AreMarks (marks_of s) at entry.marks
+    → AreEightCodes s at codes → codes ≡ entry.codes → AreEightCells s at entry.codes entry.marks
+are_cells s at codes entry marks are e = record {
   are_bytes = sym e ∙ are.are_bytes;
   are_codes = are.are_codes;
-  are_bits = λ i lt. current at entry kept i lt ∙ mark_at s (at + i);
+  are_bits = λ i lt. marks i lt ∙ mark_at s (at + i);
 }
 
 -- an entry that is put in place of another keeps what it says, and nothing else is kept that wasn't

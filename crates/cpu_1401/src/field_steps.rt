@@ -38,7 +38,9 @@ impl Machine {
                 self.i = this.next;
                 self.a = done.a;
                 self.b = done.b;
-                self.overflow |= done.overflow;
+                if done.overflow {
+                    self.overflow = true;
+                }
                 None
             }
             Err(stop) => Some(Stop::from(stop)),

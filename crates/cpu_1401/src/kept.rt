@@ -1,10 +1,10 @@
 //! A cache of decoded instructions: one that is carried out again isn't decoded again.
-ghost use Rattle.std.specs.Prelude.{◌≡◌, ◌⊎◌, ℕ, ◌+◌, ◌%◌, ◌<◌, ◌≤◌, Bool, List, true, IfOk, IfSome, length};
+ghost use Rattle.std.specs.Prelude.{◌≡◌, ◌≢◌, ◌⊎◌, ℕ, ◌+◌, ◌%◌, ◌<◌, ◌≤◌, Bool, List, true, IfOk, IfSome, length};
 ghost use Rattle.core_1401.specs.Address.{addresses};
 ghost use Rattle.core_1401.specs.PlaceSet.{has_place};
 ghost use Rattle.cpu_1401.specs.declared.cache_entry.CacheEntry.{CacheEntry};
 ghost use Rattle.cpu_1401.specs.Decoded.{Says};
-ghost use Rattle.cpu_1401.specs.Kept.{IsApart, IsCurrent, IsKept, IsPart, entry_count, lowest_written};
+ghost use Rattle.cpu_1401.specs.Kept.{AreMarks, IsApart, IsCurrent, IsKept, IsPart, entry_count, lowest_written, no_place};
 ghost use Rattle.fields_1401.specs.Places.{marks_of};
 
 use crate::cache_entry::{CacheEntry, NO_PLACE};
@@ -73,6 +73,25 @@ impl DecodeCache {
         })
     }
 
+    /// The instruction at a place, if it was decoded there from the same cells that are there now, and its addresses are
+    /// ready.
+    #[inline(always)]
+    pub(crate) fn find_ready(&self, core: &Core, at: u16) -> Option<&Decoded>
+        requires place { at < addresses }
+        requires size { self.now.size ≤ length core.now }
+        requires current { IsCurrent self.now.entries (marks_of core.now) }
+        ensures says { IfSome result (λ decoded. Says core.now at decoded.now) }
+        ensures ready { IfSome result (λ decoded. decoded.now.is_ready ≡ true) }
+        ensures inside { IfSome result (λ decoded. at + decoded.now.len < addresses) }
+    {
+        let entry = &self.entries[entry_of(at)];
+        if entry.ready_at != at {
+            return None;
+        }
+        prove!(core.size() <= ADDRESSES);
+        said_there(entry, core, at)
+    }
+
     /// The instruction at a place, if it was decoded there from the same cells that are there now.
     #[inline(always)]
     pub(crate) fn find(&self, core: &Core, at: u16) -> Option<&Decoded>
@@ -87,10 +106,7 @@ impl DecodeCache {
             return None;
         }
         prove!(core.size() <= ADDRESSES);
-        if core.eight_codes(at) != entry.codes {
-            return None;
-        }
-        Some(&entry.decoded)
+        said_there(entry, core, at)
     }
 
     /// Keeps the instruction at a place, but not at the last eight places.
@@ -115,6 +131,7 @@ impl DecodeCache {
             codes: cells.codes,
             decoded: *decoded,
             at,
+            ready_at: ready_place(decoded, at),
             marks: cells.marks,
         };
     }
@@ -193,6 +210,28 @@ fn entry_of(at: u16) -> usize
     usize::from(at % ENTRIES)
 }
 
+/// The instruction of an entry, if its codes are at a place, where its word marks are.
+#[inline(always)]
+fn said_there<'e>(entry: &'e CacheEntry, core: &Core, at: u16) -> Option<&'e Decoded>
+    requires inside { at + 8 ≤ length core.now }
+    requires marks { AreMarks (marks_of core.now) at entry.now.marks }
+    ensures says { IfSome result (λ decoded. Says core.now at decoded.now) }
+    ensures own { IfSome result (λ decoded. decoded.now ≡ entry.now.decoded) }
+{
+    if core.eight_codes(at) != entry.codes {
+        return None;
+    }
+    Some(&entry.decoded)
+}
+
+/// The place of an instruction, if its addresses are ready.
+fn ready_place(decoded: &Decoded, at: u16) -> u16
+    ensures there { result ≢ no_place → result ≡ at }
+    ensures ready { result ≢ no_place → decoded.now.is_ready ≡ true }
+{
+    if decoded.is_ready { at } else { NO_PLACE }
+}
+
 /// Empties the entries of the instructions that are kept at the places from one up to another.
 fn empty_entries(entries: &mut [CacheEntry], from: u16, to: u16)
     requires order { from ≤ to }
@@ -205,6 +244,7 @@ fn empty_entries(entries: &mut [CacheEntry], from: u16, to: u16)
     for place in from..to {
         let entry = &mut entries[entry_of(place)];
         if entry.at == place {
+            entry.ready_at = NO_PLACE;
             entry.at = NO_PLACE;
         }
     }

@@ -33,17 +33,41 @@ impl Machine {
         ensures size { length self.new.storage ≡ length self.old.storage }
     {
         let machine = &*self;
-        let fetched = match machine.kept.find(&machine.core, machine.i) {
+        let fetched = match machine.kept.find_ready(&machine.core, machine.i) {
             Some(said) => {
                 let next = machine.i + said.len;
-                (said.operation, machine.instruction(said, next))
+                (said.operation, machine.ready_instruction(said, next))
             }
-            None => match self.fetch_anew() {
+            None => match self.fetch() {
                 Ok(fetched) => fetched,
                 Err(stop) => return Some(stop),
             },
         };
-        self.perform(fetched.0, fetched.1)
+        self.perform_fetched(fetched)
+    }
+
+    /// The operation and the instruction at the I register, kept or decoded anew, or why it can't be carried out: what is
+    /// asked where no addresses are ready.
+    #[inline(always)]
+    #[tactic(auto, using(crate::proofs::DecodedLemmas::says_step))]
+    fn fetch(&mut self) -> Result<(Operation, Instruction), Stop>
+        ensures ok { IfOk result (λ fetched. step self.old ≡ perform fetched.0 fetched.1 self.old) }
+        ensures a { IfOk result (λ fetched. fetched.1.a < addresses) }
+        ensures b { IfOk result (λ fetched. fetched.1.b < addresses) }
+        ensures next { IfOk result (λ fetched. fetched.1.next < addresses) }
+        ensures err { IfErr result (λ stop. step self.old ≡ stopped stop self.old) }
+        ensures no_halt { IfErr result (λ stop. stop ≢ Stop.Halt) }
+        ensures no_limit { IfErr result (λ stop. stop ≢ Stop.Limit) }
+        ensures same { self.new ≡ self.old }
+    {
+        let machine = &*self;
+        match machine.kept.find(&machine.core, machine.i) {
+            Some(said) => {
+                let next = machine.i + said.len;
+                Ok((said.operation, machine.instruction(said, next)))
+            }
+            None => self.fetch_anew(),
+        }
     }
 
     /// The operation and the instruction at the I register, decoded anew, or why it can't be carried out. It stands
@@ -100,6 +124,28 @@ impl Machine {
         Ok(said)
     }
 
+    /// What is carried out for the instruction at the I register where its addresses are ready.
+    #[inline(always)]
+    fn ready_instruction(&self, said: &Decoded, next: u16) -> Instruction
+        requires says { Says self.now.storage self.now.i said.now }
+        requires ready { said.now.is_ready ≡ true }
+        requires next { next ≡ (self.now.i + said.now.len) % addresses }
+        ensures serves { perform said.now.operation result self.now ≡ perform said.now.operation
+            (instruction_of said.now.operation said.now.len self.now) self.now }
+        ensures a { result.a < addresses }
+        ensures b { result.b < addresses }
+        ensures next { result.next < addresses }
+    {
+        let (a, b) = self.ready_addresses(said);
+        Instruction {
+            len: said.len,
+            a,
+            b,
+            next,
+            d: said.d,
+        }
+    }
+
     /// What is carried out for the instruction at the I register, by what it says itself, by the registers and by index
     /// registers.
     #[inline(always)]
@@ -112,9 +158,7 @@ impl Machine {
         ensures b { result.b < addresses }
         ensures next { result.next < addresses }
     {
-        let (a, b) = if said.is_ready {
-            self.ready_addresses(said)
-        } else if said.source == Source::OnlyA {
+        let (a, b) = if said.source == Source::OnlyA {
             self.only_a_address(said)
         } else {
             self.addresses(said)
@@ -152,7 +196,7 @@ impl Machine {
         (said.a.value, self.b)
     }
 
-    /// The addresses by index registers, and the registers as they stand where it has none.
+    /// The addresses by index registers or none, and the registers as they stand where it has none.
     #[inline(always)]
     #[tactic(auto, using(crate::proofs::DecodedLemmas::own_serve))]
     fn addresses(&self, said: &Decoded) -> (u16, u16)
@@ -192,6 +236,23 @@ impl Machine {
         } else {
             self.b
         }
+    }
+
+    /// Does what was fetched. The instruction is made anew of its parts, so that these alone are carried along, and no gap
+    /// between them.
+    #[inline(always)]
+    fn perform_fetched(&mut self, fetched: (Operation, Instruction)) -> Option<Stop>
+        requires a { fetched.1.a < addresses }
+        requires b { fetched.1.b < addresses }
+        requires next { fetched.1.next < addresses }
+        ensures stop { result ≡ (perform fetched.0 fetched.1 self.old).stop }
+        ensures state { self.new ≡ (perform fetched.0 fetched.1 self.old).state }
+        ensures unchanged { IfSome result (λ why. why ≢ Stop.Halt → self.new ≡ self.old) }
+        ensures limit { result ≢ Some Stop.Limit }
+        ensures size { length self.new.storage ≡ length self.old.storage }
+    {
+        let (operation, Instruction { len, a, b, next, d }) = fetched;
+        self.perform(operation, Instruction { len, a, b, next, d })
     }
 
     /// Does what the operation does.

@@ -13,7 +13,7 @@ use Rattle.std.specs.Option.{is_some}
 use Rattle.std.specs.Ordering.{nat_cmp, ordering_then, is_eq, is_lt, is_gt}
 use Rattle.std.specs.Prelude.{find, reverse, nat_lt}
 use Rattle.std.specs.Prelude.{position, option_map}
-use Rattle.std.proofs.lemmas.Bool.{eqb-true, cases_lt}
+use Rattle.std.proofs.lemmas.Bool.{eqb-true, cases_eq, cases_lt}
 use Rattle.std.proofs.lemmas.Bool.{lt-ltb}
 use Rattle.std.proofs.lemmas.List.Folds.{list_any-append}
 use Rattle.std.proofs.lemmas.List.FromFn.{length-range_with_len, get_or-range_with_len}
@@ -60,6 +60,33 @@ one_pair_more s a b n =
 pub no_pairs : (s : Storage) (a b : ℕ) → highest_difference s a b 0 ≡ None
 unfolding highest_difference
 no_pairs s a b = refl
+
+-- no pair is the highest where all agree
+pub highest_none : (s : Storage) (a b n : ℕ) → ((i : ℕ) → i < n → is_unequal_pair s a b i ≡ false)
+    → highest_difference s a b n ≡ None
+highest_none s a b zero agree = no_pairs s a b
+highest_none s a b (suc n) agree =
+    ap (highest_difference s a b) (sym (add-one n)) ∙ one_pair_more s a b n
+    ∙ ap (λ (d : Bool). if d then Some n else highest_difference s a b n) (agree n (omega arith))
+    ∙ highest_none s a b n (λ i lt. agree i (omega (arith, lt)))
+
+-- a pair that differs is the highest where all above it agree
+pub highest_some : (s : Storage) (a b n i : ℕ) → i < n → is_unequal_pair s a b i ≡ true
+    → ((j : ℕ) → i < j → j < n → is_unequal_pair s a b j ≡ false) → highest_difference s a b n ≡ Some i
+highest_some s a b zero i lt differs agree = absurd (omega (arith, lt))
+highest_some s a b (suc n) i lt differs agree =
+    ap (highest_difference s a b) (sym (add-one n)) ∙ one_pair_more s a b n
+    ∙ elim (cases_eq i n) [
+      | inl here ↦
+          ap (λ (d : Bool). if d then Some n else highest_difference s a b n)
+          (ap (is_unequal_pair s a b) (sym here) ∙ differs)
+          ∙ ap (λ (k : ℕ). Some k) (sym here)
+      | inr other ↦
+          ap (λ (d : Bool). if d then Some n else highest_difference s a b n)
+          (agree n (omega (arith, lt, other)) (omega arith))
+          ∙ highest_some s a b n i (omega (arith, lt, other)) differs
+          (λ j above below. agree j above (omega (arith, below)))
+    ]
 
 last_agrees : (some more : Bool) → (some || (more || false)) ≡ false → (some ≡ false) × (more ≡ false)
 last_agrees true true e = absurd cc

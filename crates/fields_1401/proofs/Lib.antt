@@ -11,6 +11,7 @@ mod ExampleCells
 mod ExampleGraphics
 mod FieldLemmas
 mod LaneLemmas
+mod PairLaneLemmas
 mod LendingLemmas
 mod LoadExamples
 mod LoadLemmas

@@ -9,15 +9,16 @@ ghost use Rattle.fields_1401.specs.Compare.{comparison_at, ends_first, highest_d
 ghost use Rattle.fields_1401.specs.Compare.{orders_across, IsOneOfThree, Tells};
 
 use crate::done::{Done, FieldStop};
+use crate::lanes::{codes_across, differing_bits};
 use crate::lengths::pair_len;
 use crate::registers::{below_field, registers};
 use crate::slices::char_at;
 use core_1401::Core;
 
-/// How many pairs are compared at once.
+/// How many pairs of a longer field are compared at once.
 const BLOCK: u16 = 8;
 
-/// How many pairs are compared one by one.
+/// How many pairs are compared at once, or one by one where sixteen places don't end at either address.
 const FEW: u16 = 16;
 
 /// Compares the fields at both addresses, up to and including the first word mark in either: they are unequal if two
@@ -82,12 +83,38 @@ fn highest_difference(core: &Core, a: u16, b: u16, n: u16) -> Option<u16>
     ensures differ { IfSome result (λ i. (cell_at core.now (a - i)).char ≢ (cell_at core.now (b - i)).char) }
 {
     if n <= FEW {
-        return highest_of_few(core, a, b, n);
+        return if a >= FEW - 1 && b >= FEW - 1 {
+            highest_at_once(core, a, b, n)
+        } else {
+            highest_of_few(core, a, b, n)
+        };
     }
     if !core.chars_differ(a, b, n) {
         return None;
     }
     highest_of_few(core, a, b, left_to_compare(core, a, b, n))
+}
+
+/// The same of at most sixteen pairs: all lanes are compared, and those of the pairs are the last.
+#[inline(always)]
+fn highest_at_once(core: &Core, a: u16, b: u16, n: u16) -> Option<u16>
+    requires some { 0 < n }
+    requires few { n ≤ 16 }
+    requires least { (15 ≤ a) × (15 ≤ b) }
+    requires a { (n ≤ a + 1) × (a < length core.now) }
+    requires b { (n ≤ b + 1) × (b < length core.now) }
+    ensures value { result ≡ highest_difference core.now a b n }
+    ensures pair { IfSome result (λ i. i < n) }
+    ensures differ { IfSome result (λ i. (cell_at core.now (a - i)).char ≢ (cell_at core.now (b - i)).char) }
+{
+    let chars = core.chars();
+    let of_a = codes_across(chars, usize::from(a));
+    let of_b = codes_across(chars, usize::from(b));
+    let differing = differing_bits(of_a, of_b) >> u64::from(FEW - n);
+    if differing == 0 {
+        return None;
+    }
+    Some(n - 1 - differing.trailing_zeros() as u16)
 }
 
 /// The same, looked for from the highest pair down.

@@ -1,6 +1,6 @@
 //! Sixteen characters at once.
-ghost use Rattle.std.specs.Prelude.{◌≡◌, ◌==◌, ◌+◌, ◌-◌, ◌<◌, ◌≤◌, length, map};
-ghost use Rattle.std.specs.Simd.Lanes.{Each1, chunk, mask_l};
+ghost use Rattle.std.specs.Prelude.{◌≡◌, ◌==◌, ◌+◌, ◌-◌, ◌<◌, ◌≤◌, length, map, not};
+ghost use Rattle.std.specs.Simd.Lanes.{Each1, chunk, mask_l, zip2};
 
 use bcd_1401::Char;
 use std::simd::prelude::*;
@@ -52,4 +52,15 @@ pub(crate) fn bits_of(codes: u8x16, code: u8) -> u64
     ensures range { result < 65536 }
 {
     codes.simd_eq(u8x16::splat(code)).to_bitmask()
+}
+
+/// The lanes in which two codes differ, a bit each: the first has the lowest.
+#[inline(always)]
+pub(crate) fn differing_bits(these: u8x16, those: u8x16) -> u64
+    requires these { length these ≡ 16 }
+    requires those { length those ≡ 16 }
+    ensures bits { result ≡ mask_l (zip2 (λ this that. not (this == that)) these those) }
+    ensures range { result < 65536 }
+{
+    these.simd_ne(those).to_bitmask()
 }

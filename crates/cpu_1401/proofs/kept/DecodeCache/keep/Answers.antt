@@ -15,6 +15,8 @@ invariant_of-t-15 c = record {
       c.args.decoded.now
       (omega (arith, c.if-at-self.false, ap (λ (k : Kept). k.size) c.self.view_is, c.requires.size))
       c.eight_cells-cells.ensures c.requires.says;
+  ready_place = c.ready_place.ensures.there;
+  ready = c.ready_place.ensures.ready;
 }
 
 pub invariant_of-self : goal.invariant_of-self
@@ -25,8 +27,11 @@ invariant_of-self c =
       codes = c.eight_cells-cells.result.codes;
       decoded = c.args.decoded.now;
       at = c.args.at;
+      ready_at = c.ready_place.result;
       marks = c.eight_cells-cells.result.marks;
       says = c.t15-1.given.0;
+      ready_place = c.t15-1.given.1.0;
+      ready = c.t15-1.given.1.1.0;
     } in
     subst (λ (k : ℕ). (length (set entries k new) ≡ entry_count) × AreCovered (set entries k new) covered
     × AreInside (set entries k new) c.self.inside.size × AreBetween (set entries k new) c.min-self-inside.result c.max-self-inside.result)
@@ -47,8 +52,11 @@ returns-clause-current c =
       codes = c.eight_cells-cells.result.codes;
       decoded = c.args.decoded.now;
       at = c.args.at;
+      ready_at = c.ready_place.result;
       marks = c.eight_cells-cells.result.marks;
       says = c.t15-1.given.0;
+      ready_place = c.t15-1.given.1.0;
+      ready = c.t15-1.given.1.1.0;
     } in
     subst (λ (k : ℕ). IsCurrent (set entries k new) (marks_of s)) (sym c.entry_of.ensures)
     (current_kept entries s c.args.at new refl

@@ -1,0 +1,31 @@
+-- An entry with the place of ready addresses has that place, so it keeps the instruction there, whose addresses are ready.
+use Rattle.std.proofs.Common.{◌≡◌, ◌≢◌, ℕ, ◌-◌, ◌^◌, List, ap, sym, ◌∙◌, arith, subst}
+use Rattle.cpu_1401.specs.declared.cache_entry.CacheEntry.{CacheEntry}
+use Rattle.cpu_1401.specs.Kept.{Kept, IsCurrent, IsKept}
+use Rattle.fields_1401.specs.Places.{marks_of}
+use Rattle.cpu_1401.proofs.KeptLemmas.{found}
+use Rattle.cpu_1401.proofs.kept.DecodeCache.find_ready.Goals as goal
+
+pub said_there-requires-clause-inside : goal.said_there-requires-clause-inside
+said_there-requires-clause-inside c =
+    let entries : List CacheEntry = c.self.inside.entries.items in
+    let entry : CacheEntry = c.index-entry.result.now in
+    let same : entry.ready_at ≡ c.args.at = c.if-entry-at.false in
+    let some : entry.ready_at ≢ 2 ^ 16 - 1 = λ none. absurd (omega (arith, none, same, c.requires.place)) in
+    let kept : IsKept entries c.args.at entry =
+    found entries c.args.at c.entry_of.result entry c.self.invariant.0 c.requires.place c.entry_of.ensures
+    c.index-entry.ensures (sym (entry.ready_place some) ∙ same) in
+    omega (arith, c.self.invariant.2 c.args.at entry kept, ap (λ (k : Kept). k.size) c.self.view_is, c.requires.size)
+
+pub said_there-requires-clause-marks : goal.said_there-requires-clause-marks
+said_there-requires-clause-marks c =
+    let entries : List CacheEntry = c.self.inside.entries.items in
+    let entry : CacheEntry = c.index-entry.result.now in
+    let same : entry.ready_at ≡ c.args.at = c.if-entry-at.false in
+    let some : entry.ready_at ≢ 2 ^ 16 - 1 = λ none. absurd (omega (arith, none, same, c.requires.place)) in
+    let kept : IsKept entries c.args.at entry =
+    found entries c.args.at c.entry_of.result entry c.self.invariant.0 c.requires.place c.entry_of.ensures
+    c.index-entry.ensures (sym (entry.ready_place some) ∙ same) in
+    let current : IsCurrent entries (marks_of c.args.core.now) =
+    subst (λ (k : Kept). IsCurrent k.entries (marks_of c.args.core.now)) (sym c.self.view_is) c.requires.current in
+    current c.args.at entry kept
