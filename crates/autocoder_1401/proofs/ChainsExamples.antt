@@ -1,4 +1,4 @@
--- Sources in which EQU names what only lines below it declare, and their faults, worked out by hand.
+-- Sources in which EQU names what only lines below it declare, their chains and their faults, worked out by hand.
 use Rattle.std.proofs.Common.{◌≡◌, ℕ, true, List, [], ◌∷◌, ◌++◌, neg_ℤ, pos, Option, None, Some, refl}
 use Rattle.std.specs.Prelude.{codes}
 use Rattle.bcd_1401.specs.Graphic.{graphics}
@@ -74,10 +74,9 @@ down =
     codes "     A         EQU  B+1\n     B         EQU  C+2+X1\n     C         EQU  D-4\n     D         DCW  #1\n"
     ++ codes "               END\n"
 
-an_equ_names_no_later_label : told down
-    ≡ fault 1 kinds.Undefined ++ fault 2 kinds.Undefined ++ fault 3 kinds.Undefined
-unfolding told said down fault
-an_equ_names_no_later_label = refl
+an_equ_names_later_labels : told down ≡ []
+unfolding told said down
+an_equ_names_later_labels = refl
 
 -- A is D less 1, with B's index register, once D is known
 its_end_is_the_last_label : end_of down (codes "A     ")
@@ -115,8 +114,7 @@ asked_early =
     codes "     A         EQU  B\n               ORG  A\n     B         DCW  #1\n               ORG  A\n"
     ++ codes "               END\n"
 
-org_asks_for_what_is_known : wrong_in asked_early
-    ≡ wrong 1 kinds.Undefined 21 1 (causes.DeclaredLate 3) ∷ wrong 2 kinds.Undefined 21 1 (causes.KnownLate 3) ∷ []
+org_asks_for_what_is_known : wrong_in asked_early ≡ wrong 2 kinds.Undefined 21 1 (causes.KnownLate 3) ∷ []
 unfolding wrong_in wrong asked_early
 org_asks_for_what_is_known = refl
 
@@ -126,8 +124,7 @@ to_nothing =
     codes "     A         EQU  B\n     B         EQU  NOWHER\n               ORG  A\n     GO        H    A\n"
     ++ codes "               END\n"
 
-its_last_line_is_at_fault : wrong_in to_nothing
-    ≡ wrong 1 kinds.Undefined 21 1 (causes.DeclaredLate 2) ∷ wrong 2 kinds.Undefined 21 6 (causes.Undeclared None) ∷ []
+its_last_line_is_at_fault : wrong_in to_nothing ≡ wrong 2 kinds.Undefined 21 6 (causes.Undeclared None) ∷ []
 unfolding wrong_in wrong to_nothing
 its_last_line_is_at_fault = refl
 
@@ -138,8 +135,8 @@ mixed =
     ++ codes "     LATER     EQU  EXIT+4\n     BACK      ORG  *+X00\n     EXIT      H\n               ORG  BACK\n"
     ++ codes "               END  LATER\n"
 
-a_source_with_both : told mixed ≡ fault 5 kinds.Undefined
-unfolding told said mixed fault
+a_source_with_both : told mixed ≡ []
+unfolding told said mixed
 a_source_with_both = refl
 
 -- lines by hand: a label, and an addition of area literals

@@ -1,8 +1,8 @@
 -- In lines without a fault in the plain language each EQU names what has a value, and they have none in the wider one.
 use Rattle.std.proofs.Common.{◌≡◌, ℕ, ◌+◌, Bool, true, false, cond, not, ◌&&◌, ◌||◌, List, [], ◌∷◌, Option, None, Some}
 use Rattle.std.proofs.Common.{refl, sym, ap, ◌∙◌}
-use Rattle.std.specs.Prelude.{nat_lt, is_none}
-use Rattle.std.specs.Option.{option_map, option_map_or}
+use Rattle.std.specs.Prelude.{position, slice_get}
+use Rattle.std.specs.Option.{option_and_then, option_map, option_map_or}
 use Rattle.std.proofs.lemmas.Bool.{true≢false}
 use Rattle.source_1401.specs.Description.{describe}
 use Rattle.source_1401.specs.Statement.{is_end, well_formed}
@@ -12,6 +12,7 @@ use Rattle.source_1401.specs.declared.address.Base.TheVariants as bases
 use Rattle.source_1401.specs.declared.description.Addressing.{Addressing}
 use Rattle.source_1401.specs.declared.description.Addressing.TheVariants as addressing
 use Rattle.source_1401.specs.declared.label.Label.{Label}
+use Rattle.source_1401.specs.declared.language.Language.{Language}
 use Rattle.source_1401.specs.declared.language.Language.TheVariants.{Plain, Ibm}
 use Rattle.source_1401.specs.declared.literal.Literal.TheVariants as literals
 use Rattle.source_1401.specs.declared.operands.Operand.TheVariants as operands
@@ -21,15 +22,26 @@ use Rattle.source_1401.specs.declared.statement.Line.{Line}
 use Rattle.source_1401.specs.declared.statement.Statement.{Statement}
 use Rattle.autocoder_1401.specs.Chains.{no_chains, link_to, link_in_base, link_in_operand, link_in}
 use Rattle.autocoder_1401.specs.Chains.{is_declared_here, with_link, with_labelled, with_line, links_from, followed}
+use Rattle.autocoder_1401.specs.Chains.{Chains, chains_of, chains_in, link_of}
 use Rattle.autocoder_1401.specs.FirstFault.{place_behind, first_place, has_fault, scanned, lowest, or_behind, first_of}
 use Rattle.autocoder_1401.specs.FirstFault.{first_fault_from, first_fault, undefined, undefined_in, is_unequal}
-use Rattle.autocoder_1401.specs.Known.{Declared, declared_at, known_alone, is_known_before}
-use Rattle.autocoder_1401.specs.Symbols.{Sites, up_to_end, sites_of, is_label_before}
+use Rattle.autocoder_1401.specs.Known.{Declared, declared_at, known_alone, is_known_at_end}
+use Rattle.autocoder_1401.specs.Symbols.{Sites, same_label, up_to_end, sites_of, is_label_before}
+use Rattle.autocoder_1401.specs.declared.chains.Link.{Link}
 use Rattle.autocoder_1401.specs.declared.fault.AsmKind.{AsmKind}
 use Rattle.autocoder_1401.specs.declared.fault.AsmKind.TheVariants as kinds
 use Rattle.autocoder_1401.specs.declared.first_fault.LineContext.{LineContext}
 use Rattle.autocoder_1401.specs.declared.symbols.Declaration.{Declaration}
 use Rattle.autocoder_1401.proofs.LowestLemmas.{clean_line}
+
+-- where there are no links no label has one
+pub none_linked : (this : Chains) (label : Label) → this.links ≡ [] → link_of this label ≡ None
+none_linked this label none = by this.links (position (same_label label) this.labels) none
+  where
+    by : (links : List Link) (found : Option ℕ) → links ≡ [] → option_and_then (slice_get links) found ≡ None
+    by [] None e = refl
+    by [] (Some i) e = refl
+    by (link ∷ links) found e = cc
 
 -- what lines with these sites declare without chains, in the plain language and in the wider one
 abbrev plainly : Sites → Declared
@@ -142,6 +154,12 @@ no_links sites at (line ∷ lines) unended none = by (is_end line) refl (no_link
         ap (λ links. links_from sites (at.number + 1) links (up_to_end lines)) here
         ∙ rest (rw (unended, e) refl) first.behind
 
+-- so the chains of lines without a fault are those in their language
+pub chains_alike : (language : Language) (lines : List Line) → first_fault language lines ≡ None
+    → chains_in language (sites_of lines) lines ≡ chains_of (sites_of lines) lines
+chains_alike Plain lines none = sym (ap followed (no_links (sites_of lines) first_place lines refl none))
+chains_alike Ibm lines none = refl
+
 -- and what they declare is the same but for the language
 no_chains_declared : (lines : List Line) → first_fault Plain lines ≡ None
     → declared_at Ibm lines ≡ widely (sites_of lines)
@@ -150,23 +168,14 @@ no_chains_declared lines none =
     (no_links (sites_of lines) first_place lines refl none)
 
 -- what EQU may name in the plain language it may name in the wider one
-above : (b : Bool) → not (b && true) ≡ false → not b ≡ false
-above true e = refl
-above false e = absurd (true≢false e)
-
-never_an_area : (b : Bool) → not (b && false) ≡ false → ⊥
-never_an_area true e = true≢false e
-never_an_area false e = true≢false e
-
 equal_to : (number : ℕ) (declared : Option Declaration) → not (is_label_before number declared) ≡ false
-    → not (is_known_before number (option_map known_alone declared)) ≡ false
+    → not (is_known_at_end (option_map known_alone declared)) ≡ false
 equal_to number None e = absurd (true≢false e)
-equal_to number (Some declaration) e = by declaration.area e
+equal_to number (Some declaration) e = by declaration.area
   where
-    by : (area : Option ℕ) → not (nat_lt declaration.line number && is_none area) ≡ false
-        → not (is_known_before number (Some (known_alone (record declaration { area = area })))) ≡ false
-    by None e = above (nat_lt declaration.line number) e
-    by (Some places) e = absurd (never_an_area (nat_lt declaration.line number) e)
+    by : (area : Option ℕ) → not (is_known_at_end (Some (known_alone (record declaration { area = area })))) ≡ false
+    by None = refl
+    by (Some places) = refl
 
 widely_equal_base : (sites : Sites) (number : ℕ) (address : Address) (base : Base)
     → is_unequal (plainly sites) number (fields.Operand (operands.Address (record address { base = base }))) ≡ false

@@ -54,7 +54,7 @@ use Rattle.autocoder_1401.specs.declared.characters.Characters.{Characters}
 use Rattle.autocoder_1401.specs.declared.fault.AsmKind.TheVariants as kinds
 use Rattle.autocoder_1401.specs.declared.literals.LiteralKey.{LiteralKey}
 use Rattle.autocoder_1401.specs.declared.literals.LiteralKey.TheVariants as keys
-use Rattle.autocoder_1401.specs.Placement.{Placement, nothing_placed, instruction_length, constant_length, areas_length}
+use Rattle.autocoder_1401.specs.Placement.{Placement, unplaced, instruction_length, constant_length, areas_length}
 use Rattle.autocoder_1401.specs.Placement.{chain_length, contents_length, entry_value, pending}
 use Rattle.autocoder_1401.specs.Placement.{behind_literals, own_value, start_by, start_of, after_line, placed}
 use Rattle.autocoder_1401.specs.PlacementLaws.{total}
@@ -450,9 +450,10 @@ pub image_inside : (size : ℕ) (lines : List Line) → is_core_size size ≡ tr
 image_inside size lines size_is none =
     let bounds = size_bound size size_is in
     let all = placed lines in
+    let first = unplaced all in
     record {
       size = size_is;
-      segments = cut_inside size 0 [] (cells_from all nothing_placed lines) bounds.1 (λ some. omega (arith, some))
-          (cells_below size all 1 nothing_placed lines bounds.1 none);
-      start = lt-ltb (address_or_zero (entry_in all lines)) size (entry_below size all 1 nothing_placed lines bounds none);
+      segments = cut_inside size 0 [] (cells_from all first lines) bounds.1 (λ some. omega (arith, some))
+          (cells_below size all 1 first lines bounds.1 none);
+      start = lt-ltb (address_or_zero (entry_in all lines)) size (entry_below size all 1 first lines bounds none);
     }

@@ -106,7 +106,7 @@ sound_by declared at bytes.Good None clean = refl
 sound_by declared at bytes.Good (Some this) clean = sound_statement declared at this clean
 
 -- a source without a fault has only sound lines
-all_sound : (declared : Declared) (at : LineContext) (lines : List Line) → first_fault_from declared at lines ≡ None
+pub all_sound : (declared : Declared) (at : LineContext) (lines : List Line) → first_fault_from declared at lines ≡ None
     → list_all is_sound lines ≡ true
 all_sound declared at [] none = refl
 all_sound declared at (line ∷ lines) none =

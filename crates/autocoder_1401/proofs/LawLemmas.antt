@@ -15,12 +15,15 @@ use Rattle.autocoder_1401.specs.Assembly.{placed_cells, image_of}
 use Rattle.autocoder_1401.specs.Cells.{numbered}
 use Rattle.autocoder_1401.specs.Fault.{IsMemory}
 use Rattle.autocoder_1401.specs.Laws.{IsFirstOutside, cells_in, has_few, is_parted, are_parted, IsCutOf}
-use Rattle.autocoder_1401.specs.Placement.{Placement, nothing_placed, after_line, placed}
+use Rattle.autocoder_1401.specs.Chains.{chains_of}
+use Rattle.autocoder_1401.specs.Placement.{Placement, nothing_placed, after_line, unplaced, placed}
 use Rattle.autocoder_1401.specs.Segments.{start_or_zero, closed, goes_on, cut}
+use Rattle.autocoder_1401.specs.Symbols.{sites_of}
 use Rattle.autocoder_1401.specs.Values.{line_outside, first_outside_from, first_outside}
 use Rattle.autocoder_1401.specs.declared.fault.AsmFault.{AsmFault}
 use Rattle.autocoder_1401.specs.declared.fault.AsmKind.TheVariants as kinds
 use Rattle.autocoder_1401.proofs.CoreLemmas.{size_bound, are_below, cells_below}
+use Rattle.autocoder_1401.proofs.UnplacedLemmas.{unplaced_is}
 
 -- the first of lines with something outside, with these placed before them, and counted from a number
 record FoundFrom (size : ℕ) (all : Placement) (number : ℕ) (this : Placement) (lines : List Line)
@@ -77,7 +80,10 @@ pub found_outside : (size : ℕ) (lines : List Line) (found : Option AsmFault) �
     → IfSome found (IsFirstOutside size lines)
 found_outside size lines None e = tt
 found_outside size lines (Some fault) e =
-    let f = found_from size (placed lines) 1 nothing_placed lines fault (sym e) in
+    let first = nothing_placed (chains_of (sites_of lines) lines) in
+    let found : first_outside_from size (placed lines) 1 first lines ≡ Some fault =
+    ap (λ (this : Placement). first_outside_from size (placed lines) 1 this lines) (sym (unplaced_is lines)) ∙ sym e in
+    let f = found_from size (placed lines) 1 first lines fault found in
     record {
       index = f.index;
       kind = f.kind;
@@ -89,13 +95,13 @@ found_outside size lines (Some fault) e =
 
 -- what is found once all of these are placed is the first line with something outside
 pub refused_outside : (size : ℕ) (all : Placement) (lines : List Line) (fault : AsmFault) → all ≡ placed lines
-    → IsMemory fault ⊎ (first_outside_from size all 1 nothing_placed lines ≡ Some fault)
+    → IsMemory fault ⊎ (first_outside_from size all 1 (unplaced all) lines ≡ Some fault)
     → IsMemory fault ⊎ ((first_outside size lines ≡ Some fault) × IsFirstOutside size lines fault)
 refused_outside size all lines fault same found =
     elim found [
       | inl memory ↦ inl memory
       | inr outside ↦ (let whole : first_outside size lines ≡ Some fault =
-          ap (λ (places : Placement). first_outside_from size places 1 nothing_placed lines) (sym same) ∙ outside in
+          ap (λ (places : Placement). first_outside_from size places 1 (unplaced places) lines) (sym same) ∙ outside in
           inr (whole, found_outside size lines (Some fault) (sym whole)))
     ]
 
@@ -241,7 +247,7 @@ pub image_cut : (size : ℕ) (lines : List Line) → is_core_size size ≡ true 
     → IsCutOf (placed_cells lines) (image_of size lines).segments
 image_cut size lines size_is none =
     let bounds = size_bound size size_is in
-    let below = cells_below size (placed lines) 1 nothing_placed lines bounds.1 none in
+    let below = cells_below size (placed lines) 1 (unplaced (placed lines)) lines bounds.1 none in
     let made = cut_from size 0 [] (placed_cells lines) bounds.1 (λ some. absurd (omega (arith, some)))
     (omega arith) below in
     record { whole = made.whole; few = made.few; parted = made.parted }

@@ -1,7 +1,10 @@
 mod AllFaultsExamples
 pub mod AllFaultsLemmas
 mod AssemblyExamples
+pub mod AssemblyLemmas
 pub mod CellsLemmas
+pub mod ChainLawLemmas
+pub mod ChainLinksLemmas
 mod ChainsExamples
 pub mod ChainsLemmas
 pub mod CharactersLemmas
@@ -17,6 +20,7 @@ mod LanguageExamples
 pub mod LanguageLemmas
 pub mod LawLemmas
 pub mod LowestLemmas
+pub mod PlainWarningsLemmas
 pub mod PlacementLawLemmas
 mod PlacingExamples
 pub mod PlacingLemmas
@@ -24,4 +28,5 @@ pub mod ReadingLemmas
 pub mod StandingLemmas
 pub mod SymbolsLemmas
 mod TablesExamples
+pub mod UnplacedLemmas
 mod WarningsExamples

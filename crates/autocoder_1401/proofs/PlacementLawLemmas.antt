@@ -23,14 +23,16 @@ use Rattle.source_1401.specs.declared.description.Next.TheVariants as next
 use Rattle.source_1401.specs.declared.statement.Body.{Body}
 use Rattle.source_1401.specs.declared.statement.Statement.{Statement}
 use Rattle.source_1401.specs.declared.statement.Line.{Line}
+use Rattle.autocoder_1401.specs.Chains.{chains_of}
 use Rattle.autocoder_1401.specs.Literals.{key_of, same_key}
 use Rattle.autocoder_1401.specs.Placement.{Placement, nothing_placed, pending, with_literal, with_operand, with_uses}
 use Rattle.autocoder_1401.specs.Placement.{with_areas, moved, behind_row, behind_body, with_label, label_value}
-use Rattle.autocoder_1401.specs.Placement.{after_line, placed, value_so_far}
+use Rattle.autocoder_1401.specs.Placement.{after_line, placed, placed_among, symbols_of, value_so_far}
 use Rattle.autocoder_1401.specs.PlacementLaws.{row_length, body_length, length_with, lengths_from, origin_by, origin_in}
 use Rattle.autocoder_1401.specs.PlacementLaws.{origin_with, AreNoOrigins, literal_in, uses_by, uses_in, uses_with, uses}
 use Rattle.autocoder_1401.specs.PlacementLaws.{total, with_use}
 use Rattle.autocoder_1401.specs.PlacementLaws.{IsPlacedInTurn}
+use Rattle.autocoder_1401.specs.Symbols.{sites_of}
 use Rattle.autocoder_1401.specs.declared.literals.LiteralKey.{LiteralKey}
 use Rattle.autocoder_1401.specs.declared.placing.SymbolValue.{SymbolValue}
 use Rattle.autocoder_1401.proofs.CoreLemmas.{behind_total}
@@ -129,30 +131,30 @@ fold_append this (line ∷ before) behind = fold_append (after_line this line) b
 
 origin_next : (this : Placement) (line : Line) (of : Operands) → origin_with line.statement ≡ Some of
     → (after_line this line).next
-    ≡ value_so_far this.values this.next of.a +ℤ pos (length_with this line.statement)
+    ≡ value_so_far (symbols_of this) this.next of.a +ℤ pos (length_with this line.statement)
 origin_next this line of is = by line.statement is
   where
     moved_to : (row : Description) (step : Next) → origin_by step row.addressing ≡ Some of
-        → (moved this row step).next ≡ value_so_far this.values this.next of.a +ℤ pos (row_length this row step)
+        → (moved this row step).next ≡ value_so_far (symbols_of this) this.next of.a +ℤ pos (row_length this row step)
     moved_to row next.Behind h = cc
     moved_to row next.Literals h = cc
     moved_to row next.Value h =
         let same : operands_in row.addressing ≡ of = cc in
-        ap (λ (given : Operands). value_so_far this.values this.next given.a) same
-        ∙ sym (+ℤ_idr (value_so_far this.values this.next of.a))
+        ap (λ (given : Operands). value_so_far (symbols_of this) this.next given.a) same
+        ∙ sym (+ℤ_idr (value_so_far (symbols_of this) this.next of.a))
     moved_to row next.LiteralsAtValue h =
         let same : operands_in row.addressing ≡ of = cc in
-        behind_total (value_so_far this.values this.next (operands_in row.addressing).a) (pending this)
-        ∙ ap (λ (given : Operands). value_so_far this.values this.next given.a +ℤ pos (total (pending this))) same
+        behind_total (value_so_far (symbols_of this) this.next (operands_in row.addressing).a) (pending this)
+        ∙ ap (λ (given : Operands). value_so_far (symbols_of this) this.next given.a +ℤ pos (total (pending this))) same
 
     body : (given : Body) → origin_in given ≡ Some of
         → (behind_body this given).next
-        ≡ value_so_far this.values this.next of.a +ℤ pos (body_length this given)
+        ≡ value_so_far (symbols_of this) this.next of.a +ℤ pos (body_length this given)
     body given h = row_next this (describe given) ∙ moved_to (describe given) (describe given).next h
 
     by : (statement : Option Statement) → origin_with statement ≡ Some of
         → (after_line this (record { bytes = line.bytes; statement = statement })).next
-        ≡ value_so_far this.values this.next of.a +ℤ pos (length_with this statement)
+        ≡ value_so_far (symbols_of this) this.next of.a +ℤ pos (length_with this statement)
     by None h = cc
     by (Some statement) h =
         label_next (behind_body this statement.body) (well_formed statement.label) (label_value this statement.body)
@@ -310,17 +312,19 @@ lines_spelled this (line ∷ lines) so_far =
     lines_spelled (after_line this line) lines (line_spelled this line so_far)
 
 pub placed_in_turn : (lines : List Line) → IsPlacedInTurn lines
-placed_in_turn lines = record {
-  since = λ before since rest is none.
-      ap (λ (places : Placement). places.next) (fold_append nothing_placed before since)
-      ∙ lines_next (placed before) since none;
-  origin = λ before line rest of is origin.
-      ap (λ (places : Placement). places.next) (fold_append nothing_placed before (line ∷ []))
-      ∙ origin_next (placed before) line of origin;
-  literals = lines_use nothing_placed lines;
-  spelled = lines_spelled nothing_placed lines refl;
-  standing = λ before line rest k literal is places there.
-      stands_behind (placed before) (placed lines) line rest (uses lines) k literal
-      (ap (fold after_line nothing_placed) is ∙ fold_append nothing_placed before (line ∷ rest))
-      (lines_use nothing_placed lines) places there;
-}
+placed_in_turn lines =
+    let first = nothing_placed (chains_of (sites_of lines) lines) in
+    record {
+      since = λ before since rest is none.
+          ap (λ (places : Placement). places.next) (fold_append first before since)
+          ∙ lines_next (placed_among lines before) since none;
+      origin = λ before line rest of is origin.
+          ap (λ (places : Placement). places.next) (fold_append first before (line ∷ []))
+          ∙ origin_next (placed_among lines before) line of origin;
+      literals = lines_use first lines;
+      spelled = lines_spelled first lines refl;
+      standing = λ before line rest k literal is places there.
+          stands_behind (placed_among lines before) (placed lines) line rest (uses lines) k literal
+          (ap (fold after_line first) is ∙ fold_append first before (line ∷ rest))
+          (lines_use first lines) places there;
+    }

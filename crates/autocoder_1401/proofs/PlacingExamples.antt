@@ -158,6 +158,48 @@ area_literals_declare_symbols : symbols_of tabled
 unfolding symbols_of tabled graphics
 area_literals_declare_symbols = refl
 
+-- EQUs that name one another downwards and an area literal, with index registers on the way, and LTORG with one of them
+chained : List ℕ
+chained =
+    codes "               ORG  500\n     GO        B    A\n     A         EQU  B+1\n"
+    ++ codes "     B         EQU  C+X2\n     C         EQU  D-2+X1\n     D         EQU  LAST\n"
+    ++ codes "               MCW  SUM#3,AREA\n     AREA      EQU  SUM-1+X3\n     E         EQU  F+10\n"
+    ++ codes "     F         EQU  590\n               LTORGE\n     LAST      H    AREA+X0\n"
+    ++ codes "               END  GO\n"
+
+equs_name_later_labels : image_shown chained ≡ (500, codes "~B6!2~M6026?1") ∷ (600, codes "~   ~.601") ∷ []
+unfolding image_shown chained
+equs_name_later_labels = refl
+
+listing_of_chains : listed chained ≡
+    codes "0001 00500                         ORG  500"
+    ∷ codes "0002 00500 B6!2          GO        B    A"
+    ∷ codes "0003 00602               A         EQU  B+1"
+    ∷ codes "0004 00601               B         EQU  C+X2"
+    ∷ codes "0005 00601               C         EQU  D-2+X1"
+    ∷ codes "0006 00603               D         EQU  LAST"
+    ∷ codes "0007 00504 M6026?1                 MCW  SUM#3,AREA"
+    ∷ codes "0008 00601               AREA      EQU  SUM-1+X3"
+    ∷ codes "0009 00600               E         EQU  F+10"
+    ∷ codes "0010 00590               F         EQU  590"
+    ∷ codes "     00600          SUM#3"
+    ∷ codes "0011 00600                         LTORGE"
+    ∷ codes "0012 00603 .601          LAST      H    AREA+X0"
+    ∷ codes "0013 00500                         END  GO"
+    ∷ []
+unfolding listed chained
+listing_of_chains = refl
+
+-- and their symbols have the values at their ends
+symbols_of_chains : symbols_of chained
+    ≡ codes "GO     00500 00004 0002\nA      00602       0003\n"
+    ++ codes "B      00601       0004\nC      00601       0005\n"
+    ++ codes "D      00603       0006\nSUM    00602 00003 0007\n"
+    ++ codes "AREA   00601       0008\nE      00600       0009\n"
+    ++ codes "F      00590       0010\nLAST   00603 00004 0012\n"
+unfolding symbols_of chained graphics
+symbols_of_chains = refl
+
 references_of : List ℕ → List ℕ
 unfolding lines_in reference_line digits
 references_of source = references_text (lines_in source)

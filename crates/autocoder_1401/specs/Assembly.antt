@@ -16,7 +16,7 @@ use Rattle.autocoder_1401.specs.FirstFault.{first_fault, IsFaultless, IsFirstFau
 use Rattle.autocoder_1401.specs.Known.{declared_at}
 use Rattle.autocoder_1401.specs.Laws.{IsFirstOutside}
 use Rattle.autocoder_1401.specs.Listing.{listing_with, listing_of}
-use Rattle.autocoder_1401.specs.Placement.{Placement, nothing_placed, entry_value, placed}
+use Rattle.autocoder_1401.specs.Placement.{Placement, entry_value, unplaced, placed}
 use Rattle.autocoder_1401.specs.Segments.{segments_of}
 use Rattle.autocoder_1401.specs.Values.{first_outside}
 use Rattle.autocoder_1401.specs.declared.assembly.Assembly.{Assembly}
@@ -49,7 +49,7 @@ entry_in all (line ∷ lines) = entry_with all line.statement (entry_in all line
 
 -- the cells that lines place, each with its address
 abbrev pub placed_cells : List Line → List (ℕ × Cell)
-placed_cells lines = cells_from (placed lines) nothing_placed lines
+placed_cells lines = cells_from (placed lines) (unplaced (placed lines)) lines
 
 -- the image that lines without a fault stand for
 abbrev pub image_of : ℕ → List Line → Image

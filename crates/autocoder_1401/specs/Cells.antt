@@ -35,8 +35,8 @@ use Rattle.source_1401.specs.declared.statement.Statement.{Statement}
 use Rattle.source_1401.specs.declared.statement.Line.{Line}
 use Rattle.autocoder_1401.specs.Characters.{char_of, characters_of, codes_in}
 use Rattle.autocoder_1401.specs.Literals.{key_of, same_key}
-use Rattle.autocoder_1401.specs.Placement.{Placement, pending, instruction_length, chain_length, address_index}
-use Rattle.autocoder_1401.specs.Placement.{start_of, after_line}
+use Rattle.autocoder_1401.specs.Placement.{Placement, symbols_of, pending, instruction_length, chain_length}
+use Rattle.autocoder_1401.specs.Placement.{address_index, start_of, after_line}
 use Rattle.autocoder_1401.specs.Values.{address_value, last_place}
 use Rattle.autocoder_1401.specs.declared.literals.LiteralKey.{LiteralKey}
 use Rattle.autocoder_1401.specs.declared.literals.LiteralKey.TheVariants as keys
@@ -70,7 +70,7 @@ indexed index place = with_index (index % 4) (spelling_of place)
 
 abbrev pub address_codes : Placement → ℤ → Address → List ℕ
 address_codes all here address =
-    indexed (address_index all.values address) (address_or_zero (address_value all here address))
+    indexed (address_index (symbols_of all) address) (address_or_zero (address_value all here address))
 
 -- the address of a constant with a minus sign is 16,000 less its place, modulo 16,000
 abbrev pub signed_place : Bool → ℕ → ℕ
@@ -80,7 +80,7 @@ signed_place true place = (addresses - place) % addresses
 -- the address of a constant or a literal with a sign
 abbrev pub signed_address : Placement → ℤ → Bool → Address → List ℕ
 signed_address all here is_negative address =
-    indexed (address_index all.values address)
+    indexed (address_index (symbols_of all) address)
     (signed_place is_negative (address_or_zero (address_value all here address)))
 
 abbrev pub signed_codes : Placement → ℤ → Bool → OperandField → List ℕ

@@ -1,8 +1,8 @@
 -- Chains of EQUs: what a label stands for whose EQU names one without a value so far (C24-3258 and J24-1434, "EQU").
-use Rattle.std.specs.Prelude.{ℕ, zero, suc, ◌+◌, ◌==◌, ◌+ℤ◌, Bool, false, not, ◌&&◌, if◌then◌else◌, List, [], ◌∷◌, ◌++◌}
-use Rattle.std.specs.Prelude.{map, max, position, slice_get, Option, Some, None}
+use Rattle.std.specs.Prelude.{◌≡◌, ◌≢◌, ℕ, zero, suc, ◌+◌, ◌==◌, ◌+ℤ◌, Bool, false, not, ◌&&◌, if◌then◌else◌, List, [], ◌∷◌}
+use Rattle.std.specs.Prelude.{◌++◌, map, max, position, slice_get, ℤ, Option, Some, None}
 use Rattle.std.specs.Option.{option_and_then, option_map_or, option_or}
-use Rattle.std.specs.List.{list_any}
+use Rattle.std.specs.List.{list_any, AllZip}
 use Rattle.source_1401.specs.Description.{describe}
 use Rattle.source_1401.specs.Statement.{well_formed}
 use Rattle.source_1401.specs.declared.address.Address.{Address}
@@ -144,3 +144,55 @@ chains_in languages.Ibm sites lines = chains_of sites lines
 -- the link that gives a label its value
 abbrev pub link_of : Chains → Label → Option Link
 link_of this label = option_and_then (slice_get this.links) (position (same_label label) this.labels)
+
+-- the chains of lines in a language before they are followed
+abbrev pub unfollowed : Language → Sites → List Line → Chains
+unfollowed languages.Plain sites lines = no_chains
+unfollowed languages.Ibm sites lines = links_from sites 1 no_chains (up_to_end lines)
+
+-- their links, each with the one that goes on
+abbrev pub joined_in : Chains → List Link
+joined_in this = map (joined this.labels) this.links
+
+-- a link with the next n of its chain, taken one by one
+abbrev pub one_by_one : ℕ → List Link → Link → Link
+one_by_one zero links this = this
+one_by_one (suc n) links this = onward links (one_by_one n links this)
+
+-- a link of these, followed to the end of its chain
+pub record IsFollowed (links : List Link) (this far : Link) : Type 0 where
+  -- It is the link with some number of those after it.
+  pub reached : (n : ℕ) × (far ≡ one_by_one n links this)
+  -- If the chain ends, it is the link with all of them.
+  pub ended : (n : ℕ) → (one_by_one n links this).next ≡ None → far ≡ one_by_one n links this
+  -- If it still goes on, the chain never ends.
+  pub endless : far.next ≢ None → (n : ℕ) → (one_by_one n links this).next ≢ None
+
+-- what a symbol stands for: its value, its index register, and the line from which on they are known
+pub record Meaning : Type 0 where
+  pub value : ℤ
+  pub index : Option ℕ
+  pub line : ℕ
+
+-- what a link makes of the meaning of its symbol
+abbrev pub meant : Link → Meaning → Meaning
+meant link symbol =
+    record {
+      value = symbol.value +ℤ link.added;
+      index = option_or link.index symbol.index;
+      line = max link.last symbol.line;
+    }
+
+-- a label means what its link makes of the meaning of its symbol
+abbrev pub IsMeant : (Label → Meaning) → Label → Link → Type 0
+IsMeant meaning label link = meaning label ≡ meant link (meaning link.to)
+
+-- chains before and after they are followed
+pub record AreFollowed (before after : Chains) : Type 0 where
+  -- The labels stay,
+  pub labels : after.labels ≡ before.labels
+  -- each link is followed to the end of its chain, one by one,
+  pub links : AllZip (IsFollowed (joined_in before)) (joined_in before) after.links
+  -- and whatever the symbols stand for, if it agrees with each EQU, it agrees with what the EQUs come to.
+  pub meant : (meaning : Label → Meaning) → AllZip (IsMeant meaning) before.labels before.links
+      → AllZip (IsMeant meaning) after.labels after.links

@@ -5,7 +5,7 @@ use Rattle.core_1401.specs.Storage.{blank}
 use Rattle.source_1401.specs.declared.statement.Line.{Line}
 use Rattle.autocoder_1401.specs.Assembly.{placed_cells}
 use Rattle.autocoder_1401.specs.Cells.{address_or_zero}
-use Rattle.autocoder_1401.specs.Placement.{Placement, nothing_placed, after_line}
+use Rattle.autocoder_1401.specs.Placement.{Placement, after_line, unplaced, placed}
 
 -- a cell more, at its address
 abbrev pub with_cell : List Cell → ℕ × Cell → List Cell
@@ -21,4 +21,4 @@ addresses_from this [] = []
 addresses_from this (line ∷ lines) = address_or_zero this.next ∷ addresses_from (after_line this line) lines
 
 abbrev pub addresses_of : List Line → List ℕ
-addresses_of lines = addresses_from nothing_placed lines
+addresses_of lines = addresses_from (unplaced (placed lines)) lines

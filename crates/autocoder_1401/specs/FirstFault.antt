@@ -33,7 +33,7 @@ use Rattle.source_1401.specs.declared.statement.LineCheck.TheVariants as bytes
 use Rattle.source_1401.specs.declared.statement.Statement.{Statement}
 use Rattle.source_1401.specs.declared.statement.Line.{Line}
 use Rattle.autocoder_1401.specs.Fault.{rank}
-use Rattle.autocoder_1401.specs.Known.{Declared, declared_at, known_of, is_known_before}
+use Rattle.autocoder_1401.specs.Known.{Declared, declared_at, known_of, is_known_before, is_known_at_end}
 use Rattle.autocoder_1401.specs.Symbols.{Sites, is_before, is_label_before}
 use Rattle.autocoder_1401.specs.declared.symbols.Declaration.{Declaration}
 use Rattle.autocoder_1401.specs.declared.fault.AsmKind.{AsmKind}
@@ -131,16 +131,16 @@ abbrev pub is_unknown_before : Declared → ℕ → OperandField → Bool
 is_unknown_before declared number field =
     option_map_or (λ label. not (is_known_before number (known_of declared label))) (symbol_in field) false
 
--- EQU may name a label of an earlier line, in the wider language one whose value is known above it
+-- EQU may name a label of an earlier line, in the wider language each symbol whose value is known once all is placed
 abbrev pub may_equal : Language → Declared → ℕ → Label → Bool
 may_equal languages.Plain declared number label = is_label_before number (declared.sites label)
-may_equal languages.Ibm declared number label = is_known_before number (known_of declared label)
+may_equal languages.Ibm declared number label = is_known_at_end (known_of declared label)
 
 abbrev pub is_unequal : Declared → ℕ → OperandField → Bool
 is_unequal declared number field =
     option_map_or (λ label. not (may_equal declared.language declared number label)) (symbol_in field) false
 
--- addresses take any symbol that is declared, and some values those that are known above them
+-- addresses take any symbol that is declared, and some values those that are known by then
 abbrev pub undefined_in : Declared → ℕ → Addressing → Bool
 undefined_in declared number addressing.Nothing = false
 undefined_in declared number (addressing.Addresses of) =

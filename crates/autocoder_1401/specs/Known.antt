@@ -1,5 +1,5 @@
 -- What the lines of a source declare, and from which line on the value of a symbol is known (own).
-use Rattle.std.specs.Prelude.{ℕ, nat_lt, Bool, false, if◌then◌else◌, List, max, Option, Some, None, is_some}
+use Rattle.std.specs.Prelude.{ℕ, nat_lt, Bool, true, false, if◌then◌else◌, List, max, Option, Some, None, is_some}
 use Rattle.std.specs.Option.{option_map, option_map_or}
 use Rattle.source_1401.specs.declared.label.Label.{Label}
 use Rattle.source_1401.specs.declared.language.Language.{Language}
@@ -54,3 +54,10 @@ is_known_before number None = false
 is_known_before number (Some (known.From line)) = nat_lt line number
 is_known_before number (Some known.WhenPlaced) = false
 is_known_before number (Some known.Never) = false
+
+-- its value is known once all is placed
+abbrev pub is_known_at_end : Option Known → Bool
+is_known_at_end None = false
+is_known_at_end (Some (known.From line)) = true
+is_known_at_end (Some known.WhenPlaced) = true
+is_known_at_end (Some known.Never) = false

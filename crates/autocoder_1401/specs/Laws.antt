@@ -7,14 +7,14 @@ use Rattle.image_1401.specs.declared.image.Segment.{Segment}
 use Rattle.notation_1401.specs.Cells.{most_cells}
 use Rattle.source_1401.specs.declared.statement.Line.{Line}
 use Rattle.autocoder_1401.specs.Cells.{numbered}
-use Rattle.autocoder_1401.specs.Placement.{placed}
+use Rattle.autocoder_1401.specs.Placement.{placed, placed_among}
 use Rattle.autocoder_1401.specs.Values.{line_outside}
 use Rattle.autocoder_1401.specs.declared.fault.AsmFault.{AsmFault}
 use Rattle.autocoder_1401.specs.declared.fault.AsmKind.TheVariants as kinds
 
 -- whether something of a line that follows the first k lines isn't in core
 abbrev pub outside_at : ℕ → List Line → ℕ → Line → Bool
-outside_at size lines k line = line_outside size (placed lines) (placed (take k lines)) line
+outside_at size lines k line = line_outside size (placed lines) (placed_among lines (take k lines)) line
 
 -- something of the line that the fault names isn't in core, and all of each line before it is
 pub record IsFirstOutside (size : ℕ) (lines : List Line) (fault : AsmFault) : Type 0 where

@@ -26,8 +26,7 @@ use Rattle.source_1401.specs.declared.statement.Statement.{Statement}
 use Rattle.source_1401.specs.declared.statement.Line.{Line}
 use Rattle.autocoder_1401.specs.Cells.{contents_cells, literal_cells}
 use Rattle.autocoder_1401.specs.Literals.{key_of}
-use Rattle.autocoder_1401.specs.Placement.{Placement, nothing_placed, point_value, behind_literal, start_of, after_line}
-use Rattle.autocoder_1401.specs.Placement.{placed}
+use Rattle.autocoder_1401.specs.Placement.{Placement, point_value, behind_literal, start_of, after_line, unplaced, placed}
 
 -- the number of a line in at least four digits; four blanks for a line that isn't in the source
 unfoldable pub number_text : Option ℕ → List ℕ
@@ -120,7 +119,7 @@ abbrev pub placed_for : Placement → Placement → Addressing → Placement
 placed_for all this addressing.Nothing = this
 placed_for all this (addressing.Addresses of) = this
 placed_for all this (addressing.EarlierValue of) = this
-placed_for all this (addressing.Equal of) = this
+placed_for all this (addressing.Equal of) = all
 placed_for all this (addressing.Value of) = all
 placed_for all this (addressing.Entry of) = all
 
@@ -162,7 +161,7 @@ listing_from all this number (line ∷ lines) (source ∷ sources) =
 
 -- the listing of lines, each with its text
 abbrev pub listing_with : List Line → List (List ℕ) → List (List ℕ)
-listing_with lines sources = listing_from (placed lines) nothing_placed 1 lines sources
+listing_with lines sources = listing_from (placed lines) (unplaced (placed lines)) 1 lines sources
 
 -- the listing of a source's lines in this language
 abbrev pub listing_of : Language → List (List ℕ) → List (List ℕ)

@@ -34,18 +34,21 @@ use Rattle.source_1401.specs.declared.description.Point.TheVariants as point
 use Rattle.source_1401.specs.declared.statement.Body.{Body}
 use Rattle.source_1401.specs.declared.statement.Statement.{Statement}
 use Rattle.source_1401.specs.declared.statement.Line.{Line}
+use Rattle.autocoder_1401.specs.Chains.{Chains, chains_of, link_of}
 use Rattle.autocoder_1401.specs.Characters.{characters_of}
 use Rattle.autocoder_1401.specs.Literals.{key_of, same_key, key_length}
-use Rattle.autocoder_1401.specs.Symbols.{same_label}
+use Rattle.autocoder_1401.specs.Symbols.{same_label, sites_of}
+use Rattle.autocoder_1401.specs.declared.chains.Link.{Link}
 use Rattle.autocoder_1401.specs.declared.literals.LiteralKey.{LiteralKey}
 use Rattle.autocoder_1401.specs.declared.literals.LiteralKey.TheVariants as keys
 use Rattle.autocoder_1401.specs.declared.placing.SymbolValue.{SymbolValue}
 
--- what is placed so far: the next place, the first place of the last areas, the place that the labels of their fields
--- are counted from and the index of these, the place of the first instruction, the next place as it was before END, the
--- labels' values, the literals in order of first use with what each was first written as, and the units places of those
--- that are placed
+-- what is placed so far: the chains of EQUs of all lines, the next place, the first place of the last areas, the place
+-- that the labels of their fields are counted from and the index of these, the place of the first instruction, the next
+-- place as it was before END, the labels' values, the literals in order of first use with what each was first written as,
+-- and the units places of those that are placed
 pub record Placement : Type 0 where
+  pub chains : Chains
   pub next : ℤ
   pub areas : ℤ
   pub fields_from : ℤ
@@ -61,10 +64,11 @@ pub record Placement : Type 0 where
 abbrev pub usual_place : ℤ
 usual_place = pos 333
 
--- before the first line
-abbrev pub nothing_placed : Placement
-nothing_placed =
+-- before the first line, with these chains
+abbrev pub nothing_placed : Chains → Placement
+nothing_placed chains =
     record {
+      chains = chains;
       next = usual_place;
       areas = usual_place;
       fields_from = usual_place;
@@ -124,45 +128,57 @@ no_symbol = record { value = pos 0; index = 0 }
 abbrev pub symbol_by : List (Label × SymbolValue) → Label → SymbolValue
 symbol_by values label = unwrap_or (lookup (same_label label) values) no_symbol
 
-abbrev pub symbol_value : List (Label × SymbolValue) → Label → ℤ
-symbol_value values label = (symbol_by values label).value
+-- a symbol by the end of its chain: with what the links add to the last symbol's value, and their index before its own
+abbrev pub symbol_behind : List (Label × SymbolValue) → Link → SymbolValue
+symbol_behind values link =
+    let last = symbol_by values link.to in
+    record { value = last.value +ℤ link.added; index = unwrap_or link.index last.index }
+
+-- what symbols stand for
+abbrev pub SymbolValues : Type 0
+SymbolValues = Label → SymbolValue
+
+-- what symbols stand for by what is placed so far: the label of a chain by its end
+abbrev pub symbols_of : Placement → SymbolValues
+symbols_of this label =
+    option_map_or (symbol_behind this.values) (link_of this.chains label) (symbol_by this.values label)
 
 -- the value of what an address is counted from, with this place for an asterisk
-abbrev pub base_value : List (Label × SymbolValue) → ℤ → Base → ℤ
-base_value values here (bases.Number number) = pos number
-base_value values here (bases.Symbol label) = symbol_value values label
-base_value values here bases.Here = here
-base_value values here (bases.Register number) = register_value number
-base_value values here bases.NextHundred = next_hundred here
+abbrev pub base_value : SymbolValues → ℤ → Base → ℤ
+base_value symbols here (bases.Number number) = pos number
+base_value symbols here (bases.Symbol label) = (symbols label).value
+base_value symbols here bases.Here = here
+base_value symbols here (bases.Register number) = register_value number
+base_value symbols here bases.NextHundred = next_hundred here
 
--- the value of an operand by these values of labels, with this place for an asterisk
-abbrev pub value_so_far : List (Label × SymbolValue) → ℤ → OperandField → ℤ
-value_so_far values here fields.Absent = pos 0
-value_so_far values here fields.Malformed = pos 0
-value_so_far values here (fields.Operand (operands.Address address)) =
-    base_value values here address.base +ℤ address.adjustment
-value_so_far values here (fields.Operand (operands.Literal literal)) = pos 0
-value_so_far values here (fields.Operand (operands.Unit unit)) = pos 0
+-- the value of an operand by what symbols stand for, with this place for an asterisk
+abbrev pub value_so_far : SymbolValues → ℤ → OperandField → ℤ
+value_so_far symbols here fields.Absent = pos 0
+value_so_far symbols here fields.Malformed = pos 0
+value_so_far symbols here (fields.Operand (operands.Address address)) =
+    base_value symbols here address.base +ℤ address.adjustment
+value_so_far symbols here (fields.Operand (operands.Literal literal)) = pos 0
+value_so_far symbols here (fields.Operand (operands.Unit unit)) = pos 0
 
 -- the index of a symbol as the base of an address; no other base has one
-abbrev pub base_index : List (Label × SymbolValue) → Base → ℕ
-base_index values (bases.Number number) = 0
-base_index values (bases.Symbol label) = (symbol_by values label).index
-base_index values bases.Here = 0
-base_index values (bases.Register number) = 0
-base_index values bases.NextHundred = 0
+abbrev pub base_index : SymbolValues → Base → ℕ
+base_index symbols (bases.Number number) = 0
+base_index symbols (bases.Symbol label) = (symbols label).index
+base_index symbols bases.Here = 0
+base_index symbols (bases.Register number) = 0
+base_index symbols bases.NextHundred = 0
 
 -- the index of an address: the one that it names, +X0 for none among them, and else that of its symbol
-abbrev pub address_index : List (Label × SymbolValue) → Address → ℕ
-address_index values address = unwrap_or address.index (base_index values address.base)
+abbrev pub address_index : SymbolValues → Address → ℕ
+address_index symbols address = unwrap_or address.index (base_index symbols address.base)
 
--- the index of an operand by these values of labels
-abbrev pub index_so_far : List (Label × SymbolValue) → OperandField → ℕ
-index_so_far values fields.Absent = 0
-index_so_far values fields.Malformed = 0
-index_so_far values (fields.Operand (operands.Address address)) = address_index values address
-index_so_far values (fields.Operand (operands.Literal literal)) = 0
-index_so_far values (fields.Operand (operands.Unit unit)) = 0
+-- the index of an operand by what symbols stand for
+abbrev pub index_so_far : SymbolValues → OperandField → ℕ
+index_so_far symbols fields.Absent = 0
+index_so_far symbols fields.Malformed = 0
+index_so_far symbols (fields.Operand (operands.Address address)) = address_index symbols address
+index_so_far symbols (fields.Operand (operands.Literal literal)) = 0
+index_so_far symbols (fields.Operand (operands.Unit unit)) = 0
 
 -- an asterisk is the next place in ORG and LTORG, and in other values the last place before it
 abbrev pub asterisk_place : ℤ → Next → ℤ
@@ -176,7 +192,7 @@ abbrev pub entry_value : Placement → OperandField → ℤ
 entry_value all fields.Absent = unwrap_or all.first_instruction usual_place
 entry_value all fields.Malformed = pos 0
 entry_value all (fields.Operand operand) =
-    value_so_far all.values (asterisk_place all.before_end next.Literals) (fields.Operand operand)
+    value_so_far (symbols_of all) (asterisk_place all.before_end next.Literals) (fields.Operand operand)
 
 -- the literals that are used and not placed
 abbrev pub pending : Placement → List LiteralKey
@@ -267,7 +283,7 @@ with_areas this first (areas.Divides span) = this
 
 -- the value of ORG and of LTORG, by the values so far
 abbrev pub own_value : Placement → Addressing → ℤ
-own_value this asked = value_so_far this.values (asterisk_place this.next next.Value) (operands_in asked).a
+own_value this asked = value_so_far (symbols_of this) (asterisk_place this.next next.Value) (operands_in asked).a
 
 -- what becomes of the next place
 abbrev pub moved : Placement → Description → Next → Placement
@@ -327,10 +343,10 @@ behind_body this body = behind_row this (describe body)
 -- the value that a statement asks for, by the labels of what is placed by others
 abbrev pub asked_value : Placement → Placement → Next → Addressing → ℤ
 asked_value by this step addressing.Nothing = pos 0
-asked_value by this step (addressing.Addresses of) = value_so_far by.values (asterisk_place this.next step) of.a
-asked_value by this step (addressing.EarlierValue of) = value_so_far by.values (asterisk_place this.next step) of.a
-asked_value by this step (addressing.Equal of) = value_so_far by.values (asterisk_place this.next step) of.a
-asked_value by this step (addressing.Value of) = value_so_far by.values (asterisk_place this.next step) of.a
+asked_value by this step (addressing.Addresses of) = value_so_far (symbols_of by) (asterisk_place this.next step) of.a
+asked_value by this step (addressing.EarlierValue of) = value_so_far (symbols_of by) (asterisk_place this.next step) of.a
+asked_value by this step (addressing.Equal of) = value_so_far (symbols_of by) (asterisk_place this.next step) of.a
+asked_value by this step (addressing.Value of) = value_so_far (symbols_of by) (asterisk_place this.next step) of.a
 asked_value by this step (addressing.Entry of) = entry_value by of.a
 
 -- the place that a statement's point names, with its operand by the labels of what is placed by others
@@ -347,7 +363,7 @@ point_index this row point.First = 0
 point_index this row point.Last = 0
 point_index this row (point.InArea place) = 0
 point_index this row (point.Counted place) = this.fields_index
-point_index this row point.Value = index_so_far this.values (operands_in row.addressing).a
+point_index this row point.Value = index_so_far (symbols_of this) (operands_in row.addressing).a
 
 -- the value of a label: the units place of a constant, the last place of DS, the last place of a field in the first
 -- area, the value of EQU, and else the first place; and its index
@@ -367,6 +383,14 @@ after_statement this statement =
 abbrev pub after_line : Placement → Line → Placement
 after_line this line = option_map_or (after_statement this) line.statement this
 
+-- before the first line of a source all of which is placed
+abbrev pub unplaced : Placement → Placement
+unplaced all = nothing_placed all.chains
+
+-- what is placed by lines that all these lines begin with
+abbrev pub placed_among : List Line → List Line → Placement
+placed_among all lines = fold after_line (nothing_placed (chains_of (sites_of all) all)) lines
+
 -- what is placed by all lines
 abbrev pub placed : List Line → Placement
-placed lines = fold after_line nothing_placed lines
+placed lines = placed_among lines lines

@@ -18,8 +18,8 @@ use Rattle.source_1401.specs.declared.statement.Statement.{Statement}
 use Rattle.source_1401.specs.declared.statement.Line.{Line}
 use Rattle.autocoder_1401.specs.Cells.{literal_value}
 use Rattle.autocoder_1401.specs.Literals.{key_of, same_key, key_length}
-use Rattle.autocoder_1401.specs.Placement.{Placement, pending, contents_length, value_so_far, start_of, after_line}
-use Rattle.autocoder_1401.specs.Placement.{placed}
+use Rattle.autocoder_1401.specs.Placement.{Placement, symbols_of, pending, contents_length, value_so_far, start_of}
+use Rattle.autocoder_1401.specs.Placement.{after_line, placed, placed_among}
 use Rattle.autocoder_1401.specs.declared.literals.LiteralKey.{LiteralKey}
 
 -- how many places literals take
@@ -115,14 +115,15 @@ with_use used literal = if list_any (same_key literal) used then used else used 
 pub record IsPlacedInTurn (lines : List Line) : Type 0 where
   -- After lines without an origin the next place is the one before them and their lengths.
   pub since : (before since rest : List Line) → lines ≡ before ++ since ++ rest → AreNoOrigins since
-      → (placed (before ++ since)).next ≡ (placed before).next +ℤ pos (lengths_from (placed before) since)
+      → (placed_among lines (before ++ since)).next
+      ≡ (placed_among lines before).next +ℤ pos (lengths_from (placed_among lines before) since)
   -- After an origin it is the value of its operand, in which an asterisk is the place before it, and the length of the
   -- literals that it places.
   pub origin : (before : List Line) (line : Line) (rest : List Line) (of : Operands) → lines ≡ before ++ line ∷ rest
       → origin_with line.statement ≡ Some of
-      → (placed (before ++ line ∷ [])).next
-      ≡ value_so_far (placed before).values (placed before).next of.a
-      +ℤ pos (length_with (placed before) line.statement)
+      → (placed_among lines (before ++ line ∷ [])).next
+      ≡ value_so_far (symbols_of (placed_among lines before)) (placed_among lines before).next of.a
+      +ℤ pos (length_with (placed_among lines before) line.statement)
   -- The literals are those that are used, each once, in the order of their first use,
   pub literals : (placed lines).literals ≡ fold with_use [] (uses lines)
   -- and each is kept as it was written there.
@@ -132,6 +133,7 @@ pub record IsPlacedInTurn (lines : List Line) : Type 0 where
   -- those in front of it are long.
   pub standing : (before : List Line) (line : Line) (rest : List Line) (k : ℕ) (literal : LiteralKey)
       → lines ≡ before ++ line ∷ rest → places_with line.statement ≡ true
-      → slice_get (pending (placed before)) k ≡ Some literal
+      → slice_get (pending (placed_among lines before)) k ≡ Some literal
       → literal_value (placed lines) literal
-      ≡ start_of (placed before) line.statement +ℤ pos (total (take (k + 1) (pending (placed before)))) +ℤ negsuc 0
+      ≡ start_of (placed_among lines before) line.statement
+      +ℤ pos (total (take (k + 1) (pending (placed_among lines before)))) +ℤ negsuc 0

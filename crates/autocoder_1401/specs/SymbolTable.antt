@@ -19,8 +19,7 @@ use Rattle.source_1401.specs.declared.statement.Span.{Span}
 use Rattle.source_1401.specs.declared.statement.Statement.{Statement}
 use Rattle.autocoder_1401.specs.Listing.{address_text}
 use Rattle.autocoder_1401.specs.Literals.{same_key}
-use Rattle.autocoder_1401.specs.Placement.{Placement, nothing_placed, contents_length, symbol_value, after_line}
-use Rattle.autocoder_1401.specs.Placement.{placed}
+use Rattle.autocoder_1401.specs.Placement.{Placement, symbols_of, contents_length, after_line, unplaced, placed}
 use Rattle.autocoder_1401.specs.declared.literals.LiteralKey.TheVariants as keys
 use Rattle.autocoder_1401.specs.declared.symbol_table.Symbol.{Symbol}
 
@@ -52,7 +51,7 @@ abbrev pub symbol_of : Placement → ℕ → Body → Label → Symbol
 symbol_of all number body label =
     record {
       label = label;
-      value = symbol_value all.values label;
+      value = (symbols_of all label).value;
       length = length_named (describe body);
       line = number;
     }
@@ -78,7 +77,7 @@ area_symbol all this number literal =
     if is_used this literal then []
     else record {
       label = literal.label;
-      value = symbol_value all.values literal.label;
+      value = (symbols_of all literal.label).value;
       length = Some literal.places;
       line = number;
     } ∷ []
@@ -109,7 +108,7 @@ symbols_from all this number (line ∷ lines) =
 
 -- the symbols of a source, in the order of the lines that declare them
 abbrev pub symbols_in : List Line → List Symbol
-symbols_in lines = symbols_from (placed lines) nothing_placed 1 lines
+symbols_in lines = symbols_from (placed lines) (unplaced (placed lines)) 1 lines
 
 -- a length in five digits; five blanks if there is none
 unfoldable pub length_text : Option ℕ → List ℕ

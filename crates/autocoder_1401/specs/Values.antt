@@ -17,15 +17,15 @@ use Rattle.source_1401.specs.declared.description.Next.TheVariants as next
 use Rattle.source_1401.specs.declared.statement.Body.{Body}
 use Rattle.source_1401.specs.declared.statement.Statement.{Statement}
 use Rattle.source_1401.specs.declared.statement.Line.{Line}
-use Rattle.autocoder_1401.specs.Placement.{Placement, nothing_placed, contents_length, pending}
-use Rattle.autocoder_1401.specs.Placement.{behind_literals, start_by, base_value, asked_value, entry_value, after_line, placed}
+use Rattle.autocoder_1401.specs.Placement.{Placement, symbols_of, contents_length, pending, behind_literals, start_by}
+use Rattle.autocoder_1401.specs.Placement.{base_value, asked_value, entry_value, after_line, unplaced, placed}
 use Rattle.autocoder_1401.specs.declared.fault.AsmKind.TheVariants as kinds
 use Rattle.autocoder_1401.specs.declared.fault.AsmFault.{AsmFault}
 use Rattle.autocoder_1401.specs.declared.literals.LiteralKey.{LiteralKey}
 
 -- the value of an address before indexing, with this place for an asterisk
 abbrev pub address_value : Placement → ℤ → Address → ℤ
-address_value all here address = base_value all.values here address.base +ℤ address.adjustment
+address_value all here address = base_value (symbols_of all) here address.base +ℤ address.adjustment
 
 -- a value is the address of a place of core storage of this size
 abbrev pub is_in_core : ℕ → ℤ → Bool
@@ -88,7 +88,7 @@ addresses_outside size all this row (addressing.Addresses of) =
 addresses_outside size all this row (addressing.EarlierValue of) =
     value_outside size (asked_value this this row.next (addressing.EarlierValue of)) row.next
 addresses_outside size all this row (addressing.Equal of) =
-    value_outside size (asked_value this this row.next (addressing.Equal of)) row.next
+    value_outside size (asked_value all this row.next (addressing.Equal of)) row.next
 addresses_outside size all this row (addressing.Value of) =
     value_outside size (asked_value all this row.next (addressing.Value of)) row.next
 addresses_outside size all this row (addressing.Entry of) = not (is_in_core size (entry_value all of.a))
@@ -114,4 +114,4 @@ first_outside_from size all number this (line ∷ lines) =
     else first_outside_from size all (number + 1) (after_line this line) lines
 
 abbrev pub first_outside : ℕ → List Line → Option AsmFault
-first_outside size lines = first_outside_from size (placed lines) 1 nothing_placed lines
+first_outside size lines = first_outside_from size (placed lines) 1 (unplaced (placed lines)) lines

@@ -23,6 +23,7 @@ symbols_view this =
 abbrev pub places_of : Placing → Placement
 places_of this =
     record {
+      chains = chains_view this.chains.now;
       next = this.next;
       areas = this.areas;
       fields_from = this.fields_from;

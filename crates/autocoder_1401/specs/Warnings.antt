@@ -1,6 +1,6 @@
 -- What a source without a fault says and hardly means (own).
-use Rattle.std.specs.Prelude.{ℕ, ◌+◌, ◌==◌, Bool, true, false, not, ◌&&◌, ◌||◌, if◌then◌else◌, List, [], ◌∷◌, ◌++◌, pos, nat_le, slice_get}
-use Rattle.std.specs.Prelude.{Option, Some, None, unwrap_or}
+use Rattle.std.specs.Prelude.{◌≡◌, ◌≢◌, ℕ, ◌+◌, ◌==◌, Bool, true, false, not, ◌&&◌, ◌||◌, if◌then◌else◌, List, [], ◌∷◌, ◌++◌, pos}
+use Rattle.std.specs.Prelude.{nat_le, slice_get, All, Option, Some, None, unwrap_or}
 use Rattle.std.specs.List.{list_any}
 use Rattle.std.specs.Option.{option_map_or, option_and_then}
 use Rattle.std.specs.Ordering.{int_eq}
@@ -16,6 +16,7 @@ use Rattle.source_1401.specs.declared.description.Contents.{Contents}
 use Rattle.source_1401.specs.declared.description.Contents.TheVariants as contents
 use Rattle.source_1401.specs.declared.description.Description.{Description}
 use Rattle.source_1401.specs.declared.label.Label.{Label}
+use Rattle.source_1401.specs.declared.language.Language.TheVariants.{Plain}
 use Rattle.source_1401.specs.declared.literal.Literal.{Literal}
 use Rattle.source_1401.specs.declared.literal.Literal.TheVariants as literals
 use Rattle.source_1401.specs.declared.mnemonic.Instruction.{Instruction}
@@ -26,9 +27,10 @@ use Rattle.source_1401.specs.declared.operands.Operands.{Operands}
 use Rattle.source_1401.specs.declared.statement.Chain.{Chain}
 use Rattle.source_1401.specs.declared.statement.Line.{Line}
 use Rattle.source_1401.specs.declared.statement.Statement.{Statement}
+use Rattle.autocoder_1401.specs.Assembly.{lines_in}
 use Rattle.autocoder_1401.specs.CrossReference.{is_named_in}
 use Rattle.autocoder_1401.specs.Filling.{filled, addresses_of}
-use Rattle.autocoder_1401.specs.FirstFault.{symbol_in, symbol_in_base}
+use Rattle.autocoder_1401.specs.FirstFault.{first_fault, symbol_in, symbol_in_base}
 use Rattle.autocoder_1401.specs.Fitted.{is_fitted}
 use Rattle.autocoder_1401.specs.Placement.{instruction_length, chain_length}
 use Rattle.autocoder_1401.specs.Symbols.{has_label}
@@ -355,3 +357,15 @@ warnings_from known storage number (address ∷ addresses) (line ∷ lines) =
 -- the warnings of a source's lines, in their order, for core storage of this size
 abbrev pub all_warnings : ℕ → List Line → List Warning
 all_warnings size lines = warnings_from (known_in lines) (filled size lines) 1 (addresses_of lines) lines
+
+-- a source whose lines have no fault in the plain language, whatever the size of core storage
+abbrev pub IsTakenPlain : List ℕ → Type 0
+IsTakenPlain source = first_fault Plain (lines_in Plain source) ≡ None
+
+-- no warning tells that the machine never carries out an instruction
+abbrev pub AllFitted : List Warning → Type 0
+AllFitted told = All (λ (this : Warning). this.kind ≢ warnings.NotFitted) told
+
+-- if the plain language takes a source, none of its warnings tells so
+abbrev pub PlainIsCarriedOut : List ℕ → List Warning → Type 0
+PlainIsCarriedOut source told = IsTakenPlain source → AllFitted told

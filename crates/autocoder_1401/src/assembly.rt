@@ -1,5 +1,6 @@
 //! The passes of the assembler, in their order.
 ghost use Rattle.std.specs.Prelude.{◌≡◌, ◌<◌, ◌^◌, ◌⊎◌, length, None, Some, true, IfOk, IfErr, OnOk, IfNone, IfSome};
+ghost use Rattle.autocoder_1401.specs.Chains.{chains_of};
 ghost use Rattle.autocoder_1401.specs.Fault.{IsMemory, Gives};
 ghost use Rattle.autocoder_1401.specs.Known.{declared_at};
 ghost use Rattle.autocoder_1401.specs.FirstFault.{first_fault, IsFaultless, IsFirstFault};
@@ -13,14 +14,16 @@ ghost use Rattle.autocoder_1401.specs.Assembly.{assembly_in, with_listing, IsFau
 ghost use Rattle.autocoder_1401.specs.Languages.{AgreesWithPlain};
 ghost use Rattle.autocoder_1401.specs.Laws.{IsFirstOutside, IsCutOf};
 ghost use Rattle.autocoder_1401.specs.PlacementLaws.{IsPlacedInTurn};
-ghost use Rattle.autocoder_1401.specs.View.{places_of};
+ghost use Rattle.autocoder_1401.specs.Symbols.{sites_of};
+ghost use Rattle.autocoder_1401.specs.View.{chains_view, symbols_view, places_of};
 
 use crate::cells::address_or_zero;
+use crate::chains::Chains;
 use crate::fault::AsmFault;
 use crate::first_fault::first_fault;
 use crate::hashing::SourceHashing;
 use crate::kept_line::KeptLine;
-use crate::known::declared;
+use crate::known::{Symbols, declared};
 use crate::listing::Listing;
 use crate::outputs::{make_listing, make_segments};
 use crate::placing::{Placing, place_all};
@@ -30,26 +33,18 @@ use source_1401::{Addressing, Language, Statement};
 use std::alloc::Global;
 
 /// The first line with a fault, and its lowest kind.
-fn scan(
-    alloc: Global,
-    hashing: SourceHashing,
-    language: Language,
-    lines: &[KeptLine],
-) -> Result<Option<AsmFault>, AsmFault>
-    requires { length lines.now < 2 ^ 32 }
-    ensures ok { IfOk result (λ fault. fault ≡ first_fault language lines.now) }
-    ensures faultless { IfOk result (λ fault. IfNone fault (IsFaultless (declared_at language lines.now) lines.now)) }
-    ensures first { IfOk result
-        (λ fault. IfSome fault (λ f. IsFirstFault (declared_at language lines.now) lines.now f)) }
-    ensures err { IfErr result IsMemory }
+fn scan(symbols: &Symbols, language: Language, lines: &[KeptLine]) -> Option<AsmFault>
+    requires few { length lines.now < 2 ^ 32 }
+    requires declared { symbols_view symbols.now ≡ declared_at language lines.now }
+    ensures fault { result ≡ first_fault language lines.now }
+    ensures faultless { IfNone result (IsFaultless (declared_at language lines.now) lines.now) }
+    ensures first { IfSome result (λ f. IsFirstFault (declared_at language lines.now) lines.now f) }
 {
-    let symbols = declared(alloc, hashing, language, lines)?;
-    let fault = first_fault(&symbols, lines);
-    Ok(fault)
+    first_fault(symbols, lines)
 }
 
 /// Where the first END lets the program begin.
-fn entry(all: &Placing, lines: &[KeptLine]) -> Result<i64, AsmFault>
+fn entry(all: &Placing<'_>, lines: &[KeptLine]) -> Result<i64, AsmFault>
     ensures value { IfOk result (λ value. value ≡ entry_in (places_of all.now) lines.now) }
     ensures err { IfErr result IsMemory }
 {
@@ -69,26 +64,26 @@ fn entry(all: &Placing, lines: &[KeptLine]) -> Result<i64, AsmFault>
     Ok(0)
 }
 
-/// What is placed by lines, or the first of them with a fault.
-pub(crate) fn place_lines(
+/// The chains of EQUs of lines without a fault, or the first line with one.
+pub(crate) fn faultless_chains(
     alloc: Global,
     hashing: SourceHashing,
     language: Language,
     lines: &[KeptLine],
-) -> Result<Placing, AsmFault>
+) -> Result<Chains, AsmFault>
     requires { length lines.now < 2 ^ 32 }
-    ensures ok { IfOk result (λ all. places_of all ≡ placed lines.now) }
+    ensures ok { IfOk result (λ chains. chains_view chains ≡ chains_of (sites_of lines.now) lines.now) }
     ensures none { OnOk result (first_fault language lines.now ≡ None) }
     ensures faultless { OnOk result (IsFaultless (declared_at language lines.now) lines.now) }
     ensures first { IfErr result (λ fault. IsMemory fault
         ⊎ ((first_fault language lines.now ≡ Some fault)
         × IsFirstFault (declared_at language lines.now) lines.now fault)) }
 {
-    if let Some(fault) = scan(alloc, hashing, language, lines)? {
+    let symbols = declared(alloc, hashing, language, lines)?;
+    if let Some(fault) = scan(&symbols, language, lines) {
         return Err(fault);
     }
-    let all = place_all(alloc, hashing, lines)?;
-    Ok(all)
+    Ok(symbols.chains)
 }
 
 /// The image and the listing of a source.
@@ -107,7 +102,7 @@ pub struct Assembly {
 /// `OutOfCore` for the first line of which something isn't in core; `Memory` if there is no room.
 fn make_image(
     alloc: Global,
-    all: &Placing,
+    all: &Placing<'_>,
     lines: &[KeptLine],
     size: u16,
 ) -> Result<Image, AsmFault>
@@ -134,7 +129,7 @@ fn make_image(
 /// `OutOfCore` for the first line of which something isn't in core; `Memory` if there is no room.
 pub(crate) fn make_assembly(
     alloc: Global,
-    all: &Placing,
+    all: &Placing<'_>,
     source: &[u8],
     lines: &[KeptLine],
     size: u16,
@@ -193,10 +188,12 @@ pub fn assemble(
     ensures first { IfErr result
         (λ fault. IsMemory fault ⊎ IsFaultOf language size (lines_in language source.now) fault) }
 {
-    let lines = read_lines(alloc, language, source)?;
+    let kept = read_lines(alloc, language, source)?;
+    let lines = kept.as_slice();
     let hashing = SourceHashing::from_source(source);
-    let all = place_lines(alloc, hashing, language, &lines)?;
-    let assembly = make_assembly(alloc, &all, source, &lines, size)?;
+    let chains = faultless_chains(alloc, hashing, language, lines)?;
+    let all = place_all(alloc, hashing, &chains, lines)?;
+    let assembly = make_assembly(alloc, &all, source, lines, size)?;
     Ok(assembly)
 }
 
@@ -237,9 +234,11 @@ pub fn assemble_image(
     ensures first { IfErr result
         (λ fault. IsMemory fault ⊎ IsFaultOf language size (lines_in language source.now) fault) }
 {
-    let lines = read_lines(alloc, language, source)?;
+    let kept = read_lines(alloc, language, source)?;
+    let lines = kept.as_slice();
     let hashing = SourceHashing::from_source(source);
-    let all = place_lines(alloc, hashing, language, &lines)?;
-    let image = make_image(alloc, &all, &lines, size)?;
+    let chains = faultless_chains(alloc, hashing, language, lines)?;
+    let all = place_all(alloc, hashing, &chains, lines)?;
+    let image = make_image(alloc, &all, lines, size)?;
     Ok(image)
 }

@@ -111,7 +111,7 @@ fn address_chars(address: u16, index: u8) -> [Char; 3]
     [hundreds, tens.with_zone(index % 4), units]
 }
 
-impl Placing {
+impl Placing<'_> {
     /// The units place of a literal, once all is placed.
     fn literal_value(&self, literal: LiteralKey) -> i64
         ensures { result ≡ literal_value (places_of self.now) literal }
@@ -293,7 +293,7 @@ fn put_field(out: &mut Vec<Cell>, chars: &[Char], is_marked: bool) -> Result<(),
 
 /// Puts a literal, once all is placed.
 pub(crate) fn put_literal(
-    all: &Placing,
+    all: &Placing<'_>,
     literal: LiteralKey,
     out: &mut Vec<Cell>,
 ) -> Result<(), AsmFault>
@@ -314,7 +314,11 @@ pub(crate) fn put_literal(
 }
 
 /// Puts literals, once all is placed.
-fn put_literals(all: &Placing, literals: &[LiteralKey], out: &mut Vec<Cell>) -> Result<(), AsmFault>
+fn put_literals(
+    all: &Placing<'_>,
+    literals: &[LiteralKey],
+    out: &mut Vec<Cell>,
+) -> Result<(), AsmFault>
     ensures ok { OnOk result
         (out.new.items ≡ out.old.items ++ flat_map (literal_cells (places_of all.now)) literals.now) }
     ensures err { IfErr result IsMemory }
@@ -429,8 +433,8 @@ fn put_chain(chain: Chain, out: &mut Vec<Cell>) -> Result<(), AsmFault>
 /// Puts the cells of contents that begin at the next place, with these lines after them.
 pub(crate) fn put_contents(
     alloc: Global,
-    all: &Placing,
-    so_far: &Placing,
+    all: &Placing<'_>,
+    so_far: &Placing<'_>,
     contents: Contents,
     lines: &[KeptLine],
     out: &mut Vec<Cell>,
@@ -459,8 +463,8 @@ pub(crate) fn put_contents(
 /// Puts the cells of a statement for which this is placed so far, with these lines after it.
 pub(crate) fn put_row(
     alloc: Global,
-    all: &Placing,
-    so_far: &Placing,
+    all: &Placing<'_>,
+    so_far: &Placing<'_>,
     row: Description,
     lines: &[KeptLine],
     out: &mut Vec<Cell>,
@@ -479,8 +483,8 @@ pub(crate) fn put_row(
 /// The cells that a line places for which this is placed so far, with these lines after it.
 pub(crate) fn cells_of(
     alloc: Global,
-    all: &Placing,
-    so_far: &Placing,
+    all: &Placing<'_>,
+    so_far: &Placing<'_>,
     line: &KeptLine,
     lines: &[KeptLine],
 ) -> Result<Vec<Cell>, AsmFault>

@@ -4,7 +4,7 @@ ghost use Rattle.indexmap.specs.IndexMap.{get};
 ghost use Rattle.autocoder_1401.specs.Chains.{no_chains, has_value, link_to, link_in_base, link_in_operand, link_in};
 ghost use Rattle.autocoder_1401.specs.Chains.{is_declared_here, with_link, with_labelled, with_line, links_from};
 ghost use Rattle.autocoder_1401.specs.Chains.{joined, beyond, onward, twice, twice_over, doublings, followed};
-ghost use Rattle.autocoder_1401.specs.Chains.{chains_of, chains_in, link_of};
+ghost use Rattle.autocoder_1401.specs.Chains.{chains_of, chains_in, link_of, unfollowed, AreFollowed};
 ghost use Rattle.autocoder_1401.specs.Fault.{IsMemory};
 ghost use Rattle.autocoder_1401.specs.Symbols.{same_label, up_to_end};
 ghost use Rattle.autocoder_1401.specs.View.{chains_view};
@@ -265,10 +265,14 @@ impl Chains {
         })
     }
 
-    /// The link that gives a label its value.
+    /// The link that gives a label its value. Where there is none, no label is hashed.
+    #[tactic(auto, using(crate::proofs::ChainsLemmas::none_linked))]
     pub(crate) fn link_of(&self, label: Label) -> Option<Link>
         ensures { result ≡ link_of (chains_view self.now) label }
     {
+        if self.links.is_empty() {
+            return None;
+        }
         let i = self.labels.get_index_of(&label)?;
         self.links.get(i).copied()
     }
@@ -289,6 +293,10 @@ pub(crate) fn chains_in(
     requires { length lines.now < 2 ^ 32 }
     ensures ok { IfOk result
         (λ chains. chains_view chains ≡ chains_in language (get same_label sites.now) lines.now) }
+
+    // Each link is followed to the end of its chain, one by one.
+    ensures followed { IfOk result
+        (λ chains. AreFollowed (unfollowed language (get same_label sites.now) lines.now) (chains_view chains)) }
     ensures err { IfErr result IsMemory }
 {
     let mut chains = Chains::new(alloc, hashing);

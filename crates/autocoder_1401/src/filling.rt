@@ -1,25 +1,28 @@
 //! Core storage as the cells of a source fill it.
-ghost use Rattle.std.specs.Prelude.{◌≡◌, ◌∷◌, ◌++◌, [], fold, length, replicate, IfOk, IfErr, OnOk};
+ghost use Rattle.std.specs.Prelude.{◌≡◌, ◌∷◌, ◌++◌, ◌<◌, ◌^◌, [], fold, length, replicate, IfOk, IfErr, OnOk};
 ghost use Rattle.autocoder_1401.specs.Cells.{address_or_zero, numbered, statement_cells, cells_from};
 ghost use Rattle.autocoder_1401.specs.Fault.{IsMemory};
+ghost use Rattle.core_1401.specs.Storage.{blank};
 ghost use Rattle.autocoder_1401.specs.Filling.{with_cell, addresses_from, addresses_of, filled};
-ghost use Rattle.autocoder_1401.specs.Placement.{after_line, nothing_placed, placed, start_of};
+ghost use Rattle.autocoder_1401.specs.Placement.{after_line, placed, start_of, unplaced};
 ghost use Rattle.autocoder_1401.specs.View.{places_of};
 
 use crate::cells::cells_of;
 use crate::fault::AsmFault;
 use crate::hashing::SourceHashing;
 use crate::kept_line::KeptLine;
+use crate::known::declared;
 use crate::placing::{Placing, place_all};
 use crate::segments::lines_behind;
 use bcd_1401::Cell;
+use source_1401::Language;
 use std::alloc::Global;
 
 /// Core storage with the cells of the lines so far.
 #[derive(Drop)]
-struct FilledSoFar {
+struct FilledSoFar<'a> {
     /// What is placed so far.
-    so_far: Placing,
+    so_far: Placing<'a>,
     /// Core storage.
     storage: Vec<Cell>,
     /// The address at which each line begins.
@@ -50,12 +53,12 @@ fn put_cells(storage: &mut [Cell], address: u16, cells: &[Cell]) -> Result<(), A
     Ok(())
 }
 
-impl FilledSoFar {
+impl FilledSoFar<'_> {
     /// Puts the cells of a line, with these lines after it.
     fn put_line(
         &mut self,
         alloc: Global,
-        all: &Placing,
+        all: &Placing<'_>,
         line: &KeptLine,
         behind: &[KeptLine],
     ) -> Result<(), AsmFault>
@@ -80,7 +83,7 @@ impl FilledSoFar {
     fn put_lines(
         &mut self,
         alloc: Global,
-        all: &Placing,
+        all: &Placing<'_>,
         lines: &[KeptLine],
     ) -> Result<(), AsmFault>
         ensures storage { OnOk result (self.new.storage.items ≡ fold with_cell self.old.storage.items
@@ -96,6 +99,31 @@ impl FilledSoFar {
     }
 }
 
+/// Core storage of this size as the cells of lines fill it, once all is placed, and where they begin.
+fn fill_placed(
+    alloc: Global,
+    all: &Placing<'_>,
+    size: u16,
+    lines: &[KeptLine],
+) -> Result<Filling, AsmFault>
+    ensures storage { IfOk result (λ filling. filling.storage.items ≡ fold with_cell (replicate size blank)
+        (cells_from (places_of all.now) (unplaced (places_of all.now)) lines.now)) }
+    ensures addresses { IfOk result (λ filling. filling.addresses.items
+        ≡ addresses_from (unplaced (places_of all.now)) lines.now) }
+    ensures err { IfErr result IsMemory }
+{
+    let mut made = FilledSoFar {
+        so_far: Placing::new(alloc, all.hashing, all.chains),
+        storage: vec![in alloc; Cell::BLANK; usize::from(size)]?,
+        addresses: Vec::new(alloc),
+    };
+    made.put_lines(alloc, all, lines)?;
+    Ok(Filling {
+        storage: made.storage,
+        addresses: made.addresses,
+    })
+}
+
 /// Core storage of this size as the cells of lines fill it, and where they begin.
 ///
 /// # Errors
@@ -108,20 +136,14 @@ pub(crate) fn fill(
     size: u16,
     lines: &[KeptLine],
 ) -> Result<Filling, AsmFault>
+    requires { length lines.now < 2 ^ 32 }
     ensures storage { IfOk result (λ filling. filling.storage.items ≡ filled size lines.now) }
     ensures addresses { IfOk result (λ filling. filling.addresses.items ≡ addresses_of lines.now) }
     ensures as_many { IfOk result (λ filling. length filling.addresses.items ≡ length lines.now) }
     ensures err { IfErr result IsMemory }
 {
-    let all = place_all(alloc, hashing, lines)?;
-    let mut made = FilledSoFar {
-        so_far: Placing::new(alloc, hashing),
-        storage: vec![in alloc; Cell::BLANK; usize::from(size)]?,
-        addresses: Vec::new(alloc),
-    };
-    made.put_lines(alloc, &all, lines)?;
-    Ok(Filling {
-        storage: made.storage,
-        addresses: made.addresses,
-    })
+    let symbols = declared(alloc, hashing, Language::Ibm, lines)?;
+    let all = place_all(alloc, hashing, &symbols.chains, lines)?;
+    let filling = fill_placed(alloc, &all, size, lines)?;
+    Ok(filling)
 }

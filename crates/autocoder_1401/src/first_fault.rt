@@ -12,7 +12,7 @@ ghost use Rattle.autocoder_1401.specs.FirstFault.{IsFirstFault};
 
 use crate::fault::{AsmFault, AsmKind};
 use crate::kept_line::KeptLine;
-use crate::known::{Symbols, is_known_before};
+use crate::known::{Symbols, is_known_at_end, is_known_before};
 use crate::symbols::{Declaration, Sites, is_before, is_label_before};
 use source_1401::{
     Addressing, AreaLiteral, AreaRole, Base, Body, DeclaredAreas, Label, LabelField, Language,
@@ -209,7 +209,7 @@ fn may_equal(symbols: &Symbols, number: u64, label: Label) -> bool
 {
     match symbols.language {
         Language::Plain => is_label_before(number, symbols.sites.get(&label).copied()),
-        Language::Ibm => is_known_before(number, symbols.known(label)),
+        Language::Ibm => is_known_at_end(symbols.known(label)),
     }
 }
 

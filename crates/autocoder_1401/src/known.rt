@@ -5,7 +5,7 @@ ghost use Rattle.autocoder_1401.specs.Fault.{IsMemory};
 ghost use Rattle.autocoder_1401.specs.Known.{declared_at, known_alone, known_behind, known_by_chain, known_as};
 ghost use Rattle.autocoder_1401.specs.Known.{known_of};
 ghost use Rattle.autocoder_1401.specs.Chains.{link_of};
-ghost use Rattle.autocoder_1401.specs.Known.{is_known_before};
+ghost use Rattle.autocoder_1401.specs.Known.{is_known_before, is_known_at_end};
 ghost use Rattle.autocoder_1401.specs.Symbols.{same_label};
 ghost use Rattle.autocoder_1401.specs.View.{symbols_view};
 
@@ -83,6 +83,16 @@ pub(crate) fn is_known_before(number: u64, known: Option<Known>) -> bool
     match known {
         Some(Known::From(line)) => line < number,
         Some(Known::WhenPlaced | Known::Never) | None => false,
+    }
+}
+
+/// Whether a value is known once all is placed.
+pub(crate) fn is_known_at_end(known: Option<Known>) -> bool
+    ensures { result ≡ is_known_at_end known }
+{
+    match known {
+        Some(Known::From(_) | Known::WhenPlaced) => true,
+        Some(Known::Never) | None => false,
     }
 }
 

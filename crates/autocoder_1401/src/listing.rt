@@ -100,7 +100,7 @@ fn listing_line(
 /// Adds the lines of literals that are placed one after the other from a place on.
 fn put_literal_lines(
     alloc: Global,
-    all: &Placing,
+    all: &Placing<'_>,
     from: i64,
     literals: &[Literal],
     lines: &mut Vec<ListingLine>,
@@ -120,7 +120,7 @@ fn put_literal_lines(
 /// The line of a literal that is placed at a place.
 fn literal_line(
     alloc: Global,
-    all: &Placing,
+    all: &Placing<'_>,
     from: i64,
     literal: Literal,
 ) -> Result<ListingLine, AsmFault>
@@ -135,7 +135,7 @@ fn literal_line(
     listing_line(alloc, None, Some(from), &cells, &source)
 }
 
-impl Placing {
+impl<'a> Placing<'a> {
     /// How the literals were first written that are used and not placed.
     fn pending_spellings(&self) -> &[Literal]
         ensures { result.now ≡ drop (length (places_of self.now).addresses) (places_of self.now).spellings }
@@ -160,22 +160,23 @@ impl Placing {
     }
 
     /// The address of a body here, by the values of all labels.
-    fn address_at(&self, all: &Placing, body: Body) -> Result<i64, AsmFault>
+    fn address_at(&self, all: &Placing<'a>, body: Body) -> Result<i64, AsmFault>
         ensures value { IfOk result (λ at. at ≡ address_at (places_of all.now) (places_of self.now) body) }
         ensures err { IfErr result IsMemory }
     {
         let row = body.describe();
         match row.addressing {
-            Addressing::Value(_) | Addressing::Entry(_) => self.point_value(all, row, row.shows),
-            Addressing::Nothing
-            | Addressing::Addresses(_)
-            | Addressing::EarlierValue(_)
-            | Addressing::Equal(_) => self.point_value(self, row, row.shows),
+            Addressing::Equal(_) | Addressing::Value(_) | Addressing::Entry(_) => {
+                self.point_value(all, row, row.shows)
+            },
+            Addressing::Nothing | Addressing::Addresses(_) | Addressing::EarlierValue(_) => {
+                self.point_value(self, row, row.shows)
+            },
         }
     }
 
     /// The address that the line of a body here shows, if it shows one.
-    fn address_shown(&self, all: &Placing, body: Body) -> Result<Option<i64>, AsmFault>
+    fn address_shown(&self, all: &Placing<'a>, body: Body) -> Result<Option<i64>, AsmFault>
         ensures value { IfOk result (λ at. at ≡ address_shown (places_of all.now) (places_of self.now) body) }
         ensures err { IfErr result IsMemory }
     {
@@ -190,7 +191,7 @@ impl Placing {
     fn cells_at(
         &self,
         alloc: Global,
-        all: &Placing,
+        all: &Placing<'a>,
         body: Body,
         lines: &[KeptLine],
     ) -> Result<Vec<Cell>, AsmFault>
@@ -218,7 +219,7 @@ impl Placing {
     fn put_literals_of(
         &self,
         alloc: Global,
-        all: &Placing,
+        all: &Placing<'a>,
         line: &KeptLine,
         lines: &mut Vec<ListingLine>,
     ) -> Result<(), AsmFault>
@@ -235,7 +236,7 @@ impl Placing {
     fn line_for(
         &self,
         alloc: Global,
-        all: &Placing,
+        all: &Placing<'a>,
         number: u64,
         source: &[u8],
         line: &KeptLine,
@@ -259,7 +260,7 @@ impl Placing {
     pub(crate) fn list_line(
         &self,
         alloc: Global,
-        all: &Placing,
+        all: &Placing<'a>,
         number: u64,
         source: &[u8],
         line: &KeptLine,

@@ -7,7 +7,7 @@ ghost use Rattle.autocoder_1401.specs.Built.{built};
 ghost use Rattle.autocoder_1401.specs.Cells.{address_or_zero, numbered, statement_cells, cells_from};
 ghost use Rattle.autocoder_1401.specs.Fault.{IsMemory};
 ghost use Rattle.autocoder_1401.specs.Listing.{literal_lines, literals_in, line_for, listing_from};
-ghost use Rattle.autocoder_1401.specs.Placement.{nothing_placed, start_of, after_line};
+ghost use Rattle.autocoder_1401.specs.Placement.{start_of, after_line, unplaced};
 ghost use Rattle.autocoder_1401.specs.Segments.{segments_of};
 ghost use Rattle.autocoder_1401.specs.Values.{first_outside_from};
 ghost use Rattle.autocoder_1401.specs.View.{places_of};
@@ -23,28 +23,28 @@ use std::alloc::Global;
 
 /// The segments of the lines so far.
 #[derive(Drop)]
-struct SegmentsSoFar {
+struct SegmentsSoFar<'a> {
     /// What is placed so far.
-    so_far: Placing,
+    so_far: Placing<'a>,
     /// The segments.
     builder: Builder,
 }
 
 /// The listing of the lines so far.
 #[derive(Drop)]
-struct ListingSoFar {
+struct ListingSoFar<'a> {
     /// What is placed so far.
-    so_far: Placing,
+    so_far: Placing<'a>,
     /// The lines of the listing.
     listing: Vec<ListingLine>,
 }
 
-impl SegmentsSoFar {
+impl<'a> SegmentsSoFar<'a> {
     /// Makes the cells of a line, with these lines after it, and places them.
     fn put_line(
         &mut self,
         alloc: Global,
-        all: &Placing,
+        all: &Placing<'a>,
         line: &KeptLine,
         behind: &[KeptLine],
     ) -> Result<(), AsmFault>
@@ -65,7 +65,7 @@ impl SegmentsSoFar {
     fn put_lines(
         &mut self,
         alloc: Global,
-        all: &Placing,
+        all: &Placing<'a>,
         size: u16,
         lines: &[KeptLine],
     ) -> Result<(), AsmFault>
@@ -90,12 +90,12 @@ impl SegmentsSoFar {
     }
 }
 
-impl ListingSoFar {
+impl<'a> ListingSoFar<'a> {
     /// Lists a line, with these lines after it, and places it.
     fn put_line(
         &mut self,
         alloc: Global,
-        all: &Placing,
+        all: &Placing<'a>,
         number: u64,
         source: &[u8],
         line: &KeptLine,
@@ -119,7 +119,7 @@ impl ListingSoFar {
     fn put_lines(
         &mut self,
         alloc: Global,
-        all: &Placing,
+        all: &Placing<'a>,
         source: &[u8],
         lines: &[KeptLine],
     ) -> Result<(), AsmFault>
@@ -149,19 +149,20 @@ impl ListingSoFar {
 /// `OutOfCore` for the first line of which something isn't in core; `Memory` if there is no room.
 pub(crate) fn make_segments(
     alloc: Global,
-    all: &Placing,
+    all: &Placing<'_>,
     size: u16,
     lines: &[KeptLine],
 ) -> Result<Vec<Segment>, AsmFault>
     requires few { length lines.now < 2 ^ 32 }
-    ensures inside { OnOk result (first_outside_from size (places_of all.now) 1 nothing_placed lines.now ≡ None) }
+    ensures inside { OnOk result
+        (first_outside_from size (places_of all.now) 1 (unplaced (places_of all.now)) lines.now ≡ None) }
     ensures segments { IfOk result (λ segments. segments.items
-        ≡ segments_of (cells_from (places_of all.now) nothing_placed lines.now)) }
+        ≡ segments_of (cells_from (places_of all.now) (unplaced (places_of all.now)) lines.now)) }
     ensures err { IfErr result (λ fault. IsMemory fault
-        ⊎ (first_outside_from size (places_of all.now) 1 nothing_placed lines.now ≡ Some fault)) }
+        ⊎ (first_outside_from size (places_of all.now) 1 (unplaced (places_of all.now)) lines.now ≡ Some fault)) }
 {
     let mut made = SegmentsSoFar {
-        so_far: Placing::new(alloc, all.hashing),
+        so_far: Placing::new(alloc, all.hashing, all.chains),
         builder: Builder::new(alloc),
     };
     made.put_lines(alloc, all, size, lines)?;
@@ -176,18 +177,18 @@ pub(crate) fn make_segments(
 /// `Memory` if there is no room.
 pub(crate) fn make_listing(
     alloc: Global,
-    all: &Placing,
+    all: &Placing<'_>,
     source: &[u8],
     lines: &[KeptLine],
 ) -> Result<Listing, AsmFault>
     requires as_many { length lines.now ≡ length (lines_of source.now) }
     requires few { length lines.now < 2 ^ 32 }
     ensures listing { IfOk result (λ listing. listing
-        ≡ listing_from (places_of all.now) nothing_placed 1 lines.now (lines_of source.now)) }
+        ≡ listing_from (places_of all.now) (unplaced (places_of all.now)) 1 lines.now (lines_of source.now)) }
     ensures err { IfErr result IsMemory }
 {
     let mut made = ListingSoFar {
-        so_far: Placing::new(alloc, all.hashing),
+        so_far: Placing::new(alloc, all.hashing, all.chains),
         listing: Vec::new(alloc),
     };
     made.put_lines(alloc, all, source, lines)?;

@@ -2,23 +2,25 @@
 ghost use Rattle.std.specs.Prelude.{◌≡◌, ◌+◌, ◌*◌, ◌<◌, ◌≤◌, ◌+ℤ◌, ◌++◌, Some, drop, fold, IfOk, IfErr, OnOk};
 ghost use Rattle.indexmap.specs.IndexMap.{get};
 ghost use Rattle.source_1401.specs.Statement.{well_formed};
+ghost use Rattle.autocoder_1401.specs.Chains.{chains_of, link_of};
 ghost use Rattle.autocoder_1401.specs.Literals.{same_key};
 ghost use Rattle.autocoder_1401.specs.Fault.{IsMemory};
-ghost use Rattle.autocoder_1401.specs.Symbols.{same_label};
+ghost use Rattle.autocoder_1401.specs.Symbols.{same_label, sites_of};
 ghost use Rattle.autocoder_1401.specs.Placement.{nothing_placed, with_literal, with_operand, with_pending, with_uses};
 ghost use Rattle.autocoder_1401.specs.Placement.{pending, behind_literals, units_from, with_area, with_area_labels};
 ghost use Rattle.autocoder_1401.specs.Placement.{instruction_length, constant_length, areas_length, chain_length};
 ghost use Rattle.autocoder_1401.specs.Placement.{contents_length};
-ghost use Rattle.autocoder_1401.specs.Placement.{register_value, next_hundred, no_symbol, symbol_by, symbol_value};
+ghost use Rattle.autocoder_1401.specs.Placement.{register_value, next_hundred, no_symbol, symbol_by, symbol_behind, symbols_of};
 ghost use Rattle.autocoder_1401.specs.Placement.{base_value, value_so_far, base_index, address_index, index_so_far};
 ghost use Rattle.autocoder_1401.specs.Placement.{asterisk_place, entry_value, asked_value, first_of_two, end_of_two};
 ghost use Rattle.autocoder_1401.specs.Placement.{counted_from, index_of_fields, with_areas, own_value, start_by, start_of};
 ghost use Rattle.autocoder_1401.specs.Placement.{with_ends, point_value, point_index, label_value, moved, gone_on};
 ghost use Rattle.autocoder_1401.specs.Placement.{behind_row, with_label, after_line, placed};
 ghost use Rattle.autocoder_1401.specs.Values.{last_place};
-ghost use Rattle.autocoder_1401.specs.View.{places_of};
+ghost use Rattle.autocoder_1401.specs.View.{chains_view, places_of};
 ghost use Rattle.source_1401.specs.Operands.{count_of};
 
+use crate::chains::{Chains, Link};
 use crate::characters::Characters;
 use crate::fault::AsmFault;
 use crate::hashing::SourceHashing;
@@ -53,7 +55,9 @@ pub(crate) type Values = IndexMap<Label, SymbolValue, SourceHashing>;
 
 /// What is placed so far.
 #[derive(Drop)]
-pub(crate) struct Placing {
+pub(crate) struct Placing<'a> {
+    /// The chains of EQUs of all lines.
+    pub chains: &'a Chains,
     /// The next place.
     pub next: i64,
     /// The first place of the last areas.
@@ -320,12 +324,13 @@ fn behind(literals: &IndexSet<LiteralKey, SourceHashing>, first: usize) -> &[Lit
     }
 }
 
-impl Placing {
-    /// Before the first line.
-    pub(crate) fn new(alloc: Global, hashing: SourceHashing) -> Placing
-        ensures { places_of result ≡ nothing_placed }
+impl<'a> Placing<'a> {
+    /// Before the first line, with these chains of EQUs.
+    pub(crate) fn new(alloc: Global, hashing: SourceHashing, chains: &'a Chains) -> Placing<'a>
+        ensures { places_of result ≡ nothing_placed (chains_view chains.now) }
     {
         Placing {
+            chains,
             next: USUAL_PLACE,
             areas: USUAL_PLACE,
             fields_from: USUAL_PLACE,
@@ -347,8 +352,8 @@ impl Placing {
         behind(&self.literals, self.addresses.len())
     }
 
-    /// A symbol by the values so far.
-    pub(crate) fn symbol(&self, label: Label) -> SymbolValue
+    /// A symbol by the values of labels so far.
+    fn symbol_by(&self, label: Label) -> SymbolValue
         ensures { result ≡ symbol_by (places_of self.now).values label }
     {
         self.values
@@ -357,21 +362,37 @@ impl Placing {
             .unwrap_or(SymbolValue::NONE)
     }
 
-    /// The value of a symbol by the values so far.
-    pub(crate) fn symbol_value(&self, label: Label) -> i64
-        ensures { result ≡ symbol_value (places_of self.now).values label }
+    /// A symbol by the end of its chain, by the values of labels so far.
+    fn symbol_behind(&self, link: Link) -> Result<SymbolValue, AsmFault>
+        ensures symbol { IfOk result (λ symbol. symbol ≡ symbol_behind (places_of self.now).values link) }
+        ensures err { IfErr result IsMemory }
     {
-        self.symbol(label).value
+        let last = self.symbol_by(link.to);
+        Ok(SymbolValue {
+            value: checked_sum(last.value, link.added)?,
+            index: link.index.unwrap_or(last.index),
+        })
+    }
+
+    /// What a symbol stands for so far.
+    pub(crate) fn symbol(&self, label: Label) -> Result<SymbolValue, AsmFault>
+        ensures symbol { IfOk result (λ symbol. symbol ≡ symbols_of (places_of self.now) label) }
+        ensures err { IfErr result IsMemory }
+    {
+        match self.chains.link_of(label) {
+            Some(link) => self.symbol_behind(link),
+            None => Ok(self.symbol_by(label)),
+        }
     }
 
     /// The value so far of what an address is counted from, with this place for an asterisk.
     pub(crate) fn base_value(&self, here: i64, base: Base) -> Result<i64, AsmFault>
-        ensures value { IfOk result (λ value. value ≡ base_value (places_of self.now).values here base) }
+        ensures value { IfOk result (λ value. value ≡ base_value (symbols_of (places_of self.now)) here base) }
         ensures err { IfErr result IsMemory }
     {
         match base {
             Base::Number(number) => Ok(i64::from(number)),
-            Base::Symbol(label) => Ok(self.symbol_value(label)),
+            Base::Symbol(label) => Ok(self.symbol(label)?.value),
             Base::Here => Ok(here),
             Base::Register(number) => Ok(register_value(number)),
             Base::NextHundred => next_hundred(here),
@@ -380,7 +401,7 @@ impl Placing {
 
     /// The value of an operand by the values so far, with this place for an asterisk.
     fn value_so_far(&self, here: i64, field: OperandField) -> Result<i64, AsmFault>
-        ensures value { IfOk result (λ value. value ≡ value_so_far (places_of self.now).values here field) }
+        ensures value { IfOk result (λ value. value ≡ value_so_far (symbols_of (places_of self.now)) here field) }
         ensures err { IfErr result IsMemory }
     {
         match field {
@@ -394,19 +415,29 @@ impl Placing {
         }
     }
 
-    /// The index of a symbol as the base of an address, by the values so far.
+    /// The index of a symbol so far.
+    fn symbol_index(&self, label: Label) -> u8
+        ensures { result ≡ (symbols_of (places_of self.now) label).index }
+    {
+        match self.chains.link_of(label) {
+            Some(link) => link.index.unwrap_or(self.symbol_by(link.to).index),
+            None => self.symbol_by(label).index,
+        }
+    }
+
+    /// The index of a symbol so far as the base of an address.
     fn base_index(&self, base: Base) -> u8
-        ensures { result ≡ base_index (places_of self.now).values base }
+        ensures { result ≡ base_index (symbols_of (places_of self.now)) base }
     {
         match base {
-            Base::Symbol(label) => self.symbol(label).index,
+            Base::Symbol(label) => self.symbol_index(label),
             Base::Number(_) | Base::Here | Base::Register(_) | Base::NextHundred => 0,
         }
     }
 
     /// The index of an address by the values so far.
     pub(crate) fn address_index(&self, address: Address) -> u8
-        ensures { result ≡ address_index (places_of self.now).values address }
+        ensures { result ≡ address_index (symbols_of (places_of self.now)) address }
     {
         match address.index {
             Some(index) => index,
@@ -416,7 +447,7 @@ impl Placing {
 
     /// The index of an operand by the values so far.
     fn index_so_far(&self, field: OperandField) -> u8
-        ensures { result ≡ index_so_far (places_of self.now).values field }
+        ensures { result ≡ index_so_far (symbols_of (places_of self.now)) field }
     {
         match field {
             OperandField::Operand(Operand::Address(address)) => self.address_index(address),
@@ -442,7 +473,7 @@ impl Placing {
     }
 
     /// The value that a statement here asks for, by the labels of what is placed by others.
-    pub(crate) fn asked_value(&self, by: &Placing, row: Description) -> Result<i64, AsmFault>
+    pub(crate) fn asked_value(&self, by: &Placing<'a>, row: Description) -> Result<i64, AsmFault>
         ensures value { IfOk result (λ value. value
             ≡ asked_value (places_of by.now) (places_of self.now) row.next row.addressing) }
         ensures err { IfErr result IsMemory }
@@ -462,7 +493,7 @@ impl Placing {
     /// The place that a statement's point names, with its operand by the labels of what is placed by others.
     pub(crate) fn point_value(
         &self,
-        by: &Placing,
+        by: &Placing<'a>,
         row: Description,
         point: Point,
     ) -> Result<i64, AsmFault>
@@ -709,20 +740,22 @@ impl Placing {
     }
 }
 
-/// What is placed by all lines.
+/// What is placed by all lines, whose chains of EQUs these are.
 ///
 /// # Errors
 ///
 /// `Memory` if there is no room for labels and literals.
-pub(crate) fn place_all(
+pub(crate) fn place_all<'a>(
     alloc: Global,
     hashing: SourceHashing,
+    chains: &'a Chains,
     lines: &[KeptLine],
-) -> Result<Placing, AsmFault>
+) -> Result<Placing<'a>, AsmFault>
+    requires { chains_view chains.now ≡ chains_of (sites_of lines.now) lines.now }
     ensures ok { IfOk result (λ placing. places_of placing ≡ placed lines.now) }
     ensures err { IfErr result IsMemory }
 {
-    let mut placing = Placing::new(alloc, hashing);
+    let mut placing = Placing::new(alloc, hashing, chains);
     placing.place_each(lines)?;
     Ok(placing)
 }

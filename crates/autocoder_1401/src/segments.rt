@@ -109,8 +109,8 @@ impl Builder {
     pub(crate) fn put_line(
         &mut self,
         alloc: Global,
-        all: &Placing,
-        so_far: &Placing,
+        all: &Placing<'_>,
+        so_far: &Placing<'_>,
         line: &KeptLine,
         behind: &[KeptLine],
     ) -> Result<(), AsmFault>

@@ -5,7 +5,7 @@ ghost use Rattle.autocoder_1401.specs.Fault.{IsMemory};
 ghost use Rattle.autocoder_1401.specs.SymbolTable.{span_length, length_named, symbol_with, symbol_at, listed};
 ghost use Rattle.autocoder_1401.specs.SymbolTable.{second_area, area_symbols, symbols_at};
 ghost use Rattle.autocoder_1401.specs.SymbolTable.{symbols_from, length_text, symbol_line};
-ghost use Rattle.autocoder_1401.specs.Placement.{nothing_placed};
+ghost use Rattle.autocoder_1401.specs.Placement.{unplaced};
 ghost use Rattle.autocoder_1401.specs.View.{places_of};
 
 use crate::fault::AsmFault;
@@ -59,26 +59,37 @@ fn length_named(row: Description) -> Option<u32>
 }
 
 /// The symbol that a statement on the line of this number declares, once all is placed.
-fn symbol_with(all: &Placing, number: u64, statement: Statement) -> Option<Symbol>
-    ensures { result ≡ symbol_with (places_of all.now) number statement }
+fn symbol_with(
+    all: &Placing<'_>,
+    number: u64,
+    statement: Statement,
+) -> Result<Option<Symbol>, AsmFault>
+    ensures symbol { IfOk result (λ symbol. symbol ≡ symbol_with (places_of all.now) number statement) }
+    ensures err { IfErr result IsMemory }
 {
     match statement.label {
-        LabelField::Label(label) => Some(Symbol {
-            label,
-            value: all.symbol_value(label),
-            length: length_named(statement.body.describe()),
-            line: number,
-        }),
-        LabelField::Absent | LabelField::Malformed => None,
+        LabelField::Label(label) => {
+            let value = all.symbol(label)?.value;
+            Ok(Some(Symbol {
+                label,
+                value,
+                length: length_named(statement.body.describe()),
+                line: number,
+            }))
+        },
+        LabelField::Absent | LabelField::Malformed => Ok(None),
     }
 }
 
 /// The symbol that the line of this number declares, once all is placed.
-fn symbol_at(all: &Placing, number: u64, line: &KeptLine) -> Option<Symbol>
-    ensures { result ≡ symbol_at (places_of all.now) number line.now.statement }
+fn symbol_at(all: &Placing<'_>, number: u64, line: &KeptLine) -> Result<Option<Symbol>, AsmFault>
+    ensures symbol { IfOk result (λ symbol. symbol ≡ symbol_at (places_of all.now) number line.now.statement) }
+    ensures err { IfErr result IsMemory }
 {
-    let statement = line.line().statement?;
-    symbol_with(all, number, statement)
+    match line.line().statement {
+        Some(statement) => symbol_with(all, number, statement),
+        None => Ok(None),
+    }
 }
 
 /// Adds a symbol, if there is one.
@@ -109,11 +120,11 @@ fn second_area(first: Option<AreaLiteral>, second: Option<AreaLiteral>) -> Optio
     }
 }
 
-impl Placing {
+impl Placing<'_> {
     /// Adds the symbol of an area literal on the line of this number, if there is one and it isn't used before.
     fn put_area(
         &self,
-        all: &Placing,
+        all: &Placing<'_>,
         number: u64,
         literal: Option<AreaLiteral>,
         symbols: &mut Vec<Symbol>,
@@ -126,9 +137,10 @@ impl Placing {
             return Ok(());
         };
         if !self.literals.contains(&LiteralKey::Area(literal)) {
+            let value = all.symbol(literal.label)?.value;
             symbols.push(Symbol {
                 label: literal.label,
-                value: all.symbol_value(literal.label),
+                value,
                 length: Some(u32::from(literal.places)),
                 line: number,
             })?;
@@ -140,7 +152,7 @@ impl Placing {
     /// first.
     fn put_symbols(
         &self,
-        all: &Placing,
+        all: &Placing<'_>,
         number: u64,
         line: &KeptLine,
         symbols: &mut Vec<Symbol>,
@@ -150,7 +162,7 @@ impl Placing {
         ensures err { IfErr result IsMemory }
     {
         let (first, second) = line.line().areas();
-        put_symbol(symbols, symbol_at(all, number, line))?;
+        put_symbol(symbols, symbol_at(all, number, line)?)?;
         self.put_area(all, number, first, symbols)?;
         self.put_area(all, number, second_area(first, second), symbols)?;
         Ok(())
@@ -165,15 +177,16 @@ impl Placing {
 pub(crate) fn symbols_of(
     alloc: Global,
     hashing: SourceHashing,
-    all: &Placing,
+    all: &Placing<'_>,
     lines: &[KeptLine],
 ) -> Result<Vec<Symbol>, AsmFault>
     requires { length lines.now < 2 ^ 32 }
-    ensures ok { IfOk result (λ symbols. symbols.items ≡ symbols_from (places_of all.now) nothing_placed 1 lines.now) }
+    ensures ok { IfOk result (λ symbols. symbols.items
+        ≡ symbols_from (places_of all.now) (unplaced (places_of all.now)) 1 lines.now) }
     ensures err { IfErr result IsMemory }
 {
     let mut symbols = Vec::new(alloc);
-    let mut so_far = Placing::new(alloc, hashing);
+    let mut so_far = Placing::new(alloc, hashing, all.chains);
     for (i, line) in lines.iter().enumerate() {
         so_far.put_symbols(all, i as u64 + 1, line, &mut symbols)?;
         so_far.place(line)?;

@@ -9,12 +9,12 @@ ghost use Rattle.autocoder_1401.specs.SymbolTable.{symbols_text};
 ghost use Rattle.autocoder_1401.specs.View.{places_of};
 ghost use Rattle.autocoder_1401.specs.declared.tables.AssemblyTables.{AssemblyTables as Made};
 
-use crate::assembly::{Assembly, make_assembly, place_lines};
+use crate::assembly::{Assembly, faultless_chains, make_assembly};
 use crate::cross_reference::{references_text, uses_of};
 use crate::fault::AsmFault;
 use crate::hashing::SourceHashing;
 use crate::kept_line::KeptLine;
-use crate::placing::Placing;
+use crate::placing::{Placing, place_all};
 use crate::reading::read_lines;
 use crate::symbol_table::{symbols_of, symbols_text};
 use source_1401::Language;
@@ -35,7 +35,7 @@ pub struct AssemblyTables {
 fn make_tables(
     alloc: Global,
     hashing: SourceHashing,
-    all: &Placing,
+    all: &Placing<'_>,
     lines: &[KeptLine],
     assembly: Assembly,
 ) -> Result<AssemblyTables, AsmFault>
@@ -82,10 +82,12 @@ pub fn assemble_with_tables(
     ensures symbols { IfOk result (λ made. made.symbols.items ≡ symbols_text (lines_in language source.now)) }
     ensures references { IfOk result (λ made. made.references.items ≡ references_text (lines_in language source.now)) }
 {
-    let lines = read_lines(alloc, language, source)?;
+    let kept = read_lines(alloc, language, source)?;
+    let lines = kept.as_slice();
     let hashing = SourceHashing::from_source(source);
-    let all = place_lines(alloc, hashing, language, &lines)?;
-    let assembly = make_assembly(alloc, &all, source, &lines, size)?;
-    let tables = make_tables(alloc, hashing, &all, &lines, assembly)?;
+    let chains = faultless_chains(alloc, hashing, language, lines)?;
+    let all = place_all(alloc, hashing, &chains, lines)?;
+    let assembly = make_assembly(alloc, &all, source, lines, size)?;
+    let tables = make_tables(alloc, hashing, &all, lines, assembly)?;
     Ok(tables)
 }

@@ -57,7 +57,7 @@ fn are_literals_outside(size: u16, from: i64, literals: &[LiteralKey]) -> Result
     Ok(!literals.is_empty() && !are_in_core(size, from, behind))
 }
 
-impl Placing {
+impl<'a> Placing<'a> {
     /// The value of an address before indexing, once all is placed, with this place for an asterisk.
     pub(crate) fn address_value(&self, here: i64, address: Address) -> Result<i64, AsmFault>
         ensures value { IfOk result (λ value. value ≡ address_value (places_of self.now) here address) }
@@ -122,7 +122,7 @@ impl Placing {
     fn are_addresses_outside(
         &self,
         size: u16,
-        all: &Placing,
+        all: &Placing<'a>,
         row: Description,
     ) -> Result<bool, AsmFault>
         ensures value { IfOk result (λ outside. outside
@@ -137,11 +137,11 @@ impl Placing {
                 let b = all.is_operand_outside(size, last, operands.b)?;
                 Ok(a || b)
             },
-            Addressing::EarlierValue(_) | Addressing::Equal(_) => {
+            Addressing::EarlierValue(_) => {
                 let value = self.asked_value(self, row)?;
                 Ok(is_value_outside(size, value, row.next))
             },
-            Addressing::Value(_) => {
+            Addressing::Equal(_) | Addressing::Value(_) => {
                 let value = self.asked_value(all, row)?;
                 Ok(is_value_outside(size, value, row.next))
             },
@@ -154,7 +154,12 @@ impl Placing {
 
     /// Whether a place of a statement here isn't in core, a literal that it places, or an address or a value, by the
     /// values of all labels.
-    fn is_row_outside(&self, size: u16, all: &Placing, row: Description) -> Result<bool, AsmFault>
+    fn is_row_outside(
+        &self,
+        size: u16,
+        all: &Placing<'a>,
+        row: Description,
+    ) -> Result<bool, AsmFault>
         ensures value { IfOk result
             (λ outside. outside ≡ row_outside size (places_of all.now) (places_of self.now) row) }
         ensures err { IfErr result IsMemory }
@@ -169,7 +174,7 @@ impl Placing {
     pub(crate) fn is_line_outside(
         &self,
         size: u16,
-        all: &Placing,
+        all: &Placing<'a>,
         line: &KeptLine,
     ) -> Result<bool, AsmFault>
         ensures value { IfOk result

@@ -10,7 +10,7 @@ ghost use Rattle.autocoder_1401.specs.Warnings.{tests_comparison, is_unset, bran
 ghost use Rattle.autocoder_1401.specs.Warnings.{is_signed_literal, lone_symbol, stays_unsigned, are_unlike};
 ghost use Rattle.autocoder_1401.specs.Warnings.{compares_unlike, longest, ends, open_place, chain_read_on, read_on};
 ghost use Rattle.autocoder_1401.specs.Warnings.{warned_if, warned_of, statement_warnings, line_warnings};
-ghost use Rattle.autocoder_1401.specs.Warnings.{warnings_from, all_warnings};
+ghost use Rattle.autocoder_1401.specs.Warnings.{warnings_from, all_warnings, PlainIsCarriedOut};
 ghost use Rattle.autocoder_1401.specs.Placement.{instruction_length};
 
 use crate::fault::AsmFault;
@@ -376,7 +376,7 @@ fn warnings_of(alloc: Global, this: &Context, lines: &[KeptLine]) -> Result<Vec<
 /// # Errors
 ///
 /// `Memory` if memory is refused or the source has too many lines.
-#[tactic(auto, using(crate::proofs::LanguageLemmas::agrees_with_plain))]
+#[tactic(auto, using(crate::proofs::LanguageLemmas::agrees_with_plain, crate::proofs::PlainWarningsLemmas::plain_is_carried_out))]
 pub fn warnings(
     alloc: Global,
     language: Language,
@@ -387,13 +387,17 @@ pub fn warnings(
 
     // What the plain language takes says the same in each language, and so is warned of the same.
     ensures plain { AgreesWithPlain language size source.now }
+
+    // The machine carries out each instruction of what the plain language takes: no warning tells otherwise.
+    ensures carried_out { IfOk result (λ warnings. PlainIsCarriedOut source.now warnings.items) }
     ensures err { IfErr result IsMemory }
 {
-    let lines = read_lines(alloc, language, source)?;
+    let kept = read_lines(alloc, language, source)?;
+    let lines = kept.as_slice();
     let hashing = SourceHashing::from_source(source);
-    let notes = Notes::new(alloc, hashing, &lines)?;
-    let filling = fill(alloc, hashing, size, &lines)?;
+    let notes = Notes::new(alloc, hashing, lines)?;
+    let filling = fill(alloc, hashing, size, lines)?;
     let this = Context { notes, filling };
-    let warnings = warnings_of(alloc, &this, &lines)?;
+    let warnings = warnings_of(alloc, &this, lines)?;
     Ok(warnings)
 }

@@ -114,17 +114,17 @@ fn help_of(alloc: Global, explanation: Explanation, word: &str) -> Result<String
         }
         Cause::DeclaredLate(line) => {
             return format!(in alloc;
-                "{word} is the label of line {line}, and EQU and ORG take those of earlier lines"
+                "{word} is the label of line {line}, and this operation takes those of earlier lines"
             );
         }
         Cause::KnownLate(line) => {
             return format!(in alloc;
-                "{word} has its value from line {line} on, and EQU, ORG and LTORG take those of earlier lines"
+                "{word} has its value from line {line} on, and ORG and LTORG take those of earlier lines"
             );
         }
         Cause::OfLiteral => {
             return format!(in alloc;
-                "{word} is an area literal, which is placed later than EQU, ORG and LTORG ask for its place"
+                "{word} is an area literal, which is placed later than ORG and LTORG ask for its place"
             );
         }
         Cause::EndlessChain => {

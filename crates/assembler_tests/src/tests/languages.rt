@@ -294,14 +294,15 @@ fn an_asterisk_says_a_value(rt: HostRuntime) -> Result<(), Fail> {
      GO        B    LATER
      HERE      EQU  *+1
                H    HERE
+     LATER     EQU  EXIT+4
      BACK      ORG  *+X00
      EXIT      H
                NOP
                CHAIN3
      BUFFER    DS   3
-     LATER     EQU  EXIT+4
+     TAB       EQU  BUFFER-2+X2
                ORG  BACK
-               MCW  BUFFER-2+X2,BUFFER-2
+               MCW  TAB,TAB+X0
                EX   *
                END
 ";
@@ -318,16 +319,17 @@ END 00340
 0002 00340 B404          GO        B    LATER
 0003 00344               HERE      EQU  *+1
 0004 00344 .344                    H    HERE
-0005 00400               BACK      ORG  *+X00
-0006 00400 .             EXIT      H
-0007 00401 N                       NOP
-0008 00402 NNN                     CHAIN3
-0009 00405               BUFFER    DS   3
-0010 00404               LATER     EQU  EXIT+4
-0011 00348                         ORG  BACK
-0012 00348 M4!5405                 MCW  BUFFER-2+X2,BUFFER-2
-0013 00354                         EX   *
-0014 00340                         END
+0005 00404               LATER     EQU  EXIT+4
+0006 00400               BACK      ORG  *+X00
+0007 00400 .             EXIT      H
+0008 00401 N                       NOP
+0009 00402 NNN                     CHAIN3
+0010 00405               BUFFER    DS   3
+0011 00405               TAB       EQU  BUFFER-2+X2
+0012 00348                         ORG  BACK
+0013 00348 M4!5405                 MCW  TAB,TAB+X0
+0014 00354                         EX   *
+0015 00340                         END
 ";
     assert_eq!(rt; text.as_slice(), wanted.as_slice());
     Ok(())

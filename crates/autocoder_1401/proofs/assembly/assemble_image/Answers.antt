@@ -1,23 +1,38 @@
--- Nothing of any line is outside core storage, so the image lies in it.
+-- The answer is that of the passes; nothing of any line is outside core storage, so the image lies in it.
 use Rattle.std.proofs.Common.{List, ◌∙◌, sym, subst}
 use Rattle.source_1401.specs.declared.statement.Line.{Line}
+use Rattle.std.proofs.lemmas.Result.{err_from_is_err_and}
 use Rattle.image_1401.specs.Image.{IsInCore}
 use Rattle.image_1401.specs.declared.image.Image.{Image}
 use Rattle.autocoder_1401.specs.Assembly.{placed_cells}
 use Rattle.autocoder_1401.specs.Laws.{IsCutOf}
+use Rattle.autocoder_1401.proofs.AssemblyLemmas.{assembled_alone, not_assembled}
 use Rattle.autocoder_1401.proofs.CoreLemmas.{image_inside}
 use Rattle.autocoder_1401.proofs.LawLemmas.{image_cut}
 use Rattle.autocoder_1401.proofs.assembly.assemble_image.Goals as goal
 
+pub returns-in_err-image-clause-exact : goal.returns-in_err-image-clause-exact
+returns-in_err-image-clause-exact c =
+    let p = err_from_is_err_and c.from_residual-in_err-image.result c.from_residual-in_err-image.ensures.1 in
+    rw (p.1, p.2) (not_assembled c.args.language c.args.size c.args.source.now c.as_slice-lines.result.now _
+    (c.as_slice-lines.ensures.value ∙ c.in_ok-kept.ensures.lines) c.in_ok-chains.ensures.none
+    c.in_err-image.ensures.outside)
+
+pub returns-clause-exact : goal.returns-clause-exact
+returns-clause-exact c =
+    assembled_alone c.args.language c.args.size c.args.source.now c.as_slice-lines.result.now c.in_ok-image.image
+    (c.as_slice-lines.ensures.value ∙ c.in_ok-kept.ensures.lines) c.in_ok-chains.ensures.none
+    c.in_ok-image.ensures.inside c.in_ok-image.ensures.ok
+
 pub returns-clause-in_core : goal.returns-clause-in_core
 returns-clause-in_core c size_is =
     subst IsInCore (sym c.in_ok-image.ensures.ok)
-    (image_inside c.args.size c.deref-2.result.now size_is c.in_ok-image.ensures.inside)
+    (image_inside c.args.size c.as_slice-lines.result.now size_is c.in_ok-image.ensures.inside)
 
 pub returns-clause-segments : goal.returns-clause-segments
 returns-clause-segments c size_is =
     subst (λ (lines : List Line). IsCutOf (placed_cells lines) c.in_ok-image.image.segments)
-    (c.deref-2.ensures.value ∙ c.in_ok-lines.ensures.lines)
-    (subst (λ (image : Image). IsCutOf (placed_cells c.deref-2.result.now) image.segments)
+    (c.as_slice-lines.ensures.value ∙ c.in_ok-kept.ensures.lines)
+    (subst (λ (image : Image). IsCutOf (placed_cells c.as_slice-lines.result.now) image.segments)
     (sym c.in_ok-image.ensures.ok)
-    (image_cut c.args.size c.deref-2.result.now size_is c.in_ok-image.ensures.inside))
+    (image_cut c.args.size c.as_slice-lines.result.now size_is c.in_ok-image.ensures.inside))

@@ -4,18 +4,17 @@ use Rattle.autocoder_1401.specs.FirstFault.{first_fault_from, first_place, IsFau
 use Rattle.autocoder_1401.specs.Known.{Declared}
 use Rattle.autocoder_1401.proofs.assembly.scan.Goals as goal
 
-pub returns-clause-ok : goal.returns-clause-ok
-returns-clause-ok c =
-    c.first_fault-fault.ensures.value
-    ∙ ap (λ (declared : Declared). first_fault_from declared first_place c.args.lines.now) c.in_ok-symbols.ensures.ok
+pub returns-clause-fault : goal.returns-clause-fault
+returns-clause-fault c =
+    c.first_fault.ensures.value
+    ∙ ap (λ (declared : Declared). first_fault_from declared first_place c.args.lines.now) c.requires.declared
 
 pub returns-clause-faultless : goal.returns-clause-faultless
 returns-clause-faultless c =
-    subst (λ (declared : Declared). IfNone c.first_fault-fault.result (IsFaultless declared c.args.lines.now))
-    c.in_ok-symbols.ensures.ok c.first_fault-fault.ensures.faultless
+    subst (λ (declared : Declared). IfNone c.first_fault.result (IsFaultless declared c.args.lines.now))
+    c.requires.declared c.first_fault.ensures.faultless
 
 pub returns-clause-first : goal.returns-clause-first
 returns-clause-first c =
-    subst (λ (declared : Declared). IfSome c.first_fault-fault.result
-    (λ fault. IsFirstFault declared c.args.lines.now fault))
-    c.in_ok-symbols.ensures.ok c.first_fault-fault.ensures.first
+    subst (λ (declared : Declared). IfSome c.first_fault.result (λ fault. IsFirstFault declared c.args.lines.now fault))
+    c.requires.declared c.first_fault.ensures.first

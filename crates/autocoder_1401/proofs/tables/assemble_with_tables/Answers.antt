@@ -1,0 +1,31 @@
+-- The answer is that of the passes, and the tables are those of the lines.
+use Rattle.std.proofs.Common.{◌∙◌, ap}
+use Rattle.std.proofs.lemmas.Result.{err_from_is_err_and}
+use Rattle.autocoder_1401.specs.CrossReference.{references_text}
+use Rattle.autocoder_1401.specs.SymbolTable.{symbols_text}
+use Rattle.autocoder_1401.proofs.AssemblyLemmas.{assembled, not_assembled}
+use Rattle.autocoder_1401.proofs.tables.assemble_with_tables.Goals as goal
+
+pub returns-in_err-assembly-clause-exact : goal.returns-in_err-assembly-clause-exact
+returns-in_err-assembly-clause-exact c =
+    let p =
+    err_from_is_err_and c.from_residual-in_err-assembly.result c.from_residual-in_err-assembly.ensures.1 in
+    rw (p.1, p.2) (not_assembled c.args.language c.args.size c.args.source.now c.as_slice-lines.result.now _
+    (c.as_slice-lines.ensures.value ∙ c.in_ok-kept.ensures.lines) c.in_ok-chains.ensures.none
+    c.in_err-assembly.ensures.outside)
+
+pub returns-clause-exact : goal.returns-clause-exact
+returns-clause-exact c =
+    assembled c.args.language c.args.size c.args.source.now c.as_slice-lines.result.now c.in_ok-tables.tables.assembly
+    (c.as_slice-lines.ensures.value ∙ c.in_ok-kept.ensures.lines) c.in_ok-chains.ensures.none
+    c.in_ok-assembly.ensures.inside (c.in_ok-tables.ensures.assembly ∙ c.in_ok-assembly.ensures.ok)
+
+pub returns-clause-symbols : goal.returns-clause-symbols
+returns-clause-symbols c =
+    c.in_ok-tables.ensures.symbols
+    ∙ ap symbols_text (c.as_slice-lines.ensures.value ∙ c.in_ok-kept.ensures.lines)
+
+pub returns-clause-references : goal.returns-clause-references
+returns-clause-references c =
+    c.in_ok-tables.ensures.references
+    ∙ ap references_text (c.as_slice-lines.ensures.value ∙ c.in_ok-kept.ensures.lines)
