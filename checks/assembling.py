@@ -50,7 +50,7 @@ FAULTS_OF_A_KIND = [
       "3:6: LABEL: the operation takes no label"]),
     ("               MLL  TOTL,5\n     TOTAL     EQU  LAST\n     LAST      DCW  #1\n     F              1,2\n" + GOOD,
      ["1:16: OPERATION: MLL is no operation; did you mean MLC?",
-      "2:21: UNDEFINED: LAST is the label of line 3, and EQU and ORG take those of earlier lines",
+      "2:21: UNDEFINED: LAST is the label of line 3, and this operation takes those of earlier lines",
       "4:16: OPERATION: a line without an operation is a field, and no areas are above it"]),
     ("     TOTAL     DCW  #1\n               MLC  TOTL,5\n               B    Q\n" + GOOD,
      ["2:21: UNDEFINED: TOTL is the label of no line; did you mean TOTAL?", "3:21: UNDEFINED: Q is the label of no line"]),
@@ -306,6 +306,7 @@ def all_faults():
 
 
 NO_OPERAND = "WARNING: no operand names the label"
+NEVER_SET = "WARNING: no instruction sets the indicator that the branch tests"
 
 # The examples with a label that no operand names, and the line that has it.
 UNUSED = {"five_and_five": 6, "sort_cards": 14, "sorted_records": 31}
@@ -315,8 +316,7 @@ WARNED = [
     ("     A         H    A\n     B         DCW  #1\n     C         EQU  A\n               END  A\n",
      [f"2:6: {NO_OPERAND}", f"3:6: {NO_OPERAND}"]),
     ("     A         BE   A\n               BAV  A\n               DCW  #1\n               END  A\n",
-     ["1:16: WARNING: no instruction sets the indicator that the branch tests",
-      "2:16: WARNING: no instruction sets the indicator that the branch tests"]),
+     [f"1:16: {NEVER_SET}", f"2:16: {NEVER_SET}"]),
     ("     A         C    A,A\n               BE   A\n               S    A\n               BAV  A\n"
      "               DCW  #1\n               END  A\n", []),
     ("     A         C    +5,B\n               A    +1,B\n     B         DCW  0\n               END  A\n",
@@ -358,7 +358,8 @@ def warnings():
         expect("assemble --all: a long source", ran, 0, "...", f"{source}:1:6: {NO_OPERAND}\n")
 
 
-# Sources of the wider language, each with its image, and with the lines that are warned of.
+# Sources of the wider language, each with its image and its warnings, a line's number and what is told of it; the number
+# alone where the machine hasn't got the instruction.
 OF_OLD_DECKS = [
     (
         "               job  Wages, March 1962: 100 $ [x] {y} ~\n               ent  autocoder  of 1962\n"
@@ -370,17 +371,17 @@ OF_OLD_DECKS = [
     (
         "               job  Wages, March 1962\n               ctl  66\n     x1        equ  89\n               org  500\n"
         "     start     zs   x1\n               mcw  tab+x1,x2\n               mcw  &1,x1+1\n     tab       dcw  @ab@\n"
-        "               end  start\n",
+        "               end\n",
         "IMAGE2 16000\n00500 21 ~!089~M5/9094~M520090~AB~A\nEND 00500\n",
-        [],
+        [(5, f"6: {NO_OPERAND}")],
     ),
     (
         "               ORG  500\n     A         B    A,*,C\n               B    A,/\n               BM   A,B\n"
         "               BIN  A,S\n     B         CC   A,K\n               CCB  A,1\n               SSB  A,4\n"
-        "               MLNS A,B\n               CHAIN2\n               B    A,@X@,,\n               C    A,B\n               END  A\n",
+        "               MLNS A,B\n               CHAIN2\n               B    A,@X@,,\n               END\n",
         "IMAGE2 04000\n00500 40 ~B500507C~B500/~V500526K~B500S~F500K~F5001~K500\n"
-        "00540 26 4~D500526~D~D~B500565,~C500526~X\nEND 00500\n",
-        [],
+        "00540 19 4~D500526~D~D~B500558,~X\nEND 00500\n",
+        [(3, f"16: {NEVER_SET}"), (5, f"16: {NEVER_SET}")],
     ),
     (
         "               ORG  500\n     A         MLZS A,A\n               MLCWAA,A\n               BPCB A\n"
@@ -392,16 +393,16 @@ OF_OLD_DECKS = [
         "               ORG  500\n     AREA      EQU  700\n               RT   1,AREA\n               MCW  %U1,AREA,R\n"
         "               CU   %U2,R\n               WTM  2\n               M    +5,AREA\n               SBR  X1,AREA\n"
         "     SW        NOP  AREA\n               H    1,AREA\n               BCE  SW,AREA,A\n               BCE\n"
-        "               MCM  AREA,201\n               END  500\n",
+        "               MCM  AREA,201\n               END\n",
         "IMAGE2 04000\n00500 40 ~M%U1700R~M%U1700R~U%U2R~U%U2M~@567700~H089700\n"
         "00540 28 ~N700~.001700~B540700A~B~P700201~E\nEND 00500\n",
         [3, 4, 5, 6, 7, 8, 10, 12, 13],
     ),
     (
         "               ORG  500\n               SFX  A\n     LOOP      B    LOOP\n     ENTRY     B    LOOP\n"
-        "               SFX  B\n     LOOP      B    ENTRYA\n               B    LOOP\n               SFX\n               END  ENTRYA\n",
-        "IMAGE2 04000\n00500 16 ~B500~B500~B504~B508\nEND 00504\n",
-        [],
+        "               SFX  B\n     LOOP      B    ENTRYA\n               SFX\n               END  ENTRYA\n",
+        "IMAGE2 04000\n00500 12 ~B500~B500~B504\nEND 00504\n",
+        [(6, f"6: {NO_OPERAND}")],
     ),
     (
         "               ORG  700\n     REC       DA   1X5\n               JOB  Fields\n     KEY            1,2\n"
@@ -470,6 +471,21 @@ OF_LITERALS = [
         "               H    HERE\n               END  GO\n",
         "IMAGE2 04000\n00500 08 ~A507500~X\n00600 04 ~.507\nEND 00500\n",
     ),
+    # an EQU that names a label below it; then some that name one another, an area literal, and one that LTORG names
+    (
+        "               ORG  340\n     GO        B    LATER\n     HERE      EQU  *+1\n               H    HERE\n"
+        "     LATER     EQU  EXIT+4\n     BACK      ORG  *+X00\n     EXIT      H\n               NOP\n               CHAIN3\n"
+        "     BUFFER    DS   3\n     TAB       EQU  BUFFER-2+X2\n               ORG  BACK\n               MCW  TAB,TAB+X0\n"
+        "               EX   *\n               END\n",
+        "IMAGE2 04000\n00340 08 ~B404~.344\n00400 05 ~.~N~N~N~N\n00348 07 ~M4!5405\nEND 00340\n",
+    ),
+    (
+        "               ORG  500\n     GO        B    A\n     A         EQU  B+1\n     B         EQU  C+X2\n"
+        "     C         EQU  D-2+X1\n     D         EQU  LAST\n               MCW  SUM#3,AREA\n     AREA      EQU  SUM-1+X3\n"
+        "     E         EQU  F+10\n     F         EQU  590\n               LTORGE\n     LAST      H    AREA+X0\n"
+        "               END  GO\n",
+        "IMAGE2 04000\n00500 11 ~B6!2~M6026?1\n00600 07 ~   ~.601\nEND 00500\n",
+    ),
     # EQUs that name each other, with an index register on the way, which one of their own replaces
     (
         "               ORG  500\n     GO        B    A\n     D         EQU  GO\n     C         EQU  D+1+X2\n"
@@ -484,10 +500,12 @@ REFUSED_TOGETHER = [
     ("A EQU B / B EQU A / - END", 1, "7 UNDEFINED"),
     ("A EQU A / - END", 1, "7 UNDEFINED"),
     ("A EQU B+1 / B EQU C / C EQU B / - END", 1, "7 UNDEFINED"),
-    ("A EQU B / - ORG A / B DCW #1 / - END", 1, "7 UNDEFINED"),
-    ("A EQU B / B EQU C / - ORG A / C EQU 400 / - END", 1, "7 UNDEFINED"),
+    ("A EQU B / - ORG A / B DCW #1 / - END", 2, "7 UNDEFINED"),
+    ("A EQU B / B EQU C / - ORG A / C EQU 400 / - END", 3, "7 UNDEFINED"),
+    ("A EQU B / B EQU C / - ORG A / - END", 2, "7 UNDEFINED"),
+    ("A EQU B / - END / B DCW #1", 1, "7 UNDEFINED"),
     ("- B 5 / - A SUM#3,5 / - ORG SUM / - END", 3, "7 UNDEFINED"),
-    ("- A SUM#3,5 / A EQU SUM / - EX 5 / - LTORG A / - END", 2, "7 UNDEFINED"),
+    ("- A SUM#3,5 / A EQU SUM / - EX 5 / - LTORG A / - END", 4, "7 UNDEFINED"),
     ("TAG DCW #3 / - A TAG#3,5 / - END", 2, "5 DOUBLE LABEL"),
     ("- A TAG#3,5 / TAG DCW #3 / - END", 2, "5 DOUBLE LABEL"),
     ("TAG A TAG#3,5 / - END", 1, "5 DOUBLE LABEL"),
@@ -631,7 +649,8 @@ def languages():
         for lines, image, warned in OF_OLD_DECKS:
             source.write_text(lines)
             expect("a source of an old deck", run([*call, source]), 0, image)
-            told = "".join(f"old.source:{line}:{NOT_FITTED}\n" for line in warned)
+            numbered = [row if isinstance(row, tuple) else (row, NOT_FITTED) for row in warned]
+            told = "".join(f"old.source:{line}:{text}\n" for line, text in numbered)
             expect("its warnings", run([*call, "--all", "old.source"], cwd=folder), 0, image, told)
             listing = run([*call, "--list", source])
             shown = [line[20:] for line in listing.stdout.decode().splitlines() if line[:4] != "    "]
