@@ -16,7 +16,8 @@ use Rattle.source_1401.specs.declared.language.Language.{Language}
 use Rattle.source_1401.specs.declared.language.Language.TheVariants.{Plain, Ibm}
 use Rattle.source_1401.specs.declared.statement.Line.{Line}
 use Rattle.source_1401.specs.declared.statement.Statement.{Statement}
-use Rattle.autocoder_1401.specs.Chains.{Chains, no_chains, link_in, is_declared_here, with_link, with_labelled, with_line}
+use Rattle.autocoder_1401.specs.Chains.{Chains, no_chains, link_in, is_declared_here, with_link, with_labelled}
+use Rattle.autocoder_1401.specs.Chains.{with_line}
 use Rattle.autocoder_1401.specs.Chains.{links_from, joined, beyond, onward, twice_over, doublings, followed, chains_in}
 use Rattle.autocoder_1401.specs.Chains.{unfollowed, joined_in, one_by_one, Meaning, meant, IsMeant, AreFollowed}
 use Rattle.autocoder_1401.specs.Symbols.{Sites, same_label, up_to_end}

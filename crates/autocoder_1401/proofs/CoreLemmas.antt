@@ -42,7 +42,8 @@ use Rattle.source_1401.specs.declared.statement.Line.{Line}
 use Rattle.source_1401.specs.Operands.{count_of}
 use Rattle.autocoder_1401.specs.Assembly.{entry_in_row, entry_by, entry_with, entry_in, image_of}
 use Rattle.autocoder_1401.specs.Cells.{address_or_zero, plain, marked, with_word_mark, operand_codes, d_codes}
-use Rattle.autocoder_1401.specs.Cells.{constant_codes, constant_cells, literal_codes, literal_cells, with_mark_at, with_field}
+use Rattle.autocoder_1401.specs.Cells.{constant_codes, constant_cells, literal_codes, literal_cells, with_mark_at}
+use Rattle.autocoder_1401.specs.Cells.{with_field}
 use Rattle.autocoder_1401.specs.Cells.{area_cells, chain_cells, instruction_cells, signed_codes, field_cells}
 use Rattle.autocoder_1401.specs.Cells.{address_constant_cells, group_mark}
 use Rattle.autocoder_1401.specs.Cells.{repeated, areas_cells, contents_cells, row_cells, body_cells, statement_cells}

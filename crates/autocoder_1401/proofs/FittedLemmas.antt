@@ -1,5 +1,6 @@
 -- The machine carries out each instruction that the plain language takes.
-use Rattle.std.proofs.Common.{◌≡◌, ℕ, ◌+◌, ◌*◌, ◌==◌, ◌⊎◌, Bool, true, false, not, ◌&&◌, ◌||◌, cond, nat_le, nat_lt, List, [], ◌∷◌}
+use Rattle.std.proofs.Common.{◌≡◌, ℕ, ◌+◌, ◌*◌, ◌==◌, ◌⊎◌, Bool, true, false, not, ◌&&◌, ◌||◌, cond, nat_le, nat_lt}
+use Rattle.std.proofs.Common.{List, [], ◌∷◌}
 use Rattle.std.proofs.Common.{Option, None, Some, refl, sym, ap, ◌∙◌, inl, inr}
 use Rattle.std.proofs.lemmas.Bool.{and_parts, or_parts, not-false, true≢false}
 use Rattle.std.specs.Prelude.{find, is_some}
@@ -9,8 +10,10 @@ use Rattle.std.specs.Str.{bytes_eq}
 use Rattle.source_1401.specs.Address.{address_of}
 use Rattle.source_1401.specs.Constant.{constant_of}
 use Rattle.source_1401.specs.Description.{describe}
-use Rattle.source_1401.specs.Mnemonic.{ARow, AnOwnRow, instructions, assembler_operations, instruction_in, either_operation}
-use Rattle.source_1401.specs.Operands.{count_of, d_at, d_by, d_of, first_operand, second_operand, is_ended, is_malformed, operands_of}
+use Rattle.source_1401.specs.Mnemonic.{ARow, AnOwnRow, instructions, assembler_operations, instruction_in}
+use Rattle.source_1401.specs.Mnemonic.{either_operation}
+use Rattle.source_1401.specs.Operands.{count_of, d_at, d_by, d_of, first_operand, second_operand, is_ended}
+use Rattle.source_1401.specs.Operands.{is_malformed, operands_of}
 use Rattle.source_1401.specs.Operands.{has_malformed, read_operand, operand_in, operand_of, field_of}
 use Rattle.source_1401.specs.Operands.{as_literal, field_with, begins_literal}
 use Rattle.source_1401.specs.Punctuation.{comma}

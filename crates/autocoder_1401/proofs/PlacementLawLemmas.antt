@@ -34,7 +34,7 @@ use Rattle.autocoder_1401.specs.PlacementLaws.{total, with_use}
 use Rattle.autocoder_1401.specs.PlacementLaws.{IsPlacedInTurn}
 use Rattle.autocoder_1401.specs.Symbols.{sites_of}
 use Rattle.autocoder_1401.specs.declared.literals.LiteralKey.{LiteralKey}
-use Rattle.autocoder_1401.specs.declared.placing.SymbolValue.{SymbolValue}
+use Rattle.autocoder_1401.specs.declared.symbol_values.SymbolValue.{SymbolValue}
 use Rattle.autocoder_1401.proofs.CoreLemmas.{behind_total}
 use Rattle.autocoder_1401.proofs.StandingLemmas.{stands_behind}
 

@@ -3,7 +3,8 @@ use Rattle.std.proofs.Common.{◌≡◌, ℕ, ◌+◌, ◌<◌, List, [], ◌∷
 use Rattle.std.proofs.Common.{Option, refl, sym, ap, ◌∙◌, add-one, drop-cons}
 use Rattle.std.proofs.lemmas.List.{append_assoc}
 use Rattle.source_1401.specs.declared.description.Description.{Description}
-use Rattle.autocoder_1401.specs.Placement.{Placement, units_from, gone_on, with_ends, first_of_two, end_of_two, behind_row}
+use Rattle.autocoder_1401.specs.Placement.{Placement, units_from, gone_on, with_ends, first_of_two, end_of_two}
+use Rattle.autocoder_1401.specs.Placement.{behind_row}
 use Rattle.autocoder_1401.specs.Literals.{key_length}
 use Rattle.autocoder_1401.specs.declared.literals.LiteralKey.{LiteralKey}
 

@@ -1,5 +1,6 @@
 -- The machine carries out each instruction that the plain language takes, and so no warning tells otherwise.
-use Rattle.std.proofs.Common.{◌≡◌, ◌≢◌, ℕ, ◌+◌, Bool, true, false, cond, not, ◌&&◌, List, [], ◌∷◌, map, Option, None, Some}
+use Rattle.std.proofs.Common.{◌≡◌, ◌≢◌, ℕ, ◌+◌, Bool, true, false, cond, not, ◌&&◌, List, [], ◌∷◌, map, Option, None}
+use Rattle.std.proofs.Common.{Some}
 use Rattle.std.specs.List.{list_all}
 use Rattle.std.specs.Option.{option_map_or}
 use Rattle.std.proofs.lemmas.Bool.{and_parts, not-true, true≢false}
@@ -8,7 +9,8 @@ use Rattle.bcd_1401.specs.declared.cell.Cell.{Cell}
 use Rattle.source_1401.specs.Description.{describe}
 use Rattle.source_1401.specs.Language.{are_good, is_sound, is_sound_statement}
 use Rattle.source_1401.specs.SourceLine.{columns_in, columns_of, is_comment, lines_of}
-use Rattle.source_1401.specs.Statement.{has_bad_label, has_bad_operands, lacks_field_label, line_of, statement_of, well_formed}
+use Rattle.source_1401.specs.Statement.{has_bad_label, has_bad_operands, lacks_field_label, line_of, statement_of}
+use Rattle.source_1401.specs.Statement.{well_formed}
 use Rattle.source_1401.specs.declared.language.Language.{Language}
 use Rattle.source_1401.specs.declared.language.Language.TheVariants.{Plain}
 use Rattle.source_1401.specs.declared.statement.Statement.{Statement}
@@ -16,8 +18,10 @@ use Rattle.autocoder_1401.specs.Assembly.{lines_in}
 use Rattle.autocoder_1401.specs.Filling.{addresses_of, filled}
 use Rattle.autocoder_1401.specs.FirstFault.{first_place}
 use Rattle.autocoder_1401.specs.Known.{declared_at}
-use Rattle.autocoder_1401.specs.Warnings.{Known, known_in, is_not_fitted, is_unused, branches_unset, compares_unlike, read_on}
-use Rattle.autocoder_1401.specs.Warnings.{warned_if, warned_of, statement_warnings, line_warnings, warnings_from, all_warnings}
+use Rattle.autocoder_1401.specs.Warnings.{Known, known_in, is_not_fitted, is_unused, branches_unset, compares_unlike}
+use Rattle.autocoder_1401.specs.Warnings.{read_on}
+use Rattle.autocoder_1401.specs.Warnings.{warned_if, warned_of, statement_warnings, line_warnings, warnings_from}
+use Rattle.autocoder_1401.specs.Warnings.{all_warnings}
 use Rattle.autocoder_1401.specs.Warnings.{AllFitted, PlainIsCarriedOut}
 use Rattle.autocoder_1401.specs.declared.warning.Warning.{Warning}
 use Rattle.autocoder_1401.specs.declared.warning.WarningKind.{WarningKind}

@@ -29,11 +29,12 @@ use Rattle.source_1401.specs.declared.statement.Line.{Line}
 use Rattle.autocoder_1401.specs.Literals.{key_of, same_key, key_length}
 use Rattle.autocoder_1401.specs.Cells.{literal_value}
 use Rattle.autocoder_1401.specs.Placement.{Placement, pending, units_from, with_literal, with_operand, with_uses}
-use Rattle.autocoder_1401.specs.Placement.{with_areas, own_value, moved, start_by, start_of, behind_body, label_value, with_label, after_line}
+use Rattle.autocoder_1401.specs.Placement.{with_areas, own_value, moved, start_by, start_of, behind_body, label_value}
+use Rattle.autocoder_1401.specs.Placement.{with_label, after_line}
 use Rattle.autocoder_1401.specs.PlacementLaws.{total, places_by, places_in, places_with, with_use}
 use Rattle.autocoder_1401.specs.contracts.literals.LiteralKeyEq.TheImpl.Laws as key_laws
 use Rattle.autocoder_1401.specs.declared.literals.LiteralKey.{LiteralKey}
-use Rattle.autocoder_1401.specs.declared.placing.SymbolValue.{SymbolValue}
+use Rattle.autocoder_1401.specs.declared.symbol_values.SymbolValue.{SymbolValue}
 use Rattle.autocoder_1401.proofs.CoreLemmas.{neither}
 
 -- what a list has at a place, it has there with more after it

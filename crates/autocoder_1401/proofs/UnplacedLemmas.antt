@@ -21,10 +21,11 @@ use Rattle.source_1401.specs.declared.statement.Statement.{Statement}
 use Rattle.autocoder_1401.specs.Chains.{chains_of}
 use Rattle.autocoder_1401.specs.Literals.{key_of, same_key}
 use Rattle.autocoder_1401.specs.Placement.{Placement, nothing_placed, with_literal, with_operand, with_uses, with_areas}
-use Rattle.autocoder_1401.specs.Placement.{moved, behind_row, behind_body, with_label, label_value, after_line, unplaced}
+use Rattle.autocoder_1401.specs.Placement.{moved, behind_row, behind_body, with_label, label_value, after_line}
+use Rattle.autocoder_1401.specs.Placement.{unplaced}
 use Rattle.autocoder_1401.specs.Placement.{placed}
 use Rattle.autocoder_1401.specs.Symbols.{sites_of}
-use Rattle.autocoder_1401.specs.declared.placing.SymbolValue.{SymbolValue}
+use Rattle.autocoder_1401.specs.declared.symbol_values.SymbolValue.{SymbolValue}
 
 literal_chains : (this : Placement) (literal : Literal) → (with_literal this literal).chains ≡ this.chains
 literal_chains this literal = by (list_any (same_key (key_of literal)) this.literals)

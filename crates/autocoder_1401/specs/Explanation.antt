@@ -1,5 +1,6 @@
 -- What is wrong at a fault, and in which columns (own).
-use Rattle.std.specs.Prelude.{ℕ, ◌-◌, Bool, false, not, ◌&&◌, ◌||◌, nat_lt, if◌then◌else◌, List, [], ◌∷◌, ◌++◌, length, map}
+use Rattle.std.specs.Prelude.{ℕ, ◌-◌, Bool, false, not, ◌&&◌, ◌||◌, nat_lt, if◌then◌else◌, List, [], ◌∷◌, ◌++◌, length}
+use Rattle.std.specs.Prelude.{map}
 use Rattle.std.specs.Prelude.{unwrap_or, slice_get, is_some, Option, None, Some}
 use Rattle.std.specs.Option.{option_map_or, option_or, option_and_then}
 use Rattle.source_1401.specs.AreaLiterals.{DeclaredAreas, areas_of_line}
@@ -12,6 +13,8 @@ use Rattle.source_1401.specs.SourceLine.{columns_in}
 use Rattle.source_1401.specs.Statement.{label_of_line}
 use Rattle.source_1401.specs.declared.description.Addressing.{Addressing}
 use Rattle.source_1401.specs.declared.description.Addressing.TheVariants as addressing
+use Rattle.source_1401.specs.declared.description.Relation.{Relation}
+use Rattle.source_1401.specs.declared.description.Relation.TheVariants as relations
 use Rattle.source_1401.specs.declared.flaw.Flaw.{Flaw}
 use Rattle.source_1401.specs.declared.flaw.OperationFlaw.{OperationFlaw}
 use Rattle.source_1401.specs.declared.flaw.OperationFlaw.TheVariants as operation_flaws
@@ -22,7 +25,6 @@ use Rattle.source_1401.specs.declared.label.LabelField.{LabelField}
 use Rattle.source_1401.specs.declared.label.LabelField.TheVariants as labels
 use Rattle.source_1401.specs.declared.literal.AreaLiteral.{AreaLiteral}
 use Rattle.source_1401.specs.declared.statement.Body.{Body}
-use Rattle.source_1401.specs.declared.statement.Body.TheVariants as bodies
 use Rattle.source_1401.specs.declared.statement.LineCheck.{LineCheck}
 use Rattle.source_1401.specs.declared.statement.Line.{Line}
 use Rattle.source_1401.specs.declared.statement.Statement.{Statement}
@@ -102,37 +104,19 @@ operation_fault operation_flaws.Displaced = causes.OperationDisplaced
 operation_fault (operation_flaws.Unknown nearest) = causes.OperationUnknown nearest
 
 -- why an operation isn't known: a CTL is above this one, or no instruction above CHAIN, or there is none of the name
-abbrev pub unknown_cause : OperationFlaw → Body → Cause
-unknown_cause flaw bodies.Unknown = operation_fault flaw
-unknown_cause flaw (bodies.Instruction instruction of) = operation_fault flaw
-unknown_cause flaw (bodies.MarkedConstant constant) = operation_fault flaw
-unknown_cause flaw (bodies.Constant constant) = operation_fault flaw
-unknown_cause flaw (bodies.Space places) = operation_fault flaw
-unknown_cause flaw (bodies.Areas areas) = operation_fault flaw
-unknown_cause flaw (bodies.Field span) = operation_fault flaw
-unknown_cause flaw (bodies.Equate of) = operation_fault flaw
-unknown_cause flaw (bodies.Origin of) = operation_fault flaw
-unknown_cause flaw (bodies.Execute of) = operation_fault flaw
-unknown_cause flaw (bodies.End of) = operation_fault flaw
-unknown_cause flaw (bodies.Heading is_well_formed) = operation_fault flaw
-unknown_cause flaw (bodies.Control size) = operation_fault flaw
-unknown_cause flaw bodies.SecondControl = causes.ControlledBefore
-unknown_cause flaw (bodies.Suffix suffix) = operation_fault flaw
-unknown_cause flaw (bodies.Transfer of) = operation_fault flaw
-unknown_cause flaw (bodies.Chain chain) = causes.NothingAbove
-unknown_cause flaw (bodies.AddressConstant constant) = operation_fault flaw
-unknown_cause flaw (bodies.LabelledOrigin of) = operation_fault flaw
-unknown_cause flaw (bodies.LiteralOrigin of) = operation_fault flaw
-unknown_cause flaw (bodies.WideField span) = operation_fault flaw
-unknown_cause flaw (bodies.WideEquate of) = operation_fault flaw
-unknown_cause flaw (bodies.WideExecute of) = operation_fault flaw
-unknown_cause flaw (bodies.WideEnd of) = operation_fault flaw
+abbrev pub unknown_cause : OperationFlaw → Relation → Cause
+unknown_cause flaw relations.Apart = operation_fault flaw
+unknown_cause flaw (relations.Repeated operation) = operation_fault flaw
+unknown_cause flaw (relations.Repeats chain) = causes.NothingAbove
+unknown_cause flaw (relations.Control size) = operation_fault flaw
+unknown_cause flaw relations.SecondControl = causes.ControlledBefore
+unknown_cause flaw (relations.Suffix suffix) = operation_fault flaw
 
 -- what is wrong with an operation: it isn't known, or there are no areas above a field
 abbrev pub operation_cause : Language → List ℕ → Body → Cause
 operation_cause language columns body =
     if (describe body).is_known then causes.NoAreas
-    else unknown_cause (operation_flaw_in language (columns_in 16 20 columns)) body
+    else unknown_cause (operation_flaw_in language (columns_in 16 20 columns)) (describe body).relation
 
 -- it is the second operand that has no label: no line has it, or the first operand's is there
 abbrev pub is_second : Sites → Sites → Addressing → Bool

@@ -26,7 +26,8 @@ use Rattle.source_1401.specs.declared.statement.Statement.{Statement}
 use Rattle.source_1401.specs.declared.statement.Line.{Line}
 use Rattle.autocoder_1401.specs.Cells.{contents_cells, literal_cells}
 use Rattle.autocoder_1401.specs.Literals.{key_of}
-use Rattle.autocoder_1401.specs.Placement.{Placement, point_value, behind_literal, start_of, after_line, unplaced, placed}
+use Rattle.autocoder_1401.specs.Placement.{Placement, point_value, behind_literal, start_of, after_line, unplaced}
+use Rattle.autocoder_1401.specs.Placement.{placed}
 
 -- the number of a line in at least four digits; four blanks for a line that isn't in the source
 unfoldable pub number_text : Option ℕ → List ℕ

@@ -41,7 +41,7 @@ use Rattle.autocoder_1401.specs.Symbols.{same_label, sites_of}
 use Rattle.autocoder_1401.specs.declared.chains.Link.{Link}
 use Rattle.autocoder_1401.specs.declared.literals.LiteralKey.{LiteralKey}
 use Rattle.autocoder_1401.specs.declared.literals.LiteralKey.TheVariants as keys
-use Rattle.autocoder_1401.specs.declared.placing.SymbolValue.{SymbolValue}
+use Rattle.autocoder_1401.specs.declared.symbol_values.SymbolValue.{SymbolValue}
 
 -- what is placed so far: the chains of EQUs of all lines, the next place, the first place of the last areas, the place
 -- that the labels of their fields are counted from and the index of these, the place of the first instruction, the next

@@ -12,7 +12,7 @@ ghost use Rattle.autocoder_1401.specs.View.{chains_view};
 use crate::fault::AsmFault;
 use crate::hashing::SourceHashing;
 use crate::kept_line::KeptLine;
-use crate::placing::checked_sum;
+use crate::lengths::checked_sum;
 use crate::symbols::{Sites, is_label_before};
 use indexmap::IndexSet;
 use source_1401::{

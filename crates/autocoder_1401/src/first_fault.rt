@@ -6,7 +6,8 @@ ghost use Rattle.autocoder_1401.specs.View.{symbols_view};
 ghost use Rattle.autocoder_1401.specs.FirstFault.{first_place, place_behind, areas_behind, bad_label};
 ghost use Rattle.autocoder_1401.specs.FirstFault.{double_label, is_area, double_area, is_double, bad_operation};
 ghost use Rattle.autocoder_1401.specs.FirstFault.{symbol_in_base, symbol_in_literal, symbol_in, is_undefined};
-ghost use Rattle.autocoder_1401.specs.FirstFault.{is_unknown_before, may_equal, is_unequal, undefined, is_past_areas, bad_operands};
+ghost use Rattle.autocoder_1401.specs.FirstFault.{is_unknown_before, may_equal, is_unequal, undefined, is_past_areas};
+ghost use Rattle.autocoder_1401.specs.FirstFault.{bad_operands};
 ghost use Rattle.autocoder_1401.specs.FirstFault.{lowest_in, lowest, first_fault_from, IsClean, IsLowest, IsFaultless};
 ghost use Rattle.autocoder_1401.specs.FirstFault.{IsFirstFault};
 

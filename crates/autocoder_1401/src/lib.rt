@@ -18,6 +18,8 @@ mod symbols; // which line declares a symbol
 mod chains; // what a label stands for whose EQU names one without a value so far
 mod known; // from which line on the value of a symbol is known
 mod first_fault; // faults of kinds 2 to 8, 10 and 11
+mod lengths; // how many places what a statement says takes
+mod symbol_values; // what symbols and operands stand for, by what is placed so far
 mod placing; // where statements and literals are placed
 mod values; // the values of addresses, and what isn't in core: kind 9
 mod characters; // the characters of constants

@@ -16,8 +16,9 @@ ghost use Rattle.autocoder_1401.specs.View.{places_of};
 use crate::cells::{put_contents, put_literal};
 use crate::fault::AsmFault;
 use crate::kept_line::KeptLine;
+use crate::lengths::checked_sum;
 use crate::literals::LiteralKey;
-use crate::placing::{Placing, checked_sum};
+use crate::placing::Placing;
 use crate::printing::{
     cut_last_blanks, put_address, put_characters, put_literal_spelling, put_number,
 };

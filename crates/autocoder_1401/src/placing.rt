@@ -1,5 +1,5 @@
 //! Where statements and literals are placed.
-ghost use Rattle.std.specs.Prelude.{◌≡◌, ◌+◌, ◌*◌, ◌<◌, ◌≤◌, ◌+ℤ◌, ◌++◌, Some, drop, fold, IfOk, IfErr, OnOk};
+ghost use Rattle.std.specs.Prelude.{◌≡◌, ◌+◌, ◌++◌, Some, drop, fold, IfOk, IfErr, OnOk};
 ghost use Rattle.indexmap.specs.IndexMap.{get};
 ghost use Rattle.source_1401.specs.Statement.{well_formed};
 ghost use Rattle.autocoder_1401.specs.Chains.{chains_of, link_of};
@@ -8,50 +8,30 @@ ghost use Rattle.autocoder_1401.specs.Fault.{IsMemory};
 ghost use Rattle.autocoder_1401.specs.Symbols.{same_label, sites_of};
 ghost use Rattle.autocoder_1401.specs.Placement.{nothing_placed, with_literal, with_operand, with_pending, with_uses};
 ghost use Rattle.autocoder_1401.specs.Placement.{pending, behind_literals, units_from, with_area, with_area_labels};
-ghost use Rattle.autocoder_1401.specs.Placement.{instruction_length, constant_length, areas_length, chain_length};
-ghost use Rattle.autocoder_1401.specs.Placement.{contents_length};
-ghost use Rattle.autocoder_1401.specs.Placement.{register_value, next_hundred, no_symbol, symbol_by, symbol_behind, symbols_of};
-ghost use Rattle.autocoder_1401.specs.Placement.{base_value, value_so_far, base_index, address_index, index_so_far};
-ghost use Rattle.autocoder_1401.specs.Placement.{asterisk_place, entry_value, asked_value, first_of_two, end_of_two};
-ghost use Rattle.autocoder_1401.specs.Placement.{counted_from, index_of_fields, with_areas, own_value, start_by, start_of};
-ghost use Rattle.autocoder_1401.specs.Placement.{with_ends, point_value, point_index, label_value, moved, gone_on};
-ghost use Rattle.autocoder_1401.specs.Placement.{behind_row, with_label, after_line, placed};
+ghost use Rattle.autocoder_1401.specs.Placement.{contents_length, symbols_of, value_so_far, index_so_far, asked_value};
+ghost use Rattle.autocoder_1401.specs.Placement.{first_of_two, end_of_two, counted_from, index_of_fields, with_areas};
+ghost use Rattle.autocoder_1401.specs.Placement.{own_value, start_by, start_of, with_ends, point_value, point_index};
+ghost use Rattle.autocoder_1401.specs.Placement.{label_value, moved, gone_on, behind_row, with_label, after_line};
+ghost use Rattle.autocoder_1401.specs.Placement.{placed};
 ghost use Rattle.autocoder_1401.specs.Values.{last_place};
 ghost use Rattle.autocoder_1401.specs.View.{chains_view, places_of};
-ghost use Rattle.source_1401.specs.Operands.{count_of};
 
-use crate::chains::{Chains, Link};
-use crate::characters::Characters;
+use crate::chains::Chains;
 use crate::fault::AsmFault;
 use crate::hashing::SourceHashing;
 use crate::kept_line::KeptLine;
+use crate::lengths::{checked_sum, contents_length, last_place};
 use crate::literals::LiteralKey;
+use crate::symbol_values::{SymbolValue, Values};
 use indexmap::{IndexMap, IndexSet};
 use source_1401::{
-    Address, Addressing, AreaRole, Areas, Base, Body, Chain, Constant, Contents, Description,
-    Label, LabelField, Literal, Next, Operand, OperandField, Operands, Point, Statement,
+    Addressing, AreaRole, Areas, Body, Contents, Description, Label, LabelField, Literal, Next,
+    Operand, OperandField, Point, Statement,
 };
 use std::alloc::Global;
 
 /// Where a program is placed without ORG.
-const USUAL_PLACE: i64 = 333;
-
-/// What a symbol stands for.
-#[derive(Clone, Copy, Debug, PartialEq, Eq)]
-pub(crate) struct SymbolValue {
-    /// Its value.
-    pub value: i64,
-    /// The number of the index register that an operand takes from it, 0 for none.
-    pub index: u8,
-}
-
-impl SymbolValue {
-    /// A symbol that no label has.
-    const NONE: SymbolValue = SymbolValue { value: 0, index: 0 };
-}
-
-/// The values of labels.
-pub(crate) type Values = IndexMap<Label, SymbolValue, SourceHashing>;
+pub(crate) const USUAL_PLACE: i64 = 333;
 
 /// What is placed so far.
 #[derive(Drop)]
@@ -82,104 +62,6 @@ pub(crate) struct Placing<'a> {
     pub hashing: SourceHashing,
 }
 
-/// Adds; an overflow, far beyond any core, is reported as `Memory`.
-pub(crate) fn checked_sum(one: i64, other: i64) -> Result<i64, AsmFault>
-    ensures sum { IfOk result (λ sum. sum ≡ one +ℤ other) }
-    ensures err { IfErr result IsMemory }
-{
-    match one.checked_add(other) {
-        Some(sum) => Ok(sum),
-        None => Err(AsmFault::MEMORY),
-    }
-}
-
-/// The last of the places of a length from the first on.
-pub(crate) fn last_place(first: i64, length: u32) -> Result<i64, AsmFault>
-    ensures value { IfOk result (λ last. last ≡ last_place first length) }
-    ensures err { IfErr result IsMemory }
-{
-    let behind = checked_sum(first, i64::from(length))?;
-    checked_sum(behind, -1)
-}
-
-/// How many places an operand takes.
-fn operand_length(field: OperandField) -> u32
-    ensures { result ≡ 3 * count_of field }
-{
-    match field {
-        OperandField::Absent => 0,
-        OperandField::Malformed | OperandField::Operand(_) => 3,
-    }
-}
-
-/// How many places an instruction takes.
-pub(crate) fn instruction_length(operands: Operands) -> u32
-    ensures value { result ≡ instruction_length operands }
-    ensures bound { result ≤ 8 }
-{
-    let d = if operands.d.is_some() { 1 } else { 0 };
-    1 + operand_length(operands.a) + operand_length(operands.b) + d
-}
-
-/// How many places a constant takes.
-fn constant_length(constant: Option<Constant>) -> u32
-    ensures { result ≡ constant_length constant }
-{
-    match constant {
-        Some(constant) => u32::from(Characters::from_constant(constant).len),
-        None => 0,
-    }
-}
-
-/// How many places areas take, with the group mark behind them.
-fn areas_length(areas: Areas) -> u32
-    ensures { result ≡ areas_length (Some areas) }
-{
-    let behind = if areas.has_group_mark { 1 } else { 0 };
-    u32::from(areas.count) * u32::from(areas.length) + behind
-}
-
-/// How many places the instructions of a chain take.
-pub(crate) fn chain_length(chain: Chain) -> u32
-    ensures value { result ≡ chain_length chain }
-    ensures bound { result < 256 }
-{
-    match chain.count {
-        Some(count) => u32::from(count),
-        None => 0,
-    }
-}
-
-/// How many places contents fill.
-pub(crate) fn contents_length(contents: Contents) -> u32
-    ensures { result ≡ contents_length contents }
-{
-    match contents {
-        Contents::Nothing | Contents::Space(None) | Contents::Areas(None) => 0,
-        Contents::Instruction(_, operands) => instruction_length(operands),
-        Contents::MarkedConstant(constant) | Contents::Constant(constant) => {
-            constant_length(constant)
-        },
-        Contents::Space(Some(places)) => u32::from(places),
-        Contents::Areas(Some(areas)) => areas_length(areas),
-        Contents::Chain(chain) => chain_length(chain),
-        Contents::AddressConstant(_) => 3,
-    }
-}
-
-/// The first place from this one on whose number ends in 00.
-fn next_hundred(at: i64) -> Result<i64, AsmFault>
-    ensures value { IfOk result (λ place. place ≡ next_hundred at) }
-    ensures err { IfErr result IsMemory }
-{
-    if at >= 0 {
-        let hundreds = checked_sum(at, 99)? as u64 / 100;
-        Ok((hundreds * 100) as i64)
-    } else {
-        Ok(0)
-    }
-}
-
 /// The place of the first instruction, once contents begin at a place.
 fn first_of_two(first: Option<i64>, place: i64, contents: Contents) -> Option<i64>
     ensures { result ≡ first_of_two first place contents }
@@ -208,24 +90,6 @@ fn end_of_two(before: i64, place: i64, addressing: Addressing) -> i64
         | Addressing::Equal(_)
         | Addressing::Value(_) => before,
     }
-}
-
-/// The place that an asterisk is in a value.
-fn asterisk_place(next: i64, step: Next) -> Result<i64, AsmFault>
-    ensures value { IfOk result (λ place. place ≡ asterisk_place next step) }
-    ensures err { IfErr result IsMemory }
-{
-    match step {
-        Next::Behind | Next::Literals => checked_sum(next, -1),
-        Next::Value | Next::LiteralsAtValue => Ok(next),
-    }
-}
-
-/// The units place of an index register.
-pub(crate) fn register_value(number: u8) -> i64
-    ensures { result ≡ register_value number }
-{
-    84 + 5 * i64::from(number)
 }
 
 /// The place that the labels of fields of areas are counted from, which begin at a place.
@@ -350,144 +214,6 @@ impl<'a> Placing<'a> {
         ensures { result.now ≡ pending (places_of self.now) }
     {
         behind(&self.literals, self.addresses.len())
-    }
-
-    /// A symbol by the values of labels so far.
-    fn symbol_by(&self, label: Label) -> SymbolValue
-        ensures { result ≡ symbol_by (places_of self.now).values label }
-    {
-        self.values
-            .get(&label)
-            .copied()
-            .unwrap_or(SymbolValue::NONE)
-    }
-
-    /// A symbol by the end of its chain, by the values of labels so far.
-    fn symbol_behind(&self, link: Link) -> Result<SymbolValue, AsmFault>
-        ensures symbol { IfOk result (λ symbol. symbol ≡ symbol_behind (places_of self.now).values link) }
-        ensures err { IfErr result IsMemory }
-    {
-        let last = self.symbol_by(link.to);
-        Ok(SymbolValue {
-            value: checked_sum(last.value, link.added)?,
-            index: link.index.unwrap_or(last.index),
-        })
-    }
-
-    /// What a symbol stands for so far.
-    pub(crate) fn symbol(&self, label: Label) -> Result<SymbolValue, AsmFault>
-        ensures symbol { IfOk result (λ symbol. symbol ≡ symbols_of (places_of self.now) label) }
-        ensures err { IfErr result IsMemory }
-    {
-        match self.chains.link_of(label) {
-            Some(link) => self.symbol_behind(link),
-            None => Ok(self.symbol_by(label)),
-        }
-    }
-
-    /// The value so far of what an address is counted from, with this place for an asterisk.
-    pub(crate) fn base_value(&self, here: i64, base: Base) -> Result<i64, AsmFault>
-        ensures value { IfOk result (λ value. value ≡ base_value (symbols_of (places_of self.now)) here base) }
-        ensures err { IfErr result IsMemory }
-    {
-        match base {
-            Base::Number(number) => Ok(i64::from(number)),
-            Base::Symbol(label) => Ok(self.symbol(label)?.value),
-            Base::Here => Ok(here),
-            Base::Register(number) => Ok(register_value(number)),
-            Base::NextHundred => next_hundred(here),
-        }
-    }
-
-    /// The value of an operand by the values so far, with this place for an asterisk.
-    fn value_so_far(&self, here: i64, field: OperandField) -> Result<i64, AsmFault>
-        ensures value { IfOk result (λ value. value ≡ value_so_far (symbols_of (places_of self.now)) here field) }
-        ensures err { IfErr result IsMemory }
-    {
-        match field {
-            OperandField::Operand(Operand::Address(address)) => checked_sum(
-                self.base_value(here, address.base)?,
-                i64::from(address.adjustment),
-            ),
-            OperandField::Operand(Operand::Literal(_) | Operand::Unit(_))
-            | OperandField::Absent
-            | OperandField::Malformed => Ok(0),
-        }
-    }
-
-    /// The index of a symbol so far.
-    fn symbol_index(&self, label: Label) -> u8
-        ensures { result ≡ (symbols_of (places_of self.now) label).index }
-    {
-        match self.chains.link_of(label) {
-            Some(link) => link.index.unwrap_or(self.symbol_by(link.to).index),
-            None => self.symbol_by(label).index,
-        }
-    }
-
-    /// The index of a symbol so far as the base of an address.
-    fn base_index(&self, base: Base) -> u8
-        ensures { result ≡ base_index (symbols_of (places_of self.now)) base }
-    {
-        match base {
-            Base::Symbol(label) => self.symbol_index(label),
-            Base::Number(_) | Base::Here | Base::Register(_) | Base::NextHundred => 0,
-        }
-    }
-
-    /// The index of an address by the values so far.
-    pub(crate) fn address_index(&self, address: Address) -> u8
-        ensures { result ≡ address_index (symbols_of (places_of self.now)) address }
-    {
-        match address.index {
-            Some(index) => index,
-            None => self.base_index(address.base),
-        }
-    }
-
-    /// The index of an operand by the values so far.
-    fn index_so_far(&self, field: OperandField) -> u8
-        ensures { result ≡ index_so_far (symbols_of (places_of self.now)) field }
-    {
-        match field {
-            OperandField::Operand(Operand::Address(address)) => self.address_index(address),
-            OperandField::Operand(Operand::Literal(_) | Operand::Unit(_))
-            | OperandField::Absent
-            | OperandField::Malformed => 0,
-        }
-    }
-
-    /// Where a program begins by the operand of END, once all is placed.
-    pub(crate) fn entry_value(&self, field: OperandField) -> Result<i64, AsmFault>
-        ensures value { IfOk result (λ value. value ≡ entry_value (places_of self.now) field) }
-        ensures err { IfErr result IsMemory }
-    {
-        match field {
-            OperandField::Absent => Ok(self.first_instruction.unwrap_or(USUAL_PLACE)),
-            OperandField::Malformed => Ok(0),
-            OperandField::Operand(_) => {
-                let here = asterisk_place(self.before_end, Next::Literals)?;
-                self.value_so_far(here, field)
-            },
-        }
-    }
-
-    /// The value that a statement here asks for, by the labels of what is placed by others.
-    pub(crate) fn asked_value(&self, by: &Placing<'a>, row: Description) -> Result<i64, AsmFault>
-        ensures value { IfOk result (λ value. value
-            ≡ asked_value (places_of by.now) (places_of self.now) row.next row.addressing) }
-        ensures err { IfErr result IsMemory }
-    {
-        match row.addressing {
-            Addressing::Nothing => Ok(0),
-            Addressing::Addresses(operands)
-            | Addressing::EarlierValue(operands)
-            | Addressing::Equal(operands)
-            | Addressing::Value(operands) => {
-                by.value_so_far(asterisk_place(self.next, row.next)?, operands.a)
-            },
-            Addressing::Entry(operands) => by.entry_value(operands.a),
-        }
     }
 
     /// The place that a statement's point names, with its operand by the labels of what is placed by others.

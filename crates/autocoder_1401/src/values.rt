@@ -9,8 +9,9 @@ ghost use Rattle.autocoder_1401.specs.View.{places_of};
 
 use crate::fault::AsmFault;
 use crate::kept_line::KeptLine;
+use crate::lengths::{checked_sum, contents_length, last_place};
 use crate::literals::LiteralKey;
-use crate::placing::{Placing, behind_literals, checked_sum, contents_length, last_place};
+use crate::placing::{Placing, behind_literals};
 use source_1401::{
     Address, Addressing, Description, Literal, Next, Operand, OperandField, Statement,
 };

@@ -18,8 +18,8 @@ use crate::filling::{Filling, fill};
 use crate::fitted::is_fitted;
 use crate::hashing::SourceHashing;
 use crate::kept_line::KeptLine;
+use crate::lengths::{chain_length, instruction_length};
 use crate::notes::Notes;
-use crate::placing::{chain_length, instruction_length};
 use crate::reading::read_lines;
 use bcd_1401::{Cell, Char};
 use source_1401::{

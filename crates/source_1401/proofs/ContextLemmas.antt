@@ -17,7 +17,8 @@ use Rattle.source_1401.specs.Label.{is_digit, label_of, label_in}
 use Rattle.source_1401.specs.Language.{is_sound, line_in}
 use Rattle.source_1401.specs.Mnemonic.{operation_of}
 use Rattle.source_1401.specs.Numbers.{short_number}
-use Rattle.source_1401.specs.Operands.{as_literal, begins_literal, field_of, field_with, first_operand, second_operand, operand_of}
+use Rattle.source_1401.specs.Operands.{as_literal, begins_literal, field_of, field_with, first_operand, second_operand}
+use Rattle.source_1401.specs.Operands.{operand_of}
 use Rattle.source_1401.specs.Operands.{operand_in, operands_of, read_operand, is_ended}
 use Rattle.source_1401.specs.Punctuation.{comma}
 use Rattle.source_1401.specs.SourceLine.{columns_of, columns_in, is_comment}

@@ -10,7 +10,8 @@ use Rattle.std.specs.Char.{to_ascii_uppercase}
 use Rattle.std.specs.List.{list_all, position}
 use Rattle.bcd_1401.specs.Graphic.{graphics}
 use Rattle.source_1401.specs.Language.{are_good, is_sound, is_sound_statement, wider_line, line_in}
-use Rattle.source_1401.specs.SourceLine.{columns_of, columns_in, is_comment, is_graphic, is_printable, has_foreign_bytes}
+use Rattle.source_1401.specs.SourceLine.{columns_of, columns_in, is_comment, is_graphic, is_printable}
+use Rattle.source_1401.specs.SourceLine.{has_foreign_bytes}
 use Rattle.source_1401.specs.Statement.{bytes_with, line_of, line_with}
 use Rattle.source_1401.specs.WideColumns.{capitals}
 use Rattle.source_1401.specs.declared.language.Language.TheVariants as languages

@@ -5,11 +5,14 @@ use Rattle.std.specs.Prelude.{codes}
 use Rattle.std.specs.Option.{option_map}
 use Rattle.std.specs.Str.{str_eq_ignore_ascii_case}
 use Rattle.source_1401.specs.AreaLiterals.{DeclaredAreas, areas_of_line, label_of_area}
+use Rattle.source_1401.specs.Description.{describe}
 use Rattle.source_1401.specs.Language.{line_in}
 use Rattle.source_1401.specs.SourceLine.{columns_of, columns_in, lines_of}
 use Rattle.source_1401.specs.Statement.{line_of, label_of_line}
 use Rattle.source_1401.specs.Symbols.{names_register, no_registers, statement_under, line_under}
 use Rattle.source_1401.specs.declared.context.Context.{Context}
+use Rattle.source_1401.specs.declared.description.Relation.{Relation}
+use Rattle.source_1401.specs.declared.description.Relation.TheVariants as relations
 use Rattle.source_1401.specs.declared.label.Label.{Label}
 use Rattle.source_1401.specs.declared.language.Language.{Language}
 use Rattle.source_1401.specs.declared.language.Language.TheVariants as languages
@@ -27,32 +30,17 @@ use Rattle.source_1401.specs.declared.symbols.Registers.{Registers}
 abbrev pub nothing_above : Context
 nothing_above = record { suffix = None; is_controlled = false; above = None }
 
--- a CTL below another is none, and CHAIN repeats the operation above it
+-- what a statement with this relation says here: a CTL below another is none, and CHAIN repeats the operation above it
+abbrev pub body_related : Context → Body → Relation → Body
+body_related this body relations.Apart = body
+body_related this body (relations.Repeated operation) = body
+body_related this body (relations.Repeats chain) = bodies.Chain (record chain { operation = this.above })
+body_related this body (relations.Control size) = if this.is_controlled then bodies.SecondControl else body
+body_related this body relations.SecondControl = body
+body_related this body (relations.Suffix suffix) = body
+
 abbrev pub body_below : Context → Body → Body
-body_below this bodies.Unknown = bodies.Unknown
-body_below this (bodies.Instruction instruction of) = bodies.Instruction instruction of
-body_below this (bodies.MarkedConstant constant) = bodies.MarkedConstant constant
-body_below this (bodies.Constant constant) = bodies.Constant constant
-body_below this (bodies.Space places) = bodies.Space places
-body_below this (bodies.Areas areas) = bodies.Areas areas
-body_below this (bodies.Field span) = bodies.Field span
-body_below this (bodies.Equate of) = bodies.Equate of
-body_below this (bodies.Origin of) = bodies.Origin of
-body_below this (bodies.Execute of) = bodies.Execute of
-body_below this (bodies.End of) = bodies.End of
-body_below this (bodies.Heading is_well_formed) = bodies.Heading is_well_formed
-body_below this (bodies.Control size) = if this.is_controlled then bodies.SecondControl else bodies.Control size
-body_below this bodies.SecondControl = bodies.SecondControl
-body_below this (bodies.Suffix suffix) = bodies.Suffix suffix
-body_below this (bodies.Transfer of) = bodies.Transfer of
-body_below this (bodies.Chain chain) = bodies.Chain (record { operation = this.above; count = chain.count })
-body_below this (bodies.AddressConstant constant) = bodies.AddressConstant constant
-body_below this (bodies.LabelledOrigin of) = bodies.LabelledOrigin of
-body_below this (bodies.LiteralOrigin of) = bodies.LiteralOrigin of
-body_below this (bodies.WideField span) = bodies.WideField span
-body_below this (bodies.WideEquate of) = bodies.WideEquate of
-body_below this (bodies.WideExecute of) = bodies.WideExecute of
-body_below this (bodies.WideEnd of) = bodies.WideEnd of
+body_below this body = body_related this body (describe body).relation
 
 abbrev pub statement_below : Context → Statement → Statement
 statement_below this statement = record { label = statement.label; body = body_below this statement.body }
@@ -72,33 +60,18 @@ suffix_by suffixes.Absent above = None
 suffix_by suffixes.Malformed above = above
 suffix_by (suffixes.Suffix graphic) above = Some graphic
 
--- what a statement makes of what is said of the line below it: an instruction may be repeated there, and what was
--- repeated may be again
+-- what a statement with this relation makes of what is said of the line below it: an instruction may be repeated there,
+-- and what was repeated may be again
+abbrev pub below_related : Context → Relation → Context
+below_related this relations.Apart = record this { above = None }
+below_related this (relations.Repeated operation) = record this { above = Some operation }
+below_related this (relations.Repeats chain) = this
+below_related this (relations.Control size) = record this { is_controlled = true; above = None }
+below_related this relations.SecondControl = record this { is_controlled = true; above = None }
+below_related this (relations.Suffix suffix) = record this { suffix = suffix_by suffix this.suffix; above = None }
+
 abbrev pub below_body : Context → Body → Context
-below_body this bodies.Unknown = record this { above = None }
-below_body this (bodies.Instruction instruction of) = record this { above = Some instruction.operation }
-below_body this (bodies.MarkedConstant constant) = record this { above = None }
-below_body this (bodies.Constant constant) = record this { above = None }
-below_body this (bodies.Space places) = record this { above = None }
-below_body this (bodies.Areas areas) = record this { above = None }
-below_body this (bodies.Field span) = record this { above = None }
-below_body this (bodies.Equate of) = record this { above = None }
-below_body this (bodies.Origin of) = record this { above = None }
-below_body this (bodies.Execute of) = record this { above = None }
-below_body this (bodies.End of) = record this { above = None }
-below_body this (bodies.Heading is_well_formed) = record this { above = None }
-below_body this (bodies.Control size) = record this { is_controlled = true; above = None }
-below_body this bodies.SecondControl = record this { is_controlled = true; above = None }
-below_body this (bodies.Suffix suffix) = record this { suffix = suffix_by suffix this.suffix; above = None }
-below_body this (bodies.Transfer of) = record this { above = None }
-below_body this (bodies.Chain chain) = this
-below_body this (bodies.AddressConstant constant) = record this { above = None }
-below_body this (bodies.LabelledOrigin of) = record this { above = None }
-below_body this (bodies.LiteralOrigin of) = record this { above = None }
-below_body this (bodies.WideField span) = record this { above = None }
-below_body this (bodies.WideEquate of) = record this { above = None }
-below_body this (bodies.WideExecute of) = record this { above = None }
-below_body this (bodies.WideEnd of) = record this { above = None }
+below_body this body = below_related this (describe body).relation
 
 -- a comment changes nothing
 abbrev pub below_statement : Context → Option Statement → Context
@@ -160,31 +133,16 @@ size_of sizes.Malformed = None
 size_of (sizes.Size size) = Some size
 
 -- what CTL says of the size of core
+abbrev pub control_by : Relation → Option SizeField
+control_by relations.Apart = None
+control_by (relations.Repeated operation) = None
+control_by (relations.Repeats chain) = None
+control_by (relations.Control size) = Some size
+control_by relations.SecondControl = None
+control_by (relations.Suffix suffix) = None
+
 abbrev pub control_of : Body → Option SizeField
-control_of bodies.Unknown = None
-control_of (bodies.Instruction instruction of) = None
-control_of (bodies.MarkedConstant constant) = None
-control_of (bodies.Constant constant) = None
-control_of (bodies.Space places) = None
-control_of (bodies.Areas areas) = None
-control_of (bodies.Field span) = None
-control_of (bodies.Equate of) = None
-control_of (bodies.Origin of) = None
-control_of (bodies.Execute of) = None
-control_of (bodies.End of) = None
-control_of (bodies.Heading is_well_formed) = None
-control_of (bodies.Control size) = Some size
-control_of bodies.SecondControl = None
-control_of (bodies.Suffix suffix) = None
-control_of (bodies.Transfer of) = None
-control_of (bodies.Chain chain) = None
-control_of (bodies.AddressConstant constant) = None
-control_of (bodies.LabelledOrigin of) = None
-control_of (bodies.LiteralOrigin of) = None
-control_of (bodies.WideField span) = None
-control_of (bodies.WideEquate of) = None
-control_of (bodies.WideExecute of) = None
-control_of (bodies.WideEnd of) = None
+control_of body = control_by (describe body).relation
 
 abbrev pub control_in : Option Statement → Option SizeField
 control_in None = None

@@ -1,6 +1,7 @@
 -- The table of the kinds of statement: a row for each kind, a column for each thing that the assembler asks of one
 -- (Autocoder, "Declarative Operations", "Assembler Control").
-use Rattle.std.specs.Prelude.{Bool, true, false, not, Option, None, Some, is_some}
+use Rattle.std.specs.Prelude.{Bool, true, false, not, Option, None, is_some}
+use Rattle.std.specs.Option.{option_map_or}
 use Rattle.source_1401.specs.LoneAddress.{is_one_address, is_value, is_wide_entry, is_wide_origin, is_wide_value}
 use Rattle.source_1401.specs.Operands.{has_malformed}
 use Rattle.source_1401.specs.declared.description.Addressing.{Addressing}
@@ -12,6 +13,7 @@ use Rattle.source_1401.specs.declared.description.LabelRule.{LabelRule}
 use Rattle.source_1401.specs.declared.description.LabelRule.TheVariants as label
 use Rattle.source_1401.specs.declared.description.Next.TheVariants as next
 use Rattle.source_1401.specs.declared.description.Point.TheVariants as point
+use Rattle.source_1401.specs.declared.description.Relation.TheVariants as relations
 use Rattle.source_1401.specs.declared.operands.OperandField.TheVariants as fields
 use Rattle.source_1401.specs.declared.operands.Operands.{Operands}
 use Rattle.source_1401.specs.declared.statement.Body.{Body}
@@ -35,6 +37,7 @@ plain =
       next = next.Behind;
       areas = areas.Ends;
       contents = contents.Nothing;
+      relation = relations.Apart;
       is_remark = false;
     }
 
@@ -54,13 +57,13 @@ is_malformed_suffix (suffixes.Suffix graphic) = false
 
 -- the row of a field of areas with this rule of its label
 abbrev pub field_row : LabelRule → Option Span → Description
-field_row rule None = record plain { is_well_formed = false; label = rule; areas = areas.Divides None }
-field_row rule (Some span) =
+field_row rule span =
     record plain {
+      is_well_formed = is_some span;
       label = rule;
-      names = point.Counted span.last;
-      shows = point.InArea span.first;
-      areas = areas.Divides (Some span);
+      names = option_map_or (λ (places : Span). point.Counted places.last) span point.First;
+      shows = option_map_or (λ (places : Span). point.InArea places.first) span point.First;
+      areas = areas.Divides span;
     }
 
 -- the rows of EQU, ORG, EX and END whose operands are as they ask, of ORG where it may have a label
@@ -103,6 +106,7 @@ describe (bodies.Instruction instruction of) =
       is_well_formed = not (has_malformed of);
       addressing = addressing.Addresses of;
       contents = contents.Instruction instruction of;
+      relation = relations.Repeated instruction.operation;
     }
 describe (bodies.MarkedConstant constant) =
     record plain {
@@ -129,9 +133,11 @@ describe (bodies.WideExecute of) = record (execute_row of) { is_well_formed = is
 describe (bodies.End of) = record (end_row of) { is_well_formed = is_value of }
 describe (bodies.WideEnd of) = record (end_row of) { is_well_formed = is_wide_entry of }
 describe (bodies.Heading is_well_formed) = record remark { is_well_formed = is_well_formed }
-describe (bodies.Control size) = record remark { is_well_formed = not (is_malformed_size size) }
-describe bodies.SecondControl = record remark { is_known = false }
-describe (bodies.Suffix suffix) = record remark { is_well_formed = not (is_malformed_suffix suffix) }
+describe (bodies.Control size) =
+    record remark { is_well_formed = not (is_malformed_size size); relation = relations.Control size }
+describe bodies.SecondControl = record remark { is_known = false; relation = relations.SecondControl }
+describe (bodies.Suffix suffix) =
+    record remark { is_well_formed = not (is_malformed_suffix suffix); relation = relations.Suffix suffix }
 describe (bodies.Transfer of) =
     record plain {
       is_well_formed = is_wide_value of;
@@ -144,6 +150,7 @@ describe (bodies.Chain chain) =
       is_known = is_some chain.operation;
       is_well_formed = is_some chain.count;
       contents = contents.Chain chain;
+      relation = relations.Repeats chain;
     }
 describe (bodies.AddressConstant constant) =
     record plain {

@@ -1,5 +1,6 @@
 -- What is wrong with operands, and in which columns (own).
-use Rattle.std.specs.Prelude.{ℕ, ◌+◌, ◌-◌, nat_lt, Bool, true, false, if◌then◌else◌, not, ◌&&◌, List, length, drop, Option}
+use Rattle.std.specs.Prelude.{ℕ, ◌+◌, ◌-◌, nat_lt, Bool, true, false, if◌then◌else◌, not, ◌&&◌, List, length, drop}
+use Rattle.std.specs.Prelude.{Option}
 use Rattle.std.specs.Prelude.{is_none, is_some}
 use Rattle.std.specs.Option.{option_map}
 use Rattle.std.specs.List.{position_or_len}

@@ -1,5 +1,6 @@
 -- The columns of a line as the wider language reads them (Autocoder, "Coding Sheet", "Operand"; small letters own).
-use Rattle.std.specs.Prelude.{ℕ, ◌==◌, Bool, true, false, not, ◌&&◌, ◌||◌, if◌then◌else◌, List, [], ◌∷◌, ◌++◌, map, take, drop}
+use Rattle.std.specs.Prelude.{ℕ, ◌==◌, Bool, true, false, not, ◌&&◌, ◌||◌, if◌then◌else◌, List, [], ◌∷◌, ◌++◌, map}
+use Rattle.std.specs.Prelude.{take, drop}
 use Rattle.std.specs.Char.{to_ascii_uppercase}
 use Rattle.source_1401.specs.Punctuation.{ampersand, at_sign, blank, comma, plus_sign}
 use Rattle.source_1401.specs.SourceLine.{columns_in, is_comment}

@@ -15,10 +15,11 @@
 //! }
 //! ```
 ghost use Rattle.std.specs.Prelude.{◌≡◌, true, map, IfSome};
-ghost use Rattle.source_1401.specs.Context.{nothing_above, body_below, statement_in, in_context, suffix_by, below_body};
+ghost use Rattle.source_1401.specs.Context.{nothing_above, body_below, statement_in, in_context, suffix_by};
+ghost use Rattle.source_1401.specs.Context.{below_related};
 ghost use Rattle.source_1401.specs.AreaLiterals.{label_of_area};
 ghost use Rattle.source_1401.specs.Context.{below, registers_with, registers_with_areas, registers_and, with_registers};
-ghost use Rattle.source_1401.specs.Context.{size_of, control_of, control_in, may_be_control, first_size, size_asked};
+ghost use Rattle.source_1401.specs.Context.{size_of, control_by, control_in, may_be_control, first_size, size_asked};
 ghost use Rattle.source_1401.specs.Control.{is_control_size};
 ghost use Rattle.source_1401.specs.Language.{line_in};
 ghost use Rattle.source_1401.specs.SourceLine.{lines_of};
@@ -26,6 +27,7 @@ ghost use Rattle.source_1401.specs.declared.language.Language.TheVariants as lan
 
 use crate::area_literals::DeclaredAreas;
 use crate::columns::{columns_in, columns_of};
+use crate::description::Relation;
 use crate::label::Label;
 use crate::language::Language;
 use crate::lines::split_line;
@@ -56,35 +58,17 @@ impl Context {
     fn body(self, body: Body) -> Body
         ensures { result ≡ body_below self body }
     {
-        match body {
-            Body::Control(_) if self.is_controlled => Body::SecondControl,
-            Body::Chain(chain) => Body::Chain(Chain {
+        match body.describe().relation {
+            Relation::Control(_) if self.is_controlled => Body::SecondControl,
+            Relation::Repeats(chain) => Body::Chain(Chain {
                 operation: self.above,
                 ..chain
             }),
-            Body::Unknown
-            | Body::Instruction(_, _)
-            | Body::MarkedConstant(_)
-            | Body::Constant(_)
-            | Body::Space(_)
-            | Body::Areas(_)
-            | Body::Field(_)
-            | Body::Equate(_)
-            | Body::Origin(_)
-            | Body::Execute(_)
-            | Body::End(_)
-            | Body::Heading(_)
-            | Body::Control(_)
-            | Body::SecondControl
-            | Body::Suffix(_)
-            | Body::Transfer(_)
-            | Body::AddressConstant(_)
-            | Body::LabelledOrigin(_)
-            | Body::LiteralOrigin(_)
-            | Body::WideField(_)
-            | Body::WideEquate(_)
-            | Body::WideExecute(_)
-            | Body::WideEnd(_) => body,
+            Relation::Apart
+            | Relation::Repeated(_)
+            | Relation::Control(_)
+            | Relation::SecondControl
+            | Relation::Suffix(_) => body,
         }
     }
 
@@ -116,47 +100,29 @@ impl Context {
         }
     }
 
-    /// What is said of the line below one with this body.
-    fn below_body(self, body: Body) -> Context
-        ensures { result ≡ below_body self body }
+    /// What is said of the line below one with this relation.
+    fn below_related(self, relation: Relation) -> Context
+        ensures { result ≡ below_related self relation }
     {
         let apart = Context {
             above: None,
             ..self
         };
-        match body {
-            Body::Instruction(instruction, _) => Context {
-                above: Some(instruction.operation),
+        match relation {
+            Relation::Apart => apart,
+            Relation::Repeated(operation) => Context {
+                above: Some(operation),
                 ..self
             },
-            Body::Control(_) | Body::SecondControl => Context {
+            Relation::Repeats(_) => self,
+            Relation::Control(_) | Relation::SecondControl => Context {
                 is_controlled: true,
                 ..apart
             },
-            Body::Suffix(suffix) => Context {
+            Relation::Suffix(suffix) => Context {
                 suffix: suffix.below(self.suffix),
                 ..apart
             },
-            Body::Chain(_) => self,
-            Body::Unknown
-            | Body::MarkedConstant(_)
-            | Body::Constant(_)
-            | Body::Space(_)
-            | Body::Areas(_)
-            | Body::Field(_)
-            | Body::Equate(_)
-            | Body::Origin(_)
-            | Body::Execute(_)
-            | Body::End(_)
-            | Body::Heading(_)
-            | Body::Transfer(_)
-            | Body::AddressConstant(_)
-            | Body::LabelledOrigin(_)
-            | Body::LiteralOrigin(_)
-            | Body::WideField(_)
-            | Body::WideEquate(_)
-            | Body::WideExecute(_)
-            | Body::WideEnd(_) => apart,
         }
     }
 
@@ -165,7 +131,7 @@ impl Context {
         ensures { result ≡ below self line.now }
     {
         match line.statement {
-            Some(statement) => self.below_body(statement.body),
+            Some(statement) => self.below_related(statement.body.describe().relation),
             None => self,
         }
     }
@@ -254,36 +220,18 @@ impl SizeField {
     }
 }
 
-impl Body {
+impl Relation {
     /// What CTL says of the size of core storage.
     fn control(self) -> Option<SizeField>
-        ensures { result ≡ control_of self }
+        ensures { result ≡ control_by self }
     {
         match self {
-            Body::Control(size) => Some(size),
-            Body::Unknown
-            | Body::Instruction(_, _)
-            | Body::MarkedConstant(_)
-            | Body::Constant(_)
-            | Body::Space(_)
-            | Body::Areas(_)
-            | Body::Field(_)
-            | Body::Equate(_)
-            | Body::Origin(_)
-            | Body::Execute(_)
-            | Body::End(_)
-            | Body::Heading(_)
-            | Body::SecondControl
-            | Body::Suffix(_)
-            | Body::Transfer(_)
-            | Body::Chain(_)
-            | Body::AddressConstant(_)
-            | Body::LabelledOrigin(_)
-            | Body::LiteralOrigin(_)
-            | Body::WideField(_)
-            | Body::WideEquate(_)
-            | Body::WideExecute(_)
-            | Body::WideEnd(_) => None,
+            Relation::Control(size) => Some(size),
+            Relation::Apart
+            | Relation::Repeated(_)
+            | Relation::Repeats(_)
+            | Relation::SecondControl
+            | Relation::Suffix(_) => None,
         }
     }
 }
@@ -294,7 +242,7 @@ impl Line {
         ensures { result ≡ control_in self.now.statement }
     {
         match self.statement {
-            Some(statement) => statement.body.control(),
+            Some(statement) => statement.body.describe().relation.control(),
             None => None,
         }
     }

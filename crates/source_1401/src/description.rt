@@ -102,6 +102,23 @@ pub enum Contents {
     AddressConstant(AddressConstant),
 }
 
+/// What a statement has to do with the lines around it.
+#[derive(Clone, Copy, Debug, PartialEq, Eq)]
+pub enum Relation {
+    /// Nothing: a chain doesn't go on below it.
+    Apart,
+    /// It is an instruction with this operation, a graphic, which CHAIN may repeat below it.
+    Repeated(u8),
+    /// It repeats the operation above it, as CHAIN does.
+    Repeats(Chain),
+    /// It is a CTL, which says this of the size of core storage.
+    Control(SizeField),
+    /// It is a CTL below another.
+    SecondControl,
+    /// It says this of the suffix of the symbols below it.
+    Suffix(SuffixField),
+}
+
 /// What the assembler asks of a statement: a row of the table.
 #[derive(Clone, Copy, Debug, PartialEq, Eq)]
 pub struct Description {
@@ -123,6 +140,8 @@ pub struct Description {
     pub areas: AreaRole,
     /// What fills its places.
     pub contents: Contents,
+    /// What it has to do with the lines around it.
+    pub relation: Relation,
     /// Whether it is listed as a comment is, without an address and cells.
     pub is_remark: bool,
 }
@@ -138,6 +157,7 @@ const PLAIN: Description = Description {
     next: Next::Behind,
     areas: AreaRole::Ends,
     contents: Contents::Nothing,
+    relation: Relation::Apart,
     is_remark: false,
 };
 
@@ -235,6 +255,7 @@ impl Body {
                 is_well_formed: !operands.are_malformed(),
                 addressing: Addressing::Addresses(operands),
                 contents: Contents::Instruction(instruction, operands),
+                relation: Relation::Repeated(instruction.operation),
                 ..PLAIN
             },
             Body::MarkedConstant(constant) => Description {
@@ -307,14 +328,17 @@ impl Body {
             },
             Body::Control(size) => Description {
                 is_well_formed: !matches!(size, SizeField::Malformed),
+                relation: Relation::Control(size),
                 ..REMARK
             },
             Body::SecondControl => Description {
                 is_known: false,
+                relation: Relation::SecondControl,
                 ..REMARK
             },
             Body::Suffix(suffix) => Description {
                 is_well_formed: !matches!(suffix, SuffixField::Malformed),
+                relation: Relation::Suffix(suffix),
                 ..REMARK
             },
             Body::Transfer(operands) => Description {
@@ -328,6 +352,7 @@ impl Body {
                 is_known: chain.operation.is_some(),
                 is_well_formed: chain.count.is_some(),
                 contents: Contents::Chain(chain),
+                relation: Relation::Repeats(chain),
                 ..PLAIN
             },
             Body::AddressConstant(constant) => Description {

@@ -49,7 +49,9 @@ pub use area_literals::DeclaredAreas;
 pub use columns::COLUMNS;
 pub use constant::{Constant, TEXT_LENGTH, Text};
 pub use context::{Context, size_asked};
-pub use description::{Addressing, AreaRole, Contents, Description, LabelRule, Next, Point};
+pub use description::{
+    Addressing, AreaRole, Contents, Description, LabelRule, Next, Point, Relation,
+};
 pub use flaw::{
     Flaw, OperandFlaw, OperationFlaw, Stretch, first_base, foreign_column, label_stretch,
     operation_flaw, operation_stretch, second_base, statement_stretch,

@@ -1,7 +1,8 @@
 //! Literals: what an instruction names the address of, and the assembler places.
 ghost use Rattle.std.specs.Prelude.{◌≡◌, ◌==◌, ◌≤◌, length, slice_index};
 ghost use Rattle.std.specs.List.{position_or_len};
-ghost use Rattle.source_1401.specs.Literal.{is_name, named, is_sign, signed_address, address_literal_of, is_number_sign};
+ghost use Rattle.source_1401.specs.Literal.{is_name, named, is_sign, signed_address, address_literal_of};
+ghost use Rattle.source_1401.specs.Literal.{is_number_sign};
 ghost use Rattle.source_1401.specs.Literal.{area_literal_of, wide_literal_of};
 ghost use Rattle.source_1401.specs.Punctuation.{minus_sign};
 

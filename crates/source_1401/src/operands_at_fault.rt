@@ -1,6 +1,7 @@
 //! What is wrong with operands, and in which columns.
 ghost use Rattle.std.specs.Prelude.{◌≡◌, ◌+◌, ◌≤◌, length};
-ghost use Rattle.source_1401.specs.OperandsAtFault.{flaw_after, flaw_behind, flaw_after_first, operands_flaw, first_flaw};
+ghost use Rattle.source_1401.specs.OperandsAtFault.{flaw_after, flaw_behind, flaw_after_first, operands_flaw};
+ghost use Rattle.source_1401.specs.OperandsAtFault.{first_flaw};
 ghost use Rattle.source_1401.specs.OperandsAtFault.{is_no_first, wide_operands_flaw, lone_flaw, span_flaw};
 ghost use Rattle.source_1401.specs.OperandsAtFault.{begins_with_literal, one_address_flaw, value_flaw, areas_flaw};
 ghost use Rattle.source_1401.specs.OperandsAtFault.{origin_flaw, address_flaw, equal_flaw, instruction_flaw, flaw_with};
