@@ -1,5 +1,5 @@
-//! Short stretches of characters copied without a loop: as two parts of one length, which overlap where the stretch is
-//! shorter than both together.
+//! Stretches of characters copied. Short ones are copied without a loop: as two parts of one length, which overlap where
+//! the stretch is shorter than both together.
 ghost use Rattle.std.specs.Prelude.{◌≡◌, ℕ, ◌+◌, ◌<◌, ◌≤◌, length, slice_index_or};
 
 use bcd_1401::Char;
@@ -15,11 +15,32 @@ pub(crate) fn copy_up(chars: &mut [Char], from: usize, to: usize, n: usize)
     ensures above { (i : ℕ) → to + n ≤ i → slice_index_or chars.new i 0 ≡ slice_index_or chars.old i 0 }
 {
     if n > 16 {
-        copy_many(chars, from, to, n);
+        copy_long(chars, from, to, n);
     } else if n >= 8 {
         copy_by_eights(chars, from, to, n);
     } else if n >= 4 {
         copy_by_fours(chars, from, to, n);
+    } else {
+        copy_many(chars, from, to, n);
+    }
+}
+
+/// Copies a long stretch. One that doesn't overlap its copy is copied as a whole, which takes the host the least.
+#[inline(never)]
+fn copy_long(chars: &mut [Char], from: usize, to: usize, n: usize)
+    requires from_in { from + n ≤ length chars.old }
+    requires to_in { to + n ≤ length chars.old }
+    ensures count { length chars.new ≡ length chars.old }
+    ensures copied { (i : ℕ) → i < n → slice_index_or chars.new (to + i) 0 ≡ slice_index_or chars.old (from + i) 0 }
+    ensures below { (i : ℕ) → i < to → slice_index_or chars.new i 0 ≡ slice_index_or chars.old i 0 }
+    ensures above { (i : ℕ) → to + n ≤ i → slice_index_or chars.new i 0 ≡ slice_index_or chars.old i 0 }
+{
+    if from + n <= to {
+        let (low, high) = chars.split_at_mut(to);
+        high[..n].copy_from_slice(&low[from..from + n]);
+    } else if to + n <= from {
+        let (low, high) = chars.split_at_mut(to + n);
+        low[to..].copy_from_slice(&high[from - to - n..from - to]);
     } else {
         copy_many(chars, from, to, n);
     }
