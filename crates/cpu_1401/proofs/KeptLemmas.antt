@@ -15,7 +15,7 @@ use Rattle.core_1401.specs.Field.{field_len_of}
 use Rattle.core_1401.specs.Storage.{Storage, blank, cell_at, with_char, with_mark}
 use Rattle.cpu_1401.specs.declared.cache_entry.CacheEntry.{CacheEntry}
 use Rattle.cpu_1401.specs.Kept.{entry_count, AreMarks, IsKept, IsCurrent, AreBetween, AreCovered, AreInside, IsPart, IsApart}
-use Rattle.cpu_1401.specs.Kept.{lowest_written}
+use Rattle.cpu_1401.specs.Kept.{IsInside, lowest_written}
 use Rattle.fields_1401.specs.Across.{IsSameBeside, IsSameOutside}
 use Rattle.fields_1401.specs.Places.{is_within, marks_of}
 use Rattle.fields_1401.specs.Outcome.{CarriesOut, Outcome, below_by}
@@ -101,11 +101,15 @@ covered_kept entries before covered place new own all there more =
     ]
 
 -- and inside
-pub inside_kept : (entries : List CacheEntry) (size place : ℕ) (new : CacheEntry) → new.at ≡ place → place + 8 < size
-    → AreInside entries size → AreInside (set entries (place % entry_count) new) size
+pub inside_kept : (entries : List CacheEntry) (size place : ℕ) (new : CacheEntry) → new.at ≡ place
+    → IsInside new place size → AreInside entries size → AreInside (set entries (place % entry_count) new) size
 inside_kept entries size place new own within all =
     λ at entry kept. elim (cases_eq at place) [
-      | inl here ↦ omega (arith, here, within)
+      | inl here ↦
+          let is : new ≡ entry =
+          kept_there entries (place % entry_count) at new entry (ap (λ (q : ℕ). q % entry_count) here) kept in
+          subst (λ (e : CacheEntry). IsInside e at size) is
+          (subst (λ (q : ℕ). IsInside new q size) (sym here) within)
       | inr other ↦
           all at entry (kept_beside entries (place % entry_count) at new entry (λ e. other (sym e ∙ own)) kept)
     ]

@@ -10,6 +10,7 @@ pub mod FetchedLemmas
 mod FrameExamples
 pub mod FrameLemmas
 pub mod KeptLemmas
+pub mod NeededPlacesLemmas
 mod RegisterExamples
 pub mod RunLemmas
 mod StepExamples

@@ -1,10 +1,11 @@
 -- The instructions that are kept decoded, beside the word marks of core storage (own).
-use Rattle.std.specs.Prelude.{◌≡◌, ◌⊎◌, ℕ, ◌+◌, ◌-◌, ◌^◌, ◌%◌, ◌==◌, ◌<◌, ◌≤◌, Bool, true, false, List, length}
+use Rattle.std.specs.Prelude.{◌≡◌, ◌≢◌, ◌⊎◌, ℕ, ◌+◌, ◌-◌, ◌^◌, ◌%◌, ◌==◌, ◌<◌, ◌≤◌, Bool, true, false, List, length}
 use Rattle.std.specs.Prelude.{slice_index_or, if◌then◌else◌, nat_lt}
 use Rattle.std.specs.Int.{bit_at}
 use Rattle.core_1401.specs.Address.{addresses}
 use Rattle.core_1401.specs.PlaceSet.{has_place}
 use Rattle.cpu_1401.specs.declared.cache_entry.CacheEntry.{CacheEntry}
+use Rattle.cpu_1401.specs.NeededPlaces.{HasPlaces}
 
 -- how many instructions are kept at most
 abbrev pub entry_count : ℕ
@@ -35,9 +36,16 @@ abbrev pub IsCurrent : List CacheEntry → List Bool → Type 0
 IsCurrent entries marks =
     (at : ℕ) → (entry : CacheEntry) → IsKept entries at entry → AreMarks marks at entry.marks
 
--- the cells of each instruction that is kept are in core, and a place behind them
+-- the cells of an instruction that is kept at a place are in core, and a place after them; and if its addresses are
+-- ready, so are the places that it needs
+abbrev pub IsInside : CacheEntry → ℕ → ℕ → Type 0
+IsInside entry at size =
+    (at + 8 < size)
+    × (entry.ready_at ≢ no_place → HasPlaces entry.decoded.operation entry.decoded.a.value entry.decoded.b.value size)
+
+-- so it is of each instruction that is kept
 abbrev pub AreInside : List CacheEntry → ℕ → Type 0
-AreInside entries size = (at : ℕ) → (entry : CacheEntry) → IsKept entries at entry → at + 8 < size
+AreInside entries size = (at : ℕ) → (entry : CacheEntry) → IsKept entries at entry → IsInside entry at size
 
 -- the cells of each instruction that is kept are from one place to another
 abbrev pub AreBetween : List CacheEntry → ℕ → ℕ → Type 0

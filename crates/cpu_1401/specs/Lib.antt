@@ -6,6 +6,7 @@ pub mod FieldStep
 pub mod Frame
 pub mod Instruction
 pub mod Kept
+pub mod NeededPlaces
 pub mod Operation
 pub mod RegisterStep
 pub mod Rows

@@ -11,7 +11,7 @@ use crate::instruction::Instruction;
 use crate::machine::Machine;
 use crate::marking::clear_down_there;
 use crate::stop::Stop;
-use fields_1401::{Done, FieldStop, compare};
+use fields_1401::{Done, FieldStop, compare_within};
 
 impl Machine {
     /// Takes the registers that an operation on fields left, turns the overflow indicator on if a sum was too large,
@@ -54,13 +54,14 @@ impl Machine {
         requires a { this.a < addresses }
         requires b { this.b < addresses }
         requires next { this.next < addresses }
+        requires places { (this.a < length self.old.storage) × (this.b < length self.old.storage) }
         ensures stop { let outcome = comparison_at self.old.storage this.a this.b in
             result ≡ (after_comparison this self.old outcome).stop }
         ensures state { let outcome = comparison_at self.old.storage this.a this.b in
             self.new ≡ (after_comparison this self.old outcome).state }
         ensures size { length self.new.storage ≡ length self.old.storage }
     {
-        let done = match compare(&self.core, this.a, this.b) {
+        let done = match compare_within(&self.core, this.a, this.b) {
             Ok(done) => done,
             Err(stop) => return Some(Stop::from(stop)),
         };

@@ -5,6 +5,7 @@ ghost use Rattle.core_1401.specs.PlaceSet.{has_place};
 ghost use Rattle.cpu_1401.specs.declared.cache_entry.CacheEntry.{CacheEntry};
 ghost use Rattle.cpu_1401.specs.Decoded.{Says};
 ghost use Rattle.cpu_1401.specs.Kept.{AreMarks, IsApart, IsCurrent, IsKept, IsPart, entry_count, lowest_written, no_place};
+ghost use Rattle.cpu_1401.specs.NeededPlaces.{HasPlaces};
 ghost use Rattle.fields_1401.specs.Places.{marks_of};
 
 use crate::cache_entry::{CacheEntry, NO_PLACE};
@@ -74,7 +75,7 @@ impl DecodeCache {
     }
 
     /// The instruction at a place, if it was decoded there from the same cells that are there now, and its addresses are
-    /// ready.
+    /// ready: if it needs them to be those of places, they are.
     #[inline(always)]
     pub(crate) fn find_ready(&self, core: &Core, at: u16) -> Option<&Decoded>
         requires place { at < addresses }
@@ -83,6 +84,8 @@ impl DecodeCache {
         ensures says { IfSome result (λ decoded. Says core.now at decoded.now) }
         ensures ready { IfSome result (λ decoded. decoded.now.is_ready ≡ true) }
         ensures inside { IfSome result (λ decoded. at + decoded.now.len < addresses) }
+        ensures places { IfSome result (λ decoded.
+            HasPlaces decoded.now.operation decoded.now.a.value decoded.now.b.value (length core.now)) }
     {
         let entry = &self.entries[entry_of(at)];
         if entry.ready_at != at {
@@ -131,7 +134,7 @@ impl DecodeCache {
             codes: cells.codes,
             decoded: *decoded,
             at,
-            ready_at: ready_place(decoded, at),
+            ready_at: ready_place(decoded, at, self.size),
             marks: cells.marks,
         };
     }
@@ -224,12 +227,19 @@ fn said_there<'e>(entry: &'e CacheEntry, core: &Core, at: u16) -> Option<&'e Dec
     Some(&entry.decoded)
 }
 
-/// The place of an instruction, if its addresses are ready.
-fn ready_place(decoded: &Decoded, at: u16) -> u16
+/// The place of an instruction, if its addresses are ready, and in core storage of this size if they have to be.
+fn ready_place(decoded: &Decoded, at: u16, size: u16) -> u16
     ensures there { result ≢ no_place → result ≡ at }
     ensures ready { result ≢ no_place → decoded.now.is_ready ≡ true }
+    ensures places { result ≢ no_place →
+        HasPlaces decoded.now.operation decoded.now.a.value decoded.now.b.value size }
 {
-    if decoded.is_ready { at } else { NO_PLACE }
+    let is_inside = decoded.a.value < size && decoded.b.value < size;
+    if decoded.is_ready && (is_inside || !decoded.operation.needs_places()) {
+        at
+    } else {
+        NO_PLACE
+    }
 }
 
 /// Empties the entries of the instructions that are kept at the places from one up to another.

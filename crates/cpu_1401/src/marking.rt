@@ -1,5 +1,5 @@
 //! Operations that change word marks: each forgets what is kept of the instructions there.
-ghost use Rattle.std.specs.Prelude.{◌≡◌, ◌<◌, ◌≤◌, IfOk, IfSome, length};
+ghost use Rattle.std.specs.Prelude.{◌≡◌, ◌<◌, ◌≤◌, IfOk, IfSome, Ok, length};
 ghost use Rattle.core_1401.specs.Address.{addresses};
 ghost use Rattle.core_1401.specs.Field.{field_len_of};
 ghost use Rattle.cpu_1401.specs.Kept.{IsApart, IsCurrent, IsPart, lowest_written};
@@ -13,47 +13,40 @@ ghost use Rattle.fields_1401.specs.Suppress.{suppress_at};
 use crate::kept::DecodeCache;
 use core_1401::Core;
 use fields_1401::{
-    Done, FieldStop, clear_down, clear_marks, edit, load_chars, set_marks, step_down, suppress,
+    Done, FieldStop, clear_down, clear_marks_within, edit, load_chars, set_marks_within, step_down,
+    suppress,
 };
 
 /// Sets the word marks at both addresses.
 #[inline(always)]
-pub(crate) fn set_marks_there(
-    core: &mut Core,
-    kept: &mut DecodeCache,
-    a: u16,
-    b: u16,
-) -> Result<Done, FieldStop>
+pub(crate) fn set_marks_there(core: &mut Core, kept: &mut DecodeCache, a: u16, b: u16) -> Done
     requires a { a < addresses }
     requires b { b < addresses }
+    requires places { (a < length core.old) × (b < length core.old) }
     requires current { IsCurrent kept.old.entries (marks_of core.old) }
-    ensures outcome { CarriesOut (set_marks_at core.old a b) core.old core.new result }
+    ensures outcome { CarriesOut (set_marks_at core.old a b) core.old core.new (Ok result) }
     ensures current { IsCurrent kept.new.entries (marks_of core.new) }
     ensures size { kept.new.size ≡ kept.old.size }
 {
     kept.forget_at(a);
     kept.forget_at(b);
-    set_marks(core, a, b)
+    set_marks_within(core, a, b)
 }
 
 /// Clears the word marks at both addresses.
 #[inline(always)]
-pub(crate) fn clear_marks_there(
-    core: &mut Core,
-    kept: &mut DecodeCache,
-    a: u16,
-    b: u16,
-) -> Result<Done, FieldStop>
+pub(crate) fn clear_marks_there(core: &mut Core, kept: &mut DecodeCache, a: u16, b: u16) -> Done
     requires a { a < addresses }
     requires b { b < addresses }
+    requires places { (a < length core.old) × (b < length core.old) }
     requires current { IsCurrent kept.old.entries (marks_of core.old) }
-    ensures outcome { CarriesOut (clear_marks_at core.old a b) core.old core.new result }
+    ensures outcome { CarriesOut (clear_marks_at core.old a b) core.old core.new (Ok result) }
     ensures current { IsCurrent kept.new.entries (marks_of core.new) }
     ensures size { kept.new.size ≡ kept.old.size }
 {
     kept.forget_at(a);
     kept.forget_at(b);
-    clear_marks(core, a, b)
+    clear_marks_within(core, a, b)
 }
 
 /// Loads the A field to b and the places below it.

@@ -1,5 +1,6 @@
 //! The operations, and what their instructions look like.
 ghost use Rattle.std.specs.Prelude.{◌≡◌, ◌<◌, ◌≤◌};
+ghost use Rattle.cpu_1401.specs.NeededPlaces.{needs_places};
 ghost use Rattle.cpu_1401.specs.Operation.{form_of, has_length, is_unfitted, is_unfitted_length, operation_of};
 
 use bcd_1401::Char;
@@ -164,6 +165,43 @@ impl Operation {
             | Operation::Edit => true,
             Operation::Move
             | Operation::Load
+            | Operation::Branch
+            | Operation::BranchOnCell
+            | Operation::StoreA
+            | Operation::StoreB
+            | Operation::NoOperation
+            | Operation::Halt
+            | Operation::SelectStacker
+            | Operation::ReadCard
+            | Operation::WriteLine
+            | Operation::WriteAndRead
+            | Operation::PunchCard
+            | Operation::ReadAndPunch
+            | Operation::WriteAndPunch
+            | Operation::WriteReadAndPunch
+            | Operation::ControlCarriage => false,
+        }
+    }
+
+    /// Whether it looks first of all whether both addresses are those of places, and stops as `ADDRESS` if one isn't.
+    pub(crate) fn needs_places(self) -> bool
+        ensures { result ≡ needs_places self }
+    {
+        match self {
+            Operation::Add
+            | Operation::Subtract
+            | Operation::ZeroAdd
+            | Operation::ZeroSubtract
+            | Operation::Move
+            | Operation::MoveDigit
+            | Operation::MoveZone
+            | Operation::SetWordMark
+            | Operation::ClearWordMark
+            | Operation::Compare => true,
+            Operation::Load
+            | Operation::ClearStorage
+            | Operation::ZeroSuppress
+            | Operation::Edit
             | Operation::Branch
             | Operation::BranchOnCell
             | Operation::StoreA

@@ -1,7 +1,9 @@
 //! One step of the machine: the instruction, kept or decoded, then what the operation does.
-ghost use Rattle.std.specs.Prelude.{◌≡◌, ◌≢◌, ◌+◌, ◌%◌, ◌<◌, true, length, Some, IfSome, IfOk, IfErr};
+ghost use Rattle.std.specs.Prelude.{◌≡◌, ◌≢◌, ◌+◌, ◌%◌, ◌<◌, ◌&&◌, true, length, Some, IfSome, IfOk, IfErr};
+ghost use Rattle.core_1401.specs.Storage.{is_in_core};
 ghost use Rattle.core_1401.specs.Address.{addresses};
 ghost use Rattle.cpu_1401.specs.Instruction.{instruction_of};
+ghost use Rattle.cpu_1401.specs.NeededPlaces.{HasPlaces};
 ghost use Rattle.cpu_1401.specs.Step.{perform, step};
 ghost use Rattle.cpu_1401.specs.Decoded.{Says, Serve};
 ghost use Rattle.cpu_1401.specs.Stepped.{stopped};
@@ -14,7 +16,10 @@ use crate::marking::{clear_marks_there, edit_there, load_there, set_marks_there,
 use crate::operation::Operation;
 use crate::stop::Stop;
 use core_1401::ADDRESSES;
-use fields_1401::{add, move_chars, move_digit, move_zone, subtract, zero_add, zero_subtract};
+use fields_1401::{
+    add_within, move_chars_within, move_digit_within, move_zone_within, subtract_within,
+    zero_add_within, zero_subtract_within,
+};
 
 impl Machine {
     /// Carries out the instruction at the I register, or says why it can't. A halt is carried out; any other stop
@@ -55,6 +60,8 @@ impl Machine {
         ensures a { IfOk result (λ fetched. fetched.1.a < addresses) }
         ensures b { IfOk result (λ fetched. fetched.1.b < addresses) }
         ensures next { IfOk result (λ fetched. fetched.1.next < addresses) }
+        ensures places { IfOk result (λ fetched.
+            HasPlaces fetched.0 fetched.1.a fetched.1.b (length self.old.storage)) }
         ensures err { IfErr result (λ stop. step self.old ≡ stopped stop self.old) }
         ensures no_halt { IfErr result (λ stop. stop ≢ Stop.Halt) }
         ensures no_limit { IfErr result (λ stop. stop ≢ Stop.Limit) }
@@ -64,7 +71,7 @@ impl Machine {
         match machine.kept.find(&machine.core, machine.i) {
             Some(said) => {
                 let next = machine.i + said.len;
-                Ok((said.operation, machine.instruction(said, next)))
+                machine.with_places(said.operation, machine.instruction(said, next))
             }
             None => self.fetch_anew(),
         }
@@ -78,6 +85,8 @@ impl Machine {
         ensures a { IfOk result (λ fetched. fetched.1.a < addresses) }
         ensures b { IfOk result (λ fetched. fetched.1.b < addresses) }
         ensures next { IfOk result (λ fetched. fetched.1.next < addresses) }
+        ensures places { IfOk result (λ fetched.
+            HasPlaces fetched.0 fetched.1.a fetched.1.b (length self.old.storage)) }
         ensures err { IfErr result (λ stop. step self.old ≡ stopped stop self.old) }
         ensures no_halt { IfErr result (λ stop. stop ≢ Stop.Halt) }
         ensures no_limit { IfErr result (λ stop. stop ≢ Stop.Limit) }
@@ -96,6 +105,8 @@ impl Machine {
         ensures a { IfOk result (λ fetched. fetched.1.a < addresses) }
         ensures b { IfOk result (λ fetched. fetched.1.b < addresses) }
         ensures next { IfOk result (λ fetched. fetched.1.next < addresses) }
+        ensures places { IfOk result (λ fetched.
+            HasPlaces fetched.0 fetched.1.a fetched.1.b (length self.old.storage)) }
         ensures err { IfErr result (λ stop. step self.old ≡ stopped stop self.old) }
         ensures no_halt { IfErr result (λ stop. stop ≢ Stop.Halt) }
         ensures no_limit { IfErr result (λ stop. stop ≢ Stop.Limit) }
@@ -108,7 +119,7 @@ impl Machine {
         } else {
             behind - ADDRESSES
         };
-        Ok((said.operation, self.instruction(&said, next)))
+        self.with_places(said.operation, self.instruction(&said, next))
     }
 
     /// Decodes the instruction at the I register and keeps it, or says why it can't be carried out.
@@ -124,6 +135,34 @@ impl Machine {
         Ok(said)
     }
 
+    /// What is carried out, unless the operation needs both addresses to be those of places, and one isn't.
+    #[inline(always)]
+    #[tactic(auto, using(crate::proofs::NeededPlacesLemmas::refused_outside))]
+    fn with_places(
+        &self,
+        operation: Operation,
+        this: Instruction,
+    ) -> Result<(Operation, Instruction), Stop>
+        ensures ok { IfOk result (λ fetched. (fetched.0 ≡ operation) × (fetched.1 ≡ this)) }
+        ensures places { IfOk result (λ fetched.
+            HasPlaces fetched.0 fetched.1.a fetched.1.b (length self.now.storage)) }
+        ensures err { IfErr result (λ stop. perform operation this self.now ≡ stopped stop self.now) }
+        ensures address { IfErr result (λ stop. stop ≡ Stop.Address) }
+    {
+        if !self.are_places(this.a, this.b) && operation.needs_places() {
+            return Err(Stop::Address);
+        }
+        Ok((operation, this))
+    }
+
+    /// Whether both addresses are those of places.
+    #[inline(always)]
+    fn are_places(&self, a: u16, b: u16) -> bool
+        ensures { result ≡ is_in_core self.now.storage a && is_in_core self.now.storage b }
+    {
+        self.core.in_core(a) && self.core.in_core(b)
+    }
+
     /// What is carried out for the instruction at the I register where its addresses are ready.
     #[inline(always)]
     fn ready_instruction(&self, said: &Decoded, next: u16) -> Instruction
@@ -135,6 +174,7 @@ impl Machine {
         ensures a { result.a < addresses }
         ensures b { result.b < addresses }
         ensures next { result.next < addresses }
+        ensures ready { (result.a ≡ said.now.a.value) × (result.b ≡ said.now.b.value) }
     {
         let (a, b) = self.ready_addresses(said);
         Instruction {
@@ -180,6 +220,7 @@ impl Machine {
         requires ready { said.now.is_ready ≡ true }
         ensures serve { Serve self.now said.now result.0 result.1 }
         ensures range { (result.0 < addresses) × (result.1 < addresses) }
+        ensures ready { (result.0 ≡ said.now.a.value) × (result.1 ≡ said.now.b.value) }
     {
         (said.a.value, said.b.value)
     }
@@ -245,6 +286,7 @@ impl Machine {
         requires a { fetched.1.a < addresses }
         requires b { fetched.1.b < addresses }
         requires next { fetched.1.next < addresses }
+        requires places { HasPlaces fetched.0 fetched.1.a fetched.1.b (length self.old.storage) }
         ensures stop { result ≡ (perform fetched.0 fetched.1 self.old).stop }
         ensures state { self.new ≡ (perform fetched.0 fetched.1 self.old).state }
         ensures unchanged { IfSome result (λ why. why ≢ Stop.Halt → self.new ≡ self.old) }
@@ -255,12 +297,13 @@ impl Machine {
         self.perform(operation, Instruction { len, a, b, next, d })
     }
 
-    /// Does what the operation does.
+    /// Does what the operation does, with both addresses those of places if it needs that.
     #[inline(always)]
     fn perform(&mut self, operation: Operation, this: Instruction) -> Option<Stop>
         requires a { this.a < addresses }
         requires b { this.b < addresses }
         requires next { this.next < addresses }
+        requires places { HasPlaces operation this.a this.b (length self.old.storage) }
         ensures stop { result ≡ (perform operation this self.old).stop }
         ensures state { self.new ≡ (perform operation this self.old).state }
         ensures unchanged { IfSome result (λ why. why ≢ Stop.Halt → self.new ≡ self.old) }
@@ -270,23 +313,23 @@ impl Machine {
         let Instruction { a, b, .. } = this;
         match operation {
             Operation::Add => {
-                let outcome = add(&mut self.core, a, b);
+                let outcome = add_within(&mut self.core, a, b);
                 self.after_field(this, outcome)
             }
             Operation::Subtract => {
-                let outcome = subtract(&mut self.core, a, b);
+                let outcome = subtract_within(&mut self.core, a, b);
                 self.after_field(this, outcome)
             }
             Operation::ZeroAdd => {
-                let outcome = zero_add(&mut self.core, a, b);
+                let outcome = zero_add_within(&mut self.core, a, b);
                 self.after_field(this, outcome)
             }
             Operation::ZeroSubtract => {
-                let outcome = zero_subtract(&mut self.core, a, b);
+                let outcome = zero_subtract_within(&mut self.core, a, b);
                 self.after_field(this, outcome)
             }
             Operation::Move => {
-                let outcome = move_chars(&mut self.core, a, b);
+                let outcome = move_chars_within(&mut self.core, a, b);
                 self.after_field(this, outcome)
             }
             Operation::Load => {
@@ -294,20 +337,20 @@ impl Machine {
                 self.after_field(this, outcome)
             }
             Operation::MoveDigit => {
-                let outcome = move_digit(&mut self.core, a, b);
-                self.after_field(this, outcome)
+                let done = move_digit_within(&mut self.core, a, b);
+                self.after_field(this, Ok(done))
             }
             Operation::MoveZone => {
-                let outcome = move_zone(&mut self.core, a, b);
-                self.after_field(this, outcome)
+                let done = move_zone_within(&mut self.core, a, b);
+                self.after_field(this, Ok(done))
             }
             Operation::SetWordMark => {
-                let outcome = set_marks_there(&mut self.core, &mut self.kept, a, b);
-                self.after_field(this, outcome)
+                let done = set_marks_there(&mut self.core, &mut self.kept, a, b);
+                self.after_field(this, Ok(done))
             }
             Operation::ClearWordMark => {
-                let outcome = clear_marks_there(&mut self.core, &mut self.kept, a, b);
-                self.after_field(this, outcome)
+                let done = clear_marks_there(&mut self.core, &mut self.kept, a, b);
+                self.after_field(this, Ok(done))
             }
             Operation::ZeroSuppress => {
                 let outcome = suppress_there(&mut self.core, &mut self.kept, a, b);

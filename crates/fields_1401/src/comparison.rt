@@ -10,7 +10,7 @@ ghost use Rattle.fields_1401.specs.Compare.{orders_across, IsOneOfThree, Tells};
 
 use crate::done::{Done, FieldStop};
 use crate::lanes::{codes_across, differing_bits};
-use crate::lengths::pair_len;
+use crate::refusals::are_in_core;
 use crate::registers::{below_field, registers};
 use crate::slices::char_at;
 use core_1401::Core;
@@ -30,6 +30,7 @@ const FEW: u16 = 16;
 ///
 /// `Address` if one of the addresses isn't in core, or one field comes to address 0 before a word mark in
 /// either.
+#[tactic(auto, unfolding(crate::specs::Compare::comparison_at), using(crate::proofs::FieldLemmas::no_pair))]
 pub fn compare(core: &Core, a: u16, b: u16) -> Result<Done, FieldStop>
     requires a { a < addresses }
     requires b { b < addresses }
@@ -42,7 +43,31 @@ pub fn compare(core: &Core, a: u16, b: u16) -> Result<Done, FieldStop>
         IfOk result (λ done.
         Tells done (slice_cmp nat_cmp (orders_across core.now a n) (orders_across core.now b n))) }
 {
-    let Some(n) = pair_len(core, a, b) else {
+    if !are_in_core(core, a, b) {
+        return Err(FieldStop::Address);
+    }
+    compare_within(core, a, b)
+}
+
+/// As `compare`, where both addresses are known to be those of places.
+///
+/// # Errors
+///
+/// `Address` if one field comes to address 0 before a word mark in either.
+pub fn compare_within(core: &Core, a: u16, b: u16) -> Result<Done, FieldStop>
+    requires a { a < addresses }
+    requires b { b < addresses }
+    requires places { (a < length core.now) × (b < length core.now) }
+    ensures value { result ≡ comparison_at core.now a b }
+    ensures registers { IfOk result (λ done. (done.a < addresses) × (done.b < addresses)) }
+    ensures one { IfOk result (λ done. IsOneOfThree done) }
+
+    // Fields of one length compare as words of one length do in a dictionary, by the collating order.
+    ensures dictionary { (n : ℕ) → field_len_of core.now a ≡ Some n → field_len_of core.now b ≡ Some n →
+        IfOk result (λ done.
+        Tells done (slice_cmp nat_cmp (orders_across core.now a n) (orders_across core.now b n))) }
+{
+    let Some(n) = core.pair_len(a, b) else {
         return Err(FieldStop::Address);
     };
     let ends_first = ends_first(core, a, b, n);

@@ -1,5 +1,6 @@
 //! The operations of the IBM 1401 on fields of core storage: each is carried out whole, or refused and nothing is
-//! changed.
+//! changed. What ends in `_within` is for a caller who knows that both addresses are those of places, and doesn't ask for
+//! that again.
 //!
 //! ```text
 //! let moved = move_chars(&mut core, 510, 509)?;   // the A field to the B field, right to left
@@ -43,15 +44,15 @@ pub mod editing;
 mod lanes;
 pub mod suppression;
 
-pub use arithmetic::{add, subtract};
-pub use comparison::compare;
+pub use arithmetic::{add, add_within, subtract, subtract_within};
+pub use comparison::{compare, compare_within};
 pub use done::{Done, FieldStop};
 pub use editing::edit;
 pub use loads::load_chars;
-pub use marks::{clear_down, clear_marks, set_marks};
-pub use moves::move_chars;
-pub use parts::{move_digit, move_zone};
+pub use marks::{clear_down, clear_marks, clear_marks_within, set_marks, set_marks_within};
+pub use moves::{move_chars, move_chars_within};
+pub use parts::{move_digit, move_digit_within, move_zone, move_zone_within};
 pub use registers::step_down;
 pub use sign::Sign;
 pub use suppression::suppress;
-pub use zero_sums::{zero_add, zero_subtract};
+pub use zero_sums::{zero_add, zero_add_within, zero_subtract, zero_subtract_within};

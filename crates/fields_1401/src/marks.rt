@@ -1,5 +1,5 @@
 //! Word marks set, cleared, and cleared with the storage below them.
-ghost use Rattle.std.specs.Prelude.{◌≡◌, ◌≢◌, ℕ, ◌+◌, ◌<◌, ◌≤◌, IfOk, length};
+ghost use Rattle.std.specs.Prelude.{◌≡◌, ◌≢◌, ℕ, ◌+◌, ◌<◌, ◌≤◌, IfOk, Ok, length};
 ghost use Rattle.core_1401.specs.Address.{addresses};
 ghost use Rattle.core_1401.specs.Storage.{cell_at};
 ghost use Rattle.fields_1401.specs.Across.{IsSameBeside};
@@ -24,6 +24,21 @@ pub fn set_marks(core: &mut Core, a: u16, b: u16) -> Result<Done, FieldStop>
     ensures chars { chars_of core.new ≡ chars_of core.old }
     ensures beside { (place : ℕ) → place ≢ a → place ≢ b → cell_at core.new place ≡ cell_at core.old place }
 {
+    if !are_in_core(core, a, b) {
+        return Err(FieldStop::Address);
+    }
+    Ok(set_marks_within(core, a, b))
+}
+
+/// As `set_marks`, where both addresses are known to be those of places.
+pub fn set_marks_within(core: &mut Core, a: u16, b: u16) -> Done
+    requires a { a < addresses }
+    requires b { b < addresses }
+    requires places { (a < length core.old) × (b < length core.old) }
+    ensures outcome { CarriesOut (set_marks_at core.old a b) core.old core.new (Ok result) }
+    ensures chars { chars_of core.new ≡ chars_of core.old }
+    ensures beside { (place : ℕ) → place ≢ a → place ≢ b → cell_at core.new place ≡ cell_at core.old place }
+{
     put_marks(core, a, b, true)
 }
 
@@ -36,6 +51,21 @@ pub fn clear_marks(core: &mut Core, a: u16, b: u16) -> Result<Done, FieldStop>
     requires a { a < addresses }
     requires b { b < addresses }
     ensures outcome { CarriesOut (clear_marks_at core.old a b) core.old core.new result }
+    ensures chars { chars_of core.new ≡ chars_of core.old }
+    ensures beside { (place : ℕ) → place ≢ a → place ≢ b → cell_at core.new place ≡ cell_at core.old place }
+{
+    if !are_in_core(core, a, b) {
+        return Err(FieldStop::Address);
+    }
+    Ok(clear_marks_within(core, a, b))
+}
+
+/// As `clear_marks`, where both addresses are known to be those of places.
+pub fn clear_marks_within(core: &mut Core, a: u16, b: u16) -> Done
+    requires a { a < addresses }
+    requires b { b < addresses }
+    requires places { (a < length core.old) × (b < length core.old) }
+    ensures outcome { CarriesOut (clear_marks_at core.old a b) core.old core.new (Ok result) }
     ensures chars { chars_of core.new ≡ chars_of core.old }
     ensures beside { (place : ℕ) → place ≢ a → place ≢ b → cell_at core.new place ≡ cell_at core.old place }
 {
@@ -63,19 +93,17 @@ pub fn clear_down(core: &mut Core, b: u16) -> Result<Done, FieldStop>
 
 /// Sets both word marks, or clears them.
 #[tactic(auto, using(crate::proofs::PlacesLemmas::chars_stay, crate::proofs::PlacesLemmas::other_mark))]
-fn put_marks(core: &mut Core, a: u16, b: u16, mark: bool) -> Result<Done, FieldStop>
+fn put_marks(core: &mut Core, a: u16, b: u16, mark: bool) -> Done
     requires a { a < addresses }
     requires b { b < addresses }
-    ensures outcome { CarriesOut (marks_at core.old a b mark) core.old core.new result }
+    requires places { (a < length core.old) × (b < length core.old) }
+    ensures outcome { CarriesOut (marks_at core.old a b mark) core.old core.new (Ok result) }
     ensures chars { chars_of core.new ≡ chars_of core.old }
     ensures beside { (place : ℕ) → place ≢ a → place ≢ b → cell_at core.new place ≡ cell_at core.old place }
 {
-    if !are_in_core(core, a, b) {
-        return Err(FieldStop::Address);
-    }
     core.put_mark(a, mark);
     core.put_mark(b, mark);
-    Ok(registers(step_down(a, 1), step_down(b, 1)))
+    registers(step_down(a, 1), step_down(b, 1))
 }
 
 /// Clears n places from an address down.

@@ -7,8 +7,7 @@ ghost use Rattle.fields_1401.specs.Outcome.{CarriesOut};
 ghost use Rattle.fields_1401.specs.Places.{marks_of};
 
 use crate::done::{Done, FieldStop};
-use crate::lengths::pair_len;
-use crate::refusals::is_overwritten;
+use crate::refusals::{are_in_core, is_overwritten};
 use crate::registers::{below_field, registers};
 use core_1401::Core;
 
@@ -19,14 +18,33 @@ use core_1401::Core;
 ///
 /// `Address` if one of the addresses isn't in core, or one of the fields comes to address 0 before a word mark
 /// in either.
-#[tactic(auto, unfolding(crate::specs::Move::move_at))]
+#[tactic(auto, unfolding(crate::specs::Move::move_at), using(crate::proofs::FieldLemmas::no_pair))]
 pub fn move_chars(core: &mut Core, a: u16, b: u16) -> Result<Done, FieldStop>
     requires a { a < addresses }
     requires b { b < addresses }
     ensures outcome { CarriesOut (move_at core.old a b) core.old core.new result }
     ensures marks { marks_of core.new ≡ marks_of core.old }
 {
-    let Some(n) = pair_len(core, a, b) else {
+    if !are_in_core(core, a, b) {
+        return Err(FieldStop::Address);
+    }
+    move_chars_within(core, a, b)
+}
+
+/// As `move_chars`, where both addresses are known to be those of places.
+///
+/// # Errors
+///
+/// `Address` if one of the fields comes to address 0 before a word mark in either.
+#[tactic(auto, unfolding(crate::specs::Move::move_at))]
+pub fn move_chars_within(core: &mut Core, a: u16, b: u16) -> Result<Done, FieldStop>
+    requires a { a < addresses }
+    requires b { b < addresses }
+    requires places { (a < length core.old) × (b < length core.old) }
+    ensures outcome { CarriesOut (move_at core.old a b) core.old core.new result }
+    ensures marks { marks_of core.new ≡ marks_of core.old }
+{
+    let Some(n) = core.pair_len(a, b) else {
         return Err(FieldStop::Address);
     };
     move_places(core, a, b, n);

@@ -6,8 +6,7 @@ ghost use Rattle.fields_1401.specs.Number.{places_down, sign_of};
 ghost use Rattle.fields_1401.specs.Refusal.{used_len_of, needed_at, is_overlap, lengths_at};
 
 use crate::done::FieldStop;
-use crate::lengths::field_len;
-use crate::refusals::{are_in_core, is_overlap};
+use crate::refusals::is_overlap;
 use crate::sign::Sign;
 use core_1401::Core;
 
@@ -32,7 +31,7 @@ pub(crate) struct Operands {
 }
 
 impl Operands {
-    /// The places that an operation with these addresses takes.
+    /// The places that an operation with these addresses takes, both of which are those of places.
     ///
     /// # Errors
     ///
@@ -40,9 +39,10 @@ impl Operands {
     /// addresses differ and a place of A that is used is one of the B field.
     #[inline(always)]
     #[tactic(auto, unfolding(crate::specs::Refusal::lengths_at))]
-    pub(crate) fn at(core: &Core, a: u16, b: u16) -> Result<Operands, FieldStop>
+    pub(crate) fn within(core: &Core, a: u16, b: u16) -> Result<Operands, FieldStop>
         requires a { a < addresses }
         requires b { b < addresses }
+        requires places { (a < length core.now) × (b < length core.now) }
         ensures ok { IfOk result (λ taken. lengths_at core.now a b ≡ Ok (taken.used, taken.len)) }
         ensures err { IfErr result (λ stop. lengths_at core.now a b ≡ Err stop) }
         ensures needed { IfOk result (λ taken. needed_at core.now a b ≡ Some (taken.used, taken.len)) }
@@ -80,20 +80,17 @@ impl Operands {
 
 /// How many places of A are used, and how many the B field has; none if one of them isn't in core.
 #[inline(always)]
-#[tactic(auto, using(crate::proofs::FieldLemmas::none_needed))]
 fn needed(core: &Core, a: u16, b: u16) -> Option<(u16, u16)>
-    requires { a < addresses }
+    requires range { a < addresses }
+    requires a { a < length core.now }
+    requires b { b < length core.now }
     ensures value { result ≡ needed_at core.now a b }
     ensures used { IfSome result (λ taken. (0 < taken.0) × (taken.0 ≤ taken.1) × (taken.0 ≤ a + 1)) }
     ensures len { IfSome result (λ taken. taken.1 ≤ b + 1) }
     ensures field { IfSome result (λ taken. field_len_of core.now b ≡ Some taken.1) }
-    ensures in_core { IfSome result (λ taken. (a < length core.now) × (b < length core.now)) }
 {
-    if !are_in_core(core, a, b) {
-        return None;
-    }
-    let len = field_len(core, b)?;
-    let used = used_len(core, a, len)?;
+    let len = core.field_len(b)?;
+    let used = used_within(core, a, len)?;
     Some((used, len))
 }
 
@@ -110,6 +107,18 @@ pub(crate) fn used_len(core: &Core, a: u16, len: u16) -> Option<u16>
     if !core.in_core(a) {
         return None;
     }
+    used_within(core, a, len)
+}
+
+/// The same of an A address that is known to be that of a place.
+#[inline(always)]
+fn used_within(core: &Core, a: u16, len: u16) -> Option<u16>
+    requires range { a < addresses }
+    requires a { a < length core.now }
+    requires len { 0 < len }
+    ensures value { result ≡ used_len_of core.now a len }
+    ensures bounds { IfSome result (λ u. (0 < u) × (u ≤ len) × (u ≤ a + 1)) }
+{
     match core.field_len(a) {
         Some(n) => Some(n.min(len)),
         None if len <= a + 1 => Some(len),

@@ -1,5 +1,5 @@
 -- An entry with the place keeps the instruction there; it is inside, and its word marks are current.
-use Rattle.std.proofs.Common.{ℕ, List, ap, sym, arith, subst}
+use Rattle.std.proofs.Common.{List, ap, sym, arith, subst}
 use Rattle.cpu_1401.specs.declared.cache_entry.CacheEntry.{CacheEntry}
 use Rattle.cpu_1401.specs.Kept.{Kept, IsCurrent, IsKept}
 use Rattle.fields_1401.specs.Places.{marks_of}
@@ -13,7 +13,7 @@ said_there-requires-clause-inside c =
     let kept : IsKept entries c.args.at entry =
     found entries c.args.at c.entry_of.result entry c.self.invariant.0 c.requires.place c.entry_of.ensures
     c.index-entry.ensures c.if-entry-at.false in
-    omega (arith, c.self.invariant.2 c.args.at entry kept, ap (λ (k : Kept). k.size) c.self.view_is, c.requires.size)
+    omega (arith, (c.self.invariant.2 c.args.at entry kept).0, ap (λ (k : Kept). k.size) c.self.view_is, c.requires.size)
 
 pub said_there-requires-clause-marks : goal.said_there-requires-clause-marks
 said_there-requires-clause-marks c =

@@ -39,7 +39,8 @@ invariant_of-self c =
       length-set entries (c.args.at % entry_count) new ∙ c.self.invariant.0,
       covered_kept entries c.self.inside.covered covered c.args.at new refl c.self.invariant.1
           c.cover_eight.ensures.there c.cover_eight.ensures.more,
-      inside_kept entries c.self.inside.size c.args.at new refl c.if-at-self.false c.self.invariant.2,
+      inside_kept entries c.self.inside.size c.args.at new refl
+          (c.if-at-self.false, c.ready_place.ensures.places) c.self.invariant.2,
       between_kept entries c.self.inside.first c.self.inside.last c.min-self-inside.result c.max-self-inside.result
           c.args.at new refl c.min-self-inside.ensures c.max-self-inside.ensures c.self.invariant.3,
     )

@@ -2,7 +2,7 @@
 use Rattle.std.proofs.Common.{◌||◌, rules}
 use Rattle.fields_1401.specs.Compare.{comparison_at}
 use Rattle.fields_1401.proofs.CompareLemmas.{comparison_is, low_or_high, not_both, tells}
-use Rattle.fields_1401.proofs.comparison.compare.Goals as goal
+use Rattle.fields_1401.proofs.comparison.compare_within.Goals as goal
 
 pub returns-in_default : goal.returns-in_default
 unfolding comparison_at
@@ -27,7 +27,7 @@ returns-clause-one c = record {
 pub returns-clause-dictionary : goal.returns-clause-dictionary
 returns-clause-dictionary c =
     tells c.args.core.now c.args.a c.args.b c.in-Some.n c.highest_difference-difference.result
-    c.ends_first-ends_first.result c.is_some.result c.is_higher.result c.registers.result c.in-Some.ensures.a_in
-    c.in-Some.ensures.b_in c.in-Some.ensures.a_places c.in-Some.ensures.b_places c.in-Some.ensures.value
+    c.ends_first-ends_first.result c.is_some.result c.is_higher.result c.registers.result c.requires.places.0
+    c.requires.places.1 c.in-Some.ensures.bounds.1 c.in-Some.ensures.bounds.2 c.in-Some.ensures.value
     c.highest_difference-difference.ensures.value c.ends_first-ends_first.ensures c.is_some.ensures
     c.is_higher.ensures.value c.is_higher.ensures.apart
