@@ -8,10 +8,10 @@ ghost use Rattle.autocoder_1401.specs.Cells.{address_or_zero, plain, with_word_m
 ghost use Rattle.autocoder_1401.specs.Cells.{operand_codes, d_codes, operands_cells, instruction_cells, constant_cells};
 ghost use Rattle.autocoder_1401.specs.Cells.{literal_cells};
 ghost use Rattle.autocoder_1401.specs.Cells.{fields_behind, with_mark_at, with_field, repeated, areas_cells};
-ghost use Rattle.autocoder_1401.specs.Cells.{unit_codes, chain_cells, contents_cells, row_cells, statement_cells};
+ghost use Rattle.autocoder_1401.specs.Cells.{unit_codes, chain_cells, contents_cells, row_cells};
 ghost use Rattle.autocoder_1401.specs.Cells.{signed_place, signed_address, field_cells, address_constant_cells};
 ghost use Rattle.autocoder_1401.specs.Cells.{group_mark};
-ghost use Rattle.autocoder_1401.specs.Placement.{start_of};
+ghost use Rattle.autocoder_1401.specs.Placement.{start_by};
 ghost use Rattle.autocoder_1401.specs.View.{places_of};
 
 use crate::characters::{Characters, char_of, char_with};
@@ -24,7 +24,7 @@ use bcd_1401::{Cell, Char};
 use core_1401::{ADDRESSES, encode};
 use source_1401::{
     Address, AddressConstant, AreaRole, Areas, Chain, Constant, Contents, Description, Instruction,
-    Next, Operand, OperandField, Operands, Span, Statement, Unit,
+    Next, Operand, OperandField, Operands, Span, Unit,
 };
 use std::alloc::Global;
 
@@ -173,14 +173,14 @@ impl Placing<'_> {
         address_or_zero(self.next)
     }
 
-    /// The address from which a line places its cells; 0 if it is none.
-    pub(crate) fn start_address(&self, line: &KeptLine) -> Result<u16, AsmFault>
+    /// The address from which a statement with this row places its cells; 0 if it is none.
+    pub(crate) fn start_address(&self, row: &Description) -> Result<u16, AsmFault>
         ensures value { IfOk result
-            (λ at. at ≡ address_or_zero (start_of (places_of self.now) line.now.statement)) }
+            (λ at. at ≡ address_or_zero (start_by (places_of self.now) row.now row.now.next)) }
         ensures range { IfOk result (λ at. at < addresses) }
         ensures err { IfErr result IsMemory }
     {
-        let start = self.start_of(line)?;
+        let start = self.start_by(row)?;
         Ok(address_or_zero(start))
     }
 
@@ -357,10 +357,10 @@ fn mark_fields(area: &mut [Cell], lines: &[KeptLine])
     ensures { area.new ≡ fold with_field area.old (fields_behind lines.now) }
 {
     for line in lines {
-        let Some(Statement { body, .. }) = line.line().statement else {
+        let Some(statement) = &line.line().statement else {
             continue;
         };
-        match body.describe().areas {
+        match statement.body.describe().areas {
             AreaRole::Divides(Some(span)) => mark_field(area, span),
             AreaRole::Divides(None) | AreaRole::Keeps => {},
             AreaRole::Ends | AreaRole::Makes(_) => return,
@@ -437,15 +437,15 @@ pub(crate) fn put_contents(
     alloc: Global,
     all: &Placing<'_>,
     so_far: &Placing<'_>,
-    contents: Contents,
+    contents: &Contents,
     lines: &[KeptLine],
     out: &mut Vec<Cell>,
 ) -> Result<(), AsmFault>
     ensures ok { OnOk result (out.new.items
-        ≡ out.old.items ++ contents_cells (places_of all.now) (places_of so_far.now) contents lines.now) }
+        ≡ out.old.items ++ contents_cells (places_of all.now) (places_of so_far.now) contents.now lines.now) }
     ensures err { IfErr result IsMemory }
 {
-    match contents {
+    match *contents {
         Contents::Instruction(instruction, operands) => {
             let last = last_place(so_far.next, instruction_length(operands))?;
             all.put_instruction(last, instruction, operands, out)
@@ -467,37 +467,34 @@ pub(crate) fn put_row(
     alloc: Global,
     all: &Placing<'_>,
     so_far: &Placing<'_>,
-    row: Description,
+    row: &Description,
     lines: &[KeptLine],
     out: &mut Vec<Cell>,
 ) -> Result<(), AsmFault>
     ensures ok { OnOk result (out.new.items
-        ≡ out.old.items ++ row_cells (places_of all.now) (places_of so_far.now) row row.next lines.now) }
+        ≡ out.old.items ++ row_cells (places_of all.now) (places_of so_far.now) row.now row.now.next lines.now) }
     ensures err { IfErr result IsMemory }
 {
     match row.next {
-        Next::Behind => put_contents(alloc, all, so_far, row.contents, lines, out),
+        Next::Behind => put_contents(alloc, all, so_far, &row.contents, lines, out),
         Next::Literals | Next::LiteralsAtValue => put_literals(all, so_far.pending(), out),
         Next::Value => Ok(()),
     }
 }
 
-/// The cells that a line places for which this is placed so far, with these lines after it.
+/// The cells that a statement with this row places for which this is placed so far, with these lines after it.
 pub(crate) fn cells_of(
     alloc: Global,
     all: &Placing<'_>,
     so_far: &Placing<'_>,
-    line: &KeptLine,
+    row: &Description,
     lines: &[KeptLine],
 ) -> Result<Vec<Cell>, AsmFault>
     ensures ok { IfOk result (λ cells. cells.items
-        ≡ statement_cells (places_of all.now) (places_of so_far.now) line.now.statement lines.now) }
+        ≡ row_cells (places_of all.now) (places_of so_far.now) row.now row.now.next lines.now) }
     ensures err { IfErr result IsMemory }
 {
     let mut out = Vec::new(alloc);
-    let Some(Statement { body, .. }) = line.line().statement else {
-        return Ok(out);
-    };
-    put_row(alloc, all, so_far, body.describe(), lines, &mut out)?;
+    put_row(alloc, all, so_far, row, lines, &mut out)?;
     Ok(out)
 }

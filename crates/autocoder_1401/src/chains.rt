@@ -1,6 +1,7 @@
 //! Chains of EQUs: what a label stands for whose EQU names one without a value so far.
 ghost use Rattle.std.specs.Prelude.{◌≡◌, ◌+ℤ◌, ◌<◌, ◌^◌, length, map, max, IfOk, IfErr, OnOk};
 ghost use Rattle.indexmap.specs.IndexMap.{get};
+ghost use Rattle.source_1401.specs.Statement.{is_end};
 ghost use Rattle.autocoder_1401.specs.Chains.{no_chains, has_value, link_to, link_in_base, link_in_operand, link_in};
 ghost use Rattle.autocoder_1401.specs.Chains.{is_declared_here, with_link, with_labelled, with_line, links_from};
 ghost use Rattle.autocoder_1401.specs.Chains.{joined, beyond, onward, twice, twice_over, doublings, followed};
@@ -148,11 +149,11 @@ fn link_in(
     sites: &Sites,
     labels: &IndexSet<Label, SourceHashing>,
     number: u64,
-    addressing: Addressing,
+    addressing: &Addressing,
 ) -> Option<Link>
-    ensures { result ≡ link_in (get same_label sites.now) labels.now.keys number addressing }
+    ensures { result ≡ link_in (get same_label sites.now) labels.now.keys number addressing.now }
 {
-    let Addressing::Equal(operands) = addressing else {
+    let Addressing::Equal(operands) = *addressing else {
         return None;
     };
     match operands.a {
@@ -199,25 +200,24 @@ impl Chains {
         Ok(())
     }
 
-    /// Adds the link that a line of this number is.
-    fn add_line(&mut self, sites: &Sites, number: u64, line: &KeptLine) -> Result<(), AsmFault>
+    /// Adds the link that a line of this number is, and says whether it is END.
+    fn add_line(&mut self, sites: &Sites, number: u64, line: &KeptLine) -> Result<bool, AsmFault>
         ensures ok { OnOk result
             (chains_view self.new ≡ with_line (get same_label sites.now) number (chains_view self.old) line.now) }
+        ensures end { IfOk result (λ end. end ≡ is_end line.now) }
         ensures err { IfErr result IsMemory }
     {
-        if let Some(
-            Statement {
-                label: LabelField::Label(label),
-                body,
-            },
-        ) = line.line().statement
-        {
+        let Some(Statement { label, body }) = &line.line().statement else {
+            return Ok(false);
+        };
+        let row = body.describe();
+        if let LabelField::Label(label) = *label {
             if is_declared_here(sites, number, label) {
-                let link = link_in(sites, &self.labels, number, body.describe().addressing);
+                let link = link_in(sites, &self.labels, number, &row.addressing);
                 self.add(label, link)?;
             }
         }
-        Ok(())
+        Ok(row.is_end())
     }
 
     /// Adds the links that lines are, up to END.
@@ -228,8 +228,8 @@ impl Chains {
         ensures err { IfErr result IsMemory }
     {
         for (i, line) in lines.iter().enumerate() {
-            self.add_line(sites, i as u64 + 1, line)?;
-            if line.line().is_end() {
+            let is_end = self.add_line(sites, i as u64 + 1, line)?;
+            if is_end {
                 return Ok(());
             }
         }

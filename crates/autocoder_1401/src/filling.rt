@@ -71,11 +71,15 @@ impl FilledSoFar<'_> {
             (places_of self.new.so_far ≡ after_line (places_of self.old.so_far) line.now) }
         ensures err { IfErr result IsMemory }
     {
-        let cells = cells_of(alloc, all, &self.so_far, line, behind)?;
-        let start = self.so_far.start_address(line)?;
-        put_cells(&mut self.storage, start, &cells)?;
         self.addresses.push(self.so_far.address())?;
-        self.so_far.place(line)?;
+        let Some(statement) = &line.line().statement else {
+            return Ok(());
+        };
+        let row = statement.body.describe();
+        let cells = cells_of(alloc, all, &self.so_far, &row, behind)?;
+        let start = self.so_far.start_address(&row)?;
+        put_cells(&mut self.storage, start, &cells)?;
+        self.so_far.place_row(statement, &row)?;
         Ok(())
     }
 

@@ -1,13 +1,13 @@
 //! The first line with a fault, and its lowest kind.
-ghost use Rattle.std.specs.Prelude.{◌≡◌, ◌+◌, ◌<◌, ◌^◌, length, IfNone, IfSome};
+ghost use Rattle.std.specs.Prelude.{◌≡◌, ◌+◌, ◌<◌, ◌^◌, ◌&&◌, ◌||◌, not, is_none, length, IfNone, IfSome};
 ghost use Rattle.indexmap.specs.IndexMap.{get};
+ghost use Rattle.source_1401.specs.Description.{describe};
 ghost use Rattle.autocoder_1401.specs.Symbols.{same_label};
 ghost use Rattle.autocoder_1401.specs.View.{symbols_view};
-ghost use Rattle.autocoder_1401.specs.FirstFault.{first_place, place_behind, areas_behind, bad_label};
-ghost use Rattle.autocoder_1401.specs.FirstFault.{double_label, is_area, double_area, is_double, bad_operation};
+ghost use Rattle.autocoder_1401.specs.FirstFault.{first_place, place_behind, areas_by, bad_label, is_field};
+ghost use Rattle.autocoder_1401.specs.FirstFault.{double_label, is_area, double_area, is_double};
 ghost use Rattle.autocoder_1401.specs.FirstFault.{symbol_in_base, symbol_in_literal, symbol_in, is_undefined};
-ghost use Rattle.autocoder_1401.specs.FirstFault.{is_unknown_before, may_equal, is_unequal, undefined, is_past_areas};
-ghost use Rattle.autocoder_1401.specs.FirstFault.{bad_operands};
+ghost use Rattle.autocoder_1401.specs.FirstFault.{is_unknown_before, may_equal, is_unequal, undefined_in, is_past_by};
 ghost use Rattle.autocoder_1401.specs.FirstFault.{lowest_in, lowest, first_fault_from, IsClean, IsLowest, IsFaultless};
 ghost use Rattle.autocoder_1401.specs.FirstFault.{IsFirstFault};
 
@@ -16,8 +16,8 @@ use crate::kept_line::KeptLine;
 use crate::known::{Symbols, is_known_at_end, is_known_before};
 use crate::symbols::{Declaration, Sites, is_before, is_label_before};
 use source_1401::{
-    Addressing, AreaLiteral, AreaRole, Base, Body, DeclaredAreas, Label, LabelField, Language,
-    LineCheck, Literal, Operand, OperandField, Statement,
+    Addressing, AreaLiteral, AreaRole, Base, DeclaredAreas, Description, Label, LabelField,
+    Language, LineCheck, Literal, Operand, OperandField, Statement,
 };
 
 /// What the lines before a line tell of it.
@@ -44,47 +44,54 @@ impl LineContext {
         requires { self.number < 2 ^ 33 }
         ensures { result ≡ place_behind self line.now }
     {
-        LineContext {
+        let same = LineContext {
             number: self.number + 1,
-            is_ended: self.is_ended | line.line().is_end(),
-            areas: self.areas_behind(line),
-        }
-    }
-
-    /// The length of the areas that a field after the line would divide.
-    fn areas_behind(self, line: &KeptLine) -> Option<u16>
-        ensures { result ≡ areas_behind self.areas line.now }
-    {
-        match line.line().statement {
-            Some(Statement { body, .. }) => match body.describe().areas {
-                AreaRole::Makes(Some(areas)) => Some(areas.length),
-                AreaRole::Makes(None) | AreaRole::Ends => None,
-                AreaRole::Keeps | AreaRole::Divides(_) => self.areas,
+            ..self
+        };
+        match &line.line().statement {
+            Some(statement) => {
+                let row = statement.body.describe();
+                LineContext {
+                    is_ended: self.is_ended || row.is_end(),
+                    areas: self.areas_behind(row.areas),
+                    ..same
+                }
             },
-            None => self.areas,
+            None => same,
         }
     }
 
-    /// Whether the label is bad, or a field of areas lacks one.
-    pub(crate) fn has_bad_label(self, statement: Statement) -> bool
-        ensures { result ≡ bad_label self.areas statement }
+    /// The length of the areas that a field after a statement would divide, which is this to areas.
+    fn areas_behind(self, role: AreaRole) -> Option<u16>
+        ensures { result ≡ areas_by self.areas role }
     {
-        statement.has_bad_label() || (statement.lacks_field_label() && self.areas.is_some())
+        match role {
+            AreaRole::Makes(Some(areas)) => Some(areas.length),
+            AreaRole::Makes(None) | AreaRole::Ends => None,
+            AreaRole::Keeps | AreaRole::Divides(_) => self.areas,
+        }
     }
 
-    /// Whether the operation isn't known, or is a field under no areas.
-    pub(crate) fn has_bad_operation(self, body: Body) -> bool
-        ensures { result ≡ bad_operation self.areas body }
+    /// Whether the label is bad, or a field of areas lacks one, of a statement with this row.
+    pub(crate) fn has_bad_label(self, statement: &Statement, row: &Description) -> bool
+        requires { row.now ≡ describe statement.now.body }
+        ensures { result ≡ bad_label self.areas statement.now }
     {
-        let row = body.describe();
+        row.has_bad_label(statement) || (row.lacks_field_label(statement) && self.areas.is_some())
+    }
+
+    /// Whether the operation isn't known, or is a field under no areas, of a statement with this row.
+    pub(crate) fn has_bad_operation(self, row: &Description) -> bool
+        ensures { result ≡ (not row.now.is_known || (is_field row.now.areas && is_none self.areas)) }
+    {
         !row.is_known || (matches!(row.areas, AreaRole::Divides(_)) && self.areas.is_none())
     }
 
-    /// Whether a field ends beyond its area.
-    fn is_past_areas(self, body: Body) -> bool
-        ensures { result ≡ is_past_areas self.areas body }
+    /// Whether a statement that is this to areas is a field that ends beyond its area.
+    fn is_past_areas(self, role: AreaRole) -> bool
+        ensures { result ≡ is_past_by self.areas role }
     {
-        match (self.areas, body.describe().areas) {
+        match (self.areas, role) {
             (Some(length), AreaRole::Divides(Some(span))) => span.last > length,
             (
                 Some(_),
@@ -94,11 +101,11 @@ impl LineContext {
         }
     }
 
-    /// Whether the operands aren't as the operation asks.
-    pub(crate) fn has_bad_operands(self, statement: Statement) -> bool
-        ensures { result ≡ bad_operands self.areas statement.body }
+    /// Whether the operands aren't as the operation asks, of a statement with this row.
+    pub(crate) fn has_bad_operands(self, row: &Description) -> bool
+        ensures { result ≡ (not row.now.is_well_formed || is_past_by self.areas row.now.areas) }
     {
-        statement.has_bad_operands() || self.is_past_areas(statement.body)
+        !row.is_well_formed || self.is_past_areas(row.areas)
     }
 }
 
@@ -224,12 +231,12 @@ fn is_unequal(symbols: &Symbols, number: u64, field: OperandField) -> bool
     }
 }
 
-/// Whether a line here names a symbol that it can't.
-pub(crate) fn has_undefined(symbols: &Symbols, number: u64, body: Body) -> bool
-    ensures { result ≡ undefined (symbols_view symbols.now) number body }
+/// Whether a line here with these operands names a symbol that it can't.
+pub(crate) fn has_undefined(symbols: &Symbols, number: u64, addressing: &Addressing) -> bool
+    ensures { result ≡ undefined_in (symbols_view symbols.now) number addressing.now }
 {
     let sites = &symbols.sites;
-    match body.describe().addressing {
+    match *addressing {
         Addressing::Nothing => false,
         Addressing::Addresses(operands) => {
             is_undefined(sites, operands.a) || is_undefined(sites, operands.b)
@@ -247,23 +254,24 @@ fn lowest_in_statement(
     symbols: &Symbols,
     at: LineContext,
     areas: DeclaredAreas,
-    statement: Statement,
+    statement: &Statement,
 ) -> Option<AsmKind>
-    ensures { result ≡ lowest_in (symbols_view symbols.now) at areas statement }
+    ensures { result ≡ lowest_in (symbols_view symbols.now) at areas statement.now }
 {
-    if at.has_bad_label(statement) {
+    let row = statement.body.describe();
+    if at.has_bad_label(statement, &row) {
         return Some(AsmKind::Label);
     }
     if has_double(&symbols.sites, at.number, areas, statement.label) {
         return Some(AsmKind::DoubleLabel);
     }
-    if at.has_bad_operation(statement.body) {
+    if at.has_bad_operation(&row) {
         return Some(AsmKind::Operation);
     }
-    if has_undefined(symbols, at.number, statement.body) {
+    if has_undefined(symbols, at.number, &row.addressing) {
         return Some(AsmKind::Undefined);
     }
-    if at.has_bad_operands(statement) {
+    if at.has_bad_operands(&row) {
         return Some(AsmKind::Operand);
     }
     None
@@ -273,7 +281,7 @@ fn lowest_in_statement(
 fn lowest_of(symbols: &Symbols, at: LineContext, line: &KeptLine) -> Option<AsmKind>
     ensures { result ≡ lowest (symbols_view symbols.now) at line.now }
 {
-    match (line.line().bytes, line.line().statement) {
+    match (line.line().bytes, &line.line().statement) {
         (LineCheck::Long, _) => Some(AsmKind::LongLine),
         (LineCheck::Foreign, _) => Some(AsmKind::Graphic),
         (LineCheck::Good, None) => None,

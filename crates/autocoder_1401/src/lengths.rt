@@ -79,10 +79,10 @@ pub(crate) fn chain_length(chain: Chain) -> u32
 }
 
 /// How many places contents fill.
-pub(crate) fn contents_length(contents: Contents) -> u32
-    ensures { result ≡ contents_length contents }
+pub(crate) fn contents_length(contents: &Contents) -> u32
+    ensures { result ≡ contents_length contents.now }
 {
-    match contents {
+    match *contents {
         Contents::Nothing | Contents::Space(None) | Contents::Areas(None) => 0,
         Contents::Instruction(_, operands) => instruction_length(operands),
         Contents::MarkedConstant(constant) | Contents::Constant(constant) => {

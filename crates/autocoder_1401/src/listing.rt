@@ -1,16 +1,15 @@
 //! The listing of a source: its lines with the addresses and the cells that they stand for.
 ghost use Rattle.std.specs.Prelude.{◌≡◌, ◌∷◌, ◌++◌, ◌<◌, ◌^◌, [], length, map, drop, Some, None, IfOk, IfErr};
 ghost use Rattle.std.specs.Prelude.{OnOk};
+ghost use Rattle.source_1401.specs.Description.{describe};
 ghost use Rattle.source_1401.specs.SourceLine.{lines_of};
 ghost use Rattle.source_1401.specs.Statement.{line_of};
 ghost use Rattle.autocoder_1401.specs.Fault.{IsMemory};
-ghost use Rattle.autocoder_1401.specs.Cells.{literal_cells};
+ghost use Rattle.autocoder_1401.specs.Cells.{literal_cells, contents_cells};
 ghost use Rattle.autocoder_1401.specs.Literals.{key_of};
-ghost use Rattle.autocoder_1401.specs.Listing.{listing_line, literal_spelling, literal_lines, literals_at, address_at};
-ghost use Rattle.autocoder_1401.specs.Listing.{address_shown};
-ghost use Rattle.autocoder_1401.specs.Listing.{cells_at};
-ghost use Rattle.autocoder_1401.specs.Listing.{literals_in, line_for, listing_from};
-ghost use Rattle.autocoder_1401.specs.Placement.{nothing_placed, start_of, after_line};
+ghost use Rattle.autocoder_1401.specs.Listing.{listing_line, literal_spelling, literal_lines, literals_by, placed_for};
+ghost use Rattle.autocoder_1401.specs.Listing.{address_shown, literals_in, line_for, listing_from};
+ghost use Rattle.autocoder_1401.specs.Placement.{nothing_placed, point_value, start_of, after_line};
 ghost use Rattle.autocoder_1401.specs.View.{places_of};
 
 use crate::cells::{put_contents, put_literal};
@@ -23,7 +22,7 @@ use crate::printing::{
     cut_last_blanks, put_address, put_characters, put_literal_spelling, put_number,
 };
 use bcd_1401::Cell;
-use source_1401::{Addressing, Body, Literal, Next, Statement};
+use source_1401::{Addressing, Body, Description, Literal, Next};
 use std::alloc::Global;
 use std::marker::Model;
 
@@ -150,22 +149,23 @@ impl<'a> Placing<'a> {
         }
     }
 
-    /// How the literals were first written that a body here places.
-    fn literals_at(&self, body: Body) -> &[Literal]
-        ensures { result.now ≡ literals_at (places_of self.now) body }
+    /// How the literals were first written that a statement here places, of which this becomes of the next place.
+    fn literals_by(&self, next: Next) -> &[Literal]
+        ensures { result.now ≡ literals_by (places_of self.now) next }
     {
-        match body.describe().next {
+        match next {
             Next::Literals | Next::LiteralsAtValue => self.pending_spellings(),
             Next::Behind | Next::Value => &[],
         }
     }
 
-    /// The address of a body here, by the values of all labels.
-    fn address_at(&self, all: &Placing<'a>, body: Body) -> Result<i64, AsmFault>
-        ensures value { IfOk result (λ at. at ≡ address_at (places_of all.now) (places_of self.now) body) }
+    /// The address of a statement here with this row, by the values of all labels.
+    fn address_at(&self, all: &Placing<'a>, row: &Description) -> Result<i64, AsmFault>
+        ensures value { IfOk result (λ at. at ≡ point_value
+            (placed_for (places_of all.now) (places_of self.now) row.now.addressing) (places_of self.now) row.now
+            row.now.shows) }
         ensures err { IfErr result IsMemory }
     {
-        let row = body.describe();
         match row.addressing {
             Addressing::Equal(_) | Addressing::Value(_) | Addressing::Entry(_) => {
                 self.point_value(all, row, row.shows)
@@ -176,44 +176,39 @@ impl<'a> Placing<'a> {
         }
     }
 
-    /// The address that the line of a body here shows, if it shows one.
-    fn address_shown(&self, all: &Placing<'a>, body: Body) -> Result<Option<i64>, AsmFault>
-        ensures value { IfOk result (λ at. at ≡ address_shown (places_of all.now) (places_of self.now) body) }
+    /// The address that the line of a statement here with this row shows, if it shows one.
+    fn address_shown(
+        &self,
+        all: &Placing<'a>,
+        body: &Body,
+        row: &Description,
+    ) -> Result<Option<i64>, AsmFault>
+        requires { row.now ≡ describe body.now }
+        ensures value { IfOk result (λ at. at ≡ address_shown (places_of all.now) (places_of self.now) body.now) }
         ensures err { IfErr result IsMemory }
     {
-        if body.describe().is_remark {
+        if row.is_remark {
             return Ok(None);
         }
-        let address = self.address_at(all, body)?;
+        let address = self.address_at(all, row)?;
         Ok(Some(address))
     }
 
-    /// The cells that the line of a body here shows, with these lines after it.
+    /// The cells that the line of a statement here with this row shows, with these lines after it.
     fn cells_at(
         &self,
         alloc: Global,
         all: &Placing<'a>,
-        body: Body,
+        row: &Description,
         lines: &[KeptLine],
     ) -> Result<Vec<Cell>, AsmFault>
-        ensures ok { IfOk result
-            (λ cells. cells.items ≡ cells_at (places_of all.now) (places_of self.now) body lines.now) }
+        ensures ok { IfOk result (λ cells. cells.items
+            ≡ contents_cells (places_of all.now) (places_of self.now) row.now.contents lines.now) }
         ensures err { IfErr result IsMemory }
     {
         let mut cells = Vec::new(alloc);
-        let contents = body.describe().contents;
-        put_contents(alloc, all, self, contents, lines, &mut cells)?;
+        put_contents(alloc, all, self, &row.contents, lines, &mut cells)?;
         Ok(cells)
-    }
-
-    /// How the literals were first written that a line here places.
-    fn literals_in(&self, line: &KeptLine) -> &[Literal]
-        ensures { result.now ≡ literals_in (places_of self.now) line.now.statement }
-    {
-        match line.line().statement {
-            Some(Statement { body, .. }) => self.literals_at(body),
-            None => &[],
-        }
     }
 
     /// Adds the lines of the literals that a line here places.
@@ -229,8 +224,12 @@ impl<'a> Placing<'a> {
             (literals_in (places_of self.now) line.now.statement)) }
         ensures err { IfErr result IsMemory }
     {
-        let from = self.start_of(line)?;
-        put_literal_lines(alloc, all, from, self.literals_in(line), lines)
+        let Some(statement) = &line.line().statement else {
+            return Ok(());
+        };
+        let row = statement.body.describe();
+        let from = self.start_by(&row)?;
+        put_literal_lines(alloc, all, from, self.literals_by(row.next), lines)
     }
 
     /// The line of the listing for a line of the source here, with these lines after it.
@@ -247,10 +246,11 @@ impl<'a> Placing<'a> {
             ≡ line_for (places_of all.now) (places_of self.now) number source.now line.now.statement behind.now) }
         ensures err { IfErr result IsMemory }
     {
-        match line.line().statement {
-            Some(Statement { body, .. }) => {
-                let address = self.address_shown(all, body)?;
-                let cells = self.cells_at(alloc, all, body, behind)?;
+        match &line.line().statement {
+            Some(statement) => {
+                let row = statement.body.describe();
+                let address = self.address_shown(all, &statement.body, &row)?;
+                let cells = self.cells_at(alloc, all, &row, behind)?;
                 listing_line(alloc, Some(number), address, &cells, source)
             },
             None => listing_line(alloc, Some(number), None, &[], source),

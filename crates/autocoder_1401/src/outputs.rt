@@ -2,12 +2,13 @@
 ghost use Rattle.std.specs.Prelude.{◌≡◌, ◌∷◌, ◌++◌, ◌+◌, ◌<◌, ◌^◌, ◌⊎◌, ℕ, List, [], length, Some, None, IfOk};
 ghost use Rattle.std.specs.Prelude.{IfErr, OnOk};
 ghost use Rattle.bcd_1401.specs.declared.cell.Cell.{Cell as ACell};
+ghost use Rattle.source_1401.specs.Description.{describe};
 ghost use Rattle.source_1401.specs.SourceLine.{lines_of};
 ghost use Rattle.autocoder_1401.specs.Built.{built};
 ghost use Rattle.autocoder_1401.specs.Cells.{address_or_zero, numbered, statement_cells, cells_from};
 ghost use Rattle.autocoder_1401.specs.Fault.{IsMemory};
 ghost use Rattle.autocoder_1401.specs.Listing.{literal_lines, literals_in, line_for, listing_from};
-ghost use Rattle.autocoder_1401.specs.Placement.{start_of, after_line, unplaced};
+ghost use Rattle.autocoder_1401.specs.Placement.{start_of, after_line, after_statement, unplaced};
 ghost use Rattle.autocoder_1401.specs.Segments.{segments_of};
 ghost use Rattle.autocoder_1401.specs.Values.{first_outside_from};
 ghost use Rattle.autocoder_1401.specs.View.{places_of};
@@ -18,7 +19,7 @@ use crate::listing::{Listing, ListingLine};
 use crate::placing::Placing;
 use crate::segments::{Builder, lines_behind};
 use image_1401::Segment;
-use source_1401::split_line;
+use source_1401::{Description, Statement, split_line};
 use std::alloc::Global;
 
 /// The segments of the lines so far.
@@ -40,24 +41,27 @@ struct ListingSoFar<'a> {
 }
 
 impl<'a> SegmentsSoFar<'a> {
-    /// Makes the cells of a line, with these lines after it, and places them.
-    fn put_line(
+    /// Makes the cells of a statement with this row, with these lines after it, and places them.
+    fn put_row(
         &mut self,
         alloc: Global,
         all: &Placing<'a>,
-        line: &KeptLine,
+        statement: &Statement,
+        row: &Description,
         behind: &[KeptLine],
     ) -> Result<(), AsmFault>
+        requires { row.now ≡ describe statement.now.body }
         ensures built { OnOk result ((rest : List (ℕ × ACell)) → built self.new.builder rest
-            ≡ built self.old.builder (numbered (address_or_zero (start_of (places_of self.old.so_far) line.now.statement))
-            (statement_cells (places_of all.now) (places_of self.old.so_far) line.now.statement behind.now) ++ rest)) }
+            ≡ built self.old.builder
+            (numbered (address_or_zero (start_of (places_of self.old.so_far) (Some statement.now)))
+            (statement_cells (places_of all.now) (places_of self.old.so_far) (Some statement.now) behind.now)
+            ++ rest)) }
         ensures placed { OnOk result
-            (places_of self.new.so_far ≡ after_line (places_of self.old.so_far) line.now) }
+            (places_of self.new.so_far ≡ after_statement (places_of self.old.so_far) statement.now) }
         ensures err { IfErr result IsMemory }
     {
-        self.builder
-            .put_line(alloc, all, &self.so_far, line, behind)?;
-        self.so_far.place(line)?;
+        self.builder.put_row(alloc, all, &self.so_far, row, behind)?;
+        self.so_far.place_row(statement, row)?;
         Ok(())
     }
 
@@ -78,13 +82,17 @@ impl<'a> SegmentsSoFar<'a> {
             ⊎ (first_outside_from size (places_of all.now) 1 (places_of self.old.so_far) lines.now ≡ Some fault)) }
     {
         for (i, line) in lines.iter().enumerate() {
-            if self.so_far.is_line_outside(size, all, line)? {
+            let Some(statement) = &line.line().statement else {
+                continue;
+            };
+            let row = statement.body.describe();
+            if self.so_far.is_row_outside(size, all, &row)? {
                 return Err(AsmFault {
                     line: i as u64 + 1,
                     kind: AsmKind::OutOfCore,
                 });
             }
-            self.put_line(alloc, all, line, lines_behind(lines, i))?;
+            self.put_row(alloc, all, statement, &row, lines_behind(lines, i))?;
         }
         Ok(())
     }

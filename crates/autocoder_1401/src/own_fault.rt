@@ -1,8 +1,8 @@
 //! The faults of a line that don't only follow from one told before.
-ghost use Rattle.std.specs.Prelude.{◌≡◌, ◌<◌, ◌^◌};
+ghost use Rattle.std.specs.Prelude.{◌≡◌, ◌<◌, ◌^◌, ◌&&◌, ◌||◌, not, is_none};
 ghost use Rattle.indexmap.specs.IndexMap.{get};
-ghost use Rattle.autocoder_1401.specs.OwnFault.{loses_areas_at, before_next, own_bad_operation, is_late};
-ghost use Rattle.autocoder_1401.specs.OwnFault.{undefined_anywhere, own_undefined, own_in, told};
+ghost use Rattle.autocoder_1401.specs.FirstFault.{is_field, undefined_in};
+ghost use Rattle.autocoder_1401.specs.OwnFault.{loses_areas, before_next, is_late, undefined_anywhere, own_in, told};
 ghost use Rattle.autocoder_1401.specs.Symbols.{same_label};
 ghost use Rattle.autocoder_1401.specs.View.{symbols_view};
 
@@ -11,7 +11,9 @@ use crate::first_fault::{LineContext, has_double, has_undefined, is_undefined, l
 use crate::kept_line::KeptLine;
 use crate::known::Symbols;
 use crate::symbols::Sites;
-use source_1401::{Addressing, AreaRole, Body, DeclaredAreas, LineCheck, OperandField, Statement};
+use source_1401::{
+    Addressing, AreaRole, DeclaredAreas, Description, LineCheck, OperandField, Statement,
+};
 
 /// What the lines before a line tell of its faults.
 #[derive(Clone, Copy, Debug, PartialEq, Eq)]
@@ -38,11 +40,10 @@ impl Before {
         lost_end: false,
     };
 
-    /// Whether a fault has lost the areas that a field after this statement would divide.
-    fn loses_areas(self, body: Body) -> bool
-        ensures { result ≡ loses_areas_at self body }
+    /// Whether a fault has lost the areas that a field after a statement with this row would divide.
+    fn loses_areas(self, row: &Description) -> bool
+        ensures { result ≡ loses_areas self.lost_areas self.at.areas row.now row.now.areas }
     {
-        let row = body.describe();
         match row.areas {
             AreaRole::Ends => !row.is_known && (self.lost_areas || self.at.areas.is_some()),
             AreaRole::Makes(None) => true,
@@ -58,13 +59,16 @@ impl Before {
     {
         let at = self.at.behind(line);
         let is_clean = self.is_clean && lowest_kind(symbols, self.at, line).is_none();
-        match line.line().statement {
-            Some(Statement { body, .. }) => Before {
-                at,
-                is_clean,
-                lost_areas: self.loses_areas(body),
-                is_past_end: self.is_past_end || self.at.is_ended,
-                lost_end: !body.describe().is_known,
+        match &line.line().statement {
+            Some(statement) => {
+                let row = statement.body.describe();
+                Before {
+                    at,
+                    is_clean,
+                    lost_areas: self.loses_areas(&row),
+                    is_past_end: self.is_past_end || self.at.is_ended,
+                    lost_end: !row.is_known,
+                }
             },
             None => Before {
                 at,
@@ -74,12 +78,14 @@ impl Before {
         }
     }
 
-    /// Whether the operation isn't known, or is a field under no areas that no fault has lost.
-    fn has_own_bad_operation(self, body: Body) -> bool
-        ensures { result ≡ own_bad_operation self body }
+    /// Whether the operation isn't known, or is a field under no areas that no fault has lost, of a statement with this
+    /// row.
+    fn has_own_bad_operation(self, row: &Description) -> bool
+        ensures { result ≡ ((not row.now.is_known || (is_field row.now.areas && is_none self.at.areas))
+            && not (self.lost_areas && is_field row.now.areas)) }
     {
-        let is_field = matches!(body.describe().areas, AreaRole::Divides(_));
-        self.at.has_bad_operation(body) && !(self.lost_areas && is_field)
+        let is_field = matches!(row.areas, AreaRole::Divides(_));
+        self.at.has_bad_operation(row) && !(self.lost_areas && is_field)
     }
 }
 
@@ -91,10 +97,10 @@ fn is_late(symbols: &Symbols, anywhere: &Sites, field: OperandField) -> bool
 }
 
 /// Whether a symbol here is the label of no line, those after END included.
-fn is_undefined_anywhere(symbols: &Symbols, anywhere: &Sites, addressing: Addressing) -> bool
-    ensures { result ≡ undefined_anywhere (symbols_view symbols.now) (get same_label anywhere.now) addressing }
+fn is_undefined_anywhere(symbols: &Symbols, anywhere: &Sites, addressing: &Addressing) -> bool
+    ensures { result ≡ undefined_anywhere (symbols_view symbols.now) (get same_label anywhere.now) addressing.now }
 {
-    match addressing {
+    match *addressing {
         Addressing::Nothing => false,
         Addressing::Addresses(operands) => {
             is_undefined(anywhere, operands.a) || is_undefined(anywhere, operands.b)
@@ -108,12 +114,18 @@ fn is_undefined_anywhere(symbols: &Symbols, anywhere: &Sites, addressing: Addres
     }
 }
 
-/// Whether a line here names a symbol that it can't, and not because END is too early.
-fn has_own_undefined(symbols: &Symbols, anywhere: &Sites, number: u64, body: Body) -> bool
-    ensures { result ≡ own_undefined (symbols_view symbols.now) (get same_label anywhere.now) number body }
+/// Whether a line here with these operands names a symbol that it can't, and not because END is too early.
+fn has_own_undefined(
+    symbols: &Symbols,
+    anywhere: &Sites,
+    number: u64,
+    addressing: &Addressing,
+) -> bool
+    ensures { result ≡ (undefined_in (symbols_view symbols.now) number addressing.now
+        && undefined_anywhere (symbols_view symbols.now) (get same_label anywhere.now) addressing.now) }
 {
-    has_undefined(symbols, number, body)
-        && is_undefined_anywhere(symbols, anywhere, body.describe().addressing)
+    has_undefined(symbols, number, addressing)
+        && is_undefined_anywhere(symbols, anywhere, addressing)
 }
 
 /// The lowest kind of a line's own faults, of a statement up to END with these area literals.
@@ -122,23 +134,24 @@ fn own_in_statement(
     anywhere: &Sites,
     before: Before,
     areas: DeclaredAreas,
-    statement: Statement,
+    statement: &Statement,
 ) -> Option<AsmKind>
-    ensures { result ≡ own_in (symbols_view symbols.now) (get same_label anywhere.now) before areas statement }
+    ensures { result ≡ own_in (symbols_view symbols.now) (get same_label anywhere.now) before areas statement.now }
 {
-    if before.at.has_bad_label(statement) {
+    let row = statement.body.describe();
+    if before.at.has_bad_label(statement, &row) {
         return Some(AsmKind::Label);
     }
     if has_double(&symbols.sites, before.at.number, areas, statement.label) {
         return Some(AsmKind::DoubleLabel);
     }
-    if before.has_own_bad_operation(statement.body) {
+    if before.has_own_bad_operation(&row) {
         return Some(AsmKind::Operation);
     }
-    if has_own_undefined(symbols, anywhere, before.at.number, statement.body) {
+    if has_own_undefined(symbols, anywhere, before.at.number, &row.addressing) {
         return Some(AsmKind::Undefined);
     }
-    if before.at.has_bad_operands(statement) {
+    if before.at.has_bad_operands(&row) {
         return Some(AsmKind::Operand);
     }
     None
@@ -156,7 +169,7 @@ pub(crate) fn told_of(
     if before.is_clean {
         return lowest_kind(symbols, before.at, line);
     }
-    match (line.line().bytes, line.line().statement) {
+    match (line.line().bytes, &line.line().statement) {
         (LineCheck::Long, _) => Some(AsmKind::LongLine),
         (LineCheck::Foreign, _) => Some(AsmKind::Graphic),
         (LineCheck::Good, None) => None,

@@ -1,6 +1,7 @@
 //! Where statements and literals are placed.
 ghost use Rattle.std.specs.Prelude.{◌≡◌, ◌+◌, ◌++◌, Some, drop, fold, IfOk, IfErr, OnOk};
 ghost use Rattle.indexmap.specs.IndexMap.{get};
+ghost use Rattle.source_1401.specs.Description.{describe};
 ghost use Rattle.source_1401.specs.Statement.{well_formed};
 ghost use Rattle.autocoder_1401.specs.Chains.{chains_of, link_of};
 ghost use Rattle.autocoder_1401.specs.Literals.{same_key};
@@ -10,9 +11,9 @@ ghost use Rattle.autocoder_1401.specs.Placement.{nothing_placed, with_literal, w
 ghost use Rattle.autocoder_1401.specs.Placement.{pending, behind_literals, units_from, with_area, with_area_labels};
 ghost use Rattle.autocoder_1401.specs.Placement.{contents_length, symbols_of, value_so_far, index_so_far, asked_value};
 ghost use Rattle.autocoder_1401.specs.Placement.{first_of_two, end_of_two, counted_from, index_of_fields, with_areas};
-ghost use Rattle.autocoder_1401.specs.Placement.{own_value, start_by, start_of, with_ends, point_value, point_index};
+ghost use Rattle.autocoder_1401.specs.Placement.{own_value, start_by, with_ends, point_value, point_index};
 ghost use Rattle.autocoder_1401.specs.Placement.{label_value, moved, gone_on, behind_row, with_label, after_line};
-ghost use Rattle.autocoder_1401.specs.Placement.{placed};
+ghost use Rattle.autocoder_1401.specs.Placement.{after_statement, placed};
 ghost use Rattle.autocoder_1401.specs.Values.{last_place};
 ghost use Rattle.autocoder_1401.specs.View.{chains_view, places_of};
 
@@ -63,8 +64,8 @@ pub(crate) struct Placing<'a> {
 }
 
 /// The place of the first instruction, once contents begin at a place.
-fn first_of_two(first: Option<i64>, place: i64, contents: Contents) -> Option<i64>
-    ensures { result ≡ first_of_two first place contents }
+fn first_of_two(first: Option<i64>, place: i64, contents: &Contents) -> Option<i64>
+    ensures { result ≡ first_of_two first place contents.now }
 {
     match contents {
         Contents::Instruction(..) => Some(first.unwrap_or(place)),
@@ -79,8 +80,8 @@ fn first_of_two(first: Option<i64>, place: i64, contents: Contents) -> Option<i6
 }
 
 /// The next place as it was before END, once a statement is at a place.
-fn end_of_two(before: i64, place: i64, addressing: Addressing) -> i64
-    ensures { result ≡ end_of_two before place addressing }
+fn end_of_two(before: i64, place: i64, addressing: &Addressing) -> i64
+    ensures { result ≡ end_of_two before place addressing.now }
 {
     match addressing {
         Addressing::Entry(_) => place,
@@ -220,16 +221,16 @@ impl<'a> Placing<'a> {
     pub(crate) fn point_value(
         &self,
         by: &Placing<'a>,
-        row: Description,
+        row: &Description,
         point: Point,
     ) -> Result<i64, AsmFault>
         ensures value { IfOk result
-            (λ value. value ≡ point_value (places_of by.now) (places_of self.now) row point) }
+            (λ value. value ≡ point_value (places_of by.now) (places_of self.now) row.now point) }
         ensures err { IfErr result IsMemory }
     {
         match point {
             Point::First => Ok(self.next),
-            Point::Last => last_place(self.next, contents_length(row.contents)),
+            Point::Last => last_place(self.next, contents_length(&row.contents)),
             Point::InArea(place) => checked_sum(checked_sum(self.areas, i64::from(place))?, -1),
             Point::Counted(place) => {
                 checked_sum(checked_sum(self.fields_from, i64::from(place))?, -1)
@@ -239,8 +240,8 @@ impl<'a> Placing<'a> {
     }
 
     /// The index of what a statement's point names.
-    fn point_index(&self, row: Description, point: Point) -> u8
-        ensures { result ≡ point_index (places_of self.now) row point }
+    fn point_index(&self, row: &Description, point: Point) -> u8
+        ensures { result ≡ point_index (places_of self.now) row.now point }
     {
         match point {
             Point::First | Point::Last | Point::InArea(_) => 0,
@@ -249,12 +250,12 @@ impl<'a> Placing<'a> {
         }
     }
 
-    /// The value of a statement's label, and its index.
-    fn label_value(&self, body: Body) -> Result<SymbolValue, AsmFault>
-        ensures value { IfOk result (λ value. value ≡ label_value (places_of self.now) body) }
+    /// The value of the label of a statement with this row, and its index.
+    fn label_value(&self, body: &Body, row: &Description) -> Result<SymbolValue, AsmFault>
+        requires { row.now ≡ describe body.now }
+        ensures value { IfOk result (λ value. value ≡ label_value (places_of self.now) body.now) }
         ensures err { IfErr result IsMemory }
     {
-        let row = body.describe();
         Ok(SymbolValue {
             value: self.point_value(self, row, row.names)?,
             index: self.point_index(row, row.names),
@@ -320,8 +321,8 @@ impl<'a> Placing<'a> {
     }
 
     /// Where a statement of this row places its cells.
-    pub(crate) fn start_by(&self, row: Description) -> Result<i64, AsmFault>
-        ensures value { IfOk result (λ start. start ≡ start_by (places_of self.now) row row.next) }
+    pub(crate) fn start_by(&self, row: &Description) -> Result<i64, AsmFault>
+        ensures value { IfOk result (λ start. start ≡ start_by (places_of self.now) row.now row.now.next) }
         ensures err { IfErr result IsMemory }
     {
         match row.next {
@@ -330,25 +331,14 @@ impl<'a> Placing<'a> {
         }
     }
 
-    /// Where a line places its cells.
-    pub(crate) fn start_of(&self, line: &KeptLine) -> Result<i64, AsmFault>
-        ensures value { IfOk result (λ start. start ≡ start_of (places_of self.now) line.now.statement) }
-        ensures err { IfErr result IsMemory }
-    {
-        match line.line().statement {
-            Some(Statement { body, .. }) => self.start_by(body.describe()),
-            None => Ok(self.next),
-        }
-    }
-
     /// Moves the next place on, and places the literals used so far if the statement does.
-    fn move_on(&mut self, row: Description) -> Result<(), AsmFault>
-        ensures ok { OnOk result (places_of self.new ≡ moved (places_of self.old) row row.next) }
+    fn move_on(&mut self, row: &Description) -> Result<(), AsmFault>
+        ensures ok { OnOk result (places_of self.new ≡ moved (places_of self.old) row.now row.now.next) }
         ensures err { IfErr result IsMemory }
     {
         match row.next {
             Next::Behind => {
-                self.next = checked_sum(self.next, i64::from(contents_length(row.contents)))?;
+                self.next = checked_sum(self.next, i64::from(contents_length(&row.contents)))?;
             },
             Next::Literals => self.place_pending()?,
             Next::Value => self.next = self.own_value(row.addressing)?,
@@ -394,8 +384,8 @@ impl<'a> Placing<'a> {
     }
 
     /// Goes on after a statement, and notes and places its literals.
-    fn go_on(&mut self, row: Description) -> Result<(), AsmFault>
-        ensures ok { OnOk result (places_of self.new ≡ gone_on (places_of self.old) row) }
+    fn go_on(&mut self, row: &Description) -> Result<(), AsmFault>
+        ensures ok { OnOk result (places_of self.new ≡ gone_on (places_of self.old) row.now) }
         ensures err { IfErr result IsMemory }
     {
         let first = self.next;
@@ -413,24 +403,25 @@ impl<'a> Placing<'a> {
     }
 
     /// The place of the first instruction, once a statement is at the next place.
-    fn first_behind(&self, row: Description) -> Option<i64>
+    fn first_behind(&self, row: &Description) -> Option<i64>
         ensures { result
-            ≡ first_of_two (places_of self.now).first_instruction (places_of self.now).next row.contents }
+            ≡ first_of_two (places_of self.now).first_instruction (places_of self.now).next row.now.contents }
     {
-        first_of_two(self.first_instruction, self.next, row.contents)
+        first_of_two(self.first_instruction, self.next, &row.contents)
     }
 
     /// The next place as it was before END, once a statement is at the next place.
-    fn end_behind(&self, row: Description) -> i64
-        ensures { result ≡ end_of_two (places_of self.now).before_end (places_of self.now).next row.addressing }
+    fn end_behind(&self, row: &Description) -> i64
+        ensures { result
+            ≡ end_of_two (places_of self.now).before_end (places_of self.now).next row.now.addressing }
     {
-        end_of_two(self.before_end, self.next, row.addressing)
+        end_of_two(self.before_end, self.next, &row.addressing)
     }
 
     /// Goes on after a statement, notes and places its literals, and notes where the program begins.
     #[tactic(auto, using(crate::proofs::PlacingLemmas::passed))]
-    fn pass(&mut self, row: Description) -> Result<(), AsmFault>
-        ensures ok { OnOk result (places_of self.new ≡ behind_row (places_of self.old) row) }
+    fn pass(&mut self, row: &Description) -> Result<(), AsmFault>
+        ensures ok { OnOk result (places_of self.new ≡ behind_row (places_of self.old) row.now) }
         ensures err { IfErr result IsMemory }
     {
         let first = self.first_behind(row);
@@ -440,18 +431,31 @@ impl<'a> Placing<'a> {
         Ok(())
     }
 
+    /// Places a statement with this row.
+    pub(crate) fn place_row(
+        &mut self,
+        statement: &Statement,
+        row: &Description,
+    ) -> Result<(), AsmFault>
+        requires { row.now ≡ describe statement.now.body }
+        ensures ok { OnOk result (places_of self.new ≡ after_statement (places_of self.old) statement.now) }
+        ensures err { IfErr result IsMemory }
+    {
+        let value = self.label_value(&statement.body, row)?;
+        self.pass(row)?;
+        self.give(statement.label, value)?;
+        Ok(())
+    }
+
     /// Places a line.
     pub(crate) fn place(&mut self, line: &KeptLine) -> Result<(), AsmFault>
         ensures ok { OnOk result (places_of self.new ≡ after_line (places_of self.old) line.now) }
         ensures err { IfErr result IsMemory }
     {
-        let Some(Statement { label, body }) = line.line().statement else {
-            return Ok(());
-        };
-        let value = self.label_value(body)?;
-        self.pass(body.describe())?;
-        self.give(label, value)?;
-        Ok(())
+        match &line.line().statement {
+            Some(statement) => self.place_row(statement, &statement.body.describe()),
+            None => Ok(()),
+        }
     }
 
     /// Places lines.

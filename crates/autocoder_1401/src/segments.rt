@@ -2,8 +2,8 @@
 ghost use Rattle.std.specs.Prelude.{◌≡◌, ◌∷◌, ◌++◌, ◌+◌, ◌<◌, ℕ, List, [], length, drop, IfOk, IfErr, OnOk};
 ghost use Rattle.bcd_1401.specs.declared.cell.Cell.{Cell as ACell};
 ghost use Rattle.autocoder_1401.specs.Fault.{IsMemory};
-ghost use Rattle.autocoder_1401.specs.Cells.{address_or_zero, numbered, statement_cells};
-ghost use Rattle.autocoder_1401.specs.Placement.{start_of};
+ghost use Rattle.autocoder_1401.specs.Cells.{address_or_zero, numbered, row_cells};
+ghost use Rattle.autocoder_1401.specs.Placement.{start_by};
 ghost use Rattle.autocoder_1401.specs.Segments.{start_or_zero, closed, goes_on, segments_of};
 ghost use Rattle.autocoder_1401.specs.View.{places_of};
 ghost use Rattle.autocoder_1401.specs.Built.{built};
@@ -15,6 +15,7 @@ use crate::placing::Placing;
 use bcd_1401::Cell;
 use core_1401::{ADDRESSES, Cells, MOST_CELLS};
 use image_1401::Segment;
+use source_1401::Description;
 use std::alloc::Global;
 
 /// The segments so far, and the one that may go on.
@@ -105,22 +106,22 @@ impl Builder {
         Ok(())
     }
 
-    /// Puts the cells of a line for which this is placed so far, with these lines after it.
-    pub(crate) fn put_line(
+    /// Puts the cells of a statement with this row for which this is placed so far, with these lines after it.
+    pub(crate) fn put_row(
         &mut self,
         alloc: Global,
         all: &Placing<'_>,
         so_far: &Placing<'_>,
-        line: &KeptLine,
+        row: &Description,
         behind: &[KeptLine],
     ) -> Result<(), AsmFault>
         ensures built { OnOk result ((rest : List (ℕ × ACell)) → built self.new rest ≡ built self.old
-            (numbered (address_or_zero (start_of (places_of so_far.now) line.now.statement))
-            (statement_cells (places_of all.now) (places_of so_far.now) line.now.statement behind.now) ++ rest)) }
+            (numbered (address_or_zero (start_by (places_of so_far.now) row.now row.now.next))
+            (row_cells (places_of all.now) (places_of so_far.now) row.now row.now.next behind.now) ++ rest)) }
         ensures err { IfErr result IsMemory }
     {
-        let cells = cells_of(alloc, all, so_far, line, behind)?;
-        self.put_all(so_far.start_address(line)?, &cells)?;
+        let cells = cells_of(alloc, all, so_far, row, behind)?;
+        self.put_all(so_far.start_address(row)?, &cells)?;
         Ok(())
     }
 

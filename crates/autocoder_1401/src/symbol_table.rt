@@ -46,11 +46,11 @@ fn span_length(span: Span) -> u32
 }
 
 /// How many places the label of a statement names.
-fn length_named(row: Description) -> Option<u32>
-    ensures { result ≡ length_named row }
+fn length_named(row: &Description) -> Option<u32>
+    ensures { result ≡ length_named row.now }
 {
     match row.names {
-        Point::First | Point::Last => Some(contents_length(row.contents)),
+        Point::First | Point::Last => Some(contents_length(&row.contents)),
         Point::InArea(_) | Point::Counted(_) => match row.areas {
             AreaRole::Divides(Some(span)) => Some(span_length(span)),
             AreaRole::Divides(None) | AreaRole::Ends | AreaRole::Keeps | AreaRole::Makes(_) => None,
@@ -74,7 +74,7 @@ fn symbol_with(
             Ok(Some(Symbol {
                 label,
                 value,
-                length: length_named(statement.body.describe()),
+                length: length_named(&statement.body.describe()),
                 line: number,
             }))
         },

@@ -187,9 +187,9 @@ impl<'a> Placing<'a> {
     }
 
     /// The value that a statement here asks for, by the labels of what is placed by others.
-    pub(crate) fn asked_value(&self, by: &Placing<'a>, row: Description) -> Result<i64, AsmFault>
+    pub(crate) fn asked_value(&self, by: &Placing<'a>, row: &Description) -> Result<i64, AsmFault>
         ensures value { IfOk result (λ value. value
-            ≡ asked_value (places_of by.now) (places_of self.now) row.next row.addressing) }
+            ≡ asked_value (places_of by.now) (places_of self.now) row.now.next row.now.addressing) }
         ensures err { IfErr result IsMemory }
     {
         match row.addressing {

@@ -4,17 +4,14 @@ ghost use Rattle.autocoder_1401.specs.Fault.{IsMemory};
 ghost use Rattle.autocoder_1401.specs.Values.{address_value, is_in_core, are_in_core, literal_outside};
 ghost use Rattle.autocoder_1401.specs.Values.{operand_outside};
 ghost use Rattle.autocoder_1401.specs.Values.{places_outside, literals_outside, next_outside};
-ghost use Rattle.autocoder_1401.specs.Values.{value_outside, addresses_outside, row_outside, line_outside};
+ghost use Rattle.autocoder_1401.specs.Values.{value_outside, addresses_outside, row_outside};
 ghost use Rattle.autocoder_1401.specs.View.{places_of};
 
 use crate::fault::AsmFault;
-use crate::kept_line::KeptLine;
 use crate::lengths::{checked_sum, contents_length, last_place};
 use crate::literals::LiteralKey;
 use crate::placing::{Placing, behind_literals};
-use source_1401::{
-    Address, Addressing, Description, Literal, Next, Operand, OperandField, Statement,
-};
+use source_1401::{Address, Addressing, Description, Literal, Next, Operand, OperandField};
 
 /// Whether a value is the address of a place of core storage of this size.
 fn is_in_core(size: u16, value: i64) -> bool
@@ -107,8 +104,9 @@ impl<'a> Placing<'a> {
     }
 
     /// Whether literals that a statement here places aren't in core.
-    fn is_next_outside(&self, size: u16, row: Description) -> Result<bool, AsmFault>
-        ensures value { IfOk result (λ outside. outside ≡ next_outside size (places_of self.now) row row.next) }
+    fn is_next_outside(&self, size: u16, row: &Description) -> Result<bool, AsmFault>
+        ensures value { IfOk result
+            (λ outside. outside ≡ next_outside size (places_of self.now) row.now row.now.next) }
         ensures err { IfErr result IsMemory }
     {
         match row.next {
@@ -124,16 +122,16 @@ impl<'a> Placing<'a> {
         &self,
         size: u16,
         all: &Placing<'a>,
-        row: Description,
+        row: &Description,
     ) -> Result<bool, AsmFault>
         ensures value { IfOk result (λ outside. outside
-            ≡ addresses_outside size (places_of all.now) (places_of self.now) row row.addressing) }
+            ≡ addresses_outside size (places_of all.now) (places_of self.now) row.now row.now.addressing) }
         ensures err { IfErr result IsMemory }
     {
         match row.addressing {
             Addressing::Nothing => Ok(false),
             Addressing::Addresses(operands) => {
-                let last = last_place(self.next, contents_length(row.contents))?;
+                let last = last_place(self.next, contents_length(&row.contents))?;
                 let a = all.is_operand_outside(size, last, operands.a)?;
                 let b = all.is_operand_outside(size, last, operands.b)?;
                 Ok(a || b)
@@ -155,36 +153,19 @@ impl<'a> Placing<'a> {
 
     /// Whether a place of a statement here isn't in core, a literal that it places, or an address or a value, by the
     /// values of all labels.
-    fn is_row_outside(
+    pub(crate) fn is_row_outside(
         &self,
         size: u16,
         all: &Placing<'a>,
-        row: Description,
+        row: &Description,
     ) -> Result<bool, AsmFault>
         ensures value { IfOk result
-            (λ outside. outside ≡ row_outside size (places_of all.now) (places_of self.now) row) }
+            (λ outside. outside ≡ row_outside size (places_of all.now) (places_of self.now) row.now) }
         ensures err { IfErr result IsMemory }
     {
-        let places = are_places_outside(size, self.next, contents_length(row.contents))?;
+        let places = are_places_outside(size, self.next, contents_length(&row.contents))?;
         let literals = self.is_next_outside(size, row)?;
         let addresses = self.are_addresses_outside(size, all, row)?;
         Ok(places || literals || addresses)
-    }
-
-    /// Whether something of a line here isn't in core.
-    pub(crate) fn is_line_outside(
-        &self,
-        size: u16,
-        all: &Placing<'a>,
-        line: &KeptLine,
-    ) -> Result<bool, AsmFault>
-        ensures value { IfOk result
-            (λ outside. outside ≡ line_outside size (places_of all.now) (places_of self.now) line.now) }
-        ensures err { IfErr result IsMemory }
-    {
-        match line.line().statement {
-            Some(Statement { body, .. }) => { self.is_row_outside(size, all, body.describe()) },
-            None => Ok(false),
-        }
     }
 }

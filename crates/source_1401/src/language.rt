@@ -24,10 +24,11 @@ impl Line {
             (LineCheck::Long | LineCheck::Foreign, _) => false,
             (LineCheck::Good, None) => true,
             (LineCheck::Good, Some(statement)) => {
-                !statement.has_bad_label()
-                    && !statement.lacks_field_label()
-                    && statement.body.describe().is_known
-                    && !statement.has_bad_operands()
+                let row = statement.body.describe();
+                !row.has_bad_label(&statement)
+                    && !row.lacks_field_label(&statement)
+                    && row.is_known
+                    && row.is_well_formed
             },
         }
     }

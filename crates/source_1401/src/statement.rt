@@ -1,6 +1,7 @@
 //! What a line says, without its neighbours.
 ghost use Rattle.std.specs.Prelude.{◌≡◌, ◌≤◌, length};
 ghost use Rattle.std.specs.List.{position_or_len};
+ghost use Rattle.source_1401.specs.Description.{describe, is_entry};
 ghost use Rattle.source_1401.specs.Numbers.{number_between};
 ghost use Rattle.source_1401.specs.Operands.{operands_of};
 ghost use Rattle.source_1401.specs.Statement.{most_places, one_address};
@@ -11,7 +12,7 @@ ghost use Rattle.source_1401.specs.Statement.{label_of_line, is_end};
 
 use crate::columns::{COLUMNS, columns_in, columns_of, has_foreign_bytes, is_comment};
 use crate::constant::Constant;
-use crate::description::{Addressing, LabelRule};
+use crate::description::{Addressing, Description, LabelRule};
 use crate::label::{Label, LabelField};
 use crate::language::Language;
 use crate::mnemonic::{DCharacter, Form, Instruction, Operation};
@@ -287,7 +288,25 @@ impl Statement {
     pub fn has_bad_label(self) -> bool
         ensures { result ≡ has_bad_label self }
     {
-        match (self.label, self.body.describe().label) {
+        self.body.describe().has_bad_label(&self)
+    }
+
+    /// Whether the operands aren't as the operation asks. Whether a field lies in its area is checked once the area
+    /// is known.
+    pub fn has_bad_operands(self) -> bool
+        ensures { result ≡ has_bad_operands self.body }
+    {
+        !self.body.describe().is_well_formed
+    }
+}
+
+impl Description {
+    /// Whether the statement, which has this row, has a bad label, as `Statement::has_bad_label` says.
+    pub fn has_bad_label(&self, statement: &Statement) -> bool
+        requires { self.now ≡ describe statement.now.body }
+        ensures { result ≡ has_bad_label statement.now }
+    {
+        match (statement.label, self.label) {
             (LabelField::Malformed, _)
             | (LabelField::Absent, LabelRule::Required)
             | (LabelField::Label(_), LabelRule::Forbidden) => true,
@@ -299,22 +318,22 @@ impl Statement {
         }
     }
 
-    /// Whether there is no label, and yet it needs one if it is a field of areas.
-    pub fn lacks_field_label(self) -> bool
-        ensures { result ≡ lacks_field_label self }
+    /// Whether the statement, which has this row, has no label, and yet needs one if it is a field of areas.
+    pub fn lacks_field_label(&self, statement: &Statement) -> bool
+        requires { self.now ≡ describe statement.now.body }
+        ensures { result ≡ lacks_field_label statement.now }
     {
         matches!(
-            (self.label, self.body.describe().label),
+            (statement.label, self.label),
             (LabelField::Absent, LabelRule::OfField)
         )
     }
 
-    /// Whether the operands aren't as the operation asks. Whether a field lies in its area is checked once the area
-    /// is known.
-    pub fn has_bad_operands(self) -> bool
-        ensures { result ≡ has_bad_operands self.body }
+    /// Whether it is the row of END.
+    pub fn is_end(&self) -> bool
+        ensures { result ≡ is_entry self.now.addressing }
     {
-        !self.body.describe().is_well_formed
+        matches!(self.addressing, Addressing::Entry(_))
     }
 }
 
@@ -360,7 +379,7 @@ impl Line {
         ensures { result ≡ is_end self.now }
     {
         match self.statement {
-            Some(statement) => matches!(statement.body.describe().addressing, Addressing::Entry(_)),
+            Some(statement) => statement.body.describe().is_end(),
             None => false,
         }
     }
