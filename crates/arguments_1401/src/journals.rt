@@ -35,59 +35,102 @@ fn file_arg<'a>(alloc: Global) -> Arg<'a> {
         .required(true)
 }
 
-/// The subcommand `journal`.
-pub(crate) fn journal_command<'a>(alloc: Global) -> Result<Command<'a>, AllocError> {
-    let seat = Arg::new(alloc, "seat")
+/// The seat whose entries are shown, as an option.
+fn seat_arg<'a>(alloc: Global) -> Arg<'a> {
+    Arg::new(alloc, "seat")
         .long("seat")
         .value_name("K")
         .help("Shows the entries of this seat alone; 0 is a console with a machine of its own")
-        .value_parser(value_parser!(u8));
-    let from = Arg::new(alloc, "from")
+        .value_parser(value_parser!(u8))
+}
+
+/// The first entry that may be shown, as an option.
+fn from_arg<'a>(alloc: Global) -> Arg<'a> {
+    Arg::new(alloc, "from")
         .long("from")
         .value_name("N")
         .help("Shows entry N and those after it")
         .default_value("1")
-        .value_parser(value_parser!(u32));
-    let check = Arg::new(alloc, "check")
+        .value_parser(value_parser!(u32))
+}
+
+/// Whether the journal is only checked, as an option.
+fn check_arg<'a>(alloc: Global) -> Arg<'a> {
+    Arg::new(alloc, "check")
         .long("check")
         .help("Shows only how many entries there are, each answered as the machine answers it")
-        .action(ArgAction::SetTrue);
+        .action(ArgAction::SetTrue)
+}
+
+/// The subcommand `journal`.
+pub(crate) fn journal_command<'a>(alloc: Global) -> Result<Command<'a>, AllocError> {
+    let args = vec![in alloc;
+        seat_arg(alloc),
+        from_arg(alloc),
+        check_arg(alloc),
+        file_arg(alloc),
+    ]?;
     Command::new(alloc, "journal")
         .about("Shows a journal: who gave which command, and what it was answered")
-        .arg(seat)?
-        .arg(from)?
-        .arg(check)?
-        .arg(file_arg(alloc))
+        .args(args)
+}
+
+/// The file of the journal that is kept from there on, as an option.
+fn next_journal_arg<'a>(alloc: Global) -> Arg<'a> {
+    Arg::new(alloc, "journal")
+        .long("journal")
+        .value_name("NEW")
+        .help("A new file to go on in; FILE stays as it is")
+}
+
+/// The last command that is carried out again, as an option.
+fn until_arg<'a>(alloc: Global) -> Arg<'a> {
+    Arg::new(alloc, "until")
+        .long("until")
+        .value_name("N")
+        .help("Goes on after command N; without --journal nothing more is kept")
+        .value_parser(value_parser!(u32))
+}
+
+/// The commands that aren't carried out again, as an option.
+fn without_arg<'a>(alloc: Global) -> Arg<'a> {
+    Arg::new(alloc, "without")
+        .long("without")
+        .value_name("N,..")
+        .help("Leaves these commands out; --journal names the file of what is left")
+}
+
+/// The arguments of `resume` that tell how the journal is taken up.
+fn resuming_args<'a>(alloc: Global) -> Result<Vec<Arg<'a>>, AllocError> {
+    Ok(vec![in alloc;
+        next_journal_arg(alloc),
+        until_arg(alloc),
+        without_arg(alloc),
+        sync_arg(alloc),
+    ]?)
+}
+
+/// The arguments of `resume` that tell who comes.
+fn operators_args<'a>(alloc: Global) -> Result<Vec<Arg<'a>>, AllocError> {
+    let port = port_arg(alloc).requires_arg("seats")?;
+    let seats = seats_arg(alloc).requires_arg("ports")?;
+    let page = page_arg(alloc).requires_arg("seats")?;
+    Ok(vec![in alloc; port, seats, page]?)
 }
 
 /// The subcommand `resume`.
 pub(crate) fn resume_command<'a>(alloc: Global) -> Result<Command<'a>, AllocError> {
-    let journal = Arg::new(alloc, "journal")
-        .long("journal")
-        .value_name("NEW")
-        .help("A new file to go on in; FILE stays as it is");
-    let until = Arg::new(alloc, "until")
-        .long("until")
-        .value_name("N")
-        .help("Goes on after command N; without --journal nothing more is kept")
-        .value_parser(value_parser!(u32));
-    let without = Arg::new(alloc, "without")
-        .long("without")
-        .value_name("N,..")
-        .help("Leaves these commands out; --journal names the file of what is left");
+    let resuming = resuming_args(alloc)?;
+    let group = ports_group(alloc)?;
+    let operators = operators_args(alloc)?;
     Command::new(alloc, "resume")
         .about(
             "Carries out a journal's commands again, and goes on as console does; with --port or --page as serve does",
         )
         .after_help(LINES)
-        .arg(journal)?
-        .arg(until)?
-        .arg(without)?
-        .arg(sync_arg(alloc))?
-        .group(ports_group(alloc)?)?
-        .arg(port_arg(alloc).requires_arg("seats")?)?
-        .arg(seats_arg(alloc).requires_arg("ports")?)?
-        .arg(page_arg(alloc).requires_arg("seats")?)?
+        .args(resuming)?
+        .group(group)?
+        .args(operators)?
         .arg(file_arg(alloc))
 }
 

@@ -44,91 +44,124 @@ pub(crate) fn size_arg<'a>(alloc: Global, sizes: &'a SizeTexts) -> Arg<'a> {
         .value_parser(value_parser!(u16))
 }
 
-/// The subcommand `load`.
-fn load_command<'a>(alloc: Global) -> Result<Command<'a>, AllocError> {
-    let file = Arg::new(alloc, "file")
+/// The file of an image, as an argument.
+fn image_arg<'a>(alloc: Global) -> Arg<'a> {
+    Arg::new(alloc, "file")
         .value_name("FILE")
         .help("The file of the image; - is a name like any other")
-        .required(true);
+        .required(true)
+}
+
+/// The subcommand `load`.
+fn load_command<'a>(alloc: Global) -> Result<Command<'a>, AllocError> {
+    let sync = new_sync_arg(alloc)?;
+    let args = vec![in alloc; journal_arg(alloc), sync, image_arg(alloc)]?;
     Command::new(alloc, "load")
         .about("Loads a core image, and then does as console does")
         .after_help(LINES)
-        .arg(journal_arg(alloc))?
-        .arg(new_sync_arg(alloc)?)?
-        .arg(file)
+        .args(args)
 }
 
 /// The subcommand `disassemble`.
 fn disassemble_command<'a>(alloc: Global) -> Result<Command<'a>, AllocError> {
-    let file = Arg::new(alloc, "file")
-        .value_name("FILE")
-        .help("The file of the image; - is a name like any other")
-        .required(true);
     Command::new(alloc, "disassemble")
         .about("Lists the instructions and the data of a core image")
-        .arg(file)
+        .arg(image_arg(alloc))
 }
 
 /// The subcommand `console`.
 fn console_command<'a>(alloc: Global, sizes: &'a SizeTexts) -> Result<Command<'a>, AllocError> {
+    let sync = new_sync_arg(alloc)?;
+    let args = vec![in alloc; journal_arg(alloc), sync, size_arg(alloc, sizes)]?;
     Command::new(alloc, "console")
         .about("Carries out the lines of standard input, and writes their replies")
         .after_help(LINES)
-        .arg(journal_arg(alloc))?
-        .arg(new_sync_arg(alloc)?)?
-        .arg(size_arg(alloc, sizes))
+        .args(args)
 }
 
-/// The subcommand `run`.
-fn run_command<'a>(alloc: Global, sizes: &'a SizeTexts) -> Result<Command<'a>, AllocError> {
-    let file = Arg::new(alloc, "file")
+/// The file that `run` runs, as an argument.
+fn program_arg<'a>(alloc: Global) -> Arg<'a> {
+    Arg::new(alloc, "file")
         .value_name("FILE")
         .help("The file of the source or the image, or of a deck; - is a name like any other")
-        .required(true);
-    let load = Arg::new(alloc, "load")
+        .required(true)
+}
+
+/// Whether the load key is pressed, as an option.
+fn load_arg<'a>(alloc: Global) -> Arg<'a> {
+    Arg::new(alloc, "load")
         .long("load")
         .help("FILE is a deck: presses the load key, which reads its first card and starts there")
-        .action(ArgAction::SetTrue);
-    let cards = Arg::new(alloc, "cards")
+        .action(ArgAction::SetTrue)
+}
+
+/// The file of a job's deck, as an option.
+fn cards_arg<'a>(alloc: Global) -> Arg<'a> {
+    Arg::new(alloc, "cards")
         .long("cards")
         .value_name("DECK")
-        .help(
-            "The file of the deck, a card a line; it follows the cards of FILE if FILE is a deck",
-        );
-    let punch = Arg::new(alloc, "punch")
+        .help("The file of the deck, a card a line; it follows the cards of FILE if FILE is a deck")
+}
+
+/// The file of the punched cards, as an option.
+fn punch_arg<'a>(alloc: Global) -> Arg<'a> {
+    Arg::new(alloc, "punch")
         .long("punch")
         .value_name("OUT")
-        .help("The file for the punched cards, which are else only counted");
-    let paper = Arg::new(alloc, "paper")
+        .help("The file for the punched cards, which are else only counted")
+}
+
+/// The file of the paper, as an option.
+fn paper_arg<'a>(alloc: Global) -> Arg<'a> {
+    Arg::new(alloc, "paper")
         .long("paper")
         .value_name("OUT")
-        .help("The file for the paper, in place of standard output");
-    let trace = Arg::new(alloc, "trace")
+        .help("The file for the paper, in place of standard output")
+}
+
+/// The file of the trace, as an option.
+fn trace_arg<'a>(alloc: Global) -> Arg<'a> {
+    Arg::new(alloc, "trace")
         .long("trace")
         .value_name("OUT")
-        .help("The file for a trace: a line for each step, with what it changed");
-    let limit = Arg::new(alloc, "limit")
+        .help("The file for a trace: a line for each step, with what it changed")
+}
+
+/// The most instructions that are carried out, as an option.
+fn limit_arg<'a>(alloc: Global) -> Arg<'a> {
+    Arg::new(alloc, "limit")
         .long("limit")
         .value_name("STEPS")
         .help("How many instructions are carried out at most, up to 4294967295")
         .default_value("1000000000")
-        .value_parser(value_parser!(u32));
-    let switches = Arg::new(alloc, "switches")
+        .value_parser(value_parser!(u32))
+}
+
+/// The sense switches that are on, as an option.
+fn switches_arg<'a>(alloc: Global) -> Arg<'a> {
+    Arg::new(alloc, "switches")
         .long("switches")
         .value_name("LETTERS")
-        .help("The sense switches that are on, as in BCG");
+        .help("The sense switches that are on, as in BCG")
+}
+
+/// The subcommand `run`.
+fn run_command<'a>(alloc: Global, sizes: &'a SizeTexts) -> Result<Command<'a>, AllocError> {
+    let args = vec![in alloc;
+        load_arg(alloc),
+        cards_arg(alloc),
+        punch_arg(alloc),
+        paper_arg(alloc),
+        trace_arg(alloc),
+        language_arg(alloc),
+        size_arg(alloc, sizes),
+        limit_arg(alloc),
+        switches_arg(alloc),
+        program_arg(alloc),
+    ]?;
     Command::new(alloc, "run")
         .about("Runs a source or an image with a deck, from cards to paper")
-        .arg(load)?
-        .arg(cards)?
-        .arg(punch)?
-        .arg(paper)?
-        .arg(trace)?
-        .arg(language_arg(alloc))?
-        .arg(size_arg(alloc, sizes))?
-        .arg(limit)?
-        .arg(switches)?
-        .arg(file)
+        .args(args)
 }
 
 /// A refusal of what this subcommand is asked for.
@@ -175,19 +208,33 @@ fn switches_of(letters: &str) -> Option<[bool; 7]> {
     Some(switches)
 }
 
+/// A refusal of what `run` is asked for.
+fn run_refusal(alloc: Global, text: &str) -> Result<Error, AllocError> {
+    let sizes = SizeTexts::new(alloc)?;
+    refusal(run_command(alloc, &sizes)?.bin_name("ibm1401 run")?, text)
+}
+
 /// What the options of `run` ask for.
 fn run_call(alloc: Global, matches: &ArgMatches<'_>, file: &str) -> Result<Call, Error> {
-    let Some(switches) = switches_of(matches.get_str("switches").unwrap_or("")) else {
-        let sizes = SizeTexts::new(alloc)?;
-        let run = run_command(alloc, &sizes)?.bin_name("ibm1401 run")?;
-        return Err(refusal(run, "the switches are letters from A to G")?);
-    };
+    match switches_of(matches.get_str("switches").unwrap_or("")) {
+        Some(switches) => Ok(Call::Run(job_in(alloc, matches, file, switches)?)),
+        None => Err(run_refusal(alloc, "the switches are letters from A to G")?),
+    }
+}
+
+/// The job of a file, with these switches, that the options of `run` ask for.
+fn job_in(
+    alloc: Global,
+    matches: &ArgMatches<'_>,
+    file: &str,
+    switches: [bool; 7],
+) -> Result<Job, AllocError> {
     let start = if matches.get_flag("load") {
         Start::LoadKey
     } else {
         Start::Entry
     };
-    Ok(Call::Run(Job {
+    Ok(Job {
         file: String::from_str(alloc, file)?,
         start,
         cards: name_in(alloc, matches, "cards")?,
@@ -198,7 +245,7 @@ fn run_call(alloc: Global, matches: &ArgMatches<'_>, file: &str) -> Result<Call,
         size: named_size_in(matches),
         limit: matches.get_one("limit").unwrap_or(DEFAULT_LIMIT),
         switches,
-    }))
+    })
 }
 
 /// Reads the command line, the program's own name in front.
@@ -211,19 +258,36 @@ pub fn read_call(alloc: Global, words: &[impl AsStr]) -> Result<Call, Error> {
     call_with(alloc, words, &sizes)
 }
 
+/// A command with a subcommand more.
+fn with<'a>(
+    command: Command<'a>,
+    subcommand: Result<Command<'a>, AllocError>,
+) -> Result<Command<'a>, AllocError> {
+    command.subcommand(subcommand?)
+}
+
+/// A command with the subcommands of programs: how they are written, looked at and run.
+fn with_programs<'a>(
+    alloc: Global,
+    sizes: &'a SizeTexts,
+    command: Command<'a>,
+) -> Result<Command<'a>, AllocError> {
+    let command = with(command, assemble_command(alloc, sizes))?;
+    let command = with(command, load_command(alloc))?;
+    let command = with(command, disassemble_command(alloc))?;
+    with(command, run_command(alloc, sizes))
+}
+
 /// The program with its subcommands.
 fn program_command<'a>(alloc: Global, sizes: &'a SizeTexts) -> Result<Command<'a>, AllocError> {
-    Command::new(alloc, "ibm1401")
+    let command = Command::new(alloc, "ibm1401")
         .about("An IBM 1401 card system, each operation of it proved")
-        .subcommand_required(true)
-        .subcommand(console_command(alloc, sizes)?)?
-        .subcommand(assemble_command(alloc, sizes)?)?
-        .subcommand(load_command(alloc)?)?
-        .subcommand(disassemble_command(alloc)?)?
-        .subcommand(run_command(alloc, sizes)?)?
-        .subcommand(serve_command(alloc, sizes)?)?
-        .subcommand(journal_command(alloc)?)?
-        .subcommand(resume_command(alloc)?)
+        .subcommand_required(true);
+    let command = with(command, console_command(alloc, sizes))?;
+    let command = with_programs(alloc, sizes, command)?;
+    let command = with(command, serve_command(alloc, sizes))?;
+    let command = with(command, journal_command(alloc))?;
+    with(command, resume_command(alloc))
 }
 
 /// The same, with the texts that the help takes from the sizes.

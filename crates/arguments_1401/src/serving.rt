@@ -47,39 +47,62 @@ pub(crate) fn seats_arg<'a>(alloc: Global) -> Arg<'a> {
         .value_parser(value_parser!(u8).range(1..=8))
 }
 
+/// The file of the image that is loaded before operators come, as an option.
+fn image_arg<'a>(alloc: Global) -> Result<Arg<'a>, AllocError> {
+    Arg::new(alloc, "image")
+        .long("image")
+        .value_name("FILE")
+        .help("The file of a core image, which is loaded before operators come")
+        .conflicts_with("size")
+}
+
+/// Whether seats are taken again, as an option.
+fn keep_seats_arg<'a>(alloc: Global) -> Arg<'a> {
+    Arg::new(alloc, "keep-seats")
+        .long("keep-seats")
+        .help(
+            "Gives the seat of a console that has ended to the next operator, as the next four options do",
+        )
+        .action(ArgAction::SetTrue)
+}
+
+/// The file of the deck that is in the hopper when operators come, as an option.
+fn cards_arg<'a>(alloc: Global) -> Arg<'a> {
+    Arg::new(alloc, "cards")
+        .long("cards")
+        .value_name("DECK")
+        .help("The file of a deck, a card a line, which is in the hopper when operators come")
+}
+
+/// The arguments of `serve`.
+fn serve_args<'a>(alloc: Global, sizes: &'a SizeTexts) -> Result<Vec<Arg<'a>>, AllocError> {
+    let image = image_arg(alloc)?;
+    let sync = new_sync_arg(alloc)?;
+    Ok(vec![in alloc;
+        port_arg(alloc),
+        seats_arg(alloc).required(true),
+        keep_seats_arg(alloc),
+        page_arg(alloc),
+        image,
+        cards_arg(alloc),
+        journal_arg(alloc),
+        sync,
+        size_arg(alloc, sizes),
+    ]?)
+}
+
 /// The subcommand `serve`.
 pub(crate) fn serve_command<'a>(
     alloc: Global,
     sizes: &'a SizeTexts,
 ) -> Result<Command<'a>, AllocError> {
-    let image = Arg::new(alloc, "image")
-        .long("image")
-        .value_name("FILE")
-        .help("The file of a core image, which is loaded before operators come")
-        .conflicts_with("size")?;
-    let keep_seats = Arg::new(alloc, "keep-seats")
-        .long("keep-seats")
-        .help(
-            "Gives the seat of a console that has ended to the next operator, as the next four options do",
-        )
-        .action(ArgAction::SetTrue);
-    let cards = Arg::new(alloc, "cards")
-        .long("cards")
-        .value_name("DECK")
-        .help("The file of a deck, a card a line, which is in the hopper when operators come");
+    let group = ports_group(alloc)?.required(true);
+    let args = serve_args(alloc, sizes)?;
     Command::new(alloc, "serve")
         .about("Opens a machine to operators, each with a connection or a page of his own")
         .after_help(LINES)
-        .group(ports_group(alloc)?.required(true))?
-        .arg(port_arg(alloc))?
-        .arg(seats_arg(alloc).required(true))?
-        .arg(keep_seats)?
-        .arg(page_arg(alloc))?
-        .arg(image)?
-        .arg(cards)?
-        .arg(journal_arg(alloc))?
-        .arg(new_sync_arg(alloc)?)?
-        .arg(size_arg(alloc, sizes))
+        .group(group)?
+        .args(args)
 }
 
 /// The operators that the options name, if they name any.
@@ -104,17 +127,33 @@ pub(crate) fn pages_refused(operators: Operators) -> Option<&'static str> {
     None
 }
 
+/// A refusal of what `serve` is asked for.
+fn serve_refusal(alloc: Global, text: &str) -> Result<Error, AllocError> {
+    let sizes = SizeTexts::new(alloc)?;
+    refusal(
+        serve_command(alloc, &sizes)?.bin_name("ibm1401 serve")?,
+        text,
+    )
+}
+
 /// What the options of `serve` ask for.
 pub(crate) fn serve_call(
     alloc: Global,
     matches: &ArgMatches<'_>,
     operators: Operators,
 ) -> Result<Call, Error> {
-    if let Some(text) = pages_refused(operators) {
-        let sizes = SizeTexts::new(alloc)?;
-        let serve = serve_command(alloc, &sizes)?.bin_name("ibm1401 serve")?;
-        return Err(refusal(serve, text)?);
+    match pages_refused(operators) {
+        Some(text) => Err(serve_refusal(alloc, text)?),
+        None => Ok(room_call(alloc, matches, operators)?),
     }
+}
+
+/// The room that the options of `serve` ask for, for these operators.
+fn room_call(
+    alloc: Global,
+    matches: &ArgMatches<'_>,
+    operators: Operators,
+) -> Result<Call, AllocError> {
     let size = size_in(matches);
     let image = name_in(alloc, matches, "image")?;
     let cards = name_in(alloc, matches, "cards")?;
