@@ -22,6 +22,10 @@ fn each_graphic_has_its_code(rt: HostRuntime) {
         let found = Char::from_graphic(graphic);
         assert_eq!(rt; found.map(|char| char.code()), Some(code), "{graphic}");
     }
+}
+
+#[test]
+fn other_bytes_are_no_graphics(rt: HostRuntime) {
     for graphic in [b'a', b'~', 0, 127, 255] {
         assert_eq!(rt; Char::from_graphic(graphic), None, "{graphic}");
     }
@@ -55,7 +59,15 @@ fn a_zone_goes_over_the_low_bits(rt: HostRuntime) {
         let zoned = Char::from_graphic(graphic).map(|char| char.with_zone(zone).graphic());
         assert_eq!(rt; zoned, Some(with), "{graphic}");
     }
+}
+
+#[test]
+fn a_character_has_its_zone(rt: HostRuntime) {
     assert_eq!(rt; Char::from_graphic(b'S').map(|char| char.zone()), Some(1));
+}
+
+#[test]
+fn each_code_is_below_their_number(rt: HostRuntime) {
     assert_eq!(rt; Char::from_code(CODES), None);
     assert_eq!(rt; Char::from_code(63).map(|char| char.graphic()), Some(b'"'));
 }
@@ -111,9 +123,14 @@ fn each_character_has_its_column(rt: HostRuntime) {
         (b'"', 2_054),
     ] {
         let char = Char::from_graphic(graphic);
-        assert_eq!(rt; char.map(|char| char.punch()), Some(column), "{graphic}");
+        let punched = char.map(|char| char.punch());
+        assert_eq!(rt; punched, Some(column), "{graphic}");
         assert_eq!(rt; Char::from_punch(column), char, "{graphic}");
     }
+}
+
+#[test]
+fn other_columns_are_no_characters(rt: HostRuntime) {
     for column in [3, 3_072, 1_792, 65, 130 + 512 + 1, 4_095, 4_096, 65_535] {
         assert_eq!(rt; Char::from_punch(column), None, "{column}");
     }
@@ -159,8 +176,7 @@ fn each_character_has_its_place_in_the_collating_order(rt: HostRuntime) {
 
 #[test]
 fn a_blank_has_no_bit_and_no_mark(rt: HostRuntime) {
-    assert_eq!(rt; Char::BLANK.code(), 0);
-    assert_eq!(rt; Char::BLANK.graphic(), b' ');
-    assert_eq!(rt; Cell::BLANK.char, Char::BLANK);
-    assert_eq!(rt; Cell::BLANK.mark, false);
+    let blank = Char::BLANK;
+    assert_eq!(rt; (blank.code(), blank.graphic()), (0, b' '));
+    assert_eq!(rt; (Cell::BLANK.char, Cell::BLANK.mark), (blank, false));
 }

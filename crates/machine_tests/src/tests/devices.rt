@@ -5,6 +5,9 @@ use devices_1401::{
     Card, ControlFault, Devices, FormsFull, HopperFull, MOST_HELD, PrintLine, ReaderEmpty,
     StackerFull,
 };
+use std::alloc::Global;
+use std::fmt::Display;
+use std::process::Abort;
 use std::test::Fail;
 
 /// A card with this graphic in each column.
@@ -22,35 +25,65 @@ fn control(devices: &mut Devices, graphic: u8) -> Result<(), ControlFault> {
     devices.control(Char::from_graphic(graphic).unwrap_or(Char::BLANK))
 }
 
+/// The paper, the form and the line.
+fn at_paper(devices: &Devices) -> (u16, u16, u8) {
+    (devices.paper(), devices.form(), devices.line())
+}
+
+/// Prints a line of this graphic.
+fn print(rt: &impl Abort, devices: &mut Devices, graphic: u8) {
+    assert!(rt; devices.print(text_of(graphic)).is_ok());
+}
+
+/// Feeds a card of this graphic.
+fn feed(rt: &impl Abort, devices: &mut Devices, graphic: u8) {
+    assert!(rt; devices.feed(card_of(graphic)).is_ok());
+}
+
+/// Reads a card, which is to be of this graphic.
+fn expect_card(rt: &impl Abort, devices: &mut Devices, graphic: u8) {
+    assert_eq!(rt; devices.read(), Ok(card_of(graphic)));
+}
+
+/// Takes a line, which is to be of this graphic, and to stand there.
+fn expect_line(rt: &impl Abort, devices: &mut Devices, (form, line): (u16, u8), graphic: u8) {
+    let expected = PrintLine {
+        form,
+        line,
+        text: text_of(graphic),
+    };
+    assert_eq!(rt; devices.take_line(), Some(expected));
+}
+
 #[test]
 fn at_power_on_all_is_empty(rt: HostRuntime) -> Result<(), Fail> {
     let mut devices = Devices::power_on(rt.alloc())?;
+    assert_eq!(rt; (devices.hopper(), devices.stacker()), (0, 0));
+    assert_eq!(rt; at_paper(&devices), (0, 1, 1));
     assert_eq!(rt;
-        (devices.hopper(), devices.stacker(), devices.paper()),
-        (0, 0, 0)
+        (devices.read(), devices.take_card(), devices.take_line()),
+        (Err(ReaderEmpty), None, None)
     );
-    assert_eq!(rt; (devices.form(), devices.line()), (1, 1));
-    assert_eq!(rt; devices.read(), Err(ReaderEmpty));
-    assert_eq!(rt; devices.take_card(), None);
-    assert_eq!(rt; devices.take_line(), None);
     Ok(())
 }
 
 #[test]
 fn cards_come_in_the_order_in_which_they_were_fed(rt: HostRuntime) -> Result<(), Fail> {
     let mut devices = Devices::power_on(rt.alloc())?;
-    assert!(rt; devices.feed(card_of(b'A')).is_ok());
+    feed(&rt, &mut devices, b'A');
     for _ in 1..MOST_HELD {
-        assert!(rt; devices.feed(card_of(b'B')).is_ok());
+        feed(&rt, &mut devices, b'B');
     }
-    assert_eq!(rt; devices.feed(card_of(b'C')), Err(HopperFull));
-    assert_eq!(rt; devices.hopper(), 500);
-    assert_eq!(rt; devices.read(), Ok(card_of(b'A')));
-    assert!(rt; devices.feed(card_of(b'C')).is_ok());
+    assert_eq!(rt;
+        (devices.feed(card_of(b'C')), devices.hopper()),
+        (Err(HopperFull), 500)
+    );
+    expect_card(&rt, &mut devices, b'A');
+    feed(&rt, &mut devices, b'C');
     for _ in 1..MOST_HELD {
-        assert_eq!(rt; devices.read(), Ok(card_of(b'B')));
+        expect_card(&rt, &mut devices, b'B');
     }
-    assert_eq!(rt; devices.read(), Ok(card_of(b'C')));
+    expect_card(&rt, &mut devices, b'C');
     assert_eq!(rt; devices.hopper(), 0);
     Ok(())
 }
@@ -62,11 +95,14 @@ fn punched_cards_come_in_their_order(rt: HostRuntime) -> Result<(), Fail> {
         let graphic = if i == 0 { b'X' } else { b'Y' };
         assert!(rt; devices.punch(card_of(graphic)).is_ok());
     }
-    assert_eq!(rt; devices.punch(card_of(b'Z')), Err(StackerFull));
-    assert_eq!(rt; devices.stacker(), 500);
-    assert_eq!(rt; devices.take_card(), Some(card_of(b'X')));
-    assert_eq!(rt; devices.take_card(), Some(card_of(b'Y')));
-    assert_eq!(rt; devices.stacker(), 498);
+    assert_eq!(rt;
+        (devices.punch(card_of(b'Z')), devices.stacker()),
+        (Err(StackerFull), 500)
+    );
+    assert_eq!(rt;
+        (devices.take_card(), devices.take_card(), devices.stacker()),
+        (Some(card_of(b'X')), Some(card_of(b'Y')), 498)
+    );
     Ok(())
 }
 
@@ -74,61 +110,49 @@ fn punched_cards_come_in_their_order(rt: HostRuntime) -> Result<(), Fail> {
 fn five_hundred_lines_fill_the_paper(rt: HostRuntime) -> Result<(), Fail> {
     let mut devices = Devices::power_on(rt.alloc())?;
     for _ in 0..MOST_HELD {
-        assert!(rt; devices.print(text_of(b'H')).is_ok());
+        print(&rt, &mut devices, b'H');
     }
-    assert_eq!(rt; devices.print(text_of(b'I')), Err(FormsFull));
     assert_eq!(rt;
-        (devices.paper(), devices.form(), devices.line()),
-        (500, 8, 39)
+        (devices.print(text_of(b'I')), at_paper(&devices)),
+        (Err(FormsFull), (500, 8, 39))
     );
-    let first = PrintLine {
-        form: 1,
-        line: 1,
-        text: text_of(b'H'),
-    };
-    assert_eq!(rt; devices.take_line(), Some(first));
-    assert!(rt; devices.print(text_of(b'I')).is_ok());
-    assert_eq!(rt;
-        (devices.paper(), devices.form(), devices.line()),
-        (500, 8, 40)
-    );
+    expect_line(&rt, &mut devices, (1, 1), b'H');
+    print(&rt, &mut devices, b'I');
+    assert_eq!(rt; at_paper(&devices), (500, 8, 40));
     for _ in 1..MOST_HELD {
         assert!(rt; devices.take_line().is_some());
     }
-    let last = PrintLine {
-        form: 8,
-        line: 39,
-        text: text_of(b'I'),
-    };
-    assert_eq!(rt; devices.take_line(), Some(last));
+    expect_line(&rt, &mut devices, (8, 39), b'I');
     assert_eq!(rt; devices.take_line(), None);
     Ok(())
+}
+
+/// Asks for what the d-character with this graphic does, which is to be done.
+fn done(rt: &impl Abort, devices: &mut Devices, graphic: u8) {
+    assert!(rt; control(devices, graphic).is_ok());
 }
 
 #[test]
 fn lines_stand_where_the_carriage_was_brought(rt: HostRuntime) -> Result<(), Fail> {
     let mut devices = Devices::power_on(rt.alloc())?;
-    assert!(rt; control(&mut devices, b'1').is_ok());
-    assert!(rt; control(&mut devices, b'I').is_ok());
-    assert!(rt; devices.print(text_of(b'H')).is_ok());
+    done(&rt, &mut devices, b'1');
+    done(&rt, &mut devices, b'I');
+    print(&rt, &mut devices, b'H');
     assert!(rt; devices.at_channel(9) && !devices.at_channel(12));
-    assert!(rt; devices.print(text_of(b'H')).is_ok());
+    print(&rt, &mut devices, b'H');
     assert_eq!(rt; devices.line(), 61);
-    assert_eq!(rt; control(&mut devices, b'2'), Err(ControlFault::Carriage));
-    assert_eq!(rt; control(&mut devices, b'Q'), Err(ControlFault::DChar));
-    assert!(rt; control(&mut devices, b'@').is_ok());
+    assert_eq!(rt;
+        (control(&mut devices, b'2'), control(&mut devices, b'Q')),
+        (Err(ControlFault::Carriage), Err(ControlFault::DChar))
+    );
+    done(&rt, &mut devices, b'@');
     assert!(rt; devices.at_channel(12) && !devices.at_channel(9));
-    assert!(rt; control(&mut devices, b'T').is_ok());
-    assert!(rt; control(&mut devices, b'K').is_ok());
-    assert!(rt; devices.print(text_of(b'H')).is_ok());
+    done(&rt, &mut devices, b'T');
+    done(&rt, &mut devices, b'K');
+    print(&rt, &mut devices, b'H');
     assert_eq!(rt; (devices.form(), devices.line()), (2, 2));
-    for (form, line) in [(1, 4), (1, 60), (1, 65)] {
-        let printed = PrintLine {
-            form,
-            line,
-            text: text_of(b'H'),
-        };
-        assert_eq!(rt; devices.take_line(), Some(printed));
+    for place in [(1, 4), (1, 60), (1, 65)] {
+        expect_line(&rt, &mut devices, place, b'H');
     }
     Ok(())
 }
@@ -141,28 +165,35 @@ fn a_card_has_its_columns(rt: HostRuntime) {
     let Some(card) = Card::from_columns(&columns) else {
         panic!(rt; "no card");
     };
-    assert_eq!(rt; card.0[0].graphic(), b'A');
-    assert_eq!(rt; card.0[1].graphic(), b' ');
-    assert_eq!(rt; card.0[79].graphic(), b'0');
+    let graphics = [
+        card.0[0].graphic(),
+        card.0[1].graphic(),
+        card.0[79].graphic(),
+    ];
+    assert_eq!(rt; graphics, *b"A 0");
     assert_eq!(rt; card.columns(), columns);
     columns[40] = 3_072;
     assert_eq!(rt; Card::from_columns(&columns), None);
 }
 
+/// Compares what is written of a fault.
+fn expect_name(
+    rt: &impl Abort,
+    alloc: Global,
+    fault: &impl Display,
+    name: &str,
+) -> Result<(), Fail> {
+    let written = format!(in alloc; "{fault}")?;
+    assert_eq!(rt; written.as_str(), name);
+    Ok(())
+}
+
 #[test]
 fn each_fault_has_the_name_of_its_stop_or_refusal(rt: HostRuntime) -> Result<(), Fail> {
-    for (fault, name) in [
-        (format!(in rt.alloc(); "{HopperFull}")?, "HOPPER"),
-        (format!(in rt.alloc(); "{ReaderEmpty}")?, "READER"),
-        (format!(in rt.alloc(); "{StackerFull}")?, "STACKER"),
-        (format!(in rt.alloc(); "{FormsFull}")?, "FORMS"),
-        (format!(in rt.alloc(); "{}", ControlFault::DChar)?, "DCHAR"),
-        (
-            format!(in rt.alloc(); "{}", ControlFault::Carriage)?,
-            "CARRIAGE",
-        ),
-    ] {
-        assert_eq!(rt; fault.as_str(), name);
-    }
-    Ok(())
+    expect_name(&rt, rt.alloc(), &HopperFull, "HOPPER")?;
+    expect_name(&rt, rt.alloc(), &ReaderEmpty, "READER")?;
+    expect_name(&rt, rt.alloc(), &StackerFull, "STACKER")?;
+    expect_name(&rt, rt.alloc(), &FormsFull, "FORMS")?;
+    expect_name(&rt, rt.alloc(), &ControlFault::DChar, "DCHAR")?;
+    expect_name(&rt, rt.alloc(), &ControlFault::Carriage, "CARRIAGE")
 }

@@ -1,10 +1,12 @@
 //! Steps and runs, worked out by hand from the manual's rules.
+ghost use Rattle.std.specs.Prelude.{◌<◌};
 
 use bcd_1401::{Cell, Char};
 use core_1401::CoreFault;
 use cpu_1401::{Machine, Ran, Stop};
-use devices_1401::Card;
+use devices_1401::{Card, PrintLine};
 use fields_1401::FieldStop;
+use std::alloc::Global;
 use std::process::Abort;
 use std::test::Fail;
 
@@ -28,12 +30,44 @@ fn put(rt: &impl Abort, machine: &mut Machine, at: u16, text: &[u8]) {
     }
 }
 
+/// Sets the I register to a place of core storage.
+fn start(rt: &impl Abort, machine: &mut Machine, at: u16) {
+    assert!(rt; machine.core().in_core(at));
+    machine.set_i(at);
+}
+
+/// A machine of this size with these cells from 600 on, where it starts.
+fn at_600(rt: &impl Abort, alloc: Global, size: u16, text: &[u8]) -> Result<Machine, Fail> {
+    let mut machine = Machine::power_on(alloc, size)?;
+    put(rt, &mut machine, 600, text);
+    start(rt, &mut machine, 600);
+    Ok(machine)
+}
+
+/// The I, A and B registers.
+fn registers(machine: &Machine) -> (u16, u16, u16) {
+    let regs = machine.regs();
+    (regs.i, regs.a, regs.b)
+}
+
 #[test]
 fn a_size_that_is_none_is_refused(rt: HostRuntime) {
     assert_eq!(rt;
         Machine::power_on(rt.alloc(), 100).err(),
         Some(CoreFault::Size)
     );
+}
+
+/// Compares why the instruction at 600 can't be carried out; no register may change.
+fn expect_stop(rt: &impl Abort, alloc: Global, text: &[u8], stop: Stop) -> Result<(), Fail> {
+    let mut machine = at_600(rt, alloc, 4_000, text)?;
+    let before = machine.regs();
+    assert_eq!(rt;
+        (machine.step(), machine.regs()),
+        (Some(stop), before),
+        "{stop}"
+    );
+    Ok(())
 }
 
 #[test]
@@ -51,13 +85,7 @@ fn each_stop_comes_where_it_should(rt: HostRuntime) -> Result<(), Fail> {
         (b"~,I9I~.", Stop::Address),
         (b"~M599599~.", Stop::Address),
     ] {
-        let mut machine = Machine::power_on(rt.alloc(), 4_000)?;
-        put(&rt, &mut machine, 600, text);
-        assert!(rt; machine.core().in_core(600));
-        machine.set_i(600);
-        let before = machine.regs();
-        assert_eq!(rt; machine.step(), Some(stop), "{stop}");
-        assert_eq!(rt; machine.regs(), before, "{stop}");
+        expect_stop(&rt, rt.alloc(), text, stop)?;
     }
     Ok(())
 }
@@ -70,21 +98,16 @@ fn a_halt_as_the_last_step_answers_halt(rt: HostRuntime) -> Result<(), Fail> {
         steps: 1,
         stop: Stop::Limit,
     };
+    assert_eq!(rt;
+        (machine.run(1), registers(&machine)),
+        (moves, (7, 499, 500))
+    );
+    put(&rt, &mut machine, 11, b"~,");
     let halt = Ran {
         steps: 1,
         stop: Stop::Halt,
     };
-    assert_eq!(rt; machine.run(1), moves);
-    assert_eq!(rt;
-        (machine.regs().i, machine.regs().a, machine.regs().b),
-        (7, 499, 500)
-    );
-    put(&rt, &mut machine, 11, b"~,");
-    assert_eq!(rt; machine.run(1), halt);
-    assert_eq!(rt;
-        (machine.regs().i, machine.regs().a, machine.regs().b),
-        (0, 0, 11)
-    );
+    assert_eq!(rt; (machine.run(1), registers(&machine)), (halt, (0, 0, 11)));
     Ok(())
 }
 
@@ -127,24 +150,40 @@ fn stop_of(letter: u8) -> Option<Stop> {
     }
 }
 
+/// Sets the word mark of a place.
+fn mark(rt: &impl Abort, machine: &mut Machine, at: u16) {
+    assert!(rt; machine.core().in_core(at));
+    let cell = machine.core().get(at);
+    machine.put(at, Cell { mark: true, ..cell });
+}
+
+/// A machine that starts at this character, an instruction with so many characters behind it.
+fn with_instruction(
+    rt: &impl Abort,
+    alloc: Global,
+    char: Char,
+    behind: u16,
+) -> Result<Machine, Fail>
+    requires { behind < 8 }
+{
+    let mut machine = Machine::power_on(alloc, 1_400)?;
+    put(rt, &mut machine, 0, b"~5");
+    put(rt, &mut machine, 700, b"~5");
+    put(rt, &mut machine, 710, b"~5");
+    put(rt, &mut machine, 601, b"7007102");
+    mark(rt, &mut machine, 601 + behind);
+    assert!(rt; machine.core().in_core(600));
+    machine.put(600, Cell { char, mark: true });
+    machine.set_i(600);
+    Ok(machine)
+}
+
 #[test]
 fn each_character_at_each_length(rt: HostRuntime) -> Result<(), Fail> {
     for code in 0..64 {
         let char = Char::from_code(code).expect(&rt, "a code");
         for (behind, letter) in outcomes(char.graphic()).iter().enumerate() {
-            let mut machine = Machine::power_on(rt.alloc(), 1_400)?;
-            put(&rt, &mut machine, 0, b"~5");
-            put(&rt, &mut machine, 700, b"~5");
-            put(&rt, &mut machine, 710, b"~5");
-            put(&rt, &mut machine, 601, b"7007102");
-            for mark in [600, 601 + behind as u16] {
-                assert!(rt; machine.core().in_core(mark));
-                let cell = machine.core().get(mark);
-                machine.put(mark, Cell { mark: true, ..cell });
-            }
-            assert!(rt; machine.core().in_core(600));
-            machine.put(600, Cell { char, mark: true });
-            machine.set_i(600);
+            let mut machine = with_instruction(&rt, rt.alloc(), char, behind as u16)?;
             let name = char::from(char.graphic());
             assert_eq!(rt;
                 machine.step(),
@@ -157,25 +196,24 @@ fn each_character_at_each_length(rt: HostRuntime) -> Result<(), Fail> {
     Ok(())
 }
 
+/// Carries out an instruction: why it can't be, if so, whether overflow is on, and the I register.
+fn stepped_overflow(machine: &mut Machine) -> (Option<Stop>, bool, u16) {
+    let stop = machine.step();
+    let regs = machine.regs();
+    (stop, regs.overflow, regs.i)
+}
+
 #[test]
 fn a_sum_turns_overflow_on_and_its_test_turns_it_off(rt: HostRuntime) -> Result<(), Fail> {
-    let mut machine = Machine::power_on(rt.alloc(), 4_000)?;
+    let mut machine = at_600(&rt, rt.alloc(), 4_000, b"~A700710~A700700~B600Z~B600Z~.")?;
     put(&rt, &mut machine, 700, b"~1");
     put(&rt, &mut machine, 709, b"~99");
-    put(&rt, &mut machine, 600, b"~A700710~A700700~B600Z~B600Z~.");
-    assert!(rt; machine.core().in_core(600));
-    machine.set_i(600);
     for (overflow, i) in [(true, 607), (true, 614), (false, 600)] {
-        assert_eq!(rt; machine.step(), None, "{i}");
-        assert_eq!(rt; (machine.regs().overflow, machine.regs().i), (overflow, i));
+        assert_eq!(rt; stepped_overflow(&mut machine), (None, overflow, i));
     }
-    assert!(rt; machine.core().in_core(619));
-    machine.set_i(619);
-    assert_eq!(rt; machine.step(), None);
-    assert_eq!(rt;
-        (machine.regs().overflow, machine.regs().i, machine.regs().b),
-        (false, 624, 619)
-    );
+    start(&rt, &mut machine, 619);
+    assert_eq!(rt; stepped_overflow(&mut machine), (None, false, 624));
+    assert_eq!(rt; machine.regs().b, 619);
     Ok(())
 }
 
@@ -203,76 +241,97 @@ fn card(rt: &impl Abort, text: &[u8]) -> Card {
     Card(columns)
 }
 
+/// Feeds a card with this text.
+fn feed(rt: &impl Abort, machine: &mut Machine, text: &[u8]) {
+    assert!(rt; machine.feed(card(rt, text)).is_ok());
+}
+
 #[test]
 fn a_card_marks_the_words_of_its_own_program(rt: HostRuntime) -> Result<(), Fail> {
     let mut machine = Machine::power_on(rt.alloc(), 4_000)?;
     assert!(rt; machine.load_key().is_err());
-    let bootstrap = card(&rt, b",008015,022026,030034,041,045,053,0570571026");
-    assert!(rt; machine.feed(bootstrap).is_ok());
+    feed(
+        &rt,
+        &mut machine,
+        b",008015,022026,030034,041,045,053,0570571026",
+    );
     assert!(rt; machine.load_key().is_ok());
     let ran = Ran {
         steps: 7,
         stop: Stop::Reader,
     };
-    assert_eq!(rt; machine.run(100), ran);
-    let regs = machine.regs();
-    assert_eq!(rt; (regs.i, regs.a, regs.b, regs.hopper), (41, 56, 56, 0));
+    assert_eq!(rt;
+        (machine.run(100), registers(&machine), machine.regs().hopper),
+        (ran, (41, 56, 56), 0)
+    );
     Ok(())
 }
 
-#[test]
-fn lines_are_printed_until_the_paper_is_full(rt: HostRuntime) -> Result<(), Fail> {
-    let mut machine = Machine::power_on(rt.alloc(), 4_000)?;
-    put(&rt, &mut machine, 201, b"HELLO");
-    put(&rt, &mut machine, 600, b"~2600~3~.");
-    assert!(rt; machine.core().in_core(604));
-    machine.set_i(600);
+/// Whether a line's text begins with these graphics.
+fn begins_with(line: &PrintLine, graphics: &[u8]) -> bool {
+    line.text
+        .iter()
+        .zip(graphics)
+        .all(|(char, graphic)| char.graphic() == *graphic)
+}
+
+/// A machine that has filled its paper, and whose next instruction prints and reads.
+fn with_full_paper(rt: &impl Abort, alloc: Global) -> Result<Machine, Fail> {
+    let mut machine = at_600(rt, alloc, 4_000, b"~2600~3~.")?;
+    put(rt, &mut machine, 201, b"HELLO");
     let full = Ran {
         steps: 500,
         stop: Stop::Forms,
     };
     assert_eq!(rt; machine.run(1_000), full);
-    machine.set_i(604);
+    start(rt, &mut machine, 604);
     assert_eq!(rt; machine.step(), Some(Stop::Forms));
-    let line = machine.take_line().expect(&rt, "a line");
-    assert_eq!(rt; (line.form, line.line), (1, 1));
-    assert_eq!(rt;
-        line.text[..5]
-            .iter()
-            .map(|char| char.graphic())
-            .eq(*b"HELLO"),
-        true
-    );
+    Ok(machine)
+}
+
+/// Compares what a print that reads does without a card, where the paper has place for the line, and then with one.
+fn expect_print_and_read(rt: &impl Abort, machine: &mut Machine) {
     assert_eq!(rt; machine.step(), Some(Stop::Reader));
-    assert!(rt; machine.feed(card(&rt, b"X")).is_ok());
-    assert_eq!(rt; machine.step(), None);
+    feed(rt, machine, b"X");
+    let stop = machine.step();
     let regs = machine.regs();
     assert_eq!(rt;
-        (regs.i, regs.paper, regs.form, regs.line),
-        (605, 500, 8, 40)
+        (stop, regs.i, regs.paper, regs.form, regs.line),
+        (None, 605, 500, 8, 40)
     );
+    assert!(rt; machine.core().in_core(1));
     assert_eq!(rt; machine.core().get(1).char.graphic(), b'X');
+}
+
+#[test]
+fn lines_are_printed_until_the_paper_is_full(rt: HostRuntime) -> Result<(), Fail> {
+    let mut machine = with_full_paper(&rt, rt.alloc())?;
+    let line = machine.take_line().expect(&rt, "a line");
+    assert_eq!(rt; (line.form, line.line), (1, 1));
+    assert!(rt; begins_with(&line, b"HELLO"));
+    expect_print_and_read(&rt, &mut machine);
     Ok(())
+}
+
+/// Takes a line, and gives its form and its line there.
+fn place_of_line(rt: &impl Abort, machine: &mut Machine) -> (u16, u8) {
+    let line = machine.take_line().expect(rt, "a line");
+    (line.form, line.line)
 }
 
 #[test]
 fn a_skip_waits_for_the_next_print(rt: HostRuntime) -> Result<(), Fail> {
-    let mut machine = Machine::power_on(rt.alloc(), 4_000)?;
+    let mut machine = at_600(&rt, rt.alloc(), 4_000, b"~F1~FI~2~2~F2~.")?;
     put(&rt, &mut machine, 201, b"HI");
-    put(&rt, &mut machine, 600, b"~F1~FI~2~2~F2~.");
-    assert!(rt; machine.core().in_core(600));
-    machine.set_i(600);
     let no_hole = Ran {
         steps: 4,
         stop: Stop::Carriage,
     };
     assert_eq!(rt; machine.run(9), no_hole);
     for at in [4, 60] {
-        let line = machine.take_line().expect(&rt, "a line");
-        assert_eq!(rt; (line.form, line.line), (1, at));
+        assert_eq!(rt; place_of_line(&rt, &mut machine), (1, at));
     }
     assert_eq!(rt; (machine.regs().i, machine.regs().line), (606, 61));
-    assert!(rt; machine.core().in_core(607));
     put(&rt, &mut machine, 607, b"Q");
     assert_eq!(rt; machine.step(), Some(Stop::DChar));
     Ok(())
@@ -280,11 +339,8 @@ fn a_skip_waits_for_the_next_print(rt: HostRuntime) -> Result<(), Fail> {
 
 #[test]
 fn a_card_is_punched_until_the_stacker_is_full(rt: HostRuntime) -> Result<(), Fail> {
-    let mut machine = Machine::power_on(rt.alloc(), 1_400)?;
+    let mut machine = at_600(&rt, rt.alloc(), 1_400, b"~4600~.")?;
     put(&rt, &mut machine, 101, b"PUNCHED");
-    put(&rt, &mut machine, 600, b"~4600~.");
-    assert!(rt; machine.core().in_core(600));
-    machine.set_i(600);
     let full = Ran {
         steps: 500,
         stop: Stop::Stacker,
@@ -297,24 +353,14 @@ fn a_card_is_punched_until_the_stacker_is_full(rt: HostRuntime) -> Result<(), Fa
 
 #[test]
 fn word_marks_are_printed_as_ones(rt: HostRuntime) -> Result<(), Fail> {
-    let mut machine = Machine::power_on(rt.alloc(), 4_000)?;
+    let mut machine = at_600(&rt, rt.alloc(), 4_000, b"~2)~.")?;
     put(&rt, &mut machine, 201, b"~A~BC");
-    put(&rt, &mut machine, 600, b"~2)~.");
-    assert!(rt; machine.core().in_core(600));
-    machine.set_i(600);
-    assert_eq!(rt; machine.step(), None);
+    assert_eq!(rt;
+        (machine.step(), registers(&machine)),
+        (None, (602, 0, 333))
+    );
     let line = machine.take_line().expect(&rt, "a line");
-    assert_eq!(rt;
-        line.text[..4]
-            .iter()
-            .map(|char| char.graphic())
-            .eq(*b"11  "),
-        true
-    );
-    assert_eq!(rt;
-        (machine.regs().i, machine.regs().a, machine.regs().b),
-        (602, 0, 333)
-    );
+    assert!(rt; begins_with(&line, b"11  "));
     Ok(())
 }
 
@@ -362,6 +408,13 @@ fn a_fields_stop_writes_the_name_of_its_stop(rt: HostRuntime) -> Result<(), Fail
     Ok(())
 }
 
+/// A machine that has a card in its hopper, and starts at this instruction.
+fn with_card(rt: &impl Abort, alloc: Global, operation: &[u8]) -> Result<Machine, Fail> {
+    let mut machine = at_600(rt, alloc, 1_400, operation)?;
+    feed(rt, &mut machine, b"X");
+    Ok(machine)
+}
+
 #[test]
 fn b_holds_the_place_behind_the_area_used_last(rt: HostRuntime) -> Result<(), Fail> {
     for (operation, b) in [
@@ -373,16 +426,20 @@ fn b_holds_the_place_behind_the_area_used_last(rt: HostRuntime) -> Result<(), Fa
         (b"~6~.", 181),
         (b"~7~.", 181),
     ] {
-        let mut machine = Machine::power_on(rt.alloc(), 1_400)?;
-        assert!(rt; machine.feed(card(&rt, b"X")).is_ok());
-        put(&rt, &mut machine, 600, operation);
-        assert!(rt; machine.core().in_core(600));
-        machine.set_i(600);
-        assert_eq!(rt; machine.step(), None, "{b}");
-        let regs = machine.regs();
-        assert_eq!(rt; (regs.i, regs.a, regs.b), (601, 0, b));
+        let mut machine = with_card(&rt, rt.alloc(), operation)?;
+        assert_eq!(rt; (machine.step(), registers(&machine)), (None, (601, 0, b)));
     }
     Ok(())
+}
+
+/// Whether this branch on a sense switch is taken where the switch of this number is on.
+fn is_taken(rt: &impl Abort, alloc: Global, branch: &[u8], on: u8) -> Result<bool, Fail>
+    requires { on < 7 }
+{
+    let mut machine = at_600(rt, alloc, 1_400, branch)?;
+    machine.switch(on, true);
+    assert_eq!(rt; machine.step(), None);
+    Ok(machine.regs().i == 700)
 }
 
 #[test]
@@ -396,20 +453,21 @@ fn each_sense_switch_has_its_d_character(rt: HostRuntime) -> Result<(), Fail> {
             (5, b"~B700F~."),
             (6, b"~B700G~."),
         ] {
-            let mut machine = Machine::power_on(rt.alloc(), 1_400)?;
-            machine.switch(on, true);
-            put(&rt, &mut machine, 600, branch);
-            assert!(rt; machine.core().in_core(600));
-            machine.set_i(600);
-            assert_eq!(rt; machine.step(), None);
             assert_eq!(rt;
-                machine.regs().i == 700,
+                is_taken(&rt, rt.alloc(), branch, on)?,
                 tested == on,
                 "{tested} with {on} on"
             );
         }
     }
     Ok(())
+}
+
+/// Carries out the instruction at a place, and tells whether it branches to 700.
+fn branches(rt: &impl Abort, machine: &mut Machine, at: u16) -> bool {
+    start(rt, machine, at);
+    assert_eq!(rt; machine.step(), None, "{at}");
+    machine.regs().i == 700
 }
 
 #[test]
@@ -419,18 +477,13 @@ fn the_channels_are_met_at_their_lines_alone(rt: HostRuntime) -> Result<(), Fail
     for line in 1..67u8 {
         assert_eq!(rt; machine.regs().line, line);
         for (at, of_channel) in [(600, 60), (605, 63)] {
-            assert!(rt; machine.core().in_core(at));
-            machine.set_i(at);
-            assert_eq!(rt; machine.step(), None);
             assert_eq!(rt;
-                machine.regs().i == 700,
+                branches(&rt, &mut machine, at),
                 line == of_channel,
                 "{at} at line {line}"
             );
         }
-        assert!(rt; machine.core().in_core(610));
-        machine.set_i(610);
-        assert_eq!(rt; machine.step(), None);
+        branches(&rt, &mut machine, 610);
     }
     Ok(())
 }
@@ -439,6 +492,17 @@ fn the_channels_are_met_at_their_lines_alone(rt: HostRuntime) -> Result<(), Fail
 fn indicators(machine: &Machine) -> (bool, bool, bool) {
     let regs = machine.regs();
     (regs.unequal, regs.low, regs.high)
+}
+
+/// A machine that compares these fields, and then branches by this d-character.
+fn comparing(rt: &impl Abort, alloc: Global, a: &[u8], b: &[u8], d: u8) -> Result<Machine, Fail> {
+    let mut machine = at_600(rt, alloc, 1_400, b"~C701711~B800X~.")?;
+    put(rt, &mut machine, 700, a);
+    put(rt, &mut machine, 710, b);
+    put(rt, &mut machine, 611, &[d]);
+    assert_eq!(rt; machine.step(), None);
+    assert_eq!(rt; machine.step(), None);
+    Ok(machine)
 }
 
 #[test]
@@ -454,25 +518,13 @@ fn a_branch_looks_at_what_the_compare_found(rt: HostRuntime) -> Result<(), Fail>
         (b"~12", b"~12", (false, false, false), b"S"),
     ] {
         for d in *b"/STU" {
-            let mut machine = Machine::power_on(rt.alloc(), 1_400)?;
-            put(&rt, &mut machine, 700, a);
-            put(&rt, &mut machine, 710, b);
-            put(&rt, &mut machine, 600, b"~C701711~B800X~.");
-            let d_char = Char::from_graphic(d).expect(&rt, "a graphic");
-            assert!(rt; machine.core().in_core(611));
-            machine.put(
-                611,
-                Cell {
-                    char: d_char,
-                    mark: false,
-                },
-            );
-            machine.set_i(600);
-            assert_eq!(rt; machine.step(), None);
-            assert_eq!(rt; machine.step(), None);
-            assert_eq!(rt; indicators(&machine), found);
+            let machine = comparing(&rt, rt.alloc(), a, b, d)?;
             let name = char::from(d);
-            assert_eq!(rt; machine.regs().i == 800, taken.contains(&d), "{name}");
+            assert_eq!(rt;
+                (indicators(&machine), machine.regs().i == 800),
+                (found, taken.contains(&d)),
+                "{name}"
+            );
         }
     }
     Ok(())

@@ -4,16 +4,40 @@ ghost use Rattle.core_1401.specs.Address.{addresses};
 
 use bcd_1401::{Cell, Char};
 use core_1401::{Cells, Core, CoreFault, MOST_CELLS, decode, encode};
+use std::alloc::Global;
+use std::process::Abort;
 use std::test::Fail;
 
+/// Compares the length of the field at a place.
+fn expect_len(rt: &impl Abort, core: &Core, at: u16, len: Option<u16>) {
+    assert!(rt; core.in_core(at));
+    assert_eq!(rt; core.field_len(at), len, "{at}");
+}
+
+/// Compares the length of the shorter of the fields at two places.
+fn expect_pair(rt: &impl Abort, core: &Core, a: u16, b: u16, len: Option<u16>) {
+    assert!(rt; core.in_core(a) && core.in_core(b));
+    assert_eq!(rt; core.pair_len(a, b), len, "{a} and {b}");
+}
+
+/// Sets or clears the word mark of a place.
+fn mark(rt: &impl Abort, core: &mut Core, at: u16, is_set: bool) {
+    assert!(rt; core.in_core(at));
+    core.put_mark(at, is_set);
+}
+
 #[test]
-fn core_is_made_in_its_sizes_alone(rt: HostRuntime) -> Result<(), Fail> {
+fn core_is_made_in_its_sizes(rt: HostRuntime) -> Result<(), Fail> {
     for size in [1_400, 2_000, 4_000, 8_000, 12_000, 16_000] {
         let core = Core::power_on(rt.alloc(), size)?;
-        assert_eq!(rt; core.size(), size);
         assert!(rt; core.in_core(size - 1) && !core.in_core(size));
-        assert_eq!(rt; core.get(0), Cell::BLANK);
+        assert_eq!(rt; (core.size(), core.get(0)), (size, Cell::BLANK));
     }
+    Ok(())
+}
+
+#[test]
+fn core_is_made_in_no_other_size(rt: HostRuntime) {
     for size in [
         0, 1_399, 1_401, 3_999, 4_001, 10_000, 15_999, 16_001, 65_535,
     ] {
@@ -23,19 +47,17 @@ fn core_is_made_in_its_sizes_alone(rt: HostRuntime) -> Result<(), Fail> {
             "{size}"
         );
     }
-    Ok(())
 }
 
 #[test]
 fn a_field_ends_at_its_first_mark(rt: HostRuntime) -> Result<(), Fail> {
     let mut core = Core::power_on(rt.alloc(), 4_000)?;
     assert_eq!(rt; core.size(), 4_000);
-    assert_eq!(rt; core.field_len(3_999), None);
-    core.put_mark(0, true);
-    core.put_mark(100, true);
+    expect_len(&rt, &core, 3_999, None);
+    mark(&rt, &mut core, 0, true);
+    mark(&rt, &mut core, 100, true);
     for (at, len) in [(0, 1), (99, 100), (100, 1), (105, 6), (3_999, 3_900)] {
-        assert!(rt; at < 4_000 && core.size() == 4_000);
-        assert_eq!(rt; core.field_len(at), Some(len), "{at}");
+        expect_len(&rt, &core, at, Some(len));
     }
     for (a, b, len) in [
         (130, 10, Some(11)),
@@ -43,43 +65,72 @@ fn a_field_ends_at_its_first_mark(rt: HostRuntime) -> Result<(), Fail> {
         (200, 102, Some(3)),
         (98, 50, Some(51)),
     ] {
-        assert!(rt; a < 4_000 && b < 4_000 && core.size() == 4_000);
-        assert_eq!(rt; core.pair_len(a, b), len, "{a} and {b}");
+        expect_pair(&rt, &core, a, b, len);
     }
-    core.put_mark(0, false);
-    assert_eq!(rt; core.pair_len(10, 130), None);
+    mark(&rt, &mut core, 0, false);
+    expect_pair(&rt, &core, 10, 130, None);
+    Ok(())
+}
+
+/// Compares how many places it is from one to the next above it with a word mark, but so many at most.
+fn expect_next_mark(rt: &impl Abort, core: &Core, (at, most): (u16, u16), next: u16) {
+    assert!(rt; core.in_core(at) && 0 < most && most <= 64);
+    assert_eq!(rt; core.next_mark(at, most), next, "{at}");
+}
+
+#[test]
+fn a_mark_of_the_last_place_ends_no_lower_field(rt: HostRuntime) -> Result<(), Fail> {
+    let mut core = Core::power_on(rt.alloc(), 16_000)?;
+    assert_eq!(rt; core.size(), 16_000);
+    mark(&rt, &mut core, 15_999, true);
+    for (at, len) in [(0, None), (63, None), (15_998, None), (15_999, Some(1))] {
+        expect_len(&rt, &core, at, len);
+    }
+    expect_pair(&rt, &core, 0, 15_998, None);
+    expect_next_mark(&rt, &core, (15_935, 64), 64);
+    expect_next_mark(&rt, &core, (15_998, 8), 1);
+    expect_next_mark(&rt, &core, (15_999, 8), 1);
     Ok(())
 }
 
 #[test]
 fn a_field_ends_at_the_bottom_of_the_largest_core(rt: HostRuntime) -> Result<(), Fail> {
     let mut core = Core::power_on(rt.alloc(), 16_000)?;
-    assert_eq!(rt; core.size(), 16_000);
-    core.put_mark(15_999, true);
-    // The mark of the last place ends no field from the first places down.
-    for (at, len) in [(0, None), (63, None), (15_998, None), (15_999, Some(1))] {
-        assert!(rt; at < 16_000 && core.size() == 16_000);
-        assert_eq!(rt; core.field_len(at), len, "{at}");
-    }
-    assert!(rt; core.size() == 16_000);
-    assert_eq!(rt; core.pair_len(0, 15_998), None);
-    assert_eq!(rt; core.next_mark(15_935, 64), 64);
-    assert_eq!(rt; core.next_mark(15_998, 8), 1);
-    assert_eq!(rt; core.next_mark(15_999, 8), 1);
-    core.put_mark(15_999, false);
-    assert!(rt; core.size() == 16_000);
-    core.put_mark(0, true);
+    mark(&rt, &mut core, 15_999, true);
+    mark(&rt, &mut core, 15_999, false);
+    mark(&rt, &mut core, 0, true);
     for (at, len) in [(0, 1), (15_999, 16_000)] {
-        assert!(rt; at < 16_000 && core.size() == 16_000);
-        assert_eq!(rt; core.field_len(at), Some(len), "{at}");
+        expect_len(&rt, &core, at, Some(len));
     }
+    expect_pair(&rt, &core, 15_999, 15_998, Some(15_999));
     assert!(rt; core.size() == 16_000);
-    assert_eq!(rt; core.pair_len(15_999, 15_998), Some(15_999));
     core.clear(15_999, 16_000);
-    assert!(rt; core.size() == 16_000);
-    assert_eq!(rt; core.field_len(15_999), None);
+    expect_len(&rt, &core, 15_999, None);
     assert_eq!(rt; core.mark_words().len(), 250);
     Ok(())
+}
+
+/// Puts three graphics into core storage from a place on.
+fn put_three(rt: &impl Abort, core: &mut Core, at: u16, graphics: [u8; 3]) {
+    for (i, graphic) in graphics.iter().enumerate() {
+        let place = at.saturating_add(i as u16);
+        assert!(rt; core.in_core(place));
+        core.put_char(place, Char::from_graphic(*graphic).unwrap_or(Char::BLANK));
+    }
+}
+
+/// The address that these graphics name, where the first index register has those.
+fn effective(
+    rt: &impl Abort,
+    alloc: Global,
+    text: [u8; 3],
+    register: [u8; 3],
+) -> Result<u16, Fail> {
+    let mut core = Core::power_on(alloc, 16_000)?;
+    put_three(rt, &mut core, 15_997, text);
+    put_three(rt, &mut core, 87, register);
+    assert!(rt; core.in_core(15_999));
+    Ok(core.effective(15_997))
 }
 
 #[test]
@@ -95,28 +146,14 @@ fn an_index_register_is_added_modulo_16_000(rt: HostRuntime) -> Result<(), Fail>
         // The zone over the register's own tens counts for nothing.
         (*b"0'1", *b"0'2", 3),
     ] {
-        let [h, t, u] = text.map(|graphic| Char::from_graphic(graphic).unwrap_or(Char::BLANK));
-        let index = register.map(|graphic| Char::from_graphic(graphic).unwrap_or(Char::BLANK));
-        let mut core = Core::power_on(rt.alloc(), 16_000)?;
-        for (place, char) in [
-            (15_997, h),
-            (15_998, t),
-            (15_999, u),
-            (87, index[0]),
-            (88, index[1]),
-            (89, index[2]),
-        ] {
-            assert!(rt; place < 16_000 && core.size() == 16_000);
-            core.put_char(place, char);
-        }
-        assert!(rt; core.size() == 16_000);
-        assert_eq!(rt; core.effective(15_997), address, "{address}");
+        let found = effective(&rt, rt.alloc(), text, register)?;
+        assert_eq!(rt; found, address, "{address}");
     }
     Ok(())
 }
 
 #[test]
-fn an_address_is_spelled_in_three_characters(rt: HostRuntime) {
+fn three_characters_spell_an_address(rt: HostRuntime) {
     for (text, value, index) in [
         (*b"   ", 0, 0),
         (*b"000", 0, 0),
@@ -131,6 +168,10 @@ fn an_address_is_spelled_in_three_characters(rt: HostRuntime) {
         let chars = text.map(|graphic| Char::from_graphic(graphic).unwrap_or(Char::BLANK));
         assert_eq!(rt; decode(chars), (value, index), "{value}");
     }
+}
+
+#[test]
+fn an_address_is_spelled_in_three_characters(rt: HostRuntime) {
     for (address, text) in [
         (0, *b"000"),
         (1_000, *b"'00"),
@@ -146,19 +187,26 @@ fn an_address_is_spelled_in_three_characters(rt: HostRuntime) {
     }
 }
 
+/// How many cells are made of these.
+fn count_of(cells: &[Cell]) -> Option<usize> {
+    Cells::from_slice(cells).map(|cells| cells.as_slice().len())
+}
+
 #[test]
 fn cells_are_one_to_forty(rt: HostRuntime) {
     let many = [Cell::BLANK; 41];
-    assert_eq!(rt; Cells::from_slice(&[]), None);
-    assert_eq!(rt; Cells::from_slice(&many), None);
+    assert_eq!(rt; (count_of(&[]), count_of(&many)), (None, None));
     assert_eq!(rt;
-        Cells::from_slice(&many[..1]).map(|cells| cells.as_slice().len()),
-        Some(1)
+        (count_of(&many[..1]), count_of(&many[..40])),
+        (Some(1), Some(MOST_CELLS))
     );
-    assert_eq!(rt;
-        Cells::from_slice(&many[..40]).map(|cells| cells.as_slice().len()),
-        Some(MOST_CELLS)
-    );
+}
+
+/// Core storage of 4,000 places with one word mark.
+fn marked(rt: &impl Abort, alloc: Global, at: u16) -> Result<Core, Fail> {
+    let mut core = Core::power_on(alloc, 4_000)?;
+    mark(rt, &mut core, at, true);
+    Ok(core)
 }
 
 #[test]
@@ -170,19 +218,22 @@ fn a_mark_is_found_across_words(rt: HostRuntime) -> Result<(), Fail> {
         (64, 127, Some(64)),
         (64, 63, None),
     ] {
-        let mut core = Core::power_on(rt.alloc(), 4_000)?;
-        assert!(rt; mark < core.size() && at < core.size());
-        core.put_mark(mark, true);
+        let core = marked(&rt, rt.alloc(), mark)?;
+        assert!(rt; at < core.size());
         assert_eq!(rt; core.field_len(at), len, "{mark} and {at}");
     }
+    Ok(())
+}
+
+#[test]
+fn a_mark_is_found_across_words_of_two_fields(rt: HostRuntime) -> Result<(), Fail> {
     for (mark, a, b, len) in [
         (63, 64, 127, Some(2)),
         (0, 130, 10, Some(11)),
         (100, 10, 130, None),
     ] {
-        let mut core = Core::power_on(rt.alloc(), 4_000)?;
-        assert!(rt; mark < core.size() && a < core.size() && b < core.size());
-        core.put_mark(mark, true);
+        let core = marked(&rt, rt.alloc(), mark)?;
+        assert!(rt; a < core.size() && b < core.size());
         assert_eq!(rt; core.pair_len(a, b), len, "{mark}, {a} and {b}");
     }
     Ok(())
@@ -201,12 +252,17 @@ fn walked_len(core: &Core, at: u16) -> Option<u16>
     None
 }
 
+/// Core storage of 1,400 places with one word mark.
+fn marked_once(rt: &impl Abort, alloc: Global, at: u16) -> Result<Core, Fail> {
+    let mut core = Core::power_on(alloc, 1_400)?;
+    mark(rt, &mut core, at, true);
+    Ok(core)
+}
+
 #[test]
 fn each_field_is_as_long_as_a_walk_finds_it(rt: HostRuntime) -> Result<(), Fail> {
-    for (mark, word) in [(0, 0), (63, 0), (64, 1), (127, 1), (128, 2), (1_399, 21)] {
-        let mut core = Core::power_on(rt.alloc(), 1_400)?;
-        assert!(rt; mark < core.size());
-        core.put_mark(mark, true);
+    for mark in [0, 63, 64, 127, 128, 1_399] {
+        let core = marked_once(&rt, rt.alloc(), mark)?;
         for at in 0..core.size() {
             assert!(rt; at < core.size());
             assert_eq!(rt;
@@ -215,6 +271,14 @@ fn each_field_is_as_long_as_a_walk_finds_it(rt: HostRuntime) -> Result<(), Fail>
                 "{mark} and {at}"
             );
         }
+    }
+    Ok(())
+}
+
+#[test]
+fn each_mark_has_its_word(rt: HostRuntime) -> Result<(), Fail> {
+    for (mark, word) in [(0, 0), (63, 0), (64, 1), (127, 1), (128, 2), (1_399, 21)] {
+        let core = marked_once(&rt, rt.alloc(), mark)?;
         let words = core.mark_words();
         assert_eq!(rt; words.len(), 22);
         for (place, bits) in words.iter().enumerate() {

@@ -3,6 +3,7 @@
 use super::deposit;
 use core_1401::Core;
 use fields_1401::{Done, FieldStop, compare};
+use std::alloc::Global;
 use std::test::Fail;
 
 /// The unequal, low and high indicators of each result.
@@ -11,6 +12,15 @@ const EQUAL: (bool, bool, bool) = (false, false, false);
 const LOW: (bool, bool, bool) = (true, true, false);
 
 const HIGH: (bool, bool, bool) = (true, false, true);
+
+/// The unequal, low and high indicators after these fields are compared.
+fn compared(alloc: Global, a: &str, b: &str) -> Result<(bool, bool, bool), Fail> {
+    let mut core = Core::power_on(alloc, 1_400)?;
+    let a_units = deposit(&mut core, 100, a);
+    let b_units = deposit(&mut core, 200, b);
+    let done = compare(&core, a_units, b_units)?;
+    Ok((done.unequal, done.low, done.high))
+}
 
 #[test]
 fn fields_are_compared(rt: HostRuntime) -> Result<(), Fail> {
@@ -37,11 +47,7 @@ fn fields_are_compared(rt: HostRuntime) -> Result<(), Fail> {
         ("~SMITH", "~SMYTH", HIGH),
         ("~JONES", "~JANET", LOW),
     ] {
-        let mut core = Core::power_on(rt.alloc(), 1_400)?;
-        let a_units = deposit(&mut core, 100, a);
-        let b_units = deposit(&mut core, 200, b);
-        let done = compare(&core, a_units, b_units)?;
-        assert_eq!(rt; (done.unequal, done.low, done.high), expected, "{a} {b}");
+        assert_eq!(rt; compared(rt.alloc(), a, b)?, expected, "{a} {b}");
     }
     Ok(())
 }
@@ -60,12 +66,19 @@ fn compare_steps_below_the_shorter_field(rt: HostRuntime) -> Result<(), Fail> {
         high: true,
     };
     assert_eq!(rt; compare(&core, 701, 712), Ok(expected));
-    assert_eq!(rt; compare(&core, 701, 4_000), Err(FieldStop::Address));
-    assert_eq!(rt; compare(&core, 4_000, 701), Err(FieldStop::Address));
-    assert_eq!(rt;
-        compare(&core, 1, 0),
-        Err(FieldStop::Address),
-        "no word mark above address 0"
-    );
+    Ok(())
+}
+
+#[test]
+fn a_missing_place_is_not_compared(rt: HostRuntime) -> Result<(), Fail> {
+    let mut core = Core::power_on(rt.alloc(), 4_000)?;
+    deposit(&mut core, 700, "~12");
+    for (a, b, why) in [
+        (701, 4_000, "B isn't in core"),
+        (4_000, 701, "A isn't in core"),
+        (1, 0, "no word mark above address 0"),
+    ] {
+        assert_eq!(rt; compare(&core, a, b), Err(FieldStop::Address), "{why}");
+    }
     Ok(())
 }
