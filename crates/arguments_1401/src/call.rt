@@ -78,7 +78,7 @@ pub struct Operators {
 /// What a room begins with.
 #[derive(Debug, Drop, PartialEq, Eq)]
 pub enum Opening {
-    /// A machine at power-on, with so many places of core storage.
+    /// A machine at power-on, with this many places of core storage.
     PowerOn(u16),
     /// A machine of an image's size, on which the image of the file of this name is loaded.
     Image(String),

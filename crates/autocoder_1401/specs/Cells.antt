@@ -192,7 +192,7 @@ abbrev pub group_mark : Bool → List Cell
 group_mark true = marked (char_of (byte "\"")) ∷ []
 group_mark false = []
 
--- areas, and a group mark behind the last
+-- areas, and a group mark after the last
 abbrev pub areas_cells : Option Areas → List Line → List Cell
 areas_cells None lines = []
 areas_cells (Some areas) lines =

@@ -81,7 +81,7 @@ double_label sites number labels.Absent = false
 double_label sites number labels.Malformed = false
 double_label sites number (labels.Label label) = is_before number (sites label)
 
--- an area literal with so many places
+-- an area literal with this many places
 abbrev pub is_area : ℕ → Option Declaration → Bool
 is_area places None = false
 is_area places (Some declaration) = option_map_or (λ (other : ℕ). other == places) declaration.area false

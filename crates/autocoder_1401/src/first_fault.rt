@@ -119,7 +119,7 @@ pub(crate) fn has_double_label(sites: &Sites, number: u64, field: LabelField) ->
     }
 }
 
-/// Whether a declaration is an area literal with so many places.
+/// Whether a declaration is an area literal with this many places.
 fn is_area(places: u8, declared: Option<Declaration>) -> bool
     ensures { result ≡ is_area places declared }
 {

@@ -59,7 +59,7 @@ fn constant_length(constant: Option<Constant>) -> u32
     }
 }
 
-/// How many places areas take, with the group mark behind them.
+/// How many places areas take, with the group mark after them.
 fn areas_length(areas: Areas) -> u32
     ensures { result ≡ areas_length (Some areas) }
 {

@@ -14,8 +14,8 @@ use devices_1401::Card;
 /// The most instructions of a run.
 const MOST_STEPS: u32 = 1_000_000;
 
-/// Carries a command out on a machine, and gives its answer. One that is refused leaves the machine as it was, and none
-/// changes the size of core storage.
+/// Carries a command out on a machine, and gives its answer. A refused command leaves the machine as it was, and no
+/// command changes the size of core storage.
 #[tactic(auto, unfolding(crate::specs::CarryOut::carry_out))]
 pub fn carry_out(machine: &mut Machine, command: &Command) -> Answer
     ensures state { machine.new ≡ (carry_out machine.old command.now).state }

@@ -129,7 +129,7 @@ pub(crate) fn answer_lines<R: Source, T: Responder, W: Sink>(
     ensures read { result ≡ SessionEnd.Read → IsTrue (R.has_failed reader.new) }
     ensures write { result ≡ SessionEnd.Write → IsTrue (W.has_failed writer.new) }
 
-    // One that ends otherwise has met no failure, and its source had met none before.
+    // Any other end means that no read and no write failed, and that the source hadn't failed before.
     ensures good_read { result ≢ SessionEnd.Read → R.has_failed reader.new ≡ false }
     ensures good_write { result ≢ SessionEnd.Write → W.has_failed writer.new ≡ W.has_failed writer.old }
 

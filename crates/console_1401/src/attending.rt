@@ -180,7 +180,7 @@ pub fn attend<J: RoomId, R: Wait + Drop, P: Keeper + Drop, W: Wait, S: Source, K
     ensures read { result.1 ≡ SessionEnd.Read → IsTrue (S.has_failed reader.new) }
     ensures write { result.1 ≡ SessionEnd.Write → IsTrue (K.has_failed writer.new) }
 
-    // One that ends otherwise has met no failure, and its source had met none before.
+    // Any other end means that no read and no write failed, and that the source hadn't failed before.
     ensures good_read { result.1 ≢ SessionEnd.Read → S.has_failed reader.new ≡ false }
     ensures good_write { result.1 ≢ SessionEnd.Write → K.has_failed writer.new ≡ K.has_failed writer.old }
 {

@@ -25,7 +25,7 @@ pub(crate) fn copy_up(chars: &mut [Char], from: usize, to: usize, n: usize)
     }
 }
 
-/// Copies a long stretch. One that doesn't overlap its copy is copied as a whole, which takes the host the least.
+/// Copies a long stretch: as a whole if it doesn't overlap its copy, which takes the host the least.
 #[inline(never)]
 fn copy_long(chars: &mut [Char], from: usize, to: usize, n: usize)
     requires from_in { from + n ≤ length chars.old }

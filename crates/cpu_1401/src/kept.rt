@@ -14,7 +14,7 @@ use core_1401::{ADDRESSES, Core, PlaceSet};
 use std::alloc::{AllocError, Global};
 use std::marker::Model;
 
-/// How many instructions are kept at most: 32 KB of them. A loop that is no longer than so many places is kept whole.
+/// How many instructions are kept at most: 32 KB of them. A loop of up to that many places is kept whole.
 const ENTRIES: u16 = 1024;
 
 /// How many cells an entry has after its first.

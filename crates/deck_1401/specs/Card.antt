@@ -56,12 +56,12 @@ marks_text places =
 abbrev pub load_operation : Bool → ℕ
 load_operation mark = if mark then 76 else 77
 
--- the instruction that brings so many columns to the places from an address on
+-- the instruction that brings this many columns to the places from an address on
 unfoldable pub load_text : ℕ → Bool → ℕ → List ℕ
 load_text from mark count =
     load_operation mark ∷ address_text count ++ address_text (from + count - 1)
 
--- what a card brings: a cell, its address, and the cells behind it
+-- what a card brings: a cell, its address, and the cells after it
 pub record CellCard : Type 0 where
   pub from : ℕ
   pub first : Cell
@@ -76,8 +76,8 @@ card_line card =
     ++ marks_text (marked_places (card.from + 1) card.behind)
     ++ codes "1040\n"
 
--- the cards of the cells from an address on, the first so many of which are on a card already: none for blanks, and one
--- for any other cell and for those behind it that fit on its card
+-- the cards of the cells from an address on, of which this many are on a card already: none for blanks, and one for any
+-- other cell and for those after it that fit on its card
 abbrev pub cards_from : ℕ → ℕ → List Cell → List CellCard
 cards_from covered from [] = []
 cards_from covered from (cell ∷ cells) =

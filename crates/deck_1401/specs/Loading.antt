@@ -19,7 +19,7 @@ abbrev pub at_entry : ℕ → Storage → ℕ → List Card → State
 at_entry size storage start hopper =
     record (power_on size) { storage = storage; i = start; devices = record no_cards { hopper = hopper } }
 
--- a run of so many steps, none of which stopped the machine
+-- a run of this many steps, none of which stopped the machine
 abbrev pub all_carried_out : ℕ → State → Finished
 all_carried_out steps s = record { state = s; steps = steps; stop = stop.Limit }
 
@@ -32,7 +32,7 @@ pub record Leads (first last : State) : Type 0 where
 
 -- A text is that of a deck which loads itself: a machine at power-on that takes it by the load key comes to the entry,
 -- by steps none of which stops it, and has these cells in core storage then. Of the cards in its hopper it has read the
--- deck's: those behind them are left for the program.
+-- deck's: those after them are left for the program.
 pub record LoadsItself (text : List ℕ) (size : ℕ) (storage : Storage) (start : ℕ) : Type 0 where
   pub deck : List Card
   pub cards : deck_of text ≡ Ok deck

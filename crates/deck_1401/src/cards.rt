@@ -36,7 +36,7 @@ pub(crate) fn put_address(text: &mut Vec<u8>, address: u16) -> Result<(), AllocE
     Ok(())
 }
 
-/// How many cells there are, from the first on, that a card takes which has room for so many columns and word marks.
+/// How many of these cells, from the first on, a card takes that has room for this many columns and word marks.
 fn fitting(columns: u8, marks: u8, cells: &[Cell]) -> usize
     ensures value { result ≡ fitting columns marks cells.now }
     ensures few { result ≤ length cells.now }
@@ -130,7 +130,7 @@ fn put_card(text: &mut Vec<u8>, from: u16, first: &Cell, behind: &[Cell]) -> Res
 }
 
 /// Adds the card that begins with a cell, if it isn't on a card already, and isn't blank. Tells how many of the cells
-/// behind it are on a card then.
+/// after it are on a card then.
 #[tactic(auto, using(crate::proofs::FittingLemmas::fitting_marks))]
 fn put_next(
     text: &mut Vec<u8>,

@@ -20,11 +20,11 @@ pub enum Spaces {
 /// A hole of the tape, by its channel.
 #[derive(Clone, Copy, Debug, PartialEq, Eq)]
 pub enum Hole {
-    /// That of channel 1.
+    /// The hole of channel 1.
     First,
-    /// That of channel 9.
+    /// The hole of channel 9.
     Ninth,
-    /// That of channel 12.
+    /// The hole of channel 12.
     Twelfth,
 }
 

@@ -140,8 +140,8 @@ fn put_unsuppressed(core: &mut Core, word: ControlWord, rules: Rules) -> usize
     significant
 }
 
-/// The character of A that is taken with this many behind it: the first is the units, which are given without their
-/// zone, so that none is removed for each.
+/// The character of A that is taken after this many to its right: the first is the units, which are given without
+/// their zone, so that none is removed for each.
 #[inline(always)]
 fn char_of_a(chars: &[Char], a: usize, behind: usize, units: Char) -> Char
     requires a { a < length chars.now }

@@ -19,11 +19,11 @@ use Rattle.arguments_1401.specs.declared.call.Tables.{Tables}
 use Rattle.ibm1401.specs.declared.fault.Fault.{Fault}
 use Rattle.ibm1401.specs.declared.fault.Fault.TheVariants as fault
 
--- a line of a listing with the line feed behind it
+-- a line of a listing with its line feed
 abbrev pub line_text : List ℕ → List ℕ
 line_text line = line ++ codes "\n"
 
--- the lines of a listing, each with a line feed behind it
+-- the lines of a listing, each with its line feed
 unfoldable pub listing_text : List (List ℕ) → List ℕ
 listing_text lines = flat_map line_text lines
 

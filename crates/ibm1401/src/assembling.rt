@@ -201,7 +201,7 @@ fn put_part(text: &mut Vec<u8>, part: &[u8]) -> Result<(), AllocError>
     Ok(())
 }
 
-/// The lines of a listing, each with a line feed behind it.
+/// The lines of a listing, each with its line feed.
 #[tactic(auto, unfolding(crate::specs::Assemble::listing_text))]
 fn listing_text(alloc: Global, lines: &[ListingLine]) -> Result<Vec<u8>, AllocError>
     ensures { IfOk result (λ text. text.items ≡ listing_text lines.now) }

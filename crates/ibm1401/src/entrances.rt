@@ -9,9 +9,9 @@ use std::net::{Ipv4Addr, Net, TcpListener, TcpStream};
 /// The listeners at these ports.
 #[derive(Drop)]
 pub(crate) struct Entrances {
-    /// That of the consoles, if there are any.
+    /// The listener for consoles, if there are any.
     pub consoles: Option<TcpListener>,
-    /// Those of the pages, the one of seat 1 first.
+    /// The listeners for pages, that of seat 1 first.
     pub pages: Vec<PagePort>,
 }
 

@@ -47,7 +47,7 @@ pub enum Fault {
     /// A run of a program with its deck was refused, broke off, or ended otherwise than by a halt.
     #[error("{0}")]
     Run(RunFault),
-    /// The deck of this file has so many cards.
+    /// The deck of this file has this many cards.
     #[error("{0}: {1} cards are more than the hopper holds")]
     Hopper(String, u64),
     /// The file has no source that can be assembled.

@@ -57,7 +57,7 @@ fn image_of(rt: &(impl Files + AllocGlobal), name: String) -> Result<Image, Faul
 ///
 /// # Errors
 ///
-/// `Run` if the file is no deck, as `run` tells it; `Hopper` if the hopper doesn't hold so many cards; or `Memory`.
+/// `Run` if the file is no deck, as `run` tells it; `Hopper` if the hopper doesn't hold that many cards; or `Memory`.
 fn hopper_of(rt: &(impl Files + Eprint + AllocGlobal), name: String) -> Result<Vec<Card>, Fault> {
     let Ok(label) = name.clone() else {
         return Err(Fault::Memory);

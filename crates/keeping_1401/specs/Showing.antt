@@ -15,7 +15,7 @@ pub record IsShown (text : List ℕ) (view : View) (old new : Option (List ℕ))
   pub text_is : IsTextOf text size journal []
   pub written : Appends old new (listing_text view journal)
 
--- The text is that of a journal of so many entries.
+-- The text is that of a journal of this many entries.
 pub record IsOfEntries (text : List ℕ) (count : ℕ) : Type 0 where
   pub size : ℕ
   pub journal : List Entry

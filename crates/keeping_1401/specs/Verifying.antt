@@ -1,7 +1,7 @@
 -- What a sink that verifies a text has received (own).
 use Rattle.std.specs.Prelude.{◌≡◌, ℕ, nat_lt, if◌then◌else◌, List, [], length, take, Option, None, Some}
 
--- of the text that the sink beneath has, what was put again so far; behind it, all that the sink has
+-- of the text that the sink beneath has, what was put again so far; after that, all that the sink has
 abbrev pub verified : List ℕ → ℕ → Option (List ℕ) → Option (List ℕ)
 verified text at None = None
 verified text at (Some held) = if nat_lt at (length text) then Some (take at text) else Some held

@@ -81,7 +81,7 @@ pub fn take_up_room<J: Beginning, S: Sink + Drop>(
 }
 
 /// A keeper for a machine at power-on whose seats give the commands of a journal again, by a sink that has the
-/// journal's text: each line is compared with that text, and the lines behind it are added. Where a line differs, its
+/// journal's text: each line is compared with that text, and the lines after it are added. If a line differs, its
 /// entry isn't kept.
 ///
 /// # Errors

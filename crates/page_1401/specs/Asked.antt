@@ -13,7 +13,7 @@ use Rattle.page_1401.specs.declared.asked.Asked.{Asked}
 unfoldable pub number_of : List ℕ → Option ℕ
 number_of text = if nat_le 1 (length text) && nat_le (length text) most_read then number_in text else None
 
--- the number behind a name, if the field begins with the name
+-- the number after a name, if the field begins with the name
 unfoldable pub number_behind : List ℕ → List ℕ → Option ℕ
 number_behind name field =
     if nat_lt (length field) (length name) then None

@@ -32,7 +32,7 @@ pub(crate) fn number(text: &[u8]) -> Option<u32>
     read_digits(text)
 }
 
-/// The number behind a name, if the field begins with the name.
+/// The number after a name, if the field begins with the name.
 #[tactic(auto, unfolding(crate::specs::Asked::number_behind))]
 fn number_behind(name: &[u8], field: &[u8]) -> Option<u32>
     ensures { result ≡ number_behind name.now field.now }

@@ -70,7 +70,7 @@ pub fn answer_connection<R: AllocGlobal + RandomSource + Clock, S: Service>(
     Ok(())
 }
 
-/// Answers connections one after the other, to the last one. One that fails leaves what its requests did, and the next
+/// Answers connections one after the other, to the last one. If one fails, what its requests did stays, and the next
 /// one is taken.
 pub fn answer_each<R: AllocGlobal + RandomSource + Clock + Wait, S: Service, C: Connections>(
     rt: &R,

@@ -142,7 +142,7 @@ fn put_lines(alloc: Global, text: &mut Vec<u8>, lines: &[PrintLine]) -> Result<(
     Ok(())
 }
 
-/// The text of a picture, for the seat of this number among so many, which made this many commands.
+/// The text of a picture, for the seat of this number of this many seats, which made this many commands.
 ///
 /// # Errors
 ///

@@ -71,7 +71,7 @@ fn tell_sight(response: &mut Response, sight: &Sight)
     }
 }
 
-/// Answers a request for a picture at a seat, which is one of so many.
+/// Answers a request for a picture at a seat, which is one of this many.
 pub(crate) fn show_picture<J: RoomId>(
     alloc: Global,
     seat: &mut Seat<J>,

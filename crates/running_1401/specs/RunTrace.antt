@@ -28,7 +28,7 @@ abbrev pub line_if : Option Seen → Work → Option Stop → State → List ℕ
 line_if None work why after = []
 line_if (Some before) work why after = line_of before work why after
 
--- what is written after so many steps, of which there is one at most if there is a trace
+-- what is written after this many steps, of which there is one at most if there is a trace
 abbrev pub lines_after : ℕ → Option Seen → Work → Option Stop → State → List ℕ
 lines_after steps before work why after = if steps == 0 then [] else line_if before work why after
 

@@ -96,7 +96,7 @@ fn write_cards<P: Sink>(alloc: Global, cards: &[Card], punch: &mut P) -> Result<
     }
 }
 
-/// Why a job of so many steps ended, a part of which has this end; none if it goes on.
+/// Why a job of this many steps ended, a part of which has this end; none if it goes on.
 fn stop_of_job(stop: Stop, part: u32, steps: u32) -> Option<Stop>
     ensures none { result ≡ None → (stop ≡ Stop.Limit) × (part < steps) }
     ensures some { (why : Stop) → result ≡ Some why → (why ≡ stop) × ((stop ≢ Stop.Limit) ⊎ (steps ≤ part)) }
@@ -197,8 +197,8 @@ fn run_stretch<'d, W: Sink, P: Sink, F: Sink>(
 }
 
 /// Runs a machine with a deck until it stops or until this many instructions were carried out. What it prints and
-/// punches is written every 500 steps at the latest, and the watch is told as often how far it is. Of so many cards
-/// that were held at first, those that aren't left were read.
+/// punches is written every 500 steps at the latest, and the watch is told as often how far it is. Of the
+/// cards that were held at first, as many as are said here, those that aren't left were read.
 fn run_deck<'d, W: Sink, P: Sink, F: Sink, T: Watch>(
     alloc: Global,
     machine: &mut Machine,

@@ -41,7 +41,7 @@ foreign_column columns =
 abbrev pub sign_len : List ℕ → ℕ
 sign_len columns = if is_sign (slice_index columns 0) then 1 else 0
 
--- the symbol or the number that the first operand begins with, behind the sign of a constant or a literal
+-- the symbol or the number that the first operand begins with, after the sign of a constant or a literal
 abbrev pub first_base : List ℕ → Stretch
 first_base columns = stretch (21 + sign_len columns) (base_len (drop (sign_len columns) columns))
 

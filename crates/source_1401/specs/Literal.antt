@@ -30,7 +30,7 @@ named address = if is_name address.base then Some address else None
 abbrev pub is_sign : ℕ → Bool
 is_sign byte = (byte == plus_sign) || (byte == minus_sign)
 
--- the address of a symbol that a word has behind its sign
+-- the address of a symbol that a word has after its sign
 abbrev pub signed_address : List ℕ → Option Address
 signed_address [] = None
 signed_address (byte ∷ more) = if is_sign byte then option_and_then named (address_of languages.Ibm more) else None

@@ -113,7 +113,7 @@ one_address_flaw kind language columns =
 abbrev pub value_flaw : Language → List ℕ → Flaw
 value_flaw language columns = one_address_flaw flaws.NoValue language columns
 
--- what is wrong with areas, or with the options behind them
+-- what is wrong with areas, or with the options after them
 abbrev pub areas_flaw : Language → List ℕ → Flaw
 areas_flaw languages.Plain columns = lone_flaw flaws.NoAreas 0 columns
 areas_flaw languages.Ibm columns =

@@ -29,7 +29,7 @@ register_and these digit =
     then Some (record these { index = digit - byte "0" })
     else None
 
--- these options, and those that a text has, each behind a comma
+-- these options, and those that a text has, each after a comma
 abbrev pub options_and : AreaOptions → List ℕ → Option AreaOptions
 options_and these [] = Some these
 options_and these (parting ∷ []) = if parting == blank then Some these else None

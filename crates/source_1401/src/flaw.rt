@@ -249,7 +249,7 @@ fn sign_len(columns: &[u8]) -> usize
     }
 }
 
-/// The symbol or the number that the first operand of a line begins with, behind the sign of a constant or a literal.
+/// The symbol or the number that the first operand of a line begins with, after the sign of a constant or a literal.
 pub fn first_base(line: &[u8]) -> Stretch
     ensures { result ≡ first_base (columns_in 21 72 (columns_of line.now)) }
 {
@@ -262,7 +262,7 @@ pub fn first_base(line: &[u8]) -> Stretch
     }
 }
 
-/// The symbol or the number that the second operand of a line begins with, behind the sign of a literal.
+/// The symbol or the number that the second operand of a line begins with, after the sign of a literal.
 pub fn second_base(line: &[u8]) -> Stretch
     ensures { result ≡ second_base (columns_in 21 72 (columns_of line.now)) }
 {

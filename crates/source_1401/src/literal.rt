@@ -73,7 +73,7 @@ pub(crate) fn is_sign(byte: u8) -> bool
     byte == b'+' || byte == b'-'
 }
 
-/// The address of a symbol that a word has behind its sign, if it is one.
+/// The address of a symbol that a word has after its sign, if it is one.
 pub(crate) fn signed_address(word: &[u8]) -> Option<Address>
     ensures { result ≡ signed_address word.now }
 {

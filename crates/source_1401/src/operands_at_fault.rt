@@ -192,7 +192,7 @@ pub(crate) fn value_flaw(language: Language, columns: &[u8]) -> Flaw
     one_address_flaw(OperandFlaw::NoValue, language, columns)
 }
 
-/// What is wrong with areas, or with the options behind them.
+/// What is wrong with areas, or with the options after them.
 fn areas_flaw(language: Language, columns: &[u8]) -> Flaw
     requires { length columns.now ≤ 52 }
     ensures { result ≡ areas_flaw language columns.now }

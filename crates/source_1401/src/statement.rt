@@ -26,7 +26,7 @@ pub struct Areas {
     pub count: u8,
     /// How many places each has, 1 to 999.
     pub length: u16,
-    /// Whether a group mark with a word mark stands behind the last, in the wider language.
+    /// Whether a group mark with a word mark follows the last, in the wider language.
     pub has_group_mark: bool,
     /// The index register that the symbols of their fields have, 0 for none; one in the wider language alone.
     pub index: u8,

@@ -12,7 +12,7 @@ use crate::statement::{AREA_LENGTH, Areas, Span, areas_of, span_of};
 /// The options of DA.
 #[derive(Clone, Copy, Debug, PartialEq, Eq)]
 pub struct AreaOptions {
-    /// G: a group mark stands behind the last area.
+    /// G: a group mark follows the last area.
     pub has_group_mark: bool,
     /// C: the areas are cleared, as they are without it.
     pub is_cleared: bool,
@@ -65,7 +65,7 @@ impl AreaOptions {
         }
     }
 
-    /// These, and those that a text has, each behind a comma; nothing if it has something else.
+    /// These, and those that a text has, each after a comma; nothing if it has something else.
     fn and(self, text: &[u8]) -> Option<AreaOptions>
         ensures { result ≡ options_and self text.now }
     {
