@@ -438,6 +438,23 @@ OF_OLD_DECKS += [
         [],
     ),
     ("               END\n", "IMAGE2 04000\nEND 00333\n", []),
+    # each mnemonic of a unit, of a tape and of a feature that the machine hasn't got
+    (
+        "               ORG  500\n     AREA      EQU  700\n               MU   %F1,AREA,R\n"
+        "               LU   %T0,AREA,W\n               CU   %U1,E\n               WT   2,AREA\n"
+        "               RTW  3,AREA\n               WTW  %U4,AREA\n               RTB  5,AREA\n"
+        "               WTB  %B6,AREA\n               BSP  1\n               SKP  2\n               RWD  3\n"
+        "               RWU  %U4\n               WTM  5\n               MLCWA%U1,AREA,R\n               LCA  %U2,AREA,W\n"
+        "               MLC  %U3,AREA,R\n               SRF\n               SPF  AREA\n               D    +5,AREA\n"
+        "               MA   AREA\n               MIZ\n               MRCM 1,2\n               BBE  AREA,AREA,1\n"
+        "               BEF  AREA\n               BER  AREA\n               BPB  AREA\n               SAR  AREA,AREA\n"
+        "               NOP  AREA,AREA,X\n               END  500\n",
+        "IMAGE2 04000\n00500 40 ~M%F1700R~L%T0700W~U%U1E~M%U2700W~L%U3700R~L%U\n"
+        "00540 40 4700W~M%B5700R~M%B6700W~U%U1B~U%U2E~U%U3R~U%U4\n"
+        "00580 40 U~U%U5M~L%U1700R~L%U2700W~M%U3700R~8~9700~%6727\n"
+        "00620 40 00~#700~X~P001002~W7007001~B700K~B700L~B700P~Q70\n00660 13 0700~N700700X~E\nEND 00500\n",
+        [*range(3, 26), 29],
+    ),
 ]
 
 # Whole sources of the wider language, each with its image: indexes of symbols, literals and areas.
@@ -492,6 +509,45 @@ OF_LITERALS = [
         "     B         EQU  C+1+X1\n     A         EQU  B+1\n               B    B\n               B    C\n               B    D\n"
         "               B    A+X0\n               B    A+X3\n               END  GO\n",
         "IMAGE2 04000\n00500 24 ~B5'3~B5'2~B5!1~B500~B503~B5?3\nEND 00500\n",
+    ),
+    # literals of addresses that are one, and one that isn't; an area that is written with zeros in front
+    (
+        "               ORG  500\n     GO        MCW  +TAB-2+X1,SUM#3\n               MCW  +TAB-02+X1,SUM\n"
+        "               MCW  +TAB,SUM#003\n               MCW  +TAB+0,+TAB+X0\n     TAB       DCW  @ABC@\n"
+        "               END  GO\n",
+        "IMAGE2 04000\n00500 40 ~M533536~M533536~M539536~M539542~ABC~5S8~   ~530\n00540 03 ~530\nEND 00500\n",
+    ),
+    # the index register of a symbol where none can be, and X1 as the place of an origin
+    (
+        "     TAB       EQU  600+X2\n               ORG  X1+11\n     GO        B    GO\n               ORG  TAB\n"
+        "               B    TAB\n               LTORGTAB+50\n               XFR  TAB\n               EX   TAB\n"
+        "               END  TAB\n",
+        "IMAGE2 04000\n00100 04 ~B100\n00600 04 ~B6!0\nEND 00600\n",
+    ),
+    # a chain below a comment, with a label, and one below it
+    (
+        "               ORG  500\n     GO        A    GO,GO\n     * COMMENT\n     MORE      CHAIN2\n"
+        "               CHAIN1\n               B    MORE\n               END\n",
+        "IMAGE2 04000\n00500 14 ~A500500~A~A~A~B507\nEND 00500\n",
+    ),
+    # a symbol in two sections, one of six letters, literals with a suffix, and X1 without
+    (
+        "               ORG  500\n               SFX  A\n     X1        EQU  89\n     TEN       DCW  @T@\n"
+        "     LONGER    MCW  +TEN,SUM#2\n               MCW  X1,SUM\n               SFX  9\n     TEN       DCW  @U@\n"
+        "               MCW  TEN,LONGER\n               MCW  X2,X1\n               END\n",
+        "IMAGE2 04000\n00500 35 ~T~M532534~M089534~U~M515501~M094089~500~  \nEND 00501\n",
+    ),
+    # an ampersand for each plus sign, and one that is a character
+    (
+        "               ORG  500\n     TAB       DCW  &TAB&1&X1\n               DCW  &5\n               MCW  &TAB&X0,&5\n"
+        "               MCW  @A&B@,TAB\n               ORG  *&X00\n               DCW  @X@\n               END\n",
+        "IMAGE2 04000\n00500 18 ~5'3~E~M603604~M607502\n00600 08 ~X~502~E~A&B\nEND 00504\n",
+    ),
+    # headings and controls anywhere before END
+    (
+        "               JOB  ONE {}\n               ORG  500\n     GO        H    GO\n               JOB  TWO\n"
+        "               CTL  6\n               ENT  AUTOCODER\n               END\n",
+        "IMAGE2 04000\n00500 04 ~.500\nEND 00500\n",
     ),
 ]
 
@@ -570,6 +626,9 @@ NOT_OF_OLD_DECKS = [
     ("     L         XFR  0", "4 LABEL", "6: LABEL: the operation takes no label"),
     ("     L         CTL  66", "4 LABEL", "6: LABEL: the operation takes no label"),
     ("     L         SFX  A", "4 LABEL", "6: LABEL: the operation takes no label"),
+    ("     L         ENT  AUTOCODER", "4 LABEL", "6: LABEL: the operation takes no label"),
+    ("               JOB  A\x7fB", "3 GRAPHIC", "22: GRAPHIC: a byte can't stand in its column"),
+    ("               JOB  A\tB", "3 GRAPHIC", "22: GRAPHIC: a tab can't stand in its column"),
     ("               CTL  37", "8 OPERAND", "22: OPERAND: CTL has the size of core storage in column 22, 1 to 6"),
     ("               SFX  AB", "8 OPERAND", "21: OPERAND: SFX takes one letter or digit"),
     ("               CHAIN1", "6 OPERATION",
@@ -602,6 +661,25 @@ TOGETHER_REFUSED = [
      "6: DOUBLE LABEL: line 1 has the label X1 already"),
     ("               SFX  A\n     TAG       DCW  #1\n               SFX\n               B    TAG\n", 4, "7 UNDEFINED", None),
 ]
+
+
+# What neither language has: lines from column 6 on, by the fault of each.
+LEFT_OUT = {
+    "4 LABEL": ["110       DCW  @X@"],
+    "6 OPERATION": [
+        *(f"          {name:5}X" for name in (
+            "INCLD", "CALL", "GET", "PUT", "OPEN", "CLOSE", "DIOCS", "DTF", "HEADR", "INSER", "DELET"
+        )),
+        *(f"          {name:5}5,6" for name in ("MBC", "MBD", "RCB", "PCB", "PFR", "DCR", "SD", "RD", "WD")),
+    ],
+    "8 OPERAND": [
+        "UNIT      EQU  %U1",
+        *(f"          {statement}" for statement in (
+            "ORG", "B", "BW", "W    5,X", "P    5,X", "DA   1X5,R", "MLC  TAG+TAG,6", "MLC  TAG+2+1,6", "MLC  TAG, 6",
+            "DCW  @A@B@", f"DCW  @{'A' * 51}@", f"DCW  +{'1' * 21}",
+        )),
+    ],
+}
 
 
 def sizes_asked():
@@ -676,6 +754,12 @@ def languages():
             if told:
                 ran = run([*call, "--all", "old.source"], cwd=folder)
                 expect(f"{lines.splitlines()[-1].strip()}: told", ran, 1, "", f"old.source:{number}:{told}\n")
+        for fault, lines in LEFT_OUT.items():
+            for line in lines:
+                source.write_text(f"     {line}\n     TAG       DCW  #3\n               END  0\n")
+                for language in "plain", "ibm":
+                    ran = run([PROGRAM, "assemble", "--language", language, source])
+                    expect(f"{line.strip()}: in neither language", ran, 1, "", f"ibm1401: line 1: {fault}\n")
         sizes_asked()
         for example in sorted((TOP / "examples").glob("*.source")):
             for words in [], ["--list"], ["--symbols", "--xref"], ["--all"]:
