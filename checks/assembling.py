@@ -660,6 +660,20 @@ TOGETHER_REFUSED = [
     ("     X1        DCW  #1\n     X1        EQU  89\n", 2, "5 DOUBLE LABEL",
      "6: DOUBLE LABEL: line 1 has the label X1 already"),
     ("               SFX  A\n     TAG       DCW  #1\n               SFX\n               B    TAG\n", 4, "7 UNDEFINED", None),
+    # the suffix begins, whatever else is wrong with its line
+    ("     L         SFX  A\n     ENTRY     DCW  #1\n               SFX\n               B    ENTRYA\n", 1, "4 LABEL",
+     "6: LABEL: the operation takes no label"),
+    ("     G         EQU  G+1\n", 1, "7 UNDEFINED", "21: UNDEFINED: from G on EQU leads to EQU without end"),
+    ("               ORG  F\n     F         DCW  #1\n", 1, "7 UNDEFINED",
+     "21: UNDEFINED: F is the label of line 2, and this operation takes those of earlier lines"),
+    ("     C         EQU  D\n     D         EQU  E\n               ORG  C\n     E         EQU  400\n", 3, "7 UNDEFINED",
+     "21: UNDEFINED: C has its value from line 4 on, and ORG and LTORG take those of earlier lines"),
+    ("               A    SUM#3,5\n               LTORGSUM\n", 2, "7 UNDEFINED",
+     "21: UNDEFINED: SUM is an area literal, which is placed later than ORG and LTORG ask for its place"),
+    ("               A    TAG#3,TAG#4\n", 1, "5 DOUBLE LABEL",
+     "27: DOUBLE LABEL: line 1 has TAG already, as an area of another length"),
+    ("     REC       DA   1X5\n     F\n", 2, "8 OPERAND", "21: OPERAND: an operand is missing"),
+    ("     REC       DA   1X5\n                    6\n", 2, "8 OPERAND", None),
 ]
 
 
@@ -738,6 +752,12 @@ def languages():
             source.write_text(lines)
             expect("a source with indexes and literals", run([*call, source]), 0, image)
             expect("the plain language refuses it", run([PROGRAM, "assemble", source]), 1, "", "...")
+        source.write_text("               org  500\n     start     mcw  @ab@,start\n               end  start\n")
+        listing = (
+            "0001 00500                         org  500\n0002 00500 M508500       start     mcw  @ab@,start\n"
+            "     00507 AB       @AB@\n0003 00500                         end  start\n"
+        )
+        expect("a literal's own line is in capitals", run([*call, "--list", source]), 0, listing)
         for statements, number, fault in REFUSED_TOGETHER:
             source.write_text(columns(statements))
             expect(f"{statements}: refused", run([*call, source]), 1, "", f"ibm1401: line {number}: {fault}\n")
