@@ -21,13 +21,13 @@ pub enum AsmKind {
     /// 4: columns 6 to 15 hold no label, or lack one, or hold one that may not be there.
     #[error("4 LABEL")]
     Label,
-    /// 5: an earlier line has the same label.
+    /// 5: a label, or the symbol of an area literal, is declared already.
     #[error("5 DOUBLE LABEL")]
     DoubleLabel,
     /// 6: columns 16 to 20 hold no operation, or a field has no areas above it.
     #[error("6 OPERATION")]
     Operation,
-    /// 7: a symbol is the label of no line, or for EQU and ORG of no earlier one.
+    /// 7: a symbol is the label of no line; or its value isn't known where it has to be, as for ORG.
     #[error("7 UNDEFINED")]
     Undefined,
     /// 8: the operands aren't as the operation asks.
