@@ -672,6 +672,8 @@ TOGETHER_REFUSED = [
      "21: UNDEFINED: SUM is an area literal, which is placed later than ORG and LTORG ask for its place"),
     ("               A    TAG#3,TAG#4\n", 1, "5 DOUBLE LABEL",
      "27: DOUBLE LABEL: line 1 has TAG already, as an area of another length"),
+    # an area literal is declared, whatever else is wrong with its line
+    ("               A    SUM#3,Q\n               A    SUM,5\n", 1, "7 UNDEFINED", "27: UNDEFINED: Q is the label of no line"),
     ("     REC       DA   1X5\n     F\n", 2, "8 OPERAND", "21: OPERAND: an operand is missing"),
     ("     REC       DA   1X5\n                    6\n", 2, "8 OPERAND", None),
 ]
@@ -774,6 +776,13 @@ def languages():
             if told:
                 ran = run([*call, "--all", "old.source"], cwd=folder)
                 expect(f"{lines.splitlines()[-1].strip()}: told", ran, 1, "", f"old.source:{number}:{told}\n")
+        for language in "plain", "ibm":
+            call_in, last = [PROGRAM, "assemble", "--language", language, source], "               END  START\n"
+            source.write_text(f"     START     BCE  @{'A' * 46}@,5,XIDENTIF\n{last}")
+            image = f"IMAGE2 04000\n00333 40 ~B386005X~{'A' * 32}\n00373 14 {'A' * 14}\nEND 00333\n"
+            expect(f"a d-character in column 72, {language}", run(call_in), 0, image)
+            source.write_text(f"     START     BCE  @{'A' * 45}@,5,XYDENTIF\n{last}")
+            expect(f"one that isn't followed by a blank, {language}", run(call_in), 1, "", "ibm1401: line 1: 8 OPERAND\n")
         for fault, lines in LEFT_OUT.items():
             for line in lines:
                 source.write_text(f"     {line}\n     TAG       DCW  #3\n               END  0\n")
