@@ -5,13 +5,18 @@
 //! ```
 #![tactic(auto)]
 
-mod assembling;
+// what is asked for
 pub mod call;
+
+// the words of each subcommand, and the options that several have
+mod assembling;
 mod journals;
 mod languages;
-pub mod reading;
 mod serving;
 mod sizes;
+
+// all of them read
+pub mod reading;
 
 pub use call::{
     Assembling, Call, Job, NewJournal, Opening, Operators, Product, Resuming, Seating, Service,

@@ -1,19 +1,26 @@
 //! The IBM 1401 at a terminal: reads the command line, and runs what it asks for.
 #![tactic(auto)]
 
+// sources and images
 mod assembling;
-mod beginning;
 mod disassembling;
-mod entrances;
-mod fault;
+mod source_faults;
+mod source_file;
+
+// sessions at a console, of an image or with a journal
 mod journals;
 mod loading;
+mod subcommands;
+
+// rooms that operators share: how one begins, where they come in, who has which seat
+mod beginning;
+mod entrances;
 mod resuming;
 mod seating;
 mod serving;
-mod source_faults;
-mod source_file;
-mod subcommands;
+
+// what a run fails by, and its status
+mod fault;
 
 use crate::disassembling::write_disassembly;
 use crate::fault::{Fault, report};

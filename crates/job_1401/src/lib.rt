@@ -12,14 +12,21 @@
 //! nor a full stacker or full paper.
 #![tactic(auto)]
 
+// where cards come from, a deck in memory, and one as a text
 pub mod cards;
-pub mod collected;
 pub mod deck;
 pub mod deck_text;
-pub mod fault;
+
+// the hopper filled, and the load key
 mod feeding;
-pub mod job;
 pub mod loading;
+
+// a machine run with a deck, and why that breaks off
+pub mod fault;
+pub mod job;
+
+// paper and stacker emptied, where lines and cards go, and the paper as a text
+pub mod collected;
 pub mod output;
 pub mod paper;
 mod taking;
