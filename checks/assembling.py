@@ -543,6 +543,59 @@ OF_LITERALS = [
         "               MCW  @A&B@,TAB\n               ORG  *&X00\n               DCW  @X@\n               END\n",
         "IMAGE2 04000\n00500 18 ~5'3~E~M603604~M607502\n00600 08 ~X~502~E~A&B\nEND 00504\n",
     ),
+    # the next hundred where it is reached
+    (
+        "               ORG  600\n               ORG  *+X00\n     GO        H    GO\n"
+        "               END  GO\n",
+        "IMAGE2 04000\n00600 04 ~.600\nEND 00600\n",
+    ),
+    # an XFR that names its own place
+    (
+        "               ORG  500\n     GO        H    GO\n               XFR  *\n               END  GO\n",
+        "IMAGE2 04000\n00500 04 ~.500\nEND 00500\n",
+    ),
+    # literals and constants of index registers
+    (
+        "               ORG  500\n     GO        MCW  +X1,5\n               MCW  &X2+1,5\n"
+        "               DCW  +X3\n               END  GO\n",
+        "IMAGE2 04000\n00500 23 ~M519005~M522005~099~089~095\nEND 00500\n",
+    ),
+    # the same where one is a label
+    (
+        "               ORG  500\n     X1        DCW  000\n     GO        MCW  +X1,5\n"
+        "               END  GO\n",
+        "IMAGE2 04000\n00500 13 ~000~M512005~502\nEND 00503\n",
+    ),
+    # d-characters, and an address that is followed by one
+    (
+        "               ORG  500\n     A         B    A,B\n               B    A,BC,Q\n"
+        "     BC        B    A\n               END  A\n",
+        "IMAGE2 04000\n00500 17 ~B500B~B500513Q~B500\nEND 00500\n",
+    ),
+    # the same of a carriage
+    (
+        "               ORG  500\n     A         CC   A\n               CC   A,1\n"
+        "               SS   A,A\n               END  A\n",
+        "IMAGE2 04000\n00500 12 ~FA~F5001~K500A\nEND 00500\n",
+    ),
+    # units beside addresses
+    (
+        "               ORG  500\n     A         MLC  %U1,A,R\n               RT   1,A\n"
+        "               WT   %U0,A\n               END  A\n",
+        "IMAGE2 04000\n00500 24 ~M%U1500R~M%U1500R~M%U0500W\nEND 00500\n",
+    ),
+    # an area literal that is placed before its last use
+    (
+        "               ORG  500\n     GO        A    SUM#2,SUM\n               LTORG\n"
+        "               A    SUM,+SUM\n               END  GO\n",
+        "IMAGE2 04000\n00500 19 ~A508508~  ~A508518~508\nEND 00500\n",
+    ),
+    # a place of the instruction itself, with an index register and without
+    (
+        "               ORG  500\n     GO        B    *+X1\n               B    *-4+X0\n"
+        "               END  GO\n",
+        "IMAGE2 04000\n00500 08 ~B5'3~B503\nEND 00500\n",
+    ),
     # headings and controls anywhere before END
     (
         "               JOB  ONE {}\n               ORG  500\n     GO        H    GO\n               JOB  TWO\n"
@@ -592,6 +645,22 @@ REFUSED_TOGETHER = [
     ("- DCW TAG#3 / - END", 1, "8 OPERAND"),
     ("A EQU TAG#3 / - END", 1, "8 OPERAND"),
     ("- ENT SPS / - END", 1, "8 OPERAND"),
+    ("- EX / - END", 1, "8 OPERAND"),
+    ("- XFR / - END", 1, "8 OPERAND"),
+    ("- SFX + / - END", 1, "8 OPERAND"),
+    ("A H / - CHAIN 0 / - END", 2, "8 OPERAND"),
+    ("- B 1,UNDEF / - END", 1, "7 UNDEFINED"),
+    ("- CC AB / - END", 1, "7 UNDEFINED"),
+    ("A B A,A1 / A1 DCW #1 / - END", 1, "8 OPERAND"),
+    ("A H A,A,A / - END", 1, "8 OPERAND"),
+    ("A MLC %U1,A / - END", 1, "8 OPERAND"),
+    ("A MU %U1,A / - END", 1, "8 OPERAND"),
+    ("A RT %B1,A / - END", 1, "8 OPERAND"),
+    ("A RTB %U1,A / - END", 1, "8 OPERAND"),
+    ("- A *+X00,5 / - END", 1, "8 OPERAND"),
+    ("- DSA *+X00 / - END", 1, "8 OPERAND"),
+    ("- END 0 / - JOB X", 2, "11 AFTER END"),
+    ("- JOB X / - JOB Y", 3, "10 NO END"),
     ("- DSA UNDEF,1 / - END", 1, "7 UNDEFINED"),
     ("- DSA A / A EQU 4000 / - END", 1, "9 OUT OF CORE"),
     ("- A -Q+1,0 / Q EQU 3999 / - END", 1, "9 OUT OF CORE"),
