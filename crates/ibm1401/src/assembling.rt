@@ -24,7 +24,7 @@ const EMPTY_LINE: &[u8] = b"\n";
 ///
 /// # Errors
 ///
-/// `Size` where none of that size is made.
+/// `Size` if none of that size is made.
 pub fn check_size(size: u16) -> Result<(), Fault>
     ensures ok { OnOk result (is_core_size size ≡ true) }
     ensures err { OnErr result ((result ≡ Err Fault.Size) × (is_core_size size ≡ false)) }
@@ -40,8 +40,8 @@ pub fn check_size(size: u16) -> Result<(), Fault>
 ///
 /// # Errors
 ///
-/// `Source` where the source can't be assembled, and `Memory` where there is no room for the text; nothing is written
-/// then. `Output` where the text isn't written, or a part of it alone.
+/// `Source` if the source can't be assembled, and `Memory` if there is no room for the text; nothing is written
+/// then. `Output` if the text isn't written, or a part of it alone.
 pub fn write_assembly<W: Sink>(
     alloc: Global,
     language: Language,
@@ -62,7 +62,7 @@ pub fn write_assembly<W: Sink>(
 ///
 /// # Errors
 ///
-/// `Source` where the source can't be assembled, and `Memory` where there is no room for the text.
+/// `Source` if the source can't be assembled, and `Memory` if there is no room for the text.
 pub(crate) fn assembly_text(
     alloc: Global,
     language: Language,
@@ -110,8 +110,8 @@ fn image_text(alloc: Global, language: Language, source: &[u8], size: u16) -> Re
 ///
 /// # Errors
 ///
-/// `Source` where the source can't be assembled, `Deck` where its image has something in the places where a deck's cards
-/// are read, and `Memory` where there is no room for the text.
+/// `Source` if the source can't be assembled, `Deck` if its image has something in the places where a deck's cards
+/// are read, and `Memory` if there is no room for the text.
 pub(crate) fn source_deck(
     alloc: Global,
     language: Language,
@@ -218,7 +218,7 @@ fn listing_text(alloc: Global, lines: &[ListingLine]) -> Result<Vec<u8>, AllocEr
 ///
 /// # Errors
 ///
-/// `Output` where it isn't written, or a part of it alone.
+/// `Output` if it isn't written, or a part of it alone.
 pub(crate) fn write_text<W: Sink>(text: &[u8], writer: &mut W) -> Result<(), Fault>
     ensures { Wrote text.now (W.received writer.old) (W.received writer.new) (W.has_failed writer.new) result }
 {

@@ -13,8 +13,8 @@ use std::alloc::Global;
 ///
 /// # Errors
 ///
-/// `Image` where the text is no image's, and `Memory` where there is no room for the listing; nothing is written then.
-/// `Output` where the listing isn't written, or a part of it alone.
+/// `Image` if the text is no image's, and `Memory` if there is no room for the listing; nothing is written then.
+/// `Output` if the listing isn't written, or a part of it alone.
 pub fn write_disassembly<W: Sink>(alloc: Global, text: &[u8], writer: &mut W) -> Result<(), Fault>
     ensures { DisassembleDid text.now (W.received writer.old) (W.received writer.new)
         (W.has_failed writer.new) result }

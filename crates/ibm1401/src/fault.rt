@@ -143,7 +143,7 @@ pub fn ended(end: SessionEnd) -> Result<(), Fault>
     }
 }
 
-/// Tells on standard error what a run failed by, and gives the exit status, which is the same where standard error
+/// Tells on standard error what a run failed by, and gives the exit status, which is the same if standard error
 /// doesn't take the text.
 pub fn report(rt: &impl Eprint, outcome: Result<(), Fault>) -> u8
     ensures { result ≡ run_status outcome }

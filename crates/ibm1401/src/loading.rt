@@ -43,7 +43,7 @@ pub fn read_named_file(rt: &(impl Files + AllocGlobal), name: String) -> Result<
 ///
 /// # Errors
 ///
-/// `Image` where the text is no image's; `Memory` or `JournalFull` where the image isn't loaded; or what ended the
+/// `Image` if the text is no image's; `Memory` or `JournalFull` if the image isn't loaded; or what ended the
 /// session but QUIT and the end of the input.
 pub fn load<R: Source, W: Sink>(
     alloc: Global,

@@ -57,7 +57,7 @@ fn main(rt: HostRuntime) -> ExitCode {
 ///
 /// # Errors
 ///
-/// `Text`, `Usage` or `Memory` where the command line can't be read, `Output` where its help can't be written, else
+/// `Text`, `Usage` or `Memory` if the command line can't be read, `Output` if its help can't be written, else
 /// what the subcommand fails by.
 fn run<
     R: Env
@@ -128,7 +128,7 @@ fn disassemble_file<R: Files + Print + AllocGlobal>(rt: &R, file: String) -> Res
 ///
 /// # Errors
 ///
-/// `Text` where one of them isn't UTF-8, or `Memory`.
+/// `Text` if one of them isn't UTF-8, or `Memory`.
 fn command_line(rt: &(impl Env + AllocGlobal)) -> Result<Vec<String>, Fault> {
     let words = match env::args(rt) {
         Ok(words) => words,

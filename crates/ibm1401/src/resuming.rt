@@ -1,4 +1,4 @@
-//! What the subcommand `resume` does where operators share the room.
+//! What the subcommand `resume` does if operators share the room.
 ghost use Rattle.std.specs.Prelude.{◌≡◌, ◌≤◌, false, vec_len};
 ghost use Rattle.journal_1401.specs.JournalText.{journal_text};
 
@@ -36,7 +36,7 @@ fn expect_seats(entries: &[Entry], least: u8, most: u8) -> Result<(), Fault> {
 ///
 /// # Errors
 ///
-/// `Port` where a port is refused; `Kept` where a file can't be had or has no journal; `NoSeat` where an entry is of a
+/// `Port` if a port is refused; `Kept` if a file can't be had or has no journal; `NoSeat` if an entry is of a
 /// seat that the room hasn't: in the same file seat 0 is such a one, in a new file seat 1 gives its commands. Else as
 /// `serve`.
 pub fn resume_seats<

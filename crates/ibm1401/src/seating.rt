@@ -1,4 +1,4 @@
-//! What the subcommand `serve` does where seats are taken again, and what such rooms have in common.
+//! What the subcommand `serve` does if seats are taken again, and what such rooms have in common.
 ghost use Rattle.std.specs.Prelude.{◌≡◌, ◌≤◌, [], false, vec_len};
 ghost use Rattle.std.specs.Io.KnownBytes.{Appends};
 ghost use Rattle.room_1401.specs.Kept.{kept_text};
@@ -34,7 +34,7 @@ use streams_1401::FromReader;
 ///
 /// # Errors
 ///
-/// `Unkept` where an entry wasn't kept; else what went wrong first, where something did.
+/// `Unkept` if an entry wasn't kept; else what went wrong first, if something did.
 fn seats_outcome(failed: bool, fault: Option<SeatsFault>) -> Result<(), Fault>
     ensures { result ≡ seats_outcome failed fault }
 {
@@ -75,9 +75,9 @@ fn hopper_of(rt: &(impl Files + Eprint + AllocGlobal), name: String) -> Result<V
 ///
 /// # Errors
 ///
-/// `Unread`, `Image`, `Size`, `NoReader` or `Memory` where there is no such room, `Run` or `Hopper` where there is no
-/// such deck, `Port` where a port is refused, `Kept` where the journal's file can't be had, `Output` where standard
-/// output takes nothing; `JournalFull` or `Unkept` where the image isn't loaded or a card isn't fed; or what went
+/// `Unread`, `Image`, `Size`, `NoReader` or `Memory` if there is no such room, `Run` or `Hopper` if there is no
+/// such deck, `Port` if a port is refused, `Kept` if the journal's file can't be had, `Output` if standard
+/// output takes nothing; `JournalFull` or `Unkept` if the image isn't loaded or a card isn't fed; or what went
 /// wrong while the room was served. A new file of a journal is left only if the room came about.
 pub fn open_seats<
     R: Threads

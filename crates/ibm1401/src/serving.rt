@@ -44,8 +44,8 @@ fn service_outcome(fault: Option<ServeFault>) -> Result<(), Fault>
 ///
 /// # Errors
 ///
-/// `Size`, `NoReader` or `Memory` where there is no such room, `Port` where the port is refused, `Output` where
-/// standard output takes nothing; or `Accept` or `Thread` where not each seat had its console.
+/// `Size`, `NoReader` or `Memory` if there is no such room, `Port` if the port is refused, `Output` if
+/// standard output takes nothing; or `Accept` or `Thread` if not each seat had its console.
 pub fn open_room<
     R: Threads
         + Wait

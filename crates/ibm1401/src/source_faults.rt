@@ -8,7 +8,7 @@ use std::str;
 /// The column in which a label begins.
 const LABEL_COLUMN: u8 = 6;
 
-/// What stands in some columns of a line; nothing where the line ends before them.
+/// What is in some columns of a line; nothing if the line ends before them.
 fn word_in(line: &[u8], columns: Stretch) -> &str {
     let first = usize::from(columns.column).saturating_sub(1);
     let word = line.get(first..).unwrap_or(&[]);

@@ -58,7 +58,7 @@ fn write_product<R: Files + Print + AllocGlobal>(
     }
 }
 
-/// Writes the deck of a source, where one is asked for, and then what else is: not the image, where neither it nor a
+/// Writes the deck of a source, if one is asked for, and then what else is: not the image, if neither it nor a
 /// file for it is named.
 fn write_asked<R: Files + Print + AllocGlobal>(
     rt: &R,
@@ -121,13 +121,13 @@ fn tell_warnings(
 }
 
 /// Assembles the source of a file, and writes its image, its listing or its tables, and its deck. Of a source that
-/// assembles the warnings are told after that, where all is to be told.
+/// assembles the warnings are told after that, if all is to be told.
 ///
 /// # Errors
 ///
-/// `Size` where no core storage of the size named is made, `Unread` where the file can't be read; `Source` or `Faulty`
-/// where it can't be assembled, and `Deck` where its image has no deck, and nothing is written then; `Output` or
-/// `Unwritten` where a text isn't written; or `Memory`.
+/// `Size` if no core storage of the size named is made, `Unread` if the file can't be read; `Source` or `Faulty`
+/// if it can't be assembled, and `Deck` if its image has no deck, and nothing is written then; `Output` or
+/// `Unwritten` if a text isn't written; or `Memory`.
 pub fn assemble_file<R: Files + Print + Eprint + AllocGlobal>(
     rt: &R,
     asked: Assembling,

@@ -16,7 +16,7 @@ use std::alloc::Global;
 ///
 /// # Errors
 ///
-/// `Size` or `Memory` where there is no such room, or what ended the session but QUIT and the end of the input.
+/// `Size` or `Memory` if there is no such room, or what ended the session but QUIT and the end of the input.
 pub fn console<R: Source, W: Sink>(
     alloc: Global,
     size: u16,
@@ -36,11 +36,11 @@ pub fn console<R: Source, W: Sink>(
     ended(end)
 }
 
-/// Tells what a parse of the command line answers where it asks for no subcommand: the text of the help.
+/// Tells what a parse of the command line answers if it asks for no subcommand: the text of the help.
 ///
 /// # Errors
 ///
-/// `Output` where standard output doesn't take the help; `Usage` where the parse asks for none, or `Memory`.
+/// `Output` if standard output doesn't take the help; `Usage` if the parse asks for none, or `Memory`.
 pub fn tell(rt: &impl Print, error: Error) -> Result<(), Fault>
     ensures help { kind_of error ≡ ErrorKind.DisplayHelp → OnErr result (result ≡ Err Fault.Output) }
     ensures memory { kind_of error ≡ ErrorKind.OutOfMemory → result ≡ Err Fault.Memory }

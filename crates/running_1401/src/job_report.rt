@@ -27,7 +27,6 @@ struct Count<'a> {
     name: &'a str,
 }
 
-/// So many of these.
 fn counted(count: u64, name: &str) -> Count<'_> {
     Count { count, name }
 }
