@@ -902,9 +902,17 @@ def old_decks():
     taken."""
     page = (TOP / "docs/OLD_DECKS.md").read_text()
     rows = re.findall(r"^\| `(.*?)` \| (\d+ [A-Z ]+) \| (.*) \|$", page, re.MULTILINE)
-    count("statements of old decks", len(rows), 29)
+    count("statements of old decks", len(rows), 38)
+    shown = re.search(r"## From cards to paper\n.*?```autocoder\n(.*?)```" + ".*?```text\n(.*?)```" * 2, page, re.DOTALL)
     with tempfile.TemporaryDirectory() as folder:
-        source = Path(folder) / "old.source"
+        source, cards = Path(folder) / "old.source", Path(folder) / "old.cards"
+        source.write_text(shown[1])
+        cards.write_text(shown[2])
+        ran = run([PROGRAM, "assemble", "--language", "ibm", "--all", "--list", source])
+        expect("the deck that OLD_DECKS.md shows: nothing is told", ran, 0, "...")
+        ran = run([PROGRAM, "run", "--language", "ibm", source, "--cards", cards, "--switches", "A"])
+        told = "HALT at 0542 (line 15, H *-3) after 23 steps; 3 cards read, 4 lines printed, 0 cards punched"
+        expect("the deck that OLD_DECKS.md shows", ran, 0, shown[3], f"ibm1401: {told}\n")
         for statement, told, instead in rows:
             source.write_text(f"{'':15}NOP\n{'':15}{statement}\n{LABELS}")
             refused = f"ibm1401: line 2: {told}\n"
