@@ -9,6 +9,7 @@ import socket
 import struct
 import tempfile
 
+from checks.assembling import OF_LITERALS, OF_OLD_DECKS
 from checks.report import PROGRAM, SECONDS, TOP, run, tell
 from checks.service import Service
 
@@ -154,6 +155,35 @@ def source(chance, file):
     return "" if is_refused or is_written else f"{text!r}: status {ran.returncode}, {ran.stderr!r}, {ran.stdout!r}"
 
 
+def told_of_all(file, ran):
+    """The numbers and the kinds of what `--all` told of a source, each line in its form; none if one isn't."""
+    form = rf"{re.escape(str(file))}:(\d+):\d+: ({'|'.join(KINDS)}|WARNING): [^\n]*"
+    lines = [re.fullmatch(form, line) for line in ran.stderr.decode("latin-1").split("\n")[:-1]]
+    return [(line[1], line[2]) for line in lines] if all(lines) else None
+
+
+def source_in_both(chance, file):
+    """A source of chance in both languages: of what the plain one takes the wider one writes the same, and `--all` tells
+    its fault before all others, or warnings."""
+    examples = [source.read_bytes() for source in sorted((TOP / "examples").glob("*.source"))]
+    decks = [lines.encode() for lines, *_ in (*OF_OLD_DECKS, *OF_LITERALS)]
+    text = damaged(chance, chance.choice(chance.choice([examples, decks])))
+    file.write_bytes(text)
+    plain, wider, whole = (run([PROGRAM, "assemble", *words, file]) for words in (
+        [], ["--language", "ibm"], ["--language", "ibm", "--all"]
+    ))
+    told = told_of_all(file, whole)
+    fault = re.fullmatch(rf"ibm1401: line (\d+): \d+ ({'|'.join(KINDS)})\n", wider.stderr.decode())
+    is_same = plain.returncode != 0 or (wider.returncode, wider.stdout, wider.stderr) == (0, plain.stdout, b"")
+    if wider.returncode == 0:
+        is_so = IMAGE.fullmatch(wider.stdout.decode("latin-1")) and (whole.returncode, whole.stdout) == (0, wider.stdout)
+        is_told = told is not None and all(kind == "WARNING" for _, kind in told)
+    else:
+        is_so = fault and (wider.stdout, whole.returncode, whole.stdout) == (b"", 1, b"")
+        is_told = bool(told) and fault and told[0] == (fault[1], fault[2])
+    return "" if is_same and is_so and is_told else f"{text!r}: {plain}, {wider}, {whole}"
+
+
 def operator(chance, console):
     """What an operator of chance does to a connection before leaving it, and what is wrong with what came back."""
     replies = b""
@@ -207,6 +237,7 @@ def chance():
                 ("listings", 75, lambda: listing(given, file)),
                 ("decks", 75, lambda: deck(given, file)),
                 ("rooms", 12, lambda: room(given)),
+                ("sources in both languages", 150, lambda: source_in_both(given, file)),
             ]:
                 wrong = next(filter(None, (attempt() for _ in range(times))), "")
                 tell(f"{times} {name} of chance, seed {seed}", wrong)
