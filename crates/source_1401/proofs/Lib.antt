@@ -2,6 +2,7 @@ mod ContextExamples
 pub mod ContextLemmas
 mod FlawExamples
 pub mod FlawLemmas
+pub mod GraphicLemmas
 mod LanguageExamples
 mod LanguageFlawExamples
 pub mod LanguageFlawLemmas

@@ -4,8 +4,6 @@ ghost use Rattle.std.specs.List.{list_all};
 ghost use Rattle.source_1401.specs.SourceLine.{padded, columns_of, columns_in, is_blank, is_printable, is_graphic};
 ghost use Rattle.source_1401.specs.SourceLine.{is_comment, has_foreign_bytes};
 
-use bcd_1401::Char;
-
 /// How many columns a line has.
 pub const COLUMNS: usize = 80;
 
@@ -52,11 +50,19 @@ pub(crate) fn are_printable(text: &[u8]) -> bool
     text.iter().all(|byte| *byte >= b' ' && *byte <= b'~')
 }
 
+/// Whether a byte is the graphic of a character: those are the bytes 32 to 95.
+#[tactic(auto, using(crate::proofs::GraphicLemmas::graphic_by_range))]
+pub(crate) fn is_graphic(byte: u8) -> bool
+    ensures { result ≡ is_graphic byte }
+{
+    byte >= b' ' && byte <= b'_'
+}
+
 /// Whether the bytes are graphics of characters.
 pub(crate) fn are_graphics(text: &[u8]) -> bool
     ensures { result ≡ list_all is_graphic text.now }
 {
-    text.iter().all(|byte| Char::from_graphic(*byte).is_some())
+    text.iter().all(|byte| is_graphic(*byte))
 }
 
 /// Whether a line is a comment: it has an asterisk in column 6, or blanks alone.

@@ -7,12 +7,11 @@ ghost use Rattle.source_1401.specs.SourceLine.{is_blank, is_graphic, is_printabl
 ghost use Rattle.source_1401.specs.SourceLine.{has_foreign_bytes};
 
 use crate::address::base_len;
-use crate::columns::{COLUMNS, are_blank, columns_in, columns_of, is_comment, padded};
+use crate::columns::{COLUMNS, are_blank, columns_in, columns_of, is_comment, is_graphic, padded};
 use crate::literal::is_sign;
 use crate::mnemonic::Operation;
 use crate::nearness::{nearest_mnemonic, word_in};
 use crate::operands::operand_len;
-use bcd_1401::Char;
 
 /// Columns of a line next to each other.
 #[derive(Clone, Copy, Debug, PartialEq, Eq)]
@@ -167,10 +166,7 @@ fn graphics_in_front(columns: &[u8]) -> usize
     ensures value { result ≡ prefix_len is_graphic columns.now }
     ensures bound { result ≤ length columns.now }
 {
-    columns
-        .iter()
-        .take_while(|byte| Char::from_graphic(**byte).is_some())
-        .count()
+    columns.iter().take_while(|byte| is_graphic(**byte)).count()
 }
 
 /// The first of these columns, of which the first has this number, that holds a byte that can't be printed.
