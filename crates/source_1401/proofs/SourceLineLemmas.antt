@@ -1,9 +1,13 @@
 -- The first line of a source, and the columns of a line.
 use Rattle.std.proofs.Common.{◌≡◌, ℕ, ◌+◌, ◌<◌, ◌==◌, Bool, true, false, List, [], ◌∷◌, length, take, drop, refl, ap}
-use Rattle.std.proofs.Common.{◌∙◌, arith}
+use Rattle.std.proofs.Common.{◌∙◌, sym, get_or, Option, Some, None, arith}
+use Rattle.std.proofs.lemmas.Bool.{false_from_ne_true}
 use Rattle.std.proofs.lemmas.List.{append-nil, take_all}
+use Rattle.std.proofs.lemmas.List.Sums.{position_or_len_is}
 use Rattle.std.proofs.lemmas.List.Splits.{slice_split_first, length-slice_split}
 use Rattle.std.specs.List.{slice_split, onto_first, position_or_len, before_first, after_first}
+use Rattle.std.specs.Option.{unwrap_or}
+use Rattle.memchr.specs.Find.{IsFirstByte, is_byte}
 use Rattle.source_1401.specs.SourceLine.{columns_of, is_line_feed, lines_of, lines_between, without_return}
 
 -- without a line feed there is one part
@@ -46,3 +50,15 @@ first_line source n e h =
 pub columns_stay : (columns : List ℕ) → length columns ≡ 80 → columns_of columns ≡ columns
 unfolding columns_of
 columns_stay columns full = rw (take_all 80 columns (omega (arith, full)), full) (append-nil columns)
+
+-- a search for the first line feed finds how many bytes stand before it, or none
+pub before_line_feed : (source : List ℕ) (found : Option ℕ) → IsFirstByte (is_byte 10) source found
+    → unwrap_or found (length source) ≡ position_or_len is_line_feed source
+before_line_feed source None none =
+    sym (position_or_len_is is_line_feed source (length source) 0 (omega arith)
+    (λ k inside. false_from_ne_true (is_line_feed (get_or source k 0)) (none k (omega arith) inside))
+    (λ inside. absurd (omega (arith, inside))))
+before_line_feed source (Some place) first =
+    sym (position_or_len_is is_line_feed source place 0 (omega (arith, first.0.high))
+    (λ k inside. false_from_ne_true (is_line_feed (get_or source k 0)) (first.0.before k (omega arith) inside))
+    (λ inside. first.1))

@@ -3,12 +3,15 @@ ghost use Rattle.std.specs.Prelude.{◌≡◌, ◌+◌, ◌<◌, ◌≤◌, [], 
 ghost use Rattle.std.specs.List.{position_or_len};
 ghost use Rattle.source_1401.specs.SourceLine.{is_line_feed, without_return, lines_of};
 
+use memchr::memchr;
+
 /// How many bytes of a source stand before its first line feed.
+#[tactic(auto, using(crate::proofs::SourceLineLemmas::before_line_feed))]
 fn bytes_before_line_feed(source: &[u8]) -> usize
     ensures value { result ≡ position_or_len is_line_feed source.now }
     ensures bound { result ≤ length source.now }
 {
-    source.iter().take_while(|byte| **byte != b'\n').count()
+    memchr(b'\n', source).unwrap_or(source.len())
 }
 
 /// A line without the carriage return at its end, if it has one.
