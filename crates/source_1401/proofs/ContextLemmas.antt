@@ -12,7 +12,7 @@ use Rattle.source_1401.specs.Address.{indexed}
 use Rattle.source_1401.specs.Address.{is_adjusted, number_or_name}
 use Rattle.source_1401.specs.Constant.{constant_of}
 use Rattle.source_1401.specs.Context.{in_context, body_below, statement_in, below, below_body, below_statement}
-use Rattle.source_1401.specs.Context.{with_context, nothing_above, registers_of, with_registers, settled, lines_said}
+use Rattle.source_1401.specs.Context.{with_context, nothing_above, registers_of, rule_in, with_registers, settled, lines_said}
 use Rattle.source_1401.specs.Label.{is_digit, label_of, label_in}
 use Rattle.source_1401.specs.Language.{is_sound, line_in}
 use Rattle.source_1401.specs.Mnemonic.{operation_of}
@@ -139,6 +139,15 @@ label_stays these labels.Absent = refl
 label_stays these labels.Malformed = refl
 label_stays these (labels.Label label) = refl
 
+statement_stays : (these : Registers) (statement : Statement) → is_any these ≡ false
+    → statement_under (among these) statement ≡ statement
+statement_stays these statement none = rw (label_stays these statement.label, body_stays these statement.body none) refl
+
+-- without a suffix a statement has the symbols that it has by itself
+pub without_suffix : (this : Context) (statement : Statement) → this.suffix ≡ None
+    → statement_under (rule_in this) statement ≡ statement
+without_suffix this statement none = rw none (statement_stays no_registers statement refl)
+
 -- with no label among X1 to X3 a line says what it says by itself
 pub without_registers : (these : Registers) → is_any these ≡ false → (line : Line) → with_registers these line ≡ line
 without_registers these none line = by line.statement
@@ -147,8 +156,7 @@ without_registers these none line = by line.statement
         → line_under (among these) (record { bytes = line.bytes; statement = statement })
         ≡ record { bytes = line.bytes; statement = statement }
     by None = refl
-    by (Some statement) =
-        rw (label_stays these statement.label, body_stays these statement.body none) refl
+    by (Some statement) = rw (statement_stays these statement none) refl
 
 -- with no label among X1 to X3 lines say what they say by themselves
 pub all_without_registers : (these : Registers) → is_any these ≡ false → (lines : List Line)

@@ -1,11 +1,11 @@
 -- CTL asks for a size that it has a digit for, or for none.
-use Rattle.std.proofs.Common.{◌≡◌, ℕ, ◌≤◌, ◌==◌, Bool, true, false, cond, List, [], ◌∷◌, ◌++◌, length, map, take, drop}
-use Rattle.std.proofs.Common.{Option, Some, None, IfSome, refl, sym, subst, ◌∙◌, slice_index, arith}
+use Rattle.std.proofs.Common.{◌≡◌, ℕ, ◌<◌, ◌≤◌, ◌==◌, nat_le, Bool, true, false, cond, List, [], ◌∷◌, ◌++◌, length, map, take, drop}
+use Rattle.std.proofs.Common.{Option, Some, None, IfSome, refl, sym, ap, subst, ◌∙◌, slice_index, arith}
 use Rattle.std.specs.Prelude.{codes}
-use Rattle.std.specs.Char.{to_ascii_uppercase}
+use Rattle.std.specs.Char.{to_ascii_lowercase, to_ascii_uppercase}
 use Rattle.std.specs.Option.{option_map}
-use Rattle.std.specs.Str.{bytes_eq, str_eq_ignore_ascii_case}
-use Rattle.std.proofs.lemmas.Bool.{true≢false}
+use Rattle.std.specs.Str.{bytes_eq, str_eq_ignore_ascii_case, str_to_ascii_lowercase}
+use Rattle.std.proofs.lemmas.Bool.{leb-false, leb-true, true≢false}
 use Rattle.std.proofs.lemmas.Bool.Decides.{nat_tests}
 use Rattle.std.proofs.lemmas.List.{length-append, length-replicate, length-take}
 use Rattle.std.proofs.lemmas.Slice.Eq.{bytes_eq-Decides}
@@ -255,7 +255,48 @@ operation_alike columns full = by (is_comment columns)
     by true = rw (operation_read columns full).0 (alike (columns_in 16 20 columns)).0
     by false = rw (operation_read columns full).1 (alike (columns_in 16 20 columns)).1
 
--- a line whose columns for an operation don't ask for CTL, in small letters either, says nothing of the size of core
+-- what stands where an operation begins, and in the last of the columns that CTL has there
+letters_read : (columns : List ℕ) → length columns ≡ 80
+    → str_to_ascii_lowercase (columns_in 16 20 columns) ≡ codes "ctl  "
+    → (str_to_ascii_lowercase (columns_in 16 18 columns) ≡ codes "ctl")
+    × (to_ascii_lowercase (slice_index columns 17) ≡ 108)
+letters_read (a ∷ b ∷ c ∷ d ∷ e ∷ f ∷ g ∷ h ∷ i ∷ j ∷ k ∷ l ∷ m ∷ n ∷ o ∷ p ∷ q ∷ r ∷ s ∷ t ∷ more) full same =
+    (ap (take 3) same, ap (λ (text : List ℕ). slice_index text 2) same)
+letters_read columns full same = absurd (omega (arith, full))
+
+-- a line of 18 bytes has the columns of its bytes, and a shorter one has a blank in column 18
+front_read : (line : List ℕ) → 18 ≤ length line → columns_in 16 18 (columns_of line) ≡ columns_in 16 18 line
+unfolding columns_of
+front_read (a ∷ b ∷ c ∷ d ∷ e ∷ f ∷ g ∷ h ∷ i ∷ j ∷ k ∷ l ∷ m ∷ n ∷ o ∷ p ∷ q ∷ r ∷ more) many = refl
+front_read line many = absurd (omega (arith, many))
+
+blank_read : (line : List ℕ) → length line < 18 → slice_index (columns_of line) 17 ≡ 32
+unfolding columns_of
+blank_read (a ∷ b ∷ c ∷ d ∷ e ∷ f ∷ g ∷ h ∷ i ∷ j ∷ k ∷ l ∷ m ∷ n ∷ o ∷ p ∷ q ∷ r ∷ more) few = absurd (omega (arith, few))
+blank_read line few = refl
+
+-- a line that asks for CTL has its letters where an operation begins
+letters_stand : (line : List ℕ) → str_eq_ignore_ascii_case (columns_in 16 20 (columns_of line)) (codes "CTL  ") ≡ true
+    → may_be_control line ≡ true
+letters_stand line asks = by (nat_le 18 (length line)) refl
+  where
+    same : (str_to_ascii_lowercase (columns_in 16 18 (columns_of line)) ≡ codes "ctl")
+        × (to_ascii_lowercase (slice_index (columns_of line) 17) ≡ 108)
+    same =
+        letters_read (columns_of line) (eighty line)
+        ((bytes_eq-Decides (str_to_ascii_lowercase (columns_in 16 20 (columns_of line))) (codes "ctl  ")).0 asks)
+
+    by : (b : Bool) → nat_le 18 (length line) ≡ b → may_be_control line ≡ true
+    by true e =
+        let letters : str_to_ascii_lowercase (columns_in 16 18 line) ≡ codes "ctl"
+        = ap str_to_ascii_lowercase (sym (front_read line (leb-true 18 (length line) e))) ∙ same.0 in
+        rw e ((bytes_eq-Decides (str_to_ascii_lowercase (columns_in 16 18 line)) (codes "ctl")).1 letters)
+    by false e =
+        let blank : slice_index (columns_of line) 17 ≡ 32 = blank_read line (leb-false 18 (length line) e) in
+        let small : to_ascii_lowercase 32 ≡ 108 = rw blank at same.1 in
+        absurd (omega (arith, small))
+
+-- a line without the letters of CTL where an operation begins says nothing of the size of core
 pub no_control : (line : List ℕ) → may_be_control line ≡ false → control_in (line_in languages.Ibm line).statement ≡ None
 no_control line other =
     (of_columns (length line) (capitals (columns_of line))).0 (other_columns read (by (bytes_eq (codes "CTL  ") read) refl))
@@ -267,7 +308,7 @@ no_control line other =
     by false e = refl
     by true e =
         let same : codes "CTL  " ≡ read = (bytes_eq-Decides (codes "CTL  ") read).0 e in
-        let asks : may_be_control line ≡ true
+        let asks : str_eq_ignore_ascii_case (columns_in 16 20 (columns_of line)) (codes "CTL  ") ≡ true
         = subst (λ (text : List ℕ). str_eq_ignore_ascii_case (columns_in 16 20 (columns_of line)) text ≡ true) (sym same)
         (operation_alike (columns_of line) (eighty line)) in
-        absurd (true≢false (sym asks ∙ other))
+        absurd (true≢false (sym (letters_stand line asks) ∙ other))

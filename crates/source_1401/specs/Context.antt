@@ -1,13 +1,13 @@
 -- What lines say with their neighbours (Autocoder, "Control Card", "Suffix", "Chained Instructions"; that comments may
 -- stand within a chain, and that a second CTL is refused, own).
-use Rattle.std.specs.Prelude.{ℕ, Bool, true, false, ◌||◌, if◌then◌else◌, List, [], ◌∷◌, map, fold, Option, None, Some}
-use Rattle.std.specs.Prelude.{codes}
+use Rattle.std.specs.Prelude.{ℕ, nat_le, Bool, true, false, ◌&&◌, ◌||◌, if◌then◌else◌, List, [], ◌∷◌, length, map, fold}
+use Rattle.std.specs.Prelude.{Option, None, Some, codes}
 use Rattle.std.specs.Option.{option_map}
 use Rattle.std.specs.Str.{str_eq_ignore_ascii_case}
 use Rattle.source_1401.specs.AreaLiterals.{DeclaredAreas, areas_of_line, label_of_area}
 use Rattle.source_1401.specs.Description.{describe}
 use Rattle.source_1401.specs.Language.{line_in}
-use Rattle.source_1401.specs.SourceLine.{columns_of, columns_in, lines_of}
+use Rattle.source_1401.specs.SourceLine.{columns_in, lines_of}
 use Rattle.source_1401.specs.Statement.{line_of, label_of_line}
 use Rattle.source_1401.specs.Symbols.{names_register, no_registers, statement_under, line_under}
 use Rattle.source_1401.specs.declared.context.Context.{Context}
@@ -25,6 +25,7 @@ use Rattle.source_1401.specs.declared.statement.Statement.{Statement}
 use Rattle.source_1401.specs.declared.statement.SuffixField.{SuffixField}
 use Rattle.source_1401.specs.declared.statement.SuffixField.TheVariants as suffixes
 use Rattle.source_1401.specs.declared.symbols.Registers.{Registers}
+use Rattle.source_1401.specs.declared.symbols.SymbolRule.{SymbolRule}
 
 -- the first line has no suffix, no CTL and no instruction above it
 abbrev pub nothing_above : Context
@@ -45,10 +46,13 @@ body_below this body = body_related this body (describe body).relation
 abbrev pub statement_below : Context → Statement → Statement
 statement_below this statement = record { label = statement.label; body = body_below this statement.body }
 
--- what a statement says below others: its symbols have the suffix that is in force
+-- how symbols are read below others: with the suffix that is in force
+abbrev pub rule_in : Context → SymbolRule
+rule_in this = record { suffix = this.suffix; registers = no_registers }
+
+-- what a statement says below others
 abbrev pub statement_in : Context → Statement → Statement
-statement_in this statement =
-    statement_below this (statement_under (record { suffix = this.suffix; registers = no_registers }) statement)
+statement_in this statement = statement_below this (statement_under (rule_in this) statement)
 
 -- what a line says below others
 abbrev pub in_context : Context → Line → Line
@@ -148,9 +152,9 @@ abbrev pub control_in : Option Statement → Option SizeField
 control_in None = None
 control_in (Some statement) = control_of statement.body
 
--- the columns of a line for an operation ask for CTL, in small letters too
+-- the letters of CTL stand where an operation begins, small ones too
 abbrev pub may_be_control : List ℕ → Bool
-may_be_control line = str_eq_ignore_ascii_case (columns_in 16 20 (columns_of line)) (codes "CTL  ")
+may_be_control line = nat_le 18 (length line) && str_eq_ignore_ascii_case (columns_in 16 18 line) (codes "CTL")
 
 -- the first CTL counts, whatever is wrong with it
 abbrev pub size_or : Option SizeField → Option ℕ → Option ℕ

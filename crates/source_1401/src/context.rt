@@ -15,7 +15,7 @@
 //! }
 //! ```
 ghost use Rattle.std.specs.Prelude.{◌≡◌, true, map, IfSome};
-ghost use Rattle.source_1401.specs.Context.{nothing_above, body_below, statement_in, in_context, suffix_by};
+ghost use Rattle.source_1401.specs.Context.{nothing_above, body_below, rule_in, statement_in, in_context, suffix_by};
 ghost use Rattle.source_1401.specs.Context.{below_related};
 ghost use Rattle.source_1401.specs.AreaLiterals.{label_of_area};
 ghost use Rattle.source_1401.specs.Context.{below, registers_with, registers_with_areas, registers_and, with_registers};
@@ -23,10 +23,10 @@ ghost use Rattle.source_1401.specs.Context.{size_of, control_by, control_in, may
 ghost use Rattle.source_1401.specs.Control.{is_control_size};
 ghost use Rattle.source_1401.specs.Language.{line_in};
 ghost use Rattle.source_1401.specs.SourceLine.{lines_of};
+ghost use Rattle.source_1401.specs.Symbols.{statement_under};
 ghost use Rattle.source_1401.specs.declared.language.Language.TheVariants as languages;
 
 use crate::area_literals::DeclaredAreas;
-use crate::columns::{columns_in, columns_of};
 use crate::description::Relation;
 use crate::label::Label;
 use crate::language::Language;
@@ -58,7 +58,7 @@ impl Context {
     fn body(self, body: Body) -> Body
         ensures { result ≡ body_below self body }
     {
-        match body.describe().relation {
+        match body.relation() {
             Relation::Control(_) if self.is_controlled => Body::SecondControl,
             Relation::Repeats(chain) => Body::Chain(Chain {
                 operation: self.above,
@@ -72,15 +72,32 @@ impl Context {
         }
     }
 
+    /// The rule that its suffix is for symbols.
+    fn rule(self) -> SymbolRule
+        ensures { result ≡ rule_in self }
+    {
+        SymbolRule {
+            suffix: self.suffix,
+            registers: Registers::NONE,
+        }
+    }
+
+    /// A statement with the suffix of its symbols, if they get one.
+    #[tactic(auto, using(crate::proofs::ContextLemmas::without_suffix))]
+    fn suffixed(self, statement: Statement) -> Statement
+        ensures { result ≡ statement_under (rule_in self) statement }
+    {
+        match self.suffix {
+            Some(_) => statement.under(self.rule()),
+            None => statement,
+        }
+    }
+
     /// What a statement says here.
     fn statement(self, statement: Statement) -> Statement
         ensures { result ≡ statement_in self statement }
     {
-        let rule = SymbolRule {
-            suffix: self.suffix,
-            registers: Registers::NONE,
-        };
-        let statement = statement.under(rule);
+        let statement = self.suffixed(statement);
         Statement {
             body: self.body(statement.body),
             ..statement
@@ -131,7 +148,7 @@ impl Context {
         ensures { result ≡ below self line.now }
     {
         match line.statement {
-            Some(statement) => self.below_related(statement.body.describe().relation),
+            Some(statement) => self.below_related(statement.body.relation()),
             None => self,
         }
     }
@@ -242,20 +259,20 @@ impl Line {
         ensures { result ≡ control_in self.now.statement }
     {
         match self.statement {
-            Some(statement) => statement.body.describe().relation.control(),
+            Some(statement) => statement.body.relation().control(),
             None => None,
         }
     }
 }
 
-/// Whether the columns of a line for an operation ask for CTL, in small letters too.
+/// Whether the letters of CTL stand where an operation begins, small ones too.
 fn may_be_control(line: &[u8]) -> bool
     ensures { result ≡ may_be_control line.now }
 {
-    columns_in(&columns_of(line), 16, 20).eq_ignore_ascii_case(b"CTL  ")
+    line.len() >= 18 && line[15..18].eq_ignore_ascii_case(b"CTL")
 }
 
-/// What CTL says of the size of core storage on a line in the wider language. Of other lines the operation alone is
+/// What CTL says of the size of core storage on a line in the wider language. Of other lines three bytes alone are
 /// looked at.
 #[tactic(auto, using(crate::proofs::SizeLemmas::no_control))]
 fn control_on(line: &[u8]) -> Option<SizeField>

@@ -367,6 +367,40 @@ impl Body {
     }
 }
 
+impl Body {
+    /// The relation of the statement's row, without the other columns: far less to write than a row.
+    pub fn relation(&self) -> Relation
+        ensures { result ≡ (describe self.now).relation }
+    {
+        match *self {
+            Body::Instruction(instruction, _) => Relation::Repeated(instruction.operation),
+            Body::Control(size) => Relation::Control(size),
+            Body::SecondControl => Relation::SecondControl,
+            Body::Suffix(suffix) => Relation::Suffix(suffix),
+            Body::Chain(chain) => Relation::Repeats(chain),
+            Body::Unknown
+            | Body::MarkedConstant(_)
+            | Body::Constant(_)
+            | Body::Space(_)
+            | Body::Areas(_)
+            | Body::Field(_)
+            | Body::WideField(_)
+            | Body::Equate(_)
+            | Body::WideEquate(_)
+            | Body::Origin(_)
+            | Body::LabelledOrigin(_)
+            | Body::LiteralOrigin(_)
+            | Body::Execute(_)
+            | Body::WideExecute(_)
+            | Body::End(_)
+            | Body::WideEnd(_)
+            | Body::Heading(_)
+            | Body::Transfer(_)
+            | Body::AddressConstant(_) => Relation::Apart,
+        }
+    }
+}
+
 impl Addressing {
     /// The operands; none if the statement has none.
     pub fn operands(self) -> Operands
