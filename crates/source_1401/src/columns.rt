@@ -43,11 +43,23 @@ pub(crate) fn are_blank(text: &[u8]) -> bool
     text.iter().all(|byte| *byte == b' ')
 }
 
-/// Whether the bytes can be printed: 32 to 126.
+/// Whether a byte can be printed: 32 to 126.
+fn is_printable(byte: u8) -> bool
+    ensures { result ≡ is_printable byte }
+{
+    byte >= b' ' && byte <= b'~'
+}
+
+/// Whether the bytes can be printed. None of them ends the loop, so that it takes sixteen at a time.
+#[tactic(auto, using(std::proofs::lemmas::List::Folds::list_all_more))]
 pub(crate) fn are_printable(text: &[u8]) -> bool
     ensures { result ≡ list_all is_printable text.now }
 {
-    text.iter().all(|byte| *byte >= b' ' && *byte <= b'~')
+    let mut all = true;
+    for byte in text {
+        all &= is_printable(*byte);
+    }
+    all
 }
 
 /// Whether a byte is the graphic of a character: those are the bytes 32 to 95.
@@ -58,11 +70,15 @@ pub(crate) fn is_graphic(byte: u8) -> bool
     byte >= b' ' && byte <= b'_'
 }
 
-/// Whether the bytes are graphics of characters.
+/// Whether the bytes are graphics of characters. None of them ends the loop, so that it takes sixteen at a time.
 pub(crate) fn are_graphics(text: &[u8]) -> bool
     ensures { result ≡ list_all is_graphic text.now }
 {
-    text.iter().all(|byte| is_graphic(*byte))
+    let mut all = true;
+    for byte in text {
+        all &= is_graphic(*byte);
+    }
+    all
 }
 
 /// Whether a line is a comment: it has an asterisk in column 6, or blanks alone.
