@@ -246,8 +246,17 @@ impl Body {
     pub fn describe(self) -> Description
         ensures { result ≡ describe self }
     {
+        self.row()
+    }
+
+    /// The row of the statement. It is read in place, and no more of it than the row has: as a value, all of its bytes
+    /// would be read first, one by one.
+    #[inline(never)]
+    fn row(&self) -> Description
+        ensures { result ≡ describe self.now }
+    {
         // Each row is returned where it stands. As the value of the whole match it would take nearly twice as long.
-        match self {
+        match *self {
             Body::Unknown => return Description {
                 is_known: false,
                 ..PLAIN
