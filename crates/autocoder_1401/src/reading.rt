@@ -68,11 +68,12 @@ fn read_in_context(alloc: Global, source: &[u8]) -> Result<LinesInContext, AsmFa
     let mut context = Context::NOTHING;
     let mut rest = source;
     while let Some((text, behind)) = split_line(rest) {
-        let alone = Line::in_language(Language::Ibm, text);
-        let line = context.line(alone);
-        keep(alloc, &mut lines, line)?;
+        let mut line = Line::in_language(Language::Ibm, text);
+        let below = context.below(&line);
+        context.settle(&mut line);
         registers = registers.and(&line);
-        context = context.below(&alone);
+        keep(alloc, &mut lines, line)?;
+        context = below;
         rest = behind;
     }
     Ok(LinesInContext { lines, registers })

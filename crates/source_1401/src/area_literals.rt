@@ -60,10 +60,10 @@ impl Operands {
 
 impl Body {
     /// The area literals of an instruction.
-    fn areas(self) -> DeclaredAreas
-        ensures { result ≡ areas_of_body self }
+    fn areas(&self) -> DeclaredAreas
+        ensures { result ≡ areas_of_body self.now }
     {
-        match self {
+        match *self {
             Body::Instruction(_, operands) => operands.areas(),
             Body::Unknown
             | Body::MarkedConstant(_)
@@ -97,7 +97,7 @@ impl Line {
     fn statement_areas(&self) -> DeclaredAreas
         ensures { result ≡ areas_of_statement self.now.statement }
     {
-        match self.statement {
+        match &self.statement {
             Some(statement) => statement.body.areas(),
             None => NO_AREAS,
         }

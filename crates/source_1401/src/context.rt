@@ -4,11 +4,11 @@
 //! ```text
 //! let mut context = Context::NOTHING;
 //! let mut registers = Registers::NONE;
-//! for line in &mut lines {
-//!     let alone = *line;                 // what the line says by itself in the wider language
-//!     *line = context.line(alone);       // what it says below the lines above it
-//!     context = context.below(&alone);
+//! for line in &mut lines {               // what a line says by itself in the wider language
+//!     let below = context.below(line);
+//!     context.settle(line);              // what it says below the lines above it
 //!     registers = registers.and(line);
+//!     context = below;
 //! }
 //! for line in &mut lines {
 //!     *line = registers.line(*line);     // what it says among all lines
@@ -54,13 +54,13 @@ impl Context {
         above: None,
     };
 
-    /// What a body says here, but for its symbols.
-    fn body(self, body: Body) -> Body
-        ensures { result ≡ body_below self body }
+    /// Makes of a body what it says here, but for its symbols.
+    fn settle_body(self, body: &mut Body)
+        ensures { body.new ≡ body_below self body.old }
     {
         match body.relation() {
-            Relation::Control(_) if self.is_controlled => Body::SecondControl,
-            Relation::Repeats(chain) => Body::Chain(Chain {
+            Relation::Control(_) if self.is_controlled => *body = Body::SecondControl,
+            Relation::Repeats(chain) => *body = Body::Chain(Chain {
                 operation: self.above,
                 ..chain
             }),
@@ -68,11 +68,11 @@ impl Context {
             | Relation::Repeated(_)
             | Relation::Control(_)
             | Relation::SecondControl
-            | Relation::Suffix(_) => body,
+            | Relation::Suffix(_) => {},
         }
     }
 
-    /// The rule that its suffix is for symbols.
+    /// The rule that the suffix is for symbols.
     fn rule(self) -> SymbolRule
         ensures { result ≡ rule_in self }
     {
@@ -82,38 +82,30 @@ impl Context {
         }
     }
 
-    /// A statement with the suffix of its symbols, if they get one.
+    /// Puts the suffix behind the symbols of a statement, if they get one.
     #[tactic(auto, using(crate::proofs::ContextLemmas::without_suffix))]
-    fn suffixed(self, statement: Statement) -> Statement
-        ensures { result ≡ statement_under (rule_in self) statement }
+    fn put_suffix(self, statement: &mut Statement)
+        ensures { statement.new ≡ statement_under (rule_in self) statement.old }
     {
-        match self.suffix {
-            Some(_) => statement.under(self.rule()),
-            None => statement,
+        if self.suffix.is_some() {
+            *statement = statement.under(self.rule());
         }
     }
 
-    /// What a statement says here.
-    fn statement(self, statement: Statement) -> Statement
-        ensures { result ≡ statement_in self statement }
+    /// Makes of a statement what it says here.
+    fn settle_statement(self, statement: &mut Statement)
+        ensures { statement.new ≡ statement_in self statement.old }
     {
-        let statement = self.suffixed(statement);
-        Statement {
-            body: self.body(statement.body),
-            ..statement
-        }
+        self.put_suffix(statement);
+        self.settle_body(&mut statement.body);
     }
 
-    /// What a line says here that says this by itself.
-    pub fn line(self, line: Line) -> Line
-        ensures { result ≡ in_context self line }
+    /// Makes of a line, which says this by itself, what it says here.
+    pub fn settle(self, line: &mut Line)
+        ensures { line.new ≡ in_context self line.old }
     {
-        Line {
-            statement: match line.statement {
-                Some(statement) => Some(self.statement(statement)),
-                None => None,
-            },
-            ..line
+        if let Some(statement) = &mut line.statement {
+            self.settle_statement(statement);
         }
     }
 
@@ -147,7 +139,7 @@ impl Context {
     pub fn below(self, line: &Line) -> Context
         ensures { result ≡ below self line.now }
     {
-        match line.statement {
+        match &line.statement {
             Some(statement) => self.below_related(statement.body.relation()),
             None => self,
         }
@@ -258,7 +250,7 @@ impl Line {
     fn control(&self) -> Option<SizeField>
         ensures { result ≡ control_in self.now.statement }
     {
-        match self.statement {
+        match &self.statement {
             Some(statement) => statement.body.relation().control(),
             None => None,
         }
