@@ -4,6 +4,7 @@
 ghost use Rattle.std.specs.Prelude.{◌≡◌};
 ghost use Rattle.source_1401.specs.Description.{field_row, equate_row, origin_row, execute_row, end_row};
 ghost use Rattle.source_1401.specs.Description.{describe, operands_in};
+ghost use Rattle.source_1401.specs.declared.statement.Body.TheVariants as bodies;
 
 use crate::constant::Constant;
 use crate::mnemonic::Instruction;
@@ -170,10 +171,10 @@ const REMARK: Description = Description {
 };
 
 /// The row of a field of areas with this rule of its label.
-fn field_row(label: LabelRule, span: Option<Span>) -> Description
-    ensures { result ≡ field_row label span }
+fn field_row(label: LabelRule, span: &Option<Span>) -> Description
+    ensures { result ≡ field_row label span.now }
 {
-    match span {
+    match *span {
         None => Description {
             is_well_formed: false,
             label,
@@ -190,53 +191,220 @@ fn field_row(label: LabelRule, span: Option<Span>) -> Description
     }
 }
 
-/// The row of EQU, if its operands are as it asks.
-fn equate_row(operands: Operands) -> Description
-    ensures { result ≡ equate_row operands }
+/// The row of an operation that isn't known.
+fn unknown_row() -> Description
+    ensures { result ≡ describe bodies.Unknown }
 {
     Description {
+        is_known: false,
+        ..PLAIN
+    }
+}
+
+/// The row of an instruction.
+fn instruction_row(instruction: &Instruction, operands: &Operands) -> Description
+    ensures { result ≡ describe (bodies.Instruction instruction.now operands.now) }
+{
+    Description {
+        is_well_formed: !operands.are_malformed(),
+        addressing: Addressing::Addresses(*operands),
+        contents: Contents::Instruction(*instruction, *operands),
+        relation: Relation::Repeated(instruction.operation),
+        ..PLAIN
+    }
+}
+
+/// The row of DCW.
+fn marked_constant_row(constant: &Option<Constant>) -> Description
+    ensures { result ≡ describe (bodies.MarkedConstant constant.now) }
+{
+    Description {
+        is_well_formed: constant.is_some(),
+        names: Point::Last,
+        contents: Contents::MarkedConstant(*constant),
+        ..PLAIN
+    }
+}
+
+/// The row of DC.
+fn constant_row(constant: &Option<Constant>) -> Description
+    ensures { result ≡ describe (bodies.Constant constant.now) }
+{
+    Description {
+        is_well_formed: constant.is_some(),
+        names: Point::Last,
+        contents: Contents::Constant(*constant),
+        ..PLAIN
+    }
+}
+
+/// The row of DS.
+fn space_row(places: Option<u16>) -> Description
+    ensures { result ≡ describe (bodies.Space places) }
+{
+    Description {
+        is_well_formed: places.is_some(),
+        names: Point::Last,
+        contents: Contents::Space(places),
+        ..PLAIN
+    }
+}
+
+/// The row of DA.
+fn areas_row(areas: &Option<Areas>) -> Description
+    ensures { result ≡ describe (bodies.Areas areas.now) }
+{
+    Description {
+        is_well_formed: areas.is_some(),
+        areas: AreaRole::Makes(*areas),
+        contents: Contents::Areas(*areas),
+        ..PLAIN
+    }
+}
+
+/// The row of EQU, whose operands are as it asks or not.
+fn equate_row(operands: &Operands, is_well_formed: bool) -> Description
+    ensures { result ≡ record (equate_row operands.now) { is_well_formed = is_well_formed } }
+{
+    Description {
+        is_well_formed,
         label: LabelRule::Required,
         names: Point::Value,
         shows: Point::Value,
-        addressing: Addressing::Equal(operands),
+        addressing: Addressing::Equal(*operands),
         ..PLAIN
     }
 }
 
-/// The row of ORG, if its operands are as it asks, and it may have a label.
-fn origin_row(operands: Operands) -> Description
-    ensures { result ≡ origin_row operands }
+/// The row of ORG and LTORG, whose operands are as it asks or not, with this rule of its label.
+fn origin_row(
+    operands: &Operands,
+    is_well_formed: bool,
+    label: LabelRule,
+    next: Next,
+) -> Description
+    ensures { result ≡ record (origin_row operands.now) {
+      is_well_formed = is_well_formed;
+      label = label;
+      next = next;
+    } }
 {
     Description {
+        is_well_formed,
+        label,
         shows: Point::Value,
-        addressing: Addressing::EarlierValue(operands),
-        next: Next::Value,
+        addressing: Addressing::EarlierValue(*operands),
+        next,
         ..PLAIN
     }
 }
 
-/// The row of EX, if its operands are as it asks.
-fn execute_row(operands: Operands) -> Description
-    ensures { result ≡ execute_row operands }
+/// The row of EX, whose operands are as it asks or not.
+fn execute_row(operands: &Operands, is_well_formed: bool) -> Description
+    ensures { result ≡ record (execute_row operands.now) { is_well_formed = is_well_formed } }
 {
     Description {
+        is_well_formed,
         label: LabelRule::Forbidden,
         shows: Point::Value,
-        addressing: Addressing::Value(operands),
+        addressing: Addressing::Value(*operands),
         next: Next::Literals,
         ..PLAIN
     }
 }
 
-/// The row of END, if its operands are as it asks.
-fn end_row(operands: Operands) -> Description
-    ensures { result ≡ end_row operands }
+/// The row of END, whose operands are as it asks or not.
+fn end_row(operands: &Operands, is_well_formed: bool) -> Description
+    ensures { result ≡ record (end_row operands.now) { is_well_formed = is_well_formed } }
 {
     Description {
+        is_well_formed,
         label: LabelRule::Forbidden,
         shows: Point::Value,
-        addressing: Addressing::Entry(operands),
+        addressing: Addressing::Entry(*operands),
         next: Next::Literals,
+        ..PLAIN
+    }
+}
+
+/// The row of JOB, or ENT with the assembler's name.
+fn heading_row(is_well_formed: bool) -> Description
+    ensures { result ≡ describe (bodies.Heading is_well_formed) }
+{
+    Description {
+        is_well_formed,
+        ..REMARK
+    }
+}
+
+/// The row of CTL.
+fn control_row(size: SizeField) -> Description
+    ensures { result ≡ describe (bodies.Control size) }
+{
+    Description {
+        is_well_formed: !matches!(size, SizeField::Malformed),
+        relation: Relation::Control(size),
+        ..REMARK
+    }
+}
+
+/// The row of a second CTL.
+fn second_control_row() -> Description
+    ensures { result ≡ describe bodies.SecondControl }
+{
+    Description {
+        is_known: false,
+        relation: Relation::SecondControl,
+        ..REMARK
+    }
+}
+
+/// The row of SFX.
+fn suffix_row(suffix: SuffixField) -> Description
+    ensures { result ≡ describe (bodies.Suffix suffix) }
+{
+    Description {
+        is_well_formed: !matches!(suffix, SuffixField::Malformed),
+        relation: Relation::Suffix(suffix),
+        ..REMARK
+    }
+}
+
+/// The row of XFR.
+fn transfer_row(operands: &Operands) -> Description
+    ensures { result ≡ describe (bodies.Transfer operands.now) }
+{
+    Description {
+        is_well_formed: operands.are_wide_value(),
+        label: LabelRule::Forbidden,
+        shows: Point::Value,
+        addressing: Addressing::Value(*operands),
+        ..PLAIN
+    }
+}
+
+/// The row of CHAIN.
+fn chain_row(chain: Chain) -> Description
+    ensures { result ≡ describe (bodies.Chain chain) }
+{
+    Description {
+        is_known: chain.operation.is_some(),
+        is_well_formed: chain.count.is_some(),
+        contents: Contents::Chain(chain),
+        relation: Relation::Repeats(chain),
+        ..PLAIN
+    }
+}
+
+/// The row of DSA, and of DCW and DC of an address.
+fn address_constant_row(constant: &AddressConstant) -> Description
+    ensures { result ≡ describe (bodies.AddressConstant constant.now) }
+{
+    Description {
+        is_well_formed: constant.operands.are_one_address(),
+        names: Point::Last,
+        addressing: Addressing::Addresses(constant.operands),
+        contents: Contents::AddressConstant(*constant),
         ..PLAIN
     }
 }
@@ -249,129 +417,54 @@ impl Body {
         self.row()
     }
 
-    /// The row of the statement. It is read in place, and no more of it than the row has: as a value, all of its bytes
-    /// would be read first, one by one.
+    /// The row of the statement, which is read in place. Each kind has a function of its own, since a function has to
+    /// make room at its entry for the values of all of its arms.
     #[inline(never)]
-    fn row(&self) -> Description
+    pub(crate) fn row(&self) -> Description
         ensures { result ≡ describe self.now }
     {
-        // Each row is returned where it stands. As the value of the whole match it would take nearly twice as long.
-        match *self {
-            Body::Unknown => return Description {
-                is_known: false,
-                ..PLAIN
+        match self {
+            Body::Unknown => unknown_row(),
+            Body::Instruction(instruction, operands) => instruction_row(instruction, operands),
+            Body::MarkedConstant(constant) => marked_constant_row(constant),
+            Body::Constant(constant) => constant_row(constant),
+            Body::Space(places) => space_row(*places),
+            Body::Areas(areas) => areas_row(areas),
+            Body::Field(span) => field_row(LabelRule::OfField, span),
+            Body::WideField(span) => field_row(LabelRule::Optional, span),
+            Body::Equate(operands) => equate_row(operands, operands.are_value()),
+            Body::WideEquate(operands) => equate_row(operands, operands.are_one_address()),
+            Body::Origin(operands) => {
+                origin_row(
+                    operands,
+                    operands.are_value(),
+                    LabelRule::Forbidden,
+                    Next::Value,
+                )
             },
-            Body::Instruction(instruction, operands) => return Description {
-                is_well_formed: !operands.are_malformed(),
-                addressing: Addressing::Addresses(operands),
-                contents: Contents::Instruction(instruction, operands),
-                relation: Relation::Repeated(instruction.operation),
-                ..PLAIN
-            },
-            Body::MarkedConstant(constant) => return Description {
-                is_well_formed: constant.is_some(),
-                names: Point::Last,
-                contents: Contents::MarkedConstant(constant),
-                ..PLAIN
-            },
-            Body::Constant(constant) => return Description {
-                is_well_formed: constant.is_some(),
-                names: Point::Last,
-                contents: Contents::Constant(constant),
-                ..PLAIN
-            },
-            Body::Space(places) => return Description {
-                is_well_formed: places.is_some(),
-                names: Point::Last,
-                contents: Contents::Space(places),
-                ..PLAIN
-            },
-            Body::Areas(areas) => return Description {
-                is_well_formed: areas.is_some(),
-                areas: AreaRole::Makes(areas),
-                contents: Contents::Areas(areas),
-                ..PLAIN
-            },
-            Body::Field(span) => return field_row(LabelRule::OfField, span),
-            Body::WideField(span) => return field_row(LabelRule::Optional, span),
-            Body::Equate(operands) => return Description {
-                is_well_formed: operands.are_value(),
-                ..equate_row(operands)
-            },
-            Body::WideEquate(operands) => return Description {
-                is_well_formed: operands.are_one_address(),
-                ..equate_row(operands)
-            },
-            Body::Origin(operands) => return Description {
-                is_well_formed: operands.are_value(),
-                label: LabelRule::Forbidden,
-                ..origin_row(operands)
-            },
-            Body::LabelledOrigin(operands) => return Description {
-                is_well_formed: operands.are_wide_origin(),
-                ..origin_row(operands)
-            },
-            Body::LiteralOrigin(operands) => return Description {
-                is_well_formed: operands.are_wide_origin(),
-                next: Next::LiteralsAtValue,
-                ..origin_row(operands)
-            },
-            Body::Execute(operands) => return Description {
-                is_well_formed: operands.are_value(),
-                ..execute_row(operands)
-            },
-            Body::WideExecute(operands) => return Description {
-                is_well_formed: operands.are_wide_value(),
-                ..execute_row(operands)
-            },
-            Body::End(operands) => return Description {
-                is_well_formed: operands.are_value(),
-                ..end_row(operands)
-            },
-            Body::WideEnd(operands) => return Description {
-                is_well_formed: operands.are_wide_entry(),
-                ..end_row(operands)
-            },
-            Body::Heading(is_well_formed) => return Description {
-                is_well_formed,
-                ..REMARK
-            },
-            Body::Control(size) => return Description {
-                is_well_formed: !matches!(size, SizeField::Malformed),
-                relation: Relation::Control(size),
-                ..REMARK
-            },
-            Body::SecondControl => return Description {
-                is_known: false,
-                relation: Relation::SecondControl,
-                ..REMARK
-            },
-            Body::Suffix(suffix) => return Description {
-                is_well_formed: !matches!(suffix, SuffixField::Malformed),
-                relation: Relation::Suffix(suffix),
-                ..REMARK
-            },
-            Body::Transfer(operands) => return Description {
-                is_well_formed: operands.are_wide_value(),
-                label: LabelRule::Forbidden,
-                shows: Point::Value,
-                addressing: Addressing::Value(operands),
-                ..PLAIN
-            },
-            Body::Chain(chain) => return Description {
-                is_known: chain.operation.is_some(),
-                is_well_formed: chain.count.is_some(),
-                contents: Contents::Chain(chain),
-                relation: Relation::Repeats(chain),
-                ..PLAIN
-            },
-            Body::AddressConstant(constant) => return Description {
-                is_well_formed: constant.operands.are_one_address(),
-                names: Point::Last,
-                addressing: Addressing::Addresses(constant.operands),
-                contents: Contents::AddressConstant(constant),
-                ..PLAIN
-            },
+            Body::LabelledOrigin(operands) => origin_row(
+                operands,
+                operands.are_wide_origin(),
+                LabelRule::Optional,
+                Next::Value,
+            ),
+            Body::LiteralOrigin(operands) => origin_row(
+                operands,
+                operands.are_wide_origin(),
+                LabelRule::Optional,
+                Next::LiteralsAtValue,
+            ),
+            Body::Execute(operands) => execute_row(operands, operands.are_value()),
+            Body::WideExecute(operands) => execute_row(operands, operands.are_wide_value()),
+            Body::End(operands) => end_row(operands, operands.are_value()),
+            Body::WideEnd(operands) => end_row(operands, operands.are_wide_entry()),
+            Body::Heading(is_well_formed) => heading_row(*is_well_formed),
+            Body::Control(size) => control_row(*size),
+            Body::SecondControl => second_control_row(),
+            Body::Suffix(suffix) => suffix_row(*suffix),
+            Body::Transfer(operands) => transfer_row(operands),
+            Body::Chain(chain) => chain_row(*chain),
+            Body::AddressConstant(constant) => address_constant_row(constant),
         }
     }
 }

@@ -20,13 +20,13 @@ impl Line {
     pub fn is_sound(&self) -> bool
         ensures { result ≡ is_sound self.now }
     {
-        match (self.bytes, self.statement) {
+        match (self.bytes, &self.statement) {
             (LineCheck::Long | LineCheck::Foreign, _) => false,
             (LineCheck::Good, None) => true,
             (LineCheck::Good, Some(statement)) => {
-                let row = statement.body.describe();
-                !row.has_bad_label(&statement)
-                    && !row.lacks_field_label(&statement)
+                let row = statement.body.row();
+                !row.has_bad_label(statement)
+                    && !row.lacks_field_label(statement)
                     && row.is_known
                     && row.is_well_formed
             },
