@@ -1,9 +1,8 @@
 -- The graphics of characters are the bytes 32 to 95.
-use Rattle.std.proofs.Common.{◌≡◌, ℕ, ◌+◌, ◌-◌, ◌<◌, ◌≤◌, ◌==◌, nat_le, Bool, true, false, ◌&&◌, List, Option, Some, None}
+use Rattle.std.proofs.Common.{◌≡◌, ℕ, ◌-◌, ◌<◌, ◌≤◌, ◌==◌, nat_le, Bool, true, false, ◌&&◌, List, Option, Some, None}
 use Rattle.std.proofs.Common.{is_some, get_or, length, refl, sym, subst, ◌∙◌, arith}
 use Rattle.std.specs.List.{list_all, position, range_with_len}
-use Rattle.std.proofs.lemmas.Bool.{and_parts, eqb-true, leb-true, lt-leb, le-leb, true≢false}
-use Rattle.std.proofs.lemmas.Bool.Decides.{nat_tests}
+use Rattle.std.proofs.lemmas.Bool.{and_parts, eqb-true, leb-true, true≢false}
 use Rattle.std.proofs.lemmas.List.Elements.{All-get_or}
 use Rattle.std.proofs.lemmas.List.FromFn.{get_or-range_with_len, length-range_with_len}
 use Rattle.std.proofs.lemmas.List.Quantifiers.{position-Some}

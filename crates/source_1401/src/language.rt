@@ -1,10 +1,11 @@
 //! The languages of a source, and what a line says in each.
 ghost use Rattle.std.specs.Prelude.{◌≡◌};
 ghost use Rattle.source_1401.specs.Language.{is_sound, wider_line, line_in};
+ghost use Rattle.source_1401.specs.declared.language.Language.TheVariants as languages;
 
 use crate::columns::{COLUMNS, columns_of};
 use crate::statement::{Line, LineCheck};
-use crate::wide_columns::{capitals, plus_signs};
+use crate::wide_columns::{plus_signs, put_capitals};
 
 /// The language of a source.
 #[derive(Clone, Copy, Debug, PartialEq, Eq)]
@@ -40,10 +41,18 @@ impl Line {
     {
         let plain = Line::with_columns(len, columns);
         if plain.is_sound() {
-            plain
-        } else {
-            Line::with_wide_columns(len, &plus_signs(columns))
+            return plain;
         }
+        Line::with_wide_columns(len, &plus_signs(columns))
+    }
+
+    /// What a line says by itself in the wider language.
+    fn from_wide_bytes(line: &[u8]) -> Line
+        ensures { result ≡ line_in languages.Ibm line.now }
+    {
+        let mut columns = columns_of(line);
+        put_capitals(&mut columns);
+        Line::wider(line.len(), &columns)
     }
 
     /// What a line says by itself in a language: its bytes, without the line feed that ends it.
@@ -52,7 +61,7 @@ impl Line {
     {
         match language {
             Language::Plain => Line::from_bytes(line),
-            Language::Ibm => Line::wider(line.len(), &capitals(&columns_of(line))),
+            Language::Ibm => Line::from_wide_bytes(line),
         }
     }
 }

@@ -4,14 +4,21 @@ ghost use Rattle.source_1401.specs.WideColumns.{is_word_end, is_separator, capit
 
 use crate::columns::{COLUMNS, is_comment};
 
+/// Puts capitals for the small letters of columns 6 to 72; a comment stays as it is.
+pub(crate) fn put_capitals(columns: &mut [u8; COLUMNS])
+    ensures { columns.new ≡ capitals columns.old }
+{
+    if !is_comment(columns) {
+        columns[5..72].make_ascii_uppercase();
+    }
+}
+
 /// The columns with capitals for the small letters of columns 6 to 72; a comment stays as it is.
 pub(crate) fn capitals(columns: &[u8; COLUMNS]) -> [u8; COLUMNS]
     ensures { result ≡ capitals columns.now }
 {
     let mut read = *columns;
-    if !is_comment(columns) {
-        read[5..72].make_ascii_uppercase();
-    }
+    put_capitals(&mut read);
     read
 }
 
