@@ -80,6 +80,14 @@ no_size : flaw (codes "CTL  ") (codes "37 ") ≡ at 22 1 flaws.NoSize
 unfolding flaw at
 no_size = refl
 
+a_lone_place_of_a_field : flaw (codes "     ") (codes "6 ") ≡ at 21 1 flaws.NoSpan
+unfolding flaw at
+a_lone_place_of_a_field = refl
+
+the_last_place_of_a_field : flaw (codes "     ") (codes "3,9 ") ≡ at 23 1 flaws.NoSpan
+unfolding flaw at
+the_last_place_of_a_field = refl
+
 no_suffix : flaw (codes "SFX  ") (codes "AB ") ≡ at 21 2 flaws.NoSuffix
 unfolding flaw at
 no_suffix = refl

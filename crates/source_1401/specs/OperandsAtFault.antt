@@ -1,5 +1,5 @@
 -- What is wrong with operands, and in which columns (own).
-use Rattle.std.specs.Prelude.{ℕ, ◌+◌, ◌-◌, nat_lt, Bool, true, false, if◌then◌else◌, not, ◌&&◌, List, length, drop}
+use Rattle.std.specs.Prelude.{ℕ, ◌+◌, ◌-◌, nat_lt, Bool, true, false, if◌then◌else◌, not, ◌&&◌, ◌||◌, List, length, drop}
 use Rattle.std.specs.Prelude.{Option}
 use Rattle.std.specs.Prelude.{is_none, is_some}
 use Rattle.std.specs.Option.{option_map}
@@ -89,10 +89,15 @@ lone_flaw kind skipped columns =
     if is_ended (behind_operand columns) then flaw_after skipped (operand_len false columns) kind
     else flaw_after (skipped + operand_len false columns) (position_or_len is_blank (behind_operand columns)) flaws.TooMuch
 
--- what is wrong with the first place of a field, or with its last
-abbrev pub span_flaw : List ℕ → Flaw
-span_flaw columns =
-    if is_none (number_between 1 999 (operand_in columns))
+-- a field may have one place alone, and has it
+abbrev pub is_lone_place : Language → List ℕ → Bool
+is_lone_place languages.Plain columns = false
+is_lone_place languages.Ibm columns = is_ended (behind_operand columns)
+
+-- what is wrong with the only place of a field or its first, or else with its last
+abbrev pub span_flaw : Language → List ℕ → Flaw
+span_flaw language columns =
+    if is_none (number_between 1 999 (operand_in columns)) || is_lone_place language columns
     then flaw_after 0 (operand_len false columns) flaws.NoSpan
     else lone_flaw flaws.NoSpan (operand_len false columns + 1) (drop 1 (behind_operand columns))
 
@@ -149,7 +154,7 @@ flaw_with language operations.MarkedConstant columns = lone_flaw flaws.NoConstan
 flaw_with language operations.Constant columns = lone_flaw flaws.NoConstant 0 columns
 flaw_with language operations.Space columns = lone_flaw flaws.NoCount 0 columns
 flaw_with language operations.Areas columns = areas_flaw language columns
-flaw_with language operations.Field columns = span_flaw columns
+flaw_with language operations.Field columns = span_flaw language columns
 flaw_with language operations.Equate columns = equal_flaw language columns
 flaw_with language operations.Origin columns = origin_flaw language columns
 flaw_with language operations.Execute columns = value_flaw language columns

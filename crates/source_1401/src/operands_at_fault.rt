@@ -2,7 +2,8 @@
 ghost use Rattle.std.specs.Prelude.{◌≡◌, ◌+◌, ◌≤◌, length};
 ghost use Rattle.source_1401.specs.OperandsAtFault.{flaw_after, flaw_behind, flaw_after_first, operands_flaw};
 ghost use Rattle.source_1401.specs.OperandsAtFault.{first_flaw};
-ghost use Rattle.source_1401.specs.OperandsAtFault.{is_no_first, wide_operands_flaw, lone_flaw, span_flaw};
+ghost use Rattle.source_1401.specs.OperandsAtFault.{is_no_first, wide_operands_flaw, lone_flaw, is_lone_place};
+ghost use Rattle.source_1401.specs.OperandsAtFault.{span_flaw};
 ghost use Rattle.source_1401.specs.OperandsAtFault.{begins_with_literal, one_address_flaw, value_flaw, areas_flaw};
 ghost use Rattle.source_1401.specs.OperandsAtFault.{origin_flaw, address_flaw, equal_flaw, instruction_flaw, flaw_with};
 ghost use Rattle.source_1401.specs.OperandsAtFault.{operand_flaw};
@@ -143,13 +144,25 @@ pub(crate) fn lone_flaw(kind: OperandFlaw, skipped: usize, columns: &[u8]) -> Fl
     }
 }
 
-/// What is wrong with the first place of a field, or with its last.
-fn span_flaw(columns: &[u8]) -> Flaw
+/// Whether a field may have one place alone, and has it.
+fn is_lone_place(language: Language, columns: &[u8]) -> bool
+    ensures { result ≡ is_lone_place language columns.now }
+{
+    match language {
+        Language::Plain => false,
+        Language::Ibm => is_ended(split_operand(columns).1),
+    }
+}
+
+/// What is wrong with the only place of a field or its first, or else with its last.
+fn span_flaw(language: Language, columns: &[u8]) -> Flaw
     requires { length columns.now ≤ 52 }
-    ensures { result ≡ span_flaw columns.now }
+    ensures { result ≡ span_flaw language columns.now }
 {
     let count = operand_len(columns);
-    if number_between(1, AREA_LENGTH, &columns[..count]).is_none() {
+    if number_between(1, AREA_LENGTH, &columns[..count]).is_none()
+        || is_lone_place(language, columns)
+    {
         return flaw_after(0, count, OperandFlaw::NoSpan);
     }
     lone_flaw(
@@ -269,7 +282,7 @@ pub(crate) fn flaw_with(language: Language, operation: Operation, columns: &[u8]
         },
         Operation::Space => lone_flaw(OperandFlaw::NoCount, 0, columns),
         Operation::Areas => areas_flaw(language, columns),
-        Operation::Field => span_flaw(columns),
+        Operation::Field => span_flaw(language, columns),
         Operation::Equate => equal_flaw(language, columns),
         Operation::Execute | Operation::End => value_flaw(language, columns),
         Operation::Origin => origin_flaw(language, columns),
