@@ -14,7 +14,7 @@ use Rattle.source_1401.specs.declared.address.Base.TheVariants as bases
 use Rattle.source_1401.specs.declared.operands.Operand.TheVariants as operands
 use Rattle.source_1401.specs.declared.operands.OperandField.TheVariants as fields
 use Rattle.source_1401.specs.declared.language.Language.TheVariants.{Plain}
-use Rattle.disassembly_1401.specs.Address.{index_text, number_text}
+use Rattle.instruction_text_1401.specs.Address.{index_text, number_text}
 use Rattle.disassembly_1401.proofs.NumberLemmas.{IsNumber, number_again, short_number_of, no_other, no_higher}
 use Rattle.disassembly_1401.proofs.NumberLemmas.{operand_len-digits, prefix_len-digits}
 

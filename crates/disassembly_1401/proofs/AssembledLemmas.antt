@@ -23,9 +23,9 @@ use Rattle.source_1401.specs.declared.language.Language.TheVariants.{Plain}
 use Rattle.autocoder_1401.specs.Cells.{plain, marked, address_codes, d_codes, instruction_cells}
 use Rattle.autocoder_1401.specs.Characters.{char_of}
 use Rattle.autocoder_1401.specs.Placement.{Placement}
-use Rattle.disassembly_1401.specs.Address.{register_in, address_text}
-use Rattle.disassembly_1401.specs.Assembled.{is_spelling, has_no_mark, IsOwn}
-use Rattle.disassembly_1401.specs.InstructionText.{graphic_of}
+use Rattle.instruction_text_1401.specs.Address.{register_in, address_text}
+use Rattle.instruction_text_1401.specs.InstructionText.{IsOwn, graphic_of}
+use Rattle.disassembly_1401.specs.Assembled.{is_spelling, has_no_mark}
 use Rattle.disassembly_1401.proofs.AddressLemmas.{IsAddress, numbered, number_is_address}
 use Rattle.disassembly_1401.proofs.MnemonicLemmas.{says}
 use Rattle.disassembly_1401.proofs.OperandsLemmas.{no_d, d_said, d_first, d_behind, no_operands, d_alone, one_operand}

@@ -1,7 +1,7 @@
 pub mod AddressLemmas
 pub mod AssembledLemmas
 pub mod CarriedOutLemmas
-mod InstructionTextExamples
+mod AssembledExamples
 pub mod LineLemmas
 pub mod MnemonicLemmas
 pub mod NumberLemmas

@@ -10,9 +10,9 @@ use Rattle.source_1401.specs.Mnemonic.{instructions, instruction_of}
 use Rattle.source_1401.specs.declared.mnemonic.DCharacter.{DCharacter}
 use Rattle.source_1401.specs.declared.mnemonic.DCharacter.TheVariants as kinds
 use Rattle.source_1401.specs.declared.mnemonic.Instruction.{Instruction}
+use Rattle.instruction_text_1401.specs.Mnemonic.{operations, operations_with_d, mnemonic_of}
+use Rattle.instruction_text_1401.specs.declared.mnemonic.Mnemonic.{Mnemonic}
 use Rattle.disassembly_1401.specs.Assembled.{has_mnemonic}
-use Rattle.disassembly_1401.specs.Mnemonic.{operations, operations_with_d, mnemonic_of}
-use Rattle.disassembly_1401.specs.declared.mnemonic.Mnemonic.{Mnemonic}
 
 -- whether a form's d-character is as a mnemonic says it, with so many addresses in front of it
 abbrev pub says : Bool → ℕ → Option ℕ → DCharacter → Bool

@@ -7,7 +7,7 @@ use Rattle.std.specs.List.{list_all, prefix_len}
 use Rattle.source_1401.specs.Label.{is_digit, is_letter_or_digit}
 use Rattle.source_1401.specs.Numbers.{value_of, short_number}
 use Rattle.source_1401.specs.Operands.{operand_len}
-use Rattle.disassembly_1401.specs.Address.{digit, number_text}
+use Rattle.instruction_text_1401.specs.Address.{digit, number_text}
 
 -- a word of one to five digits that writes a number
 pub record IsNumber (word : List ℕ) (value : ℕ) : Type 0 where

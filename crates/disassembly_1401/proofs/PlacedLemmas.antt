@@ -12,9 +12,9 @@ use Rattle.core_1401.specs.Address.{addresses, value_of, spelling_of}
 use Rattle.autocoder_1401.specs.Cells.{address_or_zero, plain, with_index, address_codes}
 use Rattle.autocoder_1401.specs.Characters.{char_of}
 use Rattle.autocoder_1401.specs.Placement.{Placement}
-use Rattle.disassembly_1401.specs.Address.{register_in}
-use Rattle.disassembly_1401.specs.Assembled.{is_spelling, has_no_mark, IsOwn}
-use Rattle.disassembly_1401.specs.InstructionText.{graphic_of}
+use Rattle.instruction_text_1401.specs.Address.{register_in}
+use Rattle.instruction_text_1401.specs.InstructionText.{IsOwn, graphic_of}
+use Rattle.disassembly_1401.specs.Assembled.{is_spelling, has_no_mark}
 use Rattle.disassembly_1401.proofs.AddressLemmas.{named_index, numbered}
 
 by_place : (value : ℕ) (inside : Bool) → inside ≡ true → (if inside then value else 0) ≡ value

@@ -21,11 +21,12 @@ use Rattle.source_1401.specs.declared.statement.LineCheck.TheVariants as bytes
 use Rattle.source_1401.specs.declared.statement.Line.{Line}
 use Rattle.autocoder_1401.specs.Placement.{instruction_length}
 use Rattle.autocoder_1401.specs.Values.{last_place}
+use Rattle.instruction_text_1401.specs.InstructionText.{addresses_in, d_in, graphic_of, instruction_text, operands_text}
+use Rattle.instruction_text_1401.specs.InstructionText.{IsOwn, IsOwnD}
+use Rattle.instruction_text_1401.specs.Mnemonic.{mnemonic_of}
+use Rattle.instruction_text_1401.specs.declared.mnemonic.Mnemonic.{Mnemonic}
 use Rattle.disassembly_1401.specs.Assembled.{has_mnemonic, has_no_mark, has_word, is_spelled, is_spelling, line_with}
-use Rattle.disassembly_1401.specs.Assembled.{IsAssembled, IsOwn, IsOwnD, IsTextOf}
-use Rattle.disassembly_1401.specs.InstructionText.{addresses_in, d_in, graphic_of, instruction_text, operands_text}
-use Rattle.disassembly_1401.specs.Mnemonic.{mnemonic_of}
-use Rattle.disassembly_1401.specs.declared.mnemonic.Mnemonic.{Mnemonic}
+use Rattle.disassembly_1401.specs.Assembled.{IsAssembled, IsTextOf}
 use Rattle.disassembly_1401.proofs.AssembledLemmas.{IsFor, IsPlaced, IsRead, none_read, d_said_read, d_read, one_read}
 use Rattle.disassembly_1401.proofs.AssembledLemmas.{two_read, bare_tail, said_tail, d_tail, unsaid}
 use Rattle.disassembly_1401.proofs.LineLemmas.{line_again}

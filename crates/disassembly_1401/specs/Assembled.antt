@@ -1,10 +1,9 @@
 -- Which instructions the assembler has a word for, and what it makes of a line (Autocoder, "Operation", "Operand").
 use Rattle.std.specs.Prelude.{◌≡◌, ℕ, ◌==◌, nat_le, nat_lt, Bool, true, false, not, ◌&&◌, List, [], ◌∷◌, ◌++◌}
-use Rattle.std.specs.Prelude.{replicate, position, Option, None, Some, is_none, is_some}
+use Rattle.std.specs.Prelude.{replicate, Option, None, Some, is_none, is_some}
 use Rattle.std.specs.List.{list_all, list_any}
 use Rattle.std.specs.Option.{option_map_or}
 use Rattle.std.specs.Str.{bytes_eq}
-use Rattle.bcd_1401.specs.Graphic.{graphics}
 use Rattle.bcd_1401.specs.declared.cell.Cell.{Cell}
 use Rattle.core_1401.specs.Address.{addresses, spelling_of, value_of}
 use Rattle.source_1401.specs.Mnemonic.{ARow, instructions}
@@ -16,8 +15,8 @@ use Rattle.source_1401.specs.declared.statement.Line.{Line}
 use Rattle.source_1401.specs.declared.statement.Statement.{Statement}
 use Rattle.autocoder_1401.specs.Cells.{statement_cells, with_index}
 use Rattle.autocoder_1401.specs.Placement.{Placement}
-use Rattle.disassembly_1401.specs.Address.{register_in}
-use Rattle.disassembly_1401.specs.InstructionText.{graphic_of, addresses_in, d_in}
+use Rattle.instruction_text_1401.specs.Address.{register_in}
+use Rattle.instruction_text_1401.specs.InstructionText.{graphic_of, addresses_in, d_in}
 
 -- whether a mnemonic with a d-character of this kind may be one of an instruction with this d-character
 abbrev pub takes_d : DCharacter → Option ℕ → Bool
@@ -59,17 +58,6 @@ has_word [] = false
 has_word (operation ∷ behind) =
     operation.mark && list_all has_no_mark behind && is_spelled behind
     && has_mnemonic (graphic_of operation) (addresses_in behind) (d_in behind)
-
--- the character of a cell is the one that has its graphic
-abbrev pub IsOwn : Cell → Type 0
-IsOwn cell = position (λ each. each == graphic_of cell) graphics ≡ Some cell.char
-
--- the same of a d-character, if there is one
-abbrev pub IsOwnD : List Cell → Type 0
-IsOwnD [] = Unit {0}
-IsOwnD (d ∷ []) = IsOwn d
-IsOwnD (x ∷ y ∷ []) = Unit {0}
-IsOwnD (h ∷ t ∷ u ∷ behind) = IsOwnD behind
 
 -- the line of a source that has a text from column 16 on, and no label
 abbrev pub line_with : List ℕ → List ℕ

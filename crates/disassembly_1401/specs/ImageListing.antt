@@ -9,8 +9,8 @@ use Rattle.image_1401.specs.declared.image.Image.{Image}
 use Rattle.image_1401.specs.declared.image.Segment.{Segment}
 use Rattle.notation_1401.specs.Cells.{cells_text}
 use Rattle.notation_1401.specs.Digits.{digits_in}
-use Rattle.disassembly_1401.specs.Address.{number_text}
-use Rattle.disassembly_1401.specs.InstructionText.{graphic_of, instruction_text}
+use Rattle.instruction_text_1401.specs.Address.{number_text}
+use Rattle.instruction_text_1401.specs.InstructionText.{graphic_of, instruction_text}
 use Rattle.disassembly_1401.specs.Stretches.{stretches_of}
 
 -- whether an operation of this machine may have instructions of this length

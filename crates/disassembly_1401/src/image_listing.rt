@@ -2,16 +2,17 @@
 ghost use Rattle.std.specs.Prelude.{◌≡◌, ◌==◌, ◌∷◌, [], true, ◌≤◌, ◌++◌, length, map, IfOk, OnOk};
 ghost use Rattle.std.specs.List.{flat_map, list_any};
 ghost use Rattle.cpu_1401.specs.Operation.{operation_of};
+ghost use Rattle.instruction_text_1401.specs.InstructionText.{graphic_of};
 ghost use Rattle.disassembly_1401.specs.ImageListing.{is_legal, is_instruction, as_instruction, as_data, what_stands};
 ghost use Rattle.disassembly_1401.specs.ImageListing.{stretch_line, start_text, entry_text, end_text, start_line};
 ghost use Rattle.disassembly_1401.specs.ImageListing.{listing_text};
-ghost use Rattle.disassembly_1401.specs.InstructionText.{graphic_of};
 
-use crate::instruction::{put_instruction, put_number};
+use crate::instruction::put_instruction;
 use crate::stretches::stretches;
 use bcd_1401::{Cell, Char};
 use core_1401::Cells;
 use image_1401::{Image, Segment};
+use instruction_text_1401::put_number;
 use notation_1401::{put_cells, put_digits};
 use std::alloc::{AllocError, Global};
 

@@ -1,19 +1,18 @@
-//! Instructions of the IBM 1401 as Autocoder writes them, and the listing of a core image.
+//! The listing of a core image, and that the assembler reads the text of an instruction again.
 //!
 //! ```text
 //! put_instruction(&mut text, &cells)?     // MCW  510,509
 //! list_image(alloc, &image)?              // 00600 M510509  MCW  510,509, and so on
 //! ```
 //!
-//! The text of an instruction is a source line from column 16 on. If the assembler has a word for the instruction, it
-//! makes the same cells of that line again.
+//! The text of an instruction is a source line from column 16 on, as `instruction_text_1401` writes it. If the
+//! assembler has a word for the instruction, it makes the same cells of that line again.
 #![tactic(auto)]
 
 pub mod image_listing;
 pub mod instruction;
-pub mod mnemonic;
 mod stretches;
 
 pub use image_listing::list_image;
 pub use instruction::put_instruction;
-pub use mnemonic::Mnemonic;
+pub use instruction_text_1401::Mnemonic;

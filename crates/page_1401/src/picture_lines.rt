@@ -11,7 +11,7 @@ use command_1401::Answer;
 use core_1401::{Cells, MOST_CELLS};
 use cpu_1401::InstructionCells;
 use devices_1401::{Card, PrintLine};
-use disassembly_1401::put_instruction;
+use instruction_text_1401::put_instruction;
 use notation_1401::{put_cells, put_digits};
 use room_1401::{Picture, WINDOW_CELLS};
 use std::alloc::{AllocError, Global};

@@ -4,7 +4,7 @@ ghost use Rattle.std.specs.Prelude.{◌<◌, ◌≤◌, length};
 use autocoder_1401::{Listing, ListingLine};
 use bcd_1401::Cell;
 use core_1401::Core;
-use disassembly_1401::put_instruction;
+use instruction_text_1401::put_instruction;
 use std::alloc::{AllocError, Global};
 use stop_reasons_1401::instruction_len;
 

@@ -10,7 +10,7 @@ use Rattle.cpu_1401.specs.Stepped.{Stepped}
 use Rattle.cpu_1401.specs.Stop.{stop_name}
 use Rattle.devices_1401.specs.Carriage.{form_of as form_at, line_of as line_at}
 use Rattle.devices_1401.specs.Control.{Control, Space, Skip}
-use Rattle.disassembly_1401.specs.InstructionText.{instruction_text}
+use Rattle.instruction_text_1401.specs.InstructionText.{instruction_text}
 use Rattle.notation_1401.specs.Cells.{cells_text}
 use Rattle.notation_1401.specs.Digits.{digits_in}
 use Rattle.trace_1401.specs.declared.work.Work.{Work}

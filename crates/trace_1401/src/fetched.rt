@@ -1,13 +1,13 @@
 //! The instruction of a step, as it is in core.
 ghost use Rattle.std.specs.Prelude.{◌≡◌, ◌-◌, ◌≤◌, ◌++◌, length, replicate, OnOk};
-ghost use Rattle.disassembly_1401.specs.InstructionText.{instruction_text};
+ghost use Rattle.instruction_text_1401.specs.InstructionText.{instruction_text};
 ghost use Rattle.notation_1401.specs.Cells.{cells_text};
 ghost use Rattle.trace_1401.specs.TraceLine.{fetched_text, instruction_columns, padded};
 
 use bcd_1401::Cell;
 use core_1401::Core;
 use cpu_1401::instruction_cells;
-use disassembly_1401::put_instruction;
+use instruction_text_1401::put_instruction;
 use notation_1401::{put_cell, put_digits};
 use std::alloc::AllocError;
 

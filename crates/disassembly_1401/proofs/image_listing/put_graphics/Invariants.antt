@@ -1,5 +1,5 @@
 use Rattle.std.proofs.Common.{◌≡◌, ◌++◌, map, take}
-use Rattle.disassembly_1401.specs.InstructionText.{graphic_of}
+use Rattle.instruction_text_1401.specs.InstructionText.{graphic_of}
 use Rattle.disassembly_1401.proofs.image_listing.put_graphics.Given as goal
 
 abbrev pub invariant-loop-cell : goal.invariant-loop-cell

@@ -1,6 +1,6 @@
 -- Blanks follow the text.
 use Rattle.std.proofs.Common.{◌≡◌, ℕ, ◌-◌, ◌++◌, ap, ◌∙◌, length, replicate, rules}
-use Rattle.disassembly_1401.specs.InstructionText.{instruction_text}
+use Rattle.instruction_text_1401.specs.InstructionText.{instruction_text}
 use Rattle.trace_1401.proofs.PlaceLemmas.{pad_added}
 use Rattle.trace_1401.proofs.fetched.put_text_columns.Goals as goal
 

@@ -5,7 +5,7 @@ use Rattle.std.specs.Prelude.{Some}
 use Rattle.std.specs.Prelude.{find, codes, unwrap_or}
 use Rattle.std.specs.Option.{option_map}
 use Rattle.std.specs.Str.{byte}
-use Rattle.disassembly_1401.specs.declared.mnemonic.Mnemonic.{Mnemonic}
+use Rattle.instruction_text_1401.specs.declared.mnemonic.Mnemonic.{Mnemonic}
 
 -- an operation by its graphic, and the columns 16 to 20
 abbrev pub ARow : Type 0

@@ -1,11 +1,11 @@
 -- An instruction as Autocoder writes it, from column 16 on (Autocoder, "Coding Sheet", "Operation", "Operand").
-use Rattle.std.specs.Prelude.{ℕ, ◌-◌, ◌/◌, ◌==◌, if◌then◌else◌, List, [], ◌∷◌, ◌++◌, length, take}
-use Rattle.std.specs.Prelude.{slice_index, Option, None, Some}
+use Rattle.std.specs.Prelude.{◌≡◌, ℕ, ◌-◌, ◌/◌, ◌==◌, if◌then◌else◌, List, [], ◌∷◌, ◌++◌, length, take}
+use Rattle.std.specs.Prelude.{position, slice_index, Option, None, Some}
 use Rattle.bcd_1401.specs.declared.cell.Cell.{Cell}
 use Rattle.bcd_1401.specs.Graphic.{graphics}
-use Rattle.disassembly_1401.specs.Address.{address_text}
-use Rattle.disassembly_1401.specs.Mnemonic.{mnemonic_of}
-use Rattle.disassembly_1401.specs.declared.mnemonic.Mnemonic.{Mnemonic}
+use Rattle.instruction_text_1401.specs.Address.{address_text}
+use Rattle.instruction_text_1401.specs.Mnemonic.{mnemonic_of}
+use Rattle.instruction_text_1401.specs.declared.mnemonic.Mnemonic.{Mnemonic}
 
 -- the graphic of a cell's character
 abbrev pub graphic_of : Cell → ℕ
@@ -43,3 +43,19 @@ abbrev pub instruction_text : List Cell → List ℕ
 instruction_text [] = []
 instruction_text (operation ∷ behind) =
     text_with (mnemonic_of (graphic_of operation) (addresses_in behind) (d_in behind)) behind
+
+-- the character of a cell is the one that has its graphic
+abbrev pub IsOwn : Cell → Type 0
+IsOwn cell = position (λ each. each == graphic_of cell) graphics ≡ Some cell.char
+
+-- the same of a d-character, if there is one
+abbrev pub IsOwnD : List Cell → Type 0
+IsOwnD [] = Unit {0}
+IsOwnD (d ∷ []) = IsOwn d
+IsOwnD (x ∷ y ∷ []) = Unit {0}
+IsOwnD (h ∷ t ∷ u ∷ behind) = IsOwnD behind
+
+-- the same of an instruction's operation and of its d-character
+abbrev pub IsOwnInstruction : List Cell → Type 0
+IsOwnInstruction [] = Unit {0}
+IsOwnInstruction (operation ∷ behind) = IsOwn operation × IsOwnD behind

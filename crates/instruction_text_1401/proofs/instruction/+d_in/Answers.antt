@@ -1,8 +1,8 @@
 -- A d-character alone is the first cell.
 use Rattle.std.proofs.Common.{◌≡◌, ◌<◌, ◌≤◌, List, [], ◌∷◌, length, get_or, subst, arith}
 use Rattle.bcd_1401.specs.declared.cell.Cell.{Cell}
-use Rattle.disassembly_1401.specs.Assembled.{IsOwn, IsOwnD}
-use Rattle.disassembly_1401.proofs.instruction.+d_in.Goals as goal
+use Rattle.instruction_text_1401.specs.InstructionText.{IsOwn, IsOwnD}
+use Rattle.instruction_text_1401.proofs.instruction.+d_in.Goals as goal
 
 alone : (behind : List Cell) (d : Cell) → 1 ≤ length behind → length behind < 2 → d ≡ get_or behind 0 d → IsOwn d
     → IsOwnD behind

@@ -1,12 +1,10 @@
 -- Instructions and their texts, computed.
-use Rattle.std.proofs.Common.{◌≡◌, ◌==◌, ℕ, true, false, List, [], ◌∷◌, map, replicate, refl}
+use Rattle.std.proofs.Common.{◌≡◌, ◌==◌, ℕ, true, false, List, [], ◌∷◌, map, refl}
 use Rattle.std.specs.Prelude.{Bool, codes, unwrap_or, position}
 use Rattle.bcd_1401.specs.Graphic.{graphics}
 use Rattle.bcd_1401.specs.declared.cell.Cell.{Cell}
-use Rattle.source_1401.specs.Mnemonic.{instructions}
-use Rattle.disassembly_1401.specs.Assembled.{has_word}
-use Rattle.disassembly_1401.specs.InstructionText.{operands_text, instruction_text}
-use Rattle.disassembly_1401.specs.Mnemonic.{operations, operations_with_d}
+use Rattle.instruction_text_1401.specs.InstructionText.{operands_text, instruction_text}
+use Rattle.instruction_text_1401.specs.Mnemonic.{operations, operations_with_d}
 
 -- the cells with these graphics, the first with a word mark
 cells : List ℕ → List Cell
@@ -52,20 +50,3 @@ what_the_assembler_has_no_word_for : map text (codes "K5001" ∷ codes "N50" ∷
     ≡ codes "SS   500,1" ∷ codes "NOP  50" ∷ codes "M    500,600" ∷ codes "$    " ∷ []
 unfolding text
 what_the_assembler_has_no_word_for = refl
-
--- whether the assembler has a word
-words : List (List ℕ) → List Bool
-unfolding graphics instructions cells
-words instructions = map (λ each. has_word (cells each)) instructions
-
-these_have_a_word : words (codes "M510509" ∷ codes "QI9I" ∷ codes "H0Z9" ∷ codes "B500Q" ∷ codes "2)" ∷ codes "F1"
-    ∷ codes "N" ∷ [])
-    ≡ replicate 7 true
-unfolding words
-these_have_a_word = refl
-
-these_have_none : words (codes "M510 09" ∷ codes "K5001" ∷ codes "N50" ∷ codes "@500600" ∷ codes "2A"
-    ∷ codes "B500600" ∷ [])
-    ≡ replicate 6 false
-unfolding words
-these_have_none = refl

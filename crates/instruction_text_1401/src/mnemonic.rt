@@ -1,8 +1,8 @@
 //! The mnemonics of instructions.
 ghost use Rattle.std.specs.Prelude.{◌≡◌, ◌==◌, find};
-ghost use Rattle.disassembly_1401.specs.Mnemonic.{ARow, ARowWithD, operations, operations_with_d, columns_of};
-ghost use Rattle.disassembly_1401.specs.Mnemonic.{is_switch};
-ghost use Rattle.disassembly_1401.specs.Mnemonic.{columns_before_d, is_of, mnemonic_of};
+ghost use Rattle.instruction_text_1401.specs.Mnemonic.{ARow, ARowWithD, operations, operations_with_d, columns_of};
+ghost use Rattle.instruction_text_1401.specs.Mnemonic.{is_switch};
+ghost use Rattle.instruction_text_1401.specs.Mnemonic.{columns_before_d, is_of, mnemonic_of};
 
 /// A mnemonic.
 #[derive(Clone, Copy, Debug, PartialEq, Eq)]

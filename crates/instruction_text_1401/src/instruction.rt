@@ -1,0 +1,134 @@
+//! The text of an instruction.
+ghost use Rattle.std.specs.Prelude.{◌≡◌, ◌<◌, ◌≤◌, ◌++◌, length, OnOk};
+ghost use Rattle.instruction_text_1401.specs.Address.{digit, thousands_text, number_text, index_text, address_text};
+ghost use Rattle.instruction_text_1401.specs.InstructionText.{addresses_in, d_in, instruction_text, operands_text, written};
+ghost use Rattle.instruction_text_1401.specs.InstructionText.{IsOwnD, IsOwnInstruction};
+
+use crate::mnemonic::Mnemonic;
+use bcd_1401::{Cell, Char};
+use core_1401::decode;
+use std::alloc::AllocError;
+
+/// A digit as a byte.
+fn digit(number: u16) -> u8
+    ensures { result ≡ digit number }
+{
+    b'0' + (number % 10) as u8
+}
+
+/// Adds the digits before the last three, if there are any.
+fn put_thousands(text: &mut Vec<u8>, number: u16) -> Result<(), AllocError>
+    ensures { OnOk result (text.new.items ≡ text.old.items ++ thousands_text number) }
+{
+    if number < 1_000 {
+        return Ok(());
+    }
+    if number >= 10_000 {
+        text.push(digit(number / 10_000))?;
+    }
+    Ok(text.push(digit(number / 1_000))?)
+}
+
+/// Adds a number in three to five digits.
+///
+/// # Errors
+///
+/// If the memory for the text is refused. Some of the digits may have been added then.
+pub fn put_number(text: &mut Vec<u8>, number: u16) -> Result<(), AllocError>
+    ensures { OnOk result (text.new.items ≡ text.old.items ++ number_text number) }
+{
+    put_thousands(text, number)?;
+    text.push(digit(number / 100))?;
+    text.push(digit(number / 10))?;
+    Ok(text.push(digit(number))?)
+}
+
+/// Adds an index register, or nothing for none.
+fn put_index(text: &mut Vec<u8>, index: u8) -> Result<(), AllocError>
+    requires { index < 4 }
+    ensures { OnOk result (text.new.items ≡ text.old.items ++ index_text index) }
+{
+    if index > 0 {
+        text.push(b'+')?;
+        text.push(b'X')?;
+        text.push(b'0' + index)?;
+    }
+    Ok(())
+}
+
+/// Adds the address that three characters spell, in decimal.
+fn put_address(text: &mut Vec<u8>, h: Char, t: Char, u: Char) -> Result<(), AllocError>
+    ensures { OnOk result (text.new.items ≡ text.old.items ++ address_text h t u) }
+{
+    let (value, index) = decode([h, t, u]);
+    put_number(text, value)?;
+    put_index(text, index)
+}
+
+/// Adds addresses and the characters after them, with commas.
+#[tactic(auto, unfolding(crate::specs::InstructionText::operands_text))]
+fn put_operands(text: &mut Vec<u8>, cells: &[Cell]) -> Result<(), AllocError>
+    ensures { OnOk result (text.new.items ≡ text.old.items ++ operands_text cells.now) }
+{
+    match cells {
+        [] => Ok(()),
+        [d] => Ok(text.push(d.char.graphic())?),
+        [x, y] => {
+            text.push(x.char.graphic())?;
+            Ok(text.push(y.char.graphic())?)
+        }
+        [h, t, u, behind @ ..] => {
+            put_address(text, h.char, t.char, u.char)?;
+            if behind.is_empty() {
+                return Ok(());
+            }
+            text.push(b',')?;
+            put_operands(text, behind)
+        }
+    }
+}
+
+/// The graphic of the d-character of an instruction, by the cells after its operation, if it has one.
+fn d_in(behind: &[Cell]) -> Option<u8>
+    ensures value { result ≡ d_in behind.now }
+    ensures own { IsOwnD behind.now }
+{
+    match behind {
+        [] | [_, _] => None,
+        [d] => Some(d.char.graphic()),
+        [_, _, _, more @ ..] => d_in(more),
+    }
+}
+
+/// The cells whose operands are written: not the d-character that the mnemonic says.
+fn written(mnemonic: Mnemonic, behind: &[Cell]) -> &[Cell]
+    ensures { result.now ≡ written mnemonic behind.now }
+{
+    if mnemonic.says_d {
+        &behind[..behind.len().saturating_sub(1)]
+    } else {
+        behind
+    }
+}
+
+/// Adds an instruction as Autocoder writes it, from column 16 on: the mnemonic in five columns, the addresses in
+/// decimal with their index registers, the d-character. `cells` are the instruction's, up to eight of them.
+///
+/// # Errors
+///
+/// If the memory for the text is refused. Some of the text may have been added then.
+pub fn put_instruction(text: &mut Vec<u8>, cells: &[Cell]) -> Result<(), AllocError>
+    requires { length cells.now ≤ 8 }
+    ensures text { OnOk result (text.new.items ≡ text.old.items ++ instruction_text cells.now) }
+
+    // The operation and the d-character are the characters that have their graphics.
+    ensures own { IsOwnInstruction cells.now }
+{
+    let [operation, behind @ ..] = cells else {
+        return Ok(());
+    };
+    let addresses = (behind.len() / 3) as u8;
+    let mnemonic = Mnemonic::of(operation.char.graphic(), addresses, d_in(behind));
+    text.extend_from_slice(mnemonic.columns.as_slice())?;
+    put_operands(text, written(mnemonic, behind))
+}
