@@ -16,7 +16,7 @@ use Rattle.cpu_1401.specs.Step.{step}
 use Rattle.job_1401.specs.Unattended.{Job, emptied, go_on, taken_first, unattended, with_deck}
 use Rattle.trace_1401.specs.declared.work.Work.{Work}
 use Rattle.trace_1401.specs.TraceLine.{Seen, line_of, seen_of, trace_line, work_of}
-use Rattle.trace_1401.specs.TraceText.{trace_on, trace_text}
+use Rattle.running_1401.specs.TraceText.{trace_on, trace_text}
 use Rattle.std.proofs.KnownBytes.{Appends-nil, Appends-trans}
 use Rattle.std.specs.Io.KnownBytes.{Appends}
 use Rattle.streams_1401.specs.Sink.{AppendsPart}

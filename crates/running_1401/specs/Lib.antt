@@ -2,5 +2,6 @@ pub mod Sizes
 pub mod Program
 pub mod Run
 pub mod RunDeck
+pub mod TraceText
 pub mod RunTrace
 pub mod RunFile

@@ -11,7 +11,7 @@ use Rattle.running_1401.specs.declared.deck_running.Broken.{Broken}
 use Rattle.running_1401.specs.declared.deck_running.Broken.TheVariants as broken
 use Rattle.trace_1401.specs.declared.work.Work.{Work}
 use Rattle.trace_1401.specs.TraceLine.{Seen, line_of, seen_of}
-use Rattle.trace_1401.specs.TraceText.{trace_text}
+use Rattle.running_1401.specs.TraceText.{trace_text}
 
 -- what is seen of a machine, if there is a trace
 abbrev pub seen_if : Bool → State → Option Seen

@@ -8,7 +8,7 @@ ghost use Rattle.job_1401.specs.Unattended.{ended, unattended, with_deck};
 ghost use Rattle.running_1401.specs.RunDeck.{HasWritten, HasWrittenPart, IsWhyUnwritten, RanStretch, cards_text};
 ghost use Rattle.running_1401.specs.RunDeck.{failed_of, first_place, received, report_of, started_job};
 ghost use Rattle.running_1401.specs.RunTrace.{IsWhyUntraced, TracedStretch, seen_if, started_trace, traced};
-ghost use Rattle.trace_1401.specs.TraceText.{trace_text};
+ghost use Rattle.running_1401.specs.TraceText.{trace_text};
 
 use crate::job_report::JobReport;
 use crate::tracing::Trace;
@@ -275,7 +275,7 @@ fn cards_held<'d>(machine: &Machine, deck: &Deck<'d>) -> u64
 
 /// Reports a machine whose load key finds no card as stopped at its reader, and writes what lies on its paper and
 /// in its stacker.
-#[tactic(auto, unfolding(job_1401::specs::Unattended::unattended, trace_1401::specs::TraceText::trace_text))]
+#[tactic(auto, unfolding(job_1401::specs::Unattended::unattended, crate::specs::TraceText::trace_text))]
 fn run_no_card<'d, W: Sink, P: Sink, F: Sink, T: Watch>(
     alloc: Global,
     machine: &mut Machine,

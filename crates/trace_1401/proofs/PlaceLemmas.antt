@@ -1,6 +1,6 @@
 -- Cells that are equal, by eights and one by one.
 use Rattle.std.proofs.Common.{◌≡◌, ℕ, ◌+◌, ◌-◌, ◌<◌, ◌≤◌, ◌==◌, suc, Bool, true, false, List, [], ◌∷◌, ◌++◌, length, get_or, take, drop, replicate}
-use Rattle.std.proofs.Common.{append_assoc, not, set, refl, sym, ◌∙◌, ap, subst, arith, inl, inr, ◌&&◌, ◌||◌}
+use Rattle.std.proofs.Common.{append_assoc, not, refl, sym, ◌∙◌, ap, subst, arith, inl, inr, ◌&&◌, ◌||◌}
 use Rattle.std.specs.Prelude.{if◌then◌else◌}
 use Rattle.notation_1401.specs.Cells.{cell_text, cells_text}
 use Rattle.std.proofs.lemmas.Bool.{cases_lt, eq-eqb, eqb-true, false≢true}

@@ -1,3 +1,2 @@
 pub mod Changes
 pub mod TraceLine
-pub mod TraceText

@@ -1,7 +1,7 @@
 -- Each stretch adds what it writes, and leaves the rest.
 use Rattle.std.proofs.Common.{◌≡◌, drop, refl, sym, subst, ap, ◌∙◌, rules}
 use Rattle.streams_1401.specs.Sink.{AppendsPart}
-use Rattle.trace_1401.specs.TraceText.{trace_text}
+use Rattle.running_1401.specs.TraceText.{trace_text}
 use Rattle.running_1401.specs.RunTrace.{TracedStretch, seen_if, traced}
 use Rattle.running_1401.proofs.WrittenLemmas.{nothing_yet}
 use Rattle.running_1401.proofs.TraceLemmas.{all_traced, seen_is, trace_at_first, trace_goes_on, trace_part}

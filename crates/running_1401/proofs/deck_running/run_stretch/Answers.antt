@@ -5,7 +5,7 @@ use Rattle.std.specs.Io.KnownBytes.{Appends}
 use Rattle.streams_1401.specs.Sink.{AppendsPart}
 use Rattle.cpu_1401.specs.declared.regs.Regs.{Regs}
 use Rattle.trace_1401.specs.TraceLine.{Seen}
-use Rattle.trace_1401.specs.TraceText.{trace_text}
+use Rattle.running_1401.specs.TraceText.{trace_text}
 use Rattle.running_1401.specs.RunTrace.{lines_after, most_at_once, seen_if, traced}
 use Rattle.running_1401.proofs.TraceLemmas.{line_part, same_work, stretch_whole, untraced, work_by}
 use Rattle.job_1401.specs.Unattended.{unattended, with_deck}
