@@ -17,7 +17,9 @@ pub enum Language {
 }
 
 impl Line {
+    // What is inlined where a line is made adds room to be cleared for each line.
     /// Whether nothing is wrong with the line, whatever the other lines are.
+    #[inline(never)]
     pub fn is_sound(&self) -> bool
         ensures { result ≡ is_sound self.now }
     {
@@ -59,9 +61,10 @@ impl Line {
     pub fn in_language(language: Language, line: &[u8]) -> Line
         ensures { result ≡ line_in language line.now }
     {
+        // Each line is returned where it is made, so that it isn't copied.
         match language {
-            Language::Plain => Line::from_bytes(line),
-            Language::Ibm => Line::from_wide_bytes(line),
+            Language::Plain => return Line::from_bytes(line),
+            Language::Ibm => return Line::from_wide_bytes(line),
         }
     }
 }

@@ -75,7 +75,9 @@ impl Statement {
 }
 
 impl Line {
+    // Most lines are read without it, and where it is inlined it adds room to be cleared for each.
     /// What these columns say, of a line of this length.
+    #[inline(never)]
     #[tactic(auto, unfolding(crate::specs::WideStatement::wide_line_with))]
     pub(crate) fn with_wide_columns(len: usize, columns: &[u8; COLUMNS]) -> Line
         ensures { result ≡ wide_line_with len columns.now }
