@@ -6,15 +6,19 @@ ghost use Rattle.keeping_1401.specs.Showing.{IsOfEntries, IsShown, IsWhyNotShown
 use console_1401::{Sink, put_all};
 use journal_1401::{JournalFault, View, Wrong, list_journal, read_journal, recover_journal};
 use std::alloc::Global;
+use thiserror::Error;
 
 /// Why a journal isn't shown.
-#[derive(Clone, Copy, Debug, PartialEq, Eq)]
+#[derive(Clone, Copy, Debug, PartialEq, Eq, Error)]
 pub enum ShowFault {
     /// Memory was refused for the listing.
+    #[error("memory refused")]
     Memory,
     /// The text isn't a journal's. If its last line is unfinished, the entries before it are written.
+    #[error("{0}")]
     Journal(JournalFault),
     /// The listing wasn't written, or only a part of it.
+    #[error("cannot write")]
     Output,
 }
 

@@ -19,18 +19,23 @@ use devices_1401::{Card, PrintLine};
 use job_1401::{Cards, Collected, Deck, Place, press_load_key, put_cards, put_paper, run_job};
 use std::alloc::Global;
 use streams_1401::{Sink, put_all};
+use thiserror::Error;
 use trace_1401::Work;
 
 /// Why a run broke off.
-#[derive(Clone, Copy, Debug, PartialEq, Eq)]
+#[derive(Clone, Copy, Debug, PartialEq, Eq, Error)]
 pub enum Broken {
     /// Memory was refused.
+    #[error("memory refused")]
     Memory,
     /// The paper wasn't written.
+    #[error("cannot write the paper")]
     Paper,
     /// The punched cards weren't written.
+    #[error("cannot write the punched cards")]
     Punch,
     /// The trace wasn't written.
+    #[error("cannot write the trace")]
     Trace,
 }
 
