@@ -5,10 +5,10 @@ use Rattle.bcd_1401.specs.Graphic.{graphics}
 use Rattle.source_1401.specs.SourceLine.{columns_of}
 use Rattle.source_1401.specs.Mnemonic.{instructions, assembler_operations}
 use Rattle.source_1401.specs.declared.language.Language.TheVariants.{Plain}
+use Rattle.symbols_1401.specs.Reading.{lines_in}
+use Rattle.symbols_1401.specs.declared.fault.AsmFault.{AsmFault}
+use Rattle.symbols_1401.specs.declared.fault.AsmKind.TheVariants as kinds
 use Rattle.autocoder_1401.specs.AllFaults.{all_faults}
-use Rattle.autocoder_1401.specs.Assembly.{lines_in}
-use Rattle.autocoder_1401.specs.declared.fault.AsmFault.{AsmFault}
-use Rattle.autocoder_1401.specs.declared.fault.AsmKind.TheVariants as kinds
 
 -- all faults of a source in 4,000 places, with all tables open
 told_of : List ℕ → List AsmFault

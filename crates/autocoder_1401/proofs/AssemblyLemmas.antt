@@ -4,14 +4,17 @@ use Rattle.image_1401.specs.declared.image.Image.{Image}
 use Rattle.source_1401.specs.SourceLine.{lines_of}
 use Rattle.source_1401.specs.declared.language.Language.{Language}
 use Rattle.source_1401.specs.declared.statement.Line.{Line}
-use Rattle.autocoder_1401.specs.Assembly.{lines_in, image_of, assembly_with, assembly_in, with_listing, fault_or}
-use Rattle.autocoder_1401.specs.Assembly.{unless_fault}
-use Rattle.autocoder_1401.specs.Fault.{IsMemory}
-use Rattle.autocoder_1401.specs.FirstFault.{first_fault}
+use Rattle.symbols_1401.specs.Reading.{lines_in}
+use Rattle.symbols_1401.specs.Fault.{IsMemory}
+use Rattle.symbols_1401.specs.declared.fault.AsmFault.{AsmFault}
+use Rattle.faults_1401.specs.FirstFault.{first_fault}
+use Rattle.placing_1401.specs.PlacedImage.{image_of}
+use Rattle.placing_1401.specs.Values.{first_outside}
+use Rattle.placing_1401.specs.PlacementLaws.{IsPlacedInTurn}
+use Rattle.placing_1401.proofs.PlacementLawLemmas
+use Rattle.autocoder_1401.specs.Assembly.{assembly_with, assembly_in, with_listing, fault_or, unless_fault}
 use Rattle.autocoder_1401.specs.Listing.{listing_with}
-use Rattle.autocoder_1401.specs.Values.{first_outside}
 use Rattle.autocoder_1401.specs.declared.assembly.Assembly.{Assembly}
-use Rattle.autocoder_1401.specs.declared.fault.AsmFault.{AsmFault}
 
 -- lines without a fault, of which nothing is outside or this is the first that is, are answered so
 answered : (language : Language) (size : ℕ) (source : List ℕ) (lines : List Line) (outside : Option AsmFault)
@@ -51,3 +54,7 @@ not_assembled {X} language size source lines fault same none found =
       | inl memory ↦ inl memory
       | inr outside ↦ inr (answered language size source lines (Some fault) same none outside.0)
     ]
+
+-- all is placed in turn, as the law of placing says
+pub placed_in_turn : (lines : List Line) → IsPlacedInTurn lines
+placed_in_turn lines = PlacementLawLemmas.placed_in_turn lines

@@ -20,21 +20,21 @@ use Rattle.source_1401.specs.declared.operands.OperandField.TheVariants as field
 use Rattle.source_1401.specs.declared.statement.Body.TheVariants as bodies
 use Rattle.source_1401.specs.declared.statement.Line.{Line}
 use Rattle.source_1401.specs.declared.statement.LineCheck.TheVariants as bytes
-use Rattle.autocoder_1401.specs.AllFaults.{line_faults}
-use Rattle.autocoder_1401.specs.Assembly.{lines_in}
-use Rattle.autocoder_1401.specs.Chains.{chains_in, link_of}
-use Rattle.autocoder_1401.specs.Explanation.{explained_lines}
-use Rattle.autocoder_1401.specs.Known.{declared_at, known_of}
-use Rattle.autocoder_1401.specs.Symbols.{sites_of}
-use Rattle.autocoder_1401.specs.declared.chains.Link.{Link}
-use Rattle.autocoder_1401.specs.declared.explanation.Cause.{Cause}
-use Rattle.autocoder_1401.specs.declared.explanation.Cause.TheVariants as causes
-use Rattle.autocoder_1401.specs.declared.explanation.Explanation.{Explanation}
-use Rattle.autocoder_1401.specs.declared.fault.AsmFault.{AsmFault}
-use Rattle.autocoder_1401.specs.declared.fault.AsmKind.{AsmKind}
-use Rattle.autocoder_1401.specs.declared.fault.AsmKind.TheVariants as kinds
-use Rattle.autocoder_1401.specs.declared.known.Known.{Known}
-use Rattle.autocoder_1401.specs.declared.known.Known.TheVariants as known
+use Rattle.symbols_1401.specs.Reading.{lines_in}
+use Rattle.symbols_1401.specs.Chains.{chains_in, link_of}
+use Rattle.symbols_1401.specs.Known.{declared_at, known_of}
+use Rattle.symbols_1401.specs.Symbols.{sites_of}
+use Rattle.symbols_1401.specs.declared.chains.Link.{Link}
+use Rattle.symbols_1401.specs.declared.fault.AsmFault.{AsmFault}
+use Rattle.symbols_1401.specs.declared.fault.AsmKind.{AsmKind}
+use Rattle.symbols_1401.specs.declared.fault.AsmKind.TheVariants as kinds
+use Rattle.symbols_1401.specs.declared.known.Known.{Known}
+use Rattle.symbols_1401.specs.declared.known.Known.TheVariants as known
+use Rattle.faults_1401.specs.ToldFaults.{line_faults}
+use Rattle.faults_1401.specs.Explanation.{explained_lines}
+use Rattle.faults_1401.specs.declared.explanation.Cause.{Cause}
+use Rattle.faults_1401.specs.declared.explanation.Cause.TheVariants as causes
+use Rattle.faults_1401.specs.declared.explanation.Explanation.{Explanation}
 
 -- what the lines of a source say, with all tables open
 said : List ℕ → List Line

@@ -1,21 +1,14 @@
 -- What is noted for each label after one more use.
 use Rattle.std.proofs.Common.{◌≡◌, ℕ, Bool, true, false, cond, List, [], ◌∷◌, ◌++◌, Some, refl, sym, ap, ◌∙◌, Vec}
 use Rattle.std.proofs.Common.{Global}
-use Rattle.std.specs.Cmp.Lexicographic.{same_text}
 use Rattle.std.proofs.lemmas.List.{append-nil}
 use Rattle.std.specs.Option.{option_map_or}
 use Rattle.indexmap.specs.IndexMap.{IndexMap, get}
 use Rattle.source_1401.specs.declared.label.Label.{Label}
+use Rattle.symbols_1401.specs.Symbols.{same_label}
+use Rattle.symbols_1401.proofs.SymbolsLemmas.{same_labels}
 use Rattle.autocoder_1401.specs.CrossReference.{number_if}
-use Rattle.autocoder_1401.specs.Symbols.{same_label}
 use Rattle.autocoder_1401.specs.View.{lines_naming}
-
--- labels that a test finds to be the same are
-pub same_labels : (one other : Label) → same_label one other ≡ true → one ≡ other
-same_labels one other same = ap label_of (same_text one.text other.text (sym same))
-  where
-    label_of : List ℕ → Label
-    label_of text = record { text = text }
 
 -- a label has one line more, and the others have what they had
 pub used : {S : Type 0} (old new : IndexMap Label (Vec ℕ Global) S) (label : Label) (number : ℕ) (lines : Vec ℕ Global)

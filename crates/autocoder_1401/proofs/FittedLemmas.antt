@@ -1,7 +1,6 @@
 -- The machine carries out each instruction that the plain language takes.
 use Rattle.std.proofs.Common.{◌≡◌, ℕ, ◌+◌, ◌*◌, ◌==◌, ◌⊎◌, Bool, true, false, not, ◌&&◌, ◌||◌, cond, nat_le, nat_lt}
-use Rattle.std.proofs.Common.{List, [], ◌∷◌}
-use Rattle.std.proofs.Common.{Option, None, Some, refl, sym, ap, ◌∙◌, inl, inr}
+use Rattle.std.proofs.Common.{List, [], ◌∷◌, Option, None, Some, refl, sym, ap, ◌∙◌, inl, inr}
 use Rattle.std.proofs.lemmas.Bool.{and_parts, or_parts, not-false, true≢false}
 use Rattle.std.specs.Prelude.{find, is_some}
 use Rattle.std.specs.List.{list_all}
@@ -13,9 +12,8 @@ use Rattle.source_1401.specs.Description.{describe}
 use Rattle.source_1401.specs.Mnemonic.{ARow, AnOwnRow, instructions, assembler_operations, instruction_in}
 use Rattle.source_1401.specs.Mnemonic.{either_operation}
 use Rattle.source_1401.specs.Operands.{count_of, d_at, d_by, d_of, first_operand, second_operand, is_ended}
-use Rattle.source_1401.specs.Operands.{is_malformed, operands_of}
-use Rattle.source_1401.specs.Operands.{has_malformed, read_operand, operand_in, operand_of, field_of}
-use Rattle.source_1401.specs.Operands.{as_literal, field_with, begins_literal}
+use Rattle.source_1401.specs.Operands.{is_malformed, operands_of, has_malformed, read_operand, operand_in, operand_of}
+use Rattle.source_1401.specs.Operands.{field_of, as_literal, field_with, begins_literal}
 use Rattle.source_1401.specs.Punctuation.{comma}
 use Rattle.source_1401.specs.Statement.{body_by, body_of, body_with, has_bad_operands, span_of}
 use Rattle.source_1401.specs.declared.address.Address.{Address}
@@ -34,8 +32,8 @@ use Rattle.source_1401.specs.declared.operands.OperandField.TheVariants as field
 use Rattle.source_1401.specs.declared.statement.Body.{Body}
 use Rattle.source_1401.specs.declared.statement.Body.TheVariants as bodies
 use Rattle.source_1401.specs.declared.statement.Span.{Span}
-use Rattle.autocoder_1401.specs.Fitted.{is_fitted}
-use Rattle.autocoder_1401.specs.Placement.{instruction_length}
+use Rattle.placing_1401.specs.Placement.{instruction_length}
+use Rattle.placing_1401.specs.Fitted.{is_fitted}
 use Rattle.autocoder_1401.specs.Warnings.{is_unit, is_unfitted, is_not_fitted}
 
 -- what is found has what each row has

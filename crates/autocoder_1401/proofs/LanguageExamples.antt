@@ -4,8 +4,8 @@ use Rattle.std.specs.Prelude.{codes, if◌then◌else◌}
 use Rattle.std.specs.Fmt.{digits}
 use Rattle.std.specs.List.{flat_map}
 use Rattle.std.specs.Str.{byte}
-use Rattle.bcd_1401.specs.declared.cell.Cell.{Cell}
 use Rattle.bcd_1401.specs.Graphic.{graphics}
+use Rattle.bcd_1401.specs.declared.cell.Cell.{Cell}
 use Rattle.image_1401.specs.declared.image.Image.{Image}
 use Rattle.image_1401.specs.declared.image.Segment.{Segment}
 use Rattle.source_1401.specs.Flaw.{stretch}
@@ -16,20 +16,21 @@ use Rattle.source_1401.specs.SourceLine.{columns_of, lines_of}
 use Rattle.source_1401.specs.WideMnemonic.{wide_instructions, wide_operations}
 use Rattle.source_1401.specs.WideStatement.{wide_line_with}
 use Rattle.source_1401.specs.declared.language.Language.TheVariants.{Ibm}
-use Rattle.autocoder_1401.specs.Assembly.{assembly_in, lines_in}
+use Rattle.symbols_1401.specs.Reading.{lines_in}
+use Rattle.symbols_1401.specs.declared.fault.AsmFault.{AsmFault}
+use Rattle.symbols_1401.specs.declared.fault.AsmKind.TheVariants as kinds
+use Rattle.faults_1401.specs.declared.explanation.Cause.TheVariants as causes
+use Rattle.faults_1401.specs.declared.explanation.Explanation.{Explanation}
+use Rattle.placing_1401.specs.Placement.{next_hundred}
+use Rattle.autocoder_1401.specs.Assembly.{assembly_in}
 use Rattle.autocoder_1401.specs.CrossReference.{reference_line, references_text}
-use Rattle.autocoder_1401.specs.Explanation.{all_explained}
+use Rattle.autocoder_1401.specs.Explaining.{all_explained}
 use Rattle.autocoder_1401.specs.Listing.{graphic_of, number_text, address_text, characters_text, without_last_blanks}
-use Rattle.autocoder_1401.specs.Listing.{listing_line, spelling}
-use Rattle.autocoder_1401.specs.Listing.{literal_spelling, base_spelling, adjustment_spelling, index_spelling}
-use Rattle.autocoder_1401.specs.Placement.{next_hundred}
+use Rattle.autocoder_1401.specs.Listing.{listing_line, spelling, literal_spelling, base_spelling, adjustment_spelling}
+use Rattle.autocoder_1401.specs.Listing.{index_spelling}
 use Rattle.autocoder_1401.specs.SymbolTable.{length_text, symbol_line, symbols_text}
 use Rattle.autocoder_1401.specs.Warnings.{all_warnings}
 use Rattle.autocoder_1401.specs.declared.assembly.Assembly.{Assembly}
-use Rattle.autocoder_1401.specs.declared.explanation.Cause.TheVariants as causes
-use Rattle.autocoder_1401.specs.declared.explanation.Explanation.{Explanation}
-use Rattle.autocoder_1401.specs.declared.fault.AsmFault.{AsmFault}
-use Rattle.autocoder_1401.specs.declared.fault.AsmKind.TheVariants as kinds
 use Rattle.autocoder_1401.specs.declared.warning.Warning.{Warning}
 use Rattle.autocoder_1401.specs.declared.warning.WarningKind.TheVariants as warnings
 

@@ -5,8 +5,8 @@ use Rattle.std.specs.Prelude.{codes, if◌then◌else◌}
 use Rattle.std.specs.Fmt.{digits}
 use Rattle.std.specs.List.{flat_map}
 use Rattle.std.specs.Str.{byte}
-use Rattle.bcd_1401.specs.declared.cell.Cell.{Cell}
 use Rattle.bcd_1401.specs.Graphic.{graphics}
+use Rattle.bcd_1401.specs.declared.cell.Cell.{Cell}
 use Rattle.image_1401.specs.declared.image.Image.{Image}
 use Rattle.image_1401.specs.declared.image.Segment.{Segment}
 use Rattle.source_1401.specs.Context.{lines_said}
@@ -17,16 +17,16 @@ use Rattle.source_1401.specs.WideMnemonic.{wide_instructions, wide_operations}
 use Rattle.source_1401.specs.WideStatement.{wide_line_with}
 use Rattle.source_1401.specs.declared.language.Language.TheVariants.{Ibm}
 use Rattle.source_1401.specs.declared.statement.Line.{Line}
-use Rattle.autocoder_1401.specs.Assembly.{image_of}
+use Rattle.symbols_1401.specs.declared.fault.AsmFault.{AsmFault}
+use Rattle.symbols_1401.specs.declared.fault.AsmKind.TheVariants as kinds
+use Rattle.placing_1401.specs.PlacedImage.{image_of}
+use Rattle.placing_1401.specs.Values.{first_outside}
 use Rattle.autocoder_1401.specs.CrossReference.{reference_line, references_text}
 use Rattle.autocoder_1401.specs.Listing.{graphic_of, number_text, address_text, characters_text, without_last_blanks}
 use Rattle.autocoder_1401.specs.Listing.{listing_line, spelling, literal_spelling, base_spelling, adjustment_spelling}
 use Rattle.autocoder_1401.specs.Listing.{index_spelling, listing_with}
 use Rattle.autocoder_1401.specs.SymbolTable.{length_text, symbol_line, symbols_text}
-use Rattle.autocoder_1401.specs.Values.{first_outside}
 use Rattle.autocoder_1401.specs.Warnings.{all_warnings}
-use Rattle.autocoder_1401.specs.declared.fault.AsmFault.{AsmFault}
-use Rattle.autocoder_1401.specs.declared.fault.AsmKind.TheVariants as kinds
 use Rattle.autocoder_1401.specs.declared.warning.Warning.{Warning}
 
 -- the lines of a source, with all tables open

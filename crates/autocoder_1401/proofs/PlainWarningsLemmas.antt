@@ -14,20 +14,19 @@ use Rattle.source_1401.specs.Statement.{well_formed}
 use Rattle.source_1401.specs.declared.language.Language.{Language}
 use Rattle.source_1401.specs.declared.language.Language.TheVariants.{Plain}
 use Rattle.source_1401.specs.declared.statement.Statement.{Statement}
-use Rattle.autocoder_1401.specs.Assembly.{lines_in}
-use Rattle.autocoder_1401.specs.Filling.{addresses_of, filled}
-use Rattle.autocoder_1401.specs.FirstFault.{first_place}
-use Rattle.autocoder_1401.specs.Known.{declared_at}
-use Rattle.autocoder_1401.specs.Warnings.{Known, known_in, is_not_fitted, is_unused, branches_unset, compares_unlike}
-use Rattle.autocoder_1401.specs.Warnings.{read_on}
-use Rattle.autocoder_1401.specs.Warnings.{warned_if, warned_of, statement_warnings, line_warnings, warnings_from}
-use Rattle.autocoder_1401.specs.Warnings.{all_warnings}
+use Rattle.symbols_1401.specs.Reading.{lines_in}
+use Rattle.symbols_1401.specs.Known.{declared_at}
+use Rattle.faults_1401.specs.FirstFault.{first_place}
+use Rattle.faults_1401.specs.Notes.{Known, known_in}
+use Rattle.faults_1401.proofs.SoundLemmas.{all_sound, lines_alike}
+use Rattle.placing_1401.specs.Filling.{addresses_of, filled}
+use Rattle.autocoder_1401.specs.Warnings.{is_not_fitted, is_unused, branches_unset, compares_unlike, read_on, warned_if}
+use Rattle.autocoder_1401.specs.Warnings.{warned_of, statement_warnings, line_warnings, warnings_from, all_warnings}
 use Rattle.autocoder_1401.specs.Warnings.{AllFitted, PlainIsCarriedOut}
 use Rattle.autocoder_1401.specs.declared.warning.Warning.{Warning}
 use Rattle.autocoder_1401.specs.declared.warning.WarningKind.{WarningKind}
 use Rattle.autocoder_1401.specs.declared.warning.WarningKind.TheVariants as kinds
 use Rattle.autocoder_1401.proofs.FittedLemmas.{plain_is_fitted}
-use Rattle.autocoder_1401.proofs.LanguageLemmas.{all_sound, lines_alike}
 
 -- a warning of another kind
 abbrev IsOther : Warning → Type 0

@@ -6,7 +6,7 @@ use Rattle.bcd_1401.specs.Graphic.{graphics}
 use Rattle.source_1401.specs.SourceLine.{columns_of}
 use Rattle.source_1401.specs.Mnemonic.{instructions, assembler_operations}
 use Rattle.source_1401.specs.declared.language.Language.TheVariants.{Plain}
-use Rattle.autocoder_1401.specs.Assembly.{lines_in}
+use Rattle.symbols_1401.specs.Reading.{lines_in}
 use Rattle.autocoder_1401.specs.CrossReference.{reference_line, references_text}
 use Rattle.autocoder_1401.specs.Listing.{address_text}
 use Rattle.autocoder_1401.specs.SymbolTable.{length_text, symbol_line, symbols_text}

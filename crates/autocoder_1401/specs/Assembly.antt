@@ -1,64 +1,18 @@
 -- The answer of the assembler, memory aside (Autocoder, "Assembler Control").
-use Rattle.std.specs.Prelude.{◌⊎◌, ℕ, List, [], ◌∷◌, ℤ, pos, Option, None, Some, Result, Ok, Err}
-use Rattle.bcd_1401.specs.declared.cell.Cell.{Cell}
+use Rattle.std.specs.Prelude.{◌⊎◌, ℕ, List, Option, None, Some, Result, Ok, Err}
 use Rattle.image_1401.specs.declared.image.Image.{Image}
 use Rattle.source_1401.specs.SourceLine.{lines_of}
-use Rattle.source_1401.specs.Context.{lines_said}
-use Rattle.source_1401.specs.Description.{describe}
-use Rattle.source_1401.specs.declared.description.Addressing.{Addressing}
-use Rattle.source_1401.specs.declared.description.Addressing.TheVariants as addressing
 use Rattle.source_1401.specs.declared.language.Language.{Language}
-use Rattle.source_1401.specs.declared.statement.Body.{Body}
-use Rattle.source_1401.specs.declared.statement.Statement.{Statement}
 use Rattle.source_1401.specs.declared.statement.Line.{Line}
-use Rattle.autocoder_1401.specs.Cells.{address_or_zero, cells_from}
-use Rattle.autocoder_1401.specs.FirstFault.{first_fault, IsFaultless, IsFirstFault}
-use Rattle.autocoder_1401.specs.Known.{declared_at}
-use Rattle.autocoder_1401.specs.Laws.{IsFirstOutside}
+use Rattle.symbols_1401.specs.Known.{declared_at}
+use Rattle.symbols_1401.specs.Reading.{lines_in}
+use Rattle.symbols_1401.specs.declared.fault.AsmFault.{AsmFault}
+use Rattle.faults_1401.specs.FirstFault.{first_fault, IsFaultless, IsFirstFault}
+use Rattle.placing_1401.specs.Laws.{IsFirstOutside}
+use Rattle.placing_1401.specs.Values.{first_outside}
+use Rattle.placing_1401.specs.PlacedImage.{image_of}
 use Rattle.autocoder_1401.specs.Listing.{listing_with, listing_of}
-use Rattle.autocoder_1401.specs.Placement.{Placement, entry_value, unplaced, placed}
-use Rattle.autocoder_1401.specs.Segments.{segments_of}
-use Rattle.autocoder_1401.specs.Values.{first_outside}
 use Rattle.autocoder_1401.specs.declared.assembly.Assembly.{Assembly}
-use Rattle.autocoder_1401.specs.declared.fault.AsmFault.{AsmFault}
-
--- what the lines of a source in this language say, each with its neighbours
-abbrev pub lines_in : Language → List ℕ → List Line
-lines_in language source = lines_said language (lines_of source)
-
--- where END lets a program begin; of any other line, what is given for those after it
-abbrev pub entry_in_row : Placement → Addressing → ℤ → ℤ
-entry_in_row all addressing.Nothing behind = behind
-entry_in_row all (addressing.Addresses of) behind = behind
-entry_in_row all (addressing.EarlierValue of) behind = behind
-entry_in_row all (addressing.Equal of) behind = behind
-entry_in_row all (addressing.Value of) behind = behind
-entry_in_row all (addressing.Entry of) behind = entry_value all of.a
-
-abbrev pub entry_by : Placement → Body → ℤ → ℤ
-entry_by all body behind = entry_in_row all (describe body).addressing behind
-
-abbrev pub entry_with : Placement → Option Statement → ℤ → ℤ
-entry_with all None behind = behind
-entry_with all (Some statement) behind = entry_by all statement.body behind
-
--- the value of the first END
-abbrev pub entry_in : Placement → List Line → ℤ
-entry_in all [] = pos 0
-entry_in all (line ∷ lines) = entry_with all line.statement (entry_in all lines)
-
--- the cells that lines place, each with its address
-abbrev pub placed_cells : List Line → List (ℕ × Cell)
-placed_cells lines = cells_from (placed lines) (unplaced (placed lines)) lines
-
--- the image that lines without a fault stand for
-abbrev pub image_of : ℕ → List Line → Image
-image_of size lines =
-    record {
-      size = size;
-      segments = segments_of (placed_cells lines);
-      start = address_or_zero (entry_in (placed lines) lines);
-    }
 
 -- the image and the listing of lines without a fault, of which this is the source
 abbrev pub assembly_with : ℕ → List Line → List ℕ → Assembly

@@ -1,26 +1,12 @@
 -- The cross-reference of a source (own).
-use Rattle.std.specs.Prelude.{ℕ, ◌+◌, Bool, false, ◌||◌, if◌then◌else◌, List, [], ◌∷◌, ◌++◌, codes}
-use Rattle.std.specs.Option.{option_map_or}
+use Rattle.std.specs.Prelude.{ℕ, ◌+◌, Bool, if◌then◌else◌, List, [], ◌∷◌, ◌++◌, codes}
 use Rattle.std.specs.List.{flat_map}
 use Rattle.notation_1401.specs.Digits.{digits_in}
-use Rattle.source_1401.specs.Description.{describe, operands_in}
 use Rattle.source_1401.specs.declared.label.Label.{Label}
-use Rattle.source_1401.specs.declared.operands.Operands.{Operands}
 use Rattle.source_1401.specs.declared.statement.Line.{Line}
-use Rattle.source_1401.specs.declared.statement.Statement.{Statement}
-use Rattle.autocoder_1401.specs.FirstFault.{symbol_in}
-use Rattle.autocoder_1401.specs.Symbols.{has_label}
+use Rattle.faults_1401.specs.Notes.{is_named_in}
 use Rattle.autocoder_1401.specs.SymbolTable.{symbols_in}
 use Rattle.autocoder_1401.specs.declared.symbol_table.Symbol.{Symbol}
-
--- one of the operands is counted from a label
-abbrev pub names : Label → Operands → Bool
-names label of = has_label label (symbol_in of.a) || has_label label (symbol_in of.b)
-
-abbrev pub is_named_in : Label → Line → Bool
-is_named_in label line =
-    option_map_or (λ (statement : Statement). names label (operands_in (describe statement.body).addressing))
-    line.statement false
 
 abbrev pub number_if : Bool → ℕ → List ℕ
 number_if is number = if is then number ∷ [] else []

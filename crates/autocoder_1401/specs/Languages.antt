@@ -2,7 +2,8 @@
 use Rattle.std.specs.Prelude.{◌≡◌, ℕ, List, Ok, IfOk}
 use Rattle.source_1401.specs.declared.language.Language.{Language}
 use Rattle.source_1401.specs.declared.language.Language.TheVariants.{Plain}
-use Rattle.autocoder_1401.specs.Assembly.{lines_in, assembly_in}
+use Rattle.symbols_1401.specs.Reading.{lines_in}
+use Rattle.autocoder_1401.specs.Assembly.{assembly_in}
 use Rattle.autocoder_1401.specs.declared.assembly.Assembly.{Assembly}
 
 -- A source means in a language what it means in the plain one, where this is its image and its listing: each line says the

@@ -1,6 +1,6 @@
 -- The lines of a listing (Autocoder, "Assembler Control"; their columns own).
-use Rattle.std.specs.Prelude.{ℕ, ◌+◌, ◌-◌, Bool, List, [], ◌∷◌, ◌++◌, length, map, take, drop, slice_index}
-use Rattle.std.specs.Prelude.{ℤ, pos, nat_abs, int_lt, if◌then◌else◌, Option, Some, None, codes}
+use Rattle.std.specs.Prelude.{ℕ, ◌+◌, ◌-◌, Bool, List, [], ◌∷◌, ◌++◌, length, map, take, drop, slice_index, ℤ, pos}
+use Rattle.std.specs.Prelude.{nat_abs, int_lt, if◌then◌else◌, Option, Some, None, codes}
 use Rattle.std.specs.Ordering.{int_eq}
 use Rattle.std.specs.List.{suffix_len}
 use Rattle.bcd_1401.specs.Graphic.{graphics}
@@ -9,11 +9,11 @@ use Rattle.notation_1401.specs.Digits.{digits_in}
 use Rattle.source_1401.specs.Constant.{bytes_of}
 use Rattle.source_1401.specs.SourceLine.{padded, is_blank}
 use Rattle.source_1401.specs.Context.{lines_said}
+use Rattle.source_1401.specs.Description.{describe}
 use Rattle.source_1401.specs.declared.address.Base.{Base}
 use Rattle.source_1401.specs.declared.address.Base.TheVariants as bases
 use Rattle.source_1401.specs.declared.constant.Constant.{Constant}
 use Rattle.source_1401.specs.declared.constant.Constant.TheVariants as constants
-use Rattle.source_1401.specs.Description.{describe}
 use Rattle.source_1401.specs.declared.description.Addressing.{Addressing}
 use Rattle.source_1401.specs.declared.description.Addressing.TheVariants as addressing
 use Rattle.source_1401.specs.declared.description.Next.{Next}
@@ -24,10 +24,9 @@ use Rattle.source_1401.specs.declared.literal.Literal.TheVariants as literals
 use Rattle.source_1401.specs.declared.statement.Body.{Body}
 use Rattle.source_1401.specs.declared.statement.Statement.{Statement}
 use Rattle.source_1401.specs.declared.statement.Line.{Line}
-use Rattle.autocoder_1401.specs.Cells.{contents_cells, literal_cells}
-use Rattle.autocoder_1401.specs.Literals.{key_of}
-use Rattle.autocoder_1401.specs.Placement.{Placement, point_value, behind_literal, start_of, after_line, unplaced}
-use Rattle.autocoder_1401.specs.Placement.{placed}
+use Rattle.placing_1401.specs.Cells.{contents_cells, literal_cells}
+use Rattle.placing_1401.specs.Literals.{key_of}
+use Rattle.placing_1401.specs.Placement.{Placement, point_value, behind_literal, start_of, after_line, unplaced, placed}
 
 -- the number of a line in at least four digits; four blanks for a line that isn't in the source
 unfoldable pub number_text : Option ℕ → List ℕ

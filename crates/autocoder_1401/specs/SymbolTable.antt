@@ -17,10 +17,10 @@ use Rattle.source_1401.specs.declared.statement.Body.{Body}
 use Rattle.source_1401.specs.declared.statement.Line.{Line}
 use Rattle.source_1401.specs.declared.statement.Span.{Span}
 use Rattle.source_1401.specs.declared.statement.Statement.{Statement}
+use Rattle.placing_1401.specs.Literals.{same_key}
+use Rattle.placing_1401.specs.Placement.{Placement, symbols_of, contents_length, after_line, unplaced, placed}
+use Rattle.placing_1401.specs.declared.literals.LiteralKey.TheVariants as keys
 use Rattle.autocoder_1401.specs.Listing.{address_text}
-use Rattle.autocoder_1401.specs.Literals.{same_key}
-use Rattle.autocoder_1401.specs.Placement.{Placement, symbols_of, contents_length, after_line, unplaced, placed}
-use Rattle.autocoder_1401.specs.declared.literals.LiteralKey.TheVariants as keys
 use Rattle.autocoder_1401.specs.declared.symbol_table.Symbol.{Symbol}
 
 -- how many places a field of an area has

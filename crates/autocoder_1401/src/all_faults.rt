@@ -1,105 +1,17 @@
 //! All faults of a source, but for those that only follow from one told before.
-ghost use Rattle.std.specs.Prelude.{◌≡◌, ◌++◌, ◌<◌, ◌^◌, All, length, IfOk, IfErr, OnOk};
-ghost use Rattle.indexmap.specs.IndexMap.{get};
-ghost use Rattle.autocoder_1401.specs.AllFaults.{told_faults, told_end, faults_from, line_faults, all_faults, first_in};
-ghost use Rattle.autocoder_1401.specs.AllFaults.{fault_in, IsTold};
-ghost use Rattle.autocoder_1401.specs.Assembly.{lines_in, assembly_in};
-ghost use Rattle.autocoder_1401.specs.Fault.{IsMemory};
+ghost use Rattle.std.specs.Prelude.{◌≡◌, ◌<◌, All, IfOk, IfErr, OnOk};
+ghost use Rattle.symbols_1401.specs.Reading.{lines_in};
+ghost use Rattle.symbols_1401.specs.Fault.{IsMemory};
+ghost use Rattle.faults_1401.specs.ToldFaults.{line_faults, first_in};
+ghost use Rattle.autocoder_1401.specs.AllFaults.{all_faults, fault_in, IsTold};
+ghost use Rattle.autocoder_1401.specs.Assembly.{assembly_in};
 ghost use Rattle.autocoder_1401.specs.Languages.{AgreesWithPlain};
-ghost use Rattle.autocoder_1401.specs.OwnFault.{nothing_before};
-ghost use Rattle.autocoder_1401.specs.Symbols.{same_label};
-ghost use Rattle.autocoder_1401.specs.View.{symbols_view};
 
 use crate::assembly::assemble_image;
-use crate::fault::{AsmFault, AsmKind};
-use crate::hashing::SourceHashing;
-use crate::kept_line::KeptLine;
-use crate::known::{Symbols, declared};
-use crate::own_fault::{Before, told_of};
-use crate::reading::read_lines;
-use crate::symbols::{Sites, sites_anywhere};
+use faults_1401::source_faults;
 use source_1401::Language;
 use std::alloc::Global;
-
-/// Adds what is told of a line.
-fn put_told(faults: &mut Vec<AsmFault>, line: u64, kind: Option<AsmKind>) -> Result<(), AsmFault>
-    ensures ok { OnOk result (faults.new.items ≡ faults.old.items ++ told_faults line kind) }
-    ensures err { IfErr result IsMemory }
-{
-    if let Some(kind) = kind {
-        faults.push(AsmFault { line, kind })?;
-    }
-    Ok(())
-}
-
-/// Adds that there is no END, if that is told.
-fn put_end(faults: &mut Vec<AsmFault>, before: Before) -> Result<(), AsmFault>
-    ensures ok { OnOk result (faults.new.items ≡ faults.old.items ++ told_end before) }
-    ensures err { IfErr result IsMemory }
-{
-    let is_told = !before.at.is_ended && (before.is_clean || !before.lost_end);
-    if is_told {
-        put_told(faults, before.at.number, Some(AsmKind::NoEnd))?;
-    }
-    Ok(())
-}
-
-/// Adds the faults of lines that these declare.
-fn put_faults(
-    symbols: &Symbols,
-    anywhere: &Sites,
-    lines: &[KeptLine],
-    faults: &mut Vec<AsmFault>,
-) -> Result<(), AsmFault>
-    requires { length lines.now < 2 ^ 32 }
-    ensures ok { OnOk result (faults.new.items ≡ faults.old.items
-        ++ faults_from (symbols_view symbols.now) (get same_label anywhere.now) nothing_before lines.now) }
-    ensures err { IfErr result IsMemory }
-{
-    let mut before = Before::NOTHING;
-    for line in lines {
-        put_told(
-            faults,
-            before.at.number,
-            told_of(symbols, anywhere, before, line),
-        )?;
-        before = before.next(symbols, line);
-    }
-    put_end(faults, before)?;
-    Ok(())
-}
-
-/// The faults of lines, but for what isn't in core.
-fn line_faults(
-    alloc: Global,
-    hashing: SourceHashing,
-    language: Language,
-    lines: &[KeptLine],
-) -> Result<Vec<AsmFault>, AsmFault>
-    requires { length lines.now < 2 ^ 32 }
-    ensures ok { IfOk result (λ faults. faults.items ≡ line_faults language lines.now) }
-    ensures err { IfErr result IsMemory }
-{
-    let symbols = declared(alloc, hashing, language, lines)?;
-    let anywhere = sites_anywhere(alloc, hashing, lines)?;
-    let mut faults = Vec::new(alloc);
-    put_faults(&symbols, &anywhere, lines, &mut faults)?;
-    Ok(faults)
-}
-
-/// The faults of a source, but for what isn't in core.
-fn source_faults(
-    alloc: Global,
-    language: Language,
-    source: &[u8],
-) -> Result<Vec<AsmFault>, AsmFault>
-    ensures ok { IfOk result (λ faults. faults.items ≡ line_faults language (lines_in language source.now)) }
-    ensures err { IfErr result IsMemory }
-{
-    let lines = read_lines(alloc, language, source)?;
-    let faults = line_faults(alloc, SourceHashing::from_source(source), language, &lines)?;
-    Ok(faults)
-}
+use symbols_1401::{AsmFault, AsmKind};
 
 /// The fault that the assembler tells.
 pub(crate) fn fault_of(
@@ -147,7 +59,7 @@ fn add_outside(
 /// # Errors
 ///
 /// `Memory` if memory is refused or the source has too many lines.
-#[tactic(auto, using(crate::proofs::LanguageLemmas::agrees_with_plain))]
+#[tactic(auto, using(crate::proofs::LanguagesLemmas::agrees_with_plain))]
 pub fn faults(
     alloc: Global,
     language: Language,

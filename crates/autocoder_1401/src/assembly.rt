@@ -1,36 +1,32 @@
 //! The passes of the assembler, in their order.
 ghost use Rattle.std.specs.Prelude.{◌≡◌, ◌<◌, ◌^◌, ◌⊎◌, length, None, Some, true, IfOk, IfErr, OnOk, IfNone, IfSome};
-ghost use Rattle.autocoder_1401.specs.Chains.{chains_of};
-ghost use Rattle.autocoder_1401.specs.Fault.{IsMemory, Gives};
-ghost use Rattle.autocoder_1401.specs.Known.{declared_at};
-ghost use Rattle.autocoder_1401.specs.FirstFault.{first_fault, IsFaultless, IsFirstFault};
 ghost use Rattle.core_1401.specs.Storage.{is_core_size};
 ghost use Rattle.image_1401.specs.Image.{IsInCore};
 ghost use Rattle.source_1401.specs.SourceLine.{lines_of};
-ghost use Rattle.autocoder_1401.specs.Placement.{placed};
-ghost use Rattle.autocoder_1401.specs.Values.{first_outside};
-ghost use Rattle.autocoder_1401.specs.Assembly.{lines_in, entry_in, image_of, assembly_with, placed_cells};
-ghost use Rattle.autocoder_1401.specs.Assembly.{assembly_in, with_listing, IsFaultOf};
+ghost use Rattle.symbols_1401.specs.Chains.{chains_of};
+ghost use Rattle.symbols_1401.specs.Fault.{IsMemory, Gives};
+ghost use Rattle.symbols_1401.specs.Known.{declared_at};
+ghost use Rattle.symbols_1401.specs.Reading.{lines_in};
+ghost use Rattle.symbols_1401.specs.Symbols.{sites_of};
+ghost use Rattle.symbols_1401.specs.View.{chains_view, symbols_view};
+ghost use Rattle.faults_1401.specs.FirstFault.{first_fault, IsFaultless, IsFirstFault};
+ghost use Rattle.placing_1401.specs.Placement.{placed};
+ghost use Rattle.placing_1401.specs.Values.{first_outside};
+ghost use Rattle.placing_1401.specs.PlacedImage.{entry_in, image_of, placed_cells};
+ghost use Rattle.placing_1401.specs.Laws.{IsFirstOutside, IsCutOf};
+ghost use Rattle.placing_1401.specs.PlacementLaws.{IsPlacedInTurn};
+ghost use Rattle.placing_1401.specs.View.{places_of};
+ghost use Rattle.autocoder_1401.specs.Assembly.{assembly_with, assembly_in, with_listing, IsFaultOf};
 ghost use Rattle.autocoder_1401.specs.Languages.{AgreesWithPlain};
-ghost use Rattle.autocoder_1401.specs.Laws.{IsFirstOutside, IsCutOf};
-ghost use Rattle.autocoder_1401.specs.PlacementLaws.{IsPlacedInTurn};
-ghost use Rattle.autocoder_1401.specs.Symbols.{sites_of};
-ghost use Rattle.autocoder_1401.specs.View.{chains_view, symbols_view, places_of};
 
-use crate::cells::address_or_zero;
-use crate::chains::Chains;
-use crate::fault::AsmFault;
-use crate::first_fault::first_fault;
-use crate::hashing::SourceHashing;
-use crate::kept_line::KeptLine;
-use crate::known::{Symbols, declared};
 use crate::listing::Listing;
 use crate::outputs::{make_listing, make_segments};
-use crate::placing::{Placing, place_all};
-use crate::reading::read_lines;
+use faults_1401::first_fault::first_fault;
 use image_1401::{Image, Segments};
+use placing_1401::{Placing, address_or_zero, place_all};
 use source_1401::{Addressing, Language, Statement};
 use std::alloc::Global;
+use symbols_1401::{AsmFault, Chains, KeptLine, SourceHashing, Symbols, declared, read_lines};
 
 /// The first line with a fault, and its lowest kind.
 fn scan(symbols: &Symbols, language: Language, lines: &[KeptLine]) -> Option<AsmFault>
@@ -155,7 +151,7 @@ pub(crate) fn make_assembly(
 /// `Memory` if memory is refused or the source has too many lines. Otherwise the lowest fault of the first line that
 /// has one of kinds 2 to 8, 10 and 11; if no line has one, `OutOfCore` for the first line of which something isn't in
 /// core.
-#[tactic(auto, using(crate::proofs::PlacementLawLemmas::placed_in_turn, crate::proofs::LanguageLemmas::agrees_with_plain))]
+#[tactic(auto, using(crate::proofs::AssemblyLemmas::placed_in_turn, crate::proofs::LanguagesLemmas::agrees_with_plain))]
 pub fn assemble(
     alloc: Global,
     language: Language,
@@ -203,7 +199,7 @@ pub fn assemble(
 /// # Errors
 ///
 /// As `assemble`.
-#[tactic(auto, using(crate::proofs::PlacementLawLemmas::placed_in_turn, crate::proofs::LanguageLemmas::agrees_with_plain))]
+#[tactic(auto, using(crate::proofs::AssemblyLemmas::placed_in_turn, crate::proofs::LanguagesLemmas::agrees_with_plain))]
 pub fn assemble_image(
     alloc: Global,
     language: Language,

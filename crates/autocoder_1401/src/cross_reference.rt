@@ -1,21 +1,20 @@
 //! The cross-reference of a source: each label with the lines that name it.
-ghost use Rattle.std.specs.Prelude.{◌≡◌, ◌<◌, ◌^◌, ◌++◌, ◌||◌, [], length, IfOk, IfErr, OnOk};
+ghost use Rattle.std.specs.Prelude.{◌≡◌, ◌<◌, ◌^◌, ◌++◌, ◌||◌, length, IfOk, IfErr, OnOk};
 ghost use Rattle.std.specs.List.{flat_map};
 ghost use Rattle.source_1401.specs.declared.label.Label.{Label as ALabel};
-ghost use Rattle.autocoder_1401.specs.CrossReference.{is_named_in, number_if, uses_of, use_text, reference_line};
-ghost use Rattle.autocoder_1401.specs.Fault.{IsMemory};
-ghost use Rattle.autocoder_1401.specs.Symbols.{has_label, same_label};
+ghost use Rattle.symbols_1401.specs.Fault.{IsMemory};
+ghost use Rattle.symbols_1401.specs.Symbols.{has_label, same_label};
+ghost use Rattle.faults_1401.specs.Notes.{is_named_in};
+ghost use Rattle.autocoder_1401.specs.CrossReference.{number_if, uses_of, use_text, reference_line};
 ghost use Rattle.autocoder_1401.specs.View.{lines_naming};
 
-use crate::fault::AsmFault;
-use crate::first_fault::symbol_in;
-use crate::hashing::SourceHashing;
-use crate::kept_line::KeptLine;
 use crate::symbol_table::{LINE_DIGITS, Symbol};
+use faults_1401::symbol_in;
 use indexmap::IndexMap;
 use notation_1401::put_digits;
 use source_1401::{Label, Statement};
 use std::alloc::Global;
+use symbols_1401::{AsmFault, KeptLine, SourceHashing};
 
 /// For each label that is named the numbers of the lines that name it.
 pub(crate) type Uses = IndexMap<Label, Vec<u64>, SourceHashing>;

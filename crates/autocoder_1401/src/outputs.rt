@@ -1,26 +1,24 @@
 //! The segments and the listing of a source, each made line by line once all labels have their values.
-ghost use Rattle.std.specs.Prelude.{◌≡◌, ◌∷◌, ◌++◌, ◌+◌, ◌<◌, ◌^◌, ◌⊎◌, ℕ, List, [], length, Some, None, IfOk};
-ghost use Rattle.std.specs.Prelude.{IfErr, OnOk};
+ghost use Rattle.std.specs.Prelude.{◌≡◌, ◌∷◌, ◌++◌, ◌+◌, ◌<◌, ◌^◌, ◌⊎◌, ℕ, List, [], length, Some, None, IfOk, IfErr};
+ghost use Rattle.std.specs.Prelude.{OnOk};
 ghost use Rattle.bcd_1401.specs.declared.cell.Cell.{Cell as ACell};
 ghost use Rattle.source_1401.specs.Description.{describe};
 ghost use Rattle.source_1401.specs.SourceLine.{lines_of};
-ghost use Rattle.autocoder_1401.specs.Built.{built};
-ghost use Rattle.autocoder_1401.specs.Cells.{address_or_zero, numbered, statement_cells, cells_from};
-ghost use Rattle.autocoder_1401.specs.Fault.{IsMemory};
+ghost use Rattle.symbols_1401.specs.Fault.{IsMemory};
+ghost use Rattle.placing_1401.specs.Built.{built};
+ghost use Rattle.placing_1401.specs.Cells.{address_or_zero, numbered, statement_cells, cells_from};
+ghost use Rattle.placing_1401.specs.Placement.{start_of, after_line, after_statement, unplaced};
+ghost use Rattle.placing_1401.specs.Segments.{segments_of};
+ghost use Rattle.placing_1401.specs.Values.{first_outside_from};
+ghost use Rattle.placing_1401.specs.View.{places_of};
 ghost use Rattle.autocoder_1401.specs.Listing.{literal_lines, literals_in, line_for, listing_from};
-ghost use Rattle.autocoder_1401.specs.Placement.{start_of, after_line, after_statement, unplaced};
-ghost use Rattle.autocoder_1401.specs.Segments.{segments_of};
-ghost use Rattle.autocoder_1401.specs.Values.{first_outside_from};
-ghost use Rattle.autocoder_1401.specs.View.{places_of};
 
-use crate::fault::{AsmFault, AsmKind};
-use crate::kept_line::KeptLine;
-use crate::listing::{Listing, ListingLine};
-use crate::placing::Placing;
-use crate::segments::{Builder, lines_behind};
+use crate::listing::{Listing, ListingLine, list_line};
 use image_1401::Segment;
+use placing_1401::{Builder, Placing, lines_behind};
 use source_1401::{Description, Statement, split_line};
 use std::alloc::Global;
+use symbols_1401::{AsmFault, AsmKind, KeptLine};
 
 /// The segments of the lines so far.
 #[derive(Drop)]
@@ -118,7 +116,16 @@ impl<'a> ListingSoFar<'a> {
             (places_of self.new.so_far ≡ after_line (places_of self.old.so_far) line.now) }
         ensures err { IfErr result IsMemory }
     {
-        self.so_far.list_line(alloc, all, number, source, line, behind, &mut self.listing)?;
+        list_line(
+            alloc,
+            all,
+            &self.so_far,
+            number,
+            source,
+            line,
+            behind,
+            &mut self.listing,
+        )?;
         self.so_far.place(line)?;
         Ok(())
     }

@@ -2,15 +2,15 @@
 ghost use Rattle.std.specs.Prelude.{◌≡◌, ◌≤◌, ◌-◌, ◌++◌, length, map, replicate, IfErr, OnOk};
 ghost use Rattle.std.specs.List.{suffix_len};
 ghost use Rattle.source_1401.specs.SourceLine.{is_blank};
-ghost use Rattle.autocoder_1401.specs.Fault.{IsMemory};
+ghost use Rattle.symbols_1401.specs.Fault.{IsMemory};
 ghost use Rattle.autocoder_1401.specs.Listing.{number_text, address_text, graphic_of, characters_text};
 ghost use Rattle.autocoder_1401.specs.Listing.{without_last_blanks, spelling, base_spelling, sign_spelling};
 ghost use Rattle.autocoder_1401.specs.Listing.{adjustment_spelling, index_spelling, literal_spelling};
 
-use crate::fault::AsmFault;
 use bcd_1401::Cell;
 use notation_1401::put_digits;
 use source_1401::{Base, Constant, Label, Literal};
+use symbols_1401::AsmFault;
 
 /// How many digits the number of a line has at the least.
 const NUMBER_DIGITS: u8 = 4;

@@ -1,23 +1,19 @@
 //! The symbol table of a source: each label with its address, the length of what it names, and its line.
 ghost use Rattle.std.specs.Prelude.{◌≡◌, ◌<◌, ◌^◌, ◌++◌, length, IfOk, IfErr, OnOk};
 ghost use Rattle.std.specs.List.{flat_map};
-ghost use Rattle.autocoder_1401.specs.Fault.{IsMemory};
+ghost use Rattle.symbols_1401.specs.Fault.{IsMemory};
+ghost use Rattle.placing_1401.specs.Placement.{unplaced};
+ghost use Rattle.placing_1401.specs.View.{places_of};
 ghost use Rattle.autocoder_1401.specs.SymbolTable.{span_length, length_named, symbol_with, symbol_at, listed};
-ghost use Rattle.autocoder_1401.specs.SymbolTable.{second_area, area_symbols, symbols_at};
-ghost use Rattle.autocoder_1401.specs.SymbolTable.{symbols_from, length_text, symbol_line};
-ghost use Rattle.autocoder_1401.specs.Placement.{unplaced};
-ghost use Rattle.autocoder_1401.specs.View.{places_of};
+ghost use Rattle.autocoder_1401.specs.SymbolTable.{second_area, area_symbols, symbols_at, symbols_from, length_text};
+ghost use Rattle.autocoder_1401.specs.SymbolTable.{symbol_line};
 
-use crate::fault::AsmFault;
-use crate::hashing::SourceHashing;
-use crate::kept_line::KeptLine;
-use crate::lengths::contents_length;
-use crate::literals::LiteralKey;
-use crate::placing::Placing;
 use crate::printing::put_address;
 use notation_1401::put_digits;
+use placing_1401::{LiteralKey, Placing, contents_length};
 use source_1401::{AreaLiteral, AreaRole, Description, Label, LabelField, Point, Span, Statement};
 use std::alloc::Global;
+use symbols_1401::{AsmFault, KeptLine, SourceHashing};
 
 /// How many digits a length has.
 const LENGTH_DIGITS: u8 = 5;
@@ -121,53 +117,51 @@ fn second_area(first: Option<AreaLiteral>, second: Option<AreaLiteral>) -> Optio
     }
 }
 
-impl Placing<'_> {
-    /// Adds the symbol of an area literal on the line of this number, if there is one and it isn't used before.
-    fn put_area(
-        &self,
-        all: &Placing<'_>,
-        number: u64,
-        literal: Option<AreaLiteral>,
-        symbols: &mut Vec<Symbol>,
-    ) -> Result<(), AsmFault>
-        ensures ok { OnOk result (symbols.new.items ≡ symbols.old.items
-            ++ area_symbols (places_of all.now) (places_of self.now) number literal) }
-        ensures err { IfErr result IsMemory }
-    {
-        let Some(literal) = literal else {
-            return Ok(());
-        };
-        if !self.literals.contains(&LiteralKey::Area(literal)) {
-            let value = all.symbol(literal.label)?.value;
-            symbols.push(Symbol {
-                label: literal.label,
-                value,
-                length: Some(u32::from(literal.places)),
-                line: number,
-            })?;
-        }
-        Ok(())
+/// Adds the symbol of an area literal on the line of this number, if there is one and it isn't used before.
+fn put_area(
+    all: &Placing<'_>,
+    so_far: &Placing<'_>,
+    number: u64,
+    literal: Option<AreaLiteral>,
+    symbols: &mut Vec<Symbol>,
+) -> Result<(), AsmFault>
+    ensures ok { OnOk result (symbols.new.items ≡ symbols.old.items
+        ++ area_symbols (places_of all.now) (places_of so_far.now) number literal) }
+    ensures err { IfErr result IsMemory }
+{
+    let Some(literal) = literal else {
+        return Ok(());
+    };
+    if !so_far.literals.contains(&LiteralKey::Area(literal)) {
+        let value = all.symbol(literal.label)?.value;
+        symbols.push(Symbol {
+            label: literal.label,
+            value,
+            length: Some(u32::from(literal.places)),
+            line: number,
+        })?;
     }
+    Ok(())
+}
 
-    /// Adds the symbols that the line of this number declares: its label, and those of the area literals that it uses
-    /// first.
-    fn put_symbols(
-        &self,
-        all: &Placing<'_>,
-        number: u64,
-        line: &KeptLine,
-        symbols: &mut Vec<Symbol>,
-    ) -> Result<(), AsmFault>
-        ensures ok { OnOk result (symbols.new.items ≡ symbols.old.items
-            ++ symbols_at (places_of all.now) (places_of self.now) number line.now) }
-        ensures err { IfErr result IsMemory }
-    {
-        let (first, second) = line.line().areas();
-        put_symbol(symbols, symbol_at(all, number, line)?)?;
-        self.put_area(all, number, first, symbols)?;
-        self.put_area(all, number, second_area(first, second), symbols)?;
-        Ok(())
-    }
+/// Adds the symbols that the line of this number declares: its label, and those of the area literals that it uses
+/// first.
+fn put_symbols(
+    all: &Placing<'_>,
+    so_far: &Placing<'_>,
+    number: u64,
+    line: &KeptLine,
+    symbols: &mut Vec<Symbol>,
+) -> Result<(), AsmFault>
+    ensures ok { OnOk result (symbols.new.items ≡ symbols.old.items
+        ++ symbols_at (places_of all.now) (places_of so_far.now) number line.now) }
+    ensures err { IfErr result IsMemory }
+{
+    let (first, second) = line.line().areas();
+    put_symbol(symbols, symbol_at(all, number, line)?)?;
+    put_area(all, so_far, number, first, symbols)?;
+    put_area(all, so_far, number, second_area(first, second), symbols)?;
+    Ok(())
 }
 
 /// The symbols that lines declare, in their order, once all is placed.
@@ -189,7 +183,7 @@ pub(crate) fn symbols_of(
     let mut symbols = Vec::new(alloc);
     let mut so_far = Placing::new(alloc, hashing, all.chains);
     for (i, line) in lines.iter().enumerate() {
-        so_far.put_symbols(all, i as u64 + 1, line, &mut symbols)?;
+        put_symbols(all, &so_far, i as u64 + 1, line, &mut symbols)?;
         so_far.place(line)?;
     }
     Ok(symbols)

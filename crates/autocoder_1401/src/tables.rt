@@ -1,24 +1,22 @@
 //! An assembly with the tables that its listing may end with.
 ghost use Rattle.std.specs.Prelude.{◌≡◌, ◌<◌, ◌^◌, length, IfOk, IfErr};
-ghost use Rattle.autocoder_1401.specs.Assembly.{lines_in, assembly_in};
+ghost use Rattle.symbols_1401.specs.Reading.{lines_in};
+ghost use Rattle.symbols_1401.specs.Fault.{IsMemory, Gives};
+ghost use Rattle.placing_1401.specs.Placement.{placed};
+ghost use Rattle.placing_1401.specs.View.{places_of};
+ghost use Rattle.autocoder_1401.specs.Assembly.{assembly_in};
 ghost use Rattle.autocoder_1401.specs.CrossReference.{references_text};
-ghost use Rattle.autocoder_1401.specs.Fault.{IsMemory, Gives};
 ghost use Rattle.autocoder_1401.specs.Languages.{AgreesWithPlain};
-ghost use Rattle.autocoder_1401.specs.Placement.{placed};
 ghost use Rattle.autocoder_1401.specs.SymbolTable.{symbols_text};
-ghost use Rattle.autocoder_1401.specs.View.{places_of};
 ghost use Rattle.autocoder_1401.specs.declared.tables.AssemblyTables.{AssemblyTables as Made};
 
 use crate::assembly::{Assembly, faultless_chains, make_assembly};
 use crate::cross_reference::{references_text, uses_of};
-use crate::fault::AsmFault;
-use crate::hashing::SourceHashing;
-use crate::kept_line::KeptLine;
-use crate::placing::{Placing, place_all};
-use crate::reading::read_lines;
 use crate::symbol_table::{symbols_of, symbols_text};
+use placing_1401::{Placing, place_all};
 use source_1401::Language;
 use std::alloc::Global;
+use symbols_1401::{AsmFault, KeptLine, SourceHashing, read_lines};
 
 /// An assembly, with its symbol table and its cross-reference as texts.
 #[derive(Debug, Drop)]
@@ -65,7 +63,7 @@ fn make_tables(
 /// # Errors
 ///
 /// `Memory` if memory is refused or the source has too many lines; otherwise the fault that `assemble` tells.
-#[tactic(auto, using(crate::proofs::LanguageLemmas::agrees_with_plain))]
+#[tactic(auto, using(crate::proofs::LanguagesLemmas::agrees_with_plain))]
 pub fn assemble_with_tables(
     alloc: Global,
     language: Language,

@@ -1,32 +1,27 @@
 //! What a source without a fault says and hardly means.
 ghost use Rattle.std.specs.Prelude.{◌≡◌, ◌+◌, ◌<◌, ◌^◌, ◌++◌, length, IfOk, IfErr, OnOk};
 ghost use Rattle.source_1401.specs.Statement.{well_formed};
-ghost use Rattle.autocoder_1401.specs.Assembly.{lines_in};
-ghost use Rattle.autocoder_1401.specs.Fault.{IsMemory};
+ghost use Rattle.symbols_1401.specs.Reading.{lines_in};
+ghost use Rattle.symbols_1401.specs.Fault.{IsMemory};
+ghost use Rattle.faults_1401.specs.Noted.{known_of};
+ghost use Rattle.placing_1401.specs.Placement.{instruction_length};
 ghost use Rattle.autocoder_1401.specs.Languages.{AgreesWithPlain};
-ghost use Rattle.autocoder_1401.specs.Noted.{known_of};
 ghost use Rattle.autocoder_1401.specs.Warnings.{is_unit, is_unfitted, is_unfitted_chain, is_not_fitted, is_unused};
-ghost use Rattle.autocoder_1401.specs.Warnings.{tests_comparison, is_unset, branches_unset, has_sign};
-ghost use Rattle.autocoder_1401.specs.Warnings.{is_signed_literal, lone_symbol, stays_unsigned, are_unlike};
-ghost use Rattle.autocoder_1401.specs.Warnings.{compares_unlike, longest, ends, open_place, chain_read_on, read_on};
-ghost use Rattle.autocoder_1401.specs.Warnings.{warned_if, warned_of, statement_warnings, line_warnings};
-ghost use Rattle.autocoder_1401.specs.Warnings.{warnings_from, all_warnings, PlainIsCarriedOut};
-ghost use Rattle.autocoder_1401.specs.Placement.{instruction_length};
+ghost use Rattle.autocoder_1401.specs.Warnings.{tests_comparison, is_unset, branches_unset, is_signed_literal};
+ghost use Rattle.autocoder_1401.specs.Warnings.{lone_symbol, stays_unsigned, are_unlike, compares_unlike, longest};
+ghost use Rattle.autocoder_1401.specs.Warnings.{ends, open_place, chain_read_on, read_on, warned_if, warned_of};
+ghost use Rattle.autocoder_1401.specs.Warnings.{statement_warnings, line_warnings, warnings_from, all_warnings};
+ghost use Rattle.autocoder_1401.specs.Warnings.{PlainIsCarriedOut};
 
-use crate::fault::AsmFault;
-use crate::filling::{Filling, fill};
-use crate::fitted::is_fitted;
-use crate::hashing::SourceHashing;
-use crate::kept_line::KeptLine;
-use crate::lengths::{chain_length, instruction_length};
-use crate::notes::Notes;
-use crate::reading::read_lines;
 use bcd_1401::{Cell, Char};
+use faults_1401::Notes;
+use placing_1401::{Filling, chain_length, fill, instruction_length, is_fitted};
 use source_1401::{
     Base, Chain, Constant, Contents, Instruction, Label, LabelField, Language, Literal, Operand,
     OperandField, Operands, Statement,
 };
 use std::alloc::Global;
+use symbols_1401::{AsmFault, KeptLine, SourceHashing, read_lines};
 
 /// What a line says and hardly means.
 #[derive(Clone, Copy, Debug, PartialEq, Eq)]
@@ -376,7 +371,7 @@ fn warnings_of(alloc: Global, this: &Context, lines: &[KeptLine]) -> Result<Vec<
 /// # Errors
 ///
 /// `Memory` if memory is refused or the source has too many lines.
-#[tactic(auto, using(crate::proofs::LanguageLemmas::agrees_with_plain, crate::proofs::PlainWarningsLemmas::plain_is_carried_out))]
+#[tactic(auto, using(crate::proofs::LanguagesLemmas::agrees_with_plain, crate::proofs::PlainWarningsLemmas::plain_is_carried_out))]
 pub fn warnings(
     alloc: Global,
     language: Language,

@@ -20,9 +20,9 @@ use Rattle.source_1401.specs.declared.mnemonic.Instruction.{Instruction}
 use Rattle.source_1401.specs.declared.operands.OperandField.TheVariants as fields
 use Rattle.source_1401.specs.declared.operands.Operands.{Operands}
 use Rattle.source_1401.specs.declared.language.Language.TheVariants.{Plain}
-use Rattle.autocoder_1401.specs.Cells.{plain, marked, address_codes, d_codes, instruction_cells}
-use Rattle.autocoder_1401.specs.Characters.{char_of}
-use Rattle.autocoder_1401.specs.Placement.{Placement}
+use Rattle.placing_1401.specs.Cells.{plain, marked, address_codes, d_codes, instruction_cells}
+use Rattle.placing_1401.specs.Characters.{char_of}
+use Rattle.placing_1401.specs.Placement.{Placement}
 use Rattle.instruction_text_1401.specs.Address.{register_in, address_text}
 use Rattle.instruction_text_1401.specs.InstructionText.{IsOwn, graphic_of}
 use Rattle.disassembly_1401.specs.Assembled.{is_spelling, has_no_mark}

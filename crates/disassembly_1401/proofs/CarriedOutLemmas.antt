@@ -5,7 +5,7 @@ use Rattle.std.specs.List.{range_with_len}
 use Rattle.std.specs.Option.{option_map_or}
 use Rattle.std.specs.Prelude.{slice_index}
 use Rattle.bcd_1401.specs.Graphic.{graphics}
-use Rattle.autocoder_1401.specs.Fitted.{fitted_lengths, is_fitted, is_one_of}
+use Rattle.placing_1401.specs.Fitted.{fitted_lengths, is_fitted, is_one_of}
 use Rattle.cpu_1401.specs.Operation.{form_of, has_length, operation_of}
 use Rattle.cpu_1401.specs.declared.operation.Operation.{Operation}
 use Rattle.disassembly_1401.specs.CarriedOut.{machine_lengths, is_carried_out}

@@ -9,9 +9,9 @@ use Rattle.std.proofs.lemmas.Bool.Decides.{nat_tests}
 use Rattle.std.proofs.lemmas.Slice.Eq.{bytes_eq-Decides}
 use Rattle.bcd_1401.specs.declared.cell.Cell.{Cell}
 use Rattle.core_1401.specs.Address.{addresses, value_of, spelling_of}
-use Rattle.autocoder_1401.specs.Cells.{address_or_zero, plain, with_index, address_codes}
-use Rattle.autocoder_1401.specs.Characters.{char_of}
-use Rattle.autocoder_1401.specs.Placement.{Placement}
+use Rattle.placing_1401.specs.Cells.{address_or_zero, plain, with_index, address_codes}
+use Rattle.placing_1401.specs.Characters.{char_of}
+use Rattle.placing_1401.specs.Placement.{Placement}
 use Rattle.instruction_text_1401.specs.Address.{register_in}
 use Rattle.instruction_text_1401.specs.InstructionText.{IsOwn, graphic_of}
 use Rattle.disassembly_1401.specs.Assembled.{is_spelling, has_no_mark}

@@ -19,8 +19,8 @@ use Rattle.source_1401.specs.declared.mnemonic.Instruction.{Instruction}
 use Rattle.source_1401.specs.declared.statement.Body.TheVariants as bodies
 use Rattle.source_1401.specs.declared.statement.LineCheck.TheVariants as bytes
 use Rattle.source_1401.specs.declared.statement.Line.{Line}
-use Rattle.autocoder_1401.specs.Placement.{instruction_length}
-use Rattle.autocoder_1401.specs.Values.{last_place}
+use Rattle.placing_1401.specs.Placement.{instruction_length}
+use Rattle.placing_1401.specs.Values.{last_place}
 use Rattle.instruction_text_1401.specs.InstructionText.{addresses_in, d_in, graphic_of, instruction_text, operands_text}
 use Rattle.instruction_text_1401.specs.InstructionText.{IsOwn, IsOwnD}
 use Rattle.instruction_text_1401.specs.Mnemonic.{mnemonic_of}

@@ -13,8 +13,8 @@ use Rattle.source_1401.specs.declared.mnemonic.DCharacter.TheVariants as kinds
 use Rattle.source_1401.specs.declared.statement.LineCheck.TheVariants as bytes
 use Rattle.source_1401.specs.declared.statement.Line.{Line}
 use Rattle.source_1401.specs.declared.statement.Statement.{Statement}
-use Rattle.autocoder_1401.specs.Cells.{statement_cells, with_index}
-use Rattle.autocoder_1401.specs.Placement.{Placement}
+use Rattle.placing_1401.specs.Cells.{statement_cells, with_index}
+use Rattle.placing_1401.specs.Placement.{Placement}
 use Rattle.instruction_text_1401.specs.Address.{register_in}
 use Rattle.instruction_text_1401.specs.InstructionText.{graphic_of, addresses_in, d_in}
 

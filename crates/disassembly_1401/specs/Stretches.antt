@@ -3,9 +3,9 @@ use Rattle.std.specs.Prelude.{ℕ, ◌+◌, ◌==◌, Bool, not, ◌&&◌, nat_l
 use Rattle.std.specs.List.{flat_map}
 use Rattle.bcd_1401.specs.declared.cell.Cell.{Cell}
 use Rattle.image_1401.specs.declared.image.Segment.{Segment}
-use Rattle.autocoder_1401.specs.Cells.{numbered}
+use Rattle.placing_1401.specs.Cells.{numbered}
 use Rattle.notation_1401.specs.Cells.{most_cells}
-use Rattle.autocoder_1401.specs.Segments.{start_or_zero}
+use Rattle.placing_1401.specs.Segments.{start_or_zero}
 use Rattle.disassembly_1401.specs.declared.stretches.Builder.{Builder}
 
 -- the cells of segments in their order, each with its address

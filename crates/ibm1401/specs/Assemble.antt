@@ -2,9 +2,10 @@
 use Rattle.std.specs.Prelude.{◌≡◌, ◌⊎◌, ℕ, ⊤, Bool, IsTrue, if◌then◌else◌, List, [], ◌∷◌, ◌++◌, Option, Some, Result, Ok, Err, IsOk, codes}
 use Rattle.std.specs.Io.KnownBytes.{Appends, Keeps}
 use Rattle.std.specs.List.{flat_map}
-use Rattle.autocoder_1401.specs.Assembly.{assembly_in, lines_in}
+use Rattle.autocoder_1401.specs.Assembly.{assembly_in}
+use Rattle.symbols_1401.specs.Reading.{lines_in}
 use Rattle.autocoder_1401.specs.CrossReference.{references_text}
-use Rattle.autocoder_1401.specs.Fault.{IsMemory}
+use Rattle.symbols_1401.specs.Fault.{IsMemory}
 use Rattle.autocoder_1401.specs.SymbolTable.{symbols_text}
 use Rattle.autocoder_1401.specs.declared.assembly.Assembly.{Assembly}
 use Rattle.deck_1401.specs.Contents.{first_taken, storage_of}

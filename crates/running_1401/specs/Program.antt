@@ -2,7 +2,7 @@
 use Rattle.std.specs.Prelude.{◌≡◌, ◌⊎◌, ℕ, ◌||◌, ◌==◌, Bool, List, [], ◌∷◌, None, Some, Result, Ok, Err, codes}
 use Rattle.std.specs.List.{starts_with}
 use Rattle.autocoder_1401.specs.Assembly.{assembly_in}
-use Rattle.autocoder_1401.specs.Fault.{IsMemory}
+use Rattle.symbols_1401.specs.Fault.{IsMemory}
 use Rattle.autocoder_1401.specs.declared.assembly.Assembly.{Assembly}
 use Rattle.command_1401.specs.CarryOut.{deposited}
 use Rattle.cpu_1401.specs.State.{State, power_on}
@@ -11,7 +11,7 @@ use Rattle.image_1401.specs.declared.image.Image.{Image}
 use Rattle.image_1401.specs.declared.image.Segment.{Segment}
 use Rattle.image_1401.specs.ImageText.{IsTextOf}
 use Rattle.image_1401.specs.Refusal.{IsRefused}
-use Rattle.autocoder_1401.specs.declared.fault.AsmFault.{AsmFault}
+use Rattle.symbols_1401.specs.declared.fault.AsmFault.{AsmFault}
 use Rattle.source_1401.specs.declared.language.Language.{Language}
 use Rattle.running_1401.specs.declared.programs.Program.{Program}
 use Rattle.running_1401.specs.declared.fault.RunFault.{RunFault}

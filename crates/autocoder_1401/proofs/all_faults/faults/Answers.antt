@@ -1,8 +1,10 @@
 -- What is told is all faults: the first is the assembler's, and each is there.
 use Rattle.std.proofs.Common.{ap, sym, subst, ◌∙◌, List, All}
-use Rattle.autocoder_1401.specs.AllFaults.{first_in, IsTold}
-use Rattle.autocoder_1401.specs.Assembly.{lines_in, assembly_of}
-use Rattle.autocoder_1401.specs.declared.fault.AsmFault.{AsmFault}
+use Rattle.symbols_1401.specs.Reading.{lines_in}
+use Rattle.symbols_1401.specs.declared.fault.AsmFault.{AsmFault}
+use Rattle.faults_1401.specs.ToldFaults.{first_in}
+use Rattle.autocoder_1401.specs.AllFaults.{IsTold}
+use Rattle.autocoder_1401.specs.Assembly.{assembly_of}
 use Rattle.autocoder_1401.proofs.AllFaultsLemmas.{first_of_all, each_of_all}
 use Rattle.autocoder_1401.proofs.all_faults.faults.Goals as goal
 

@@ -1,14 +1,14 @@
 -- The answer is that of the passes; nothing of any line is outside core storage, so the image lies in it.
 use Rattle.std.proofs.Common.{List, ◌∙◌, sym, subst}
-use Rattle.source_1401.specs.declared.statement.Line.{Line}
 use Rattle.std.proofs.lemmas.Result.{err_from_is_err_and}
 use Rattle.image_1401.specs.Image.{IsInCore}
 use Rattle.image_1401.specs.declared.image.Image.{Image}
-use Rattle.autocoder_1401.specs.Assembly.{placed_cells}
-use Rattle.autocoder_1401.specs.Laws.{IsCutOf}
+use Rattle.source_1401.specs.declared.statement.Line.{Line}
+use Rattle.placing_1401.specs.PlacedImage.{placed_cells}
+use Rattle.placing_1401.specs.Laws.{IsCutOf}
+use Rattle.placing_1401.proofs.CoreLemmas.{image_inside}
+use Rattle.placing_1401.proofs.LawLemmas.{image_cut}
 use Rattle.autocoder_1401.proofs.AssemblyLemmas.{assembled_alone, not_assembled}
-use Rattle.autocoder_1401.proofs.CoreLemmas.{image_inside}
-use Rattle.autocoder_1401.proofs.LawLemmas.{image_cut}
 use Rattle.autocoder_1401.proofs.assembly.assemble_image.Goals as goal
 
 pub returns-in_err-image-clause-exact : goal.returns-in_err-image-clause-exact

@@ -1,8 +1,8 @@
 -- The chains are those in the language of the lines, and lines without a fault have no others.
 use Rattle.std.proofs.Common.{◌≡◌, None, sym, ap, ◌∙◌}
-use Rattle.autocoder_1401.specs.FirstFault.{first_fault}
-use Rattle.autocoder_1401.specs.Known.{Declared}
-use Rattle.autocoder_1401.proofs.ChainsLemmas.{chains_alike}
+use Rattle.symbols_1401.specs.Known.{Declared}
+use Rattle.faults_1401.specs.FirstFault.{first_fault}
+use Rattle.faults_1401.proofs.ChainsLemmas.{chains_alike}
 use Rattle.autocoder_1401.proofs.assembly.faultless_chains.Goals as goal
 
 pub returns-clause-ok : goal.returns-clause-ok

@@ -1,7 +1,7 @@
 -- What is found is the first line with something outside.
 use Rattle.std.proofs.lemmas.Result.{err_from_is_err_and}
-use Rattle.autocoder_1401.specs.View.{places_of}
-use Rattle.autocoder_1401.proofs.LawLemmas.{refused_outside}
+use Rattle.placing_1401.specs.View.{places_of}
+use Rattle.placing_1401.proofs.LawLemmas.{refused_outside}
 use Rattle.autocoder_1401.proofs.assembly.make_image.Goals as goal
 
 pub returns-in_err-segments-clause-outside : goal.returns-in_err-segments-clause-outside

@@ -1,7 +1,7 @@
 -- The symbols are those of the lines.
 use Rattle.std.proofs.Common.{◌∙◌, ap, subst, IfNone, IfSome}
-use Rattle.autocoder_1401.specs.FirstFault.{first_fault_from, first_place, IsFaultless, IsFirstFault}
-use Rattle.autocoder_1401.specs.Known.{Declared}
+use Rattle.symbols_1401.specs.Known.{Declared}
+use Rattle.faults_1401.specs.FirstFault.{first_fault_from, first_place, IsFaultless, IsFirstFault}
 use Rattle.autocoder_1401.proofs.assembly.scan.Goals as goal
 
 pub returns-clause-fault : goal.returns-clause-fault

@@ -2,7 +2,7 @@
 use Rattle.std.proofs.Common.{ℕ, List, [], ◌∷◌, ◌++◌, ◌∙◌, ap, subst, refl, cond, IsSome, Option, Some, Vec, Global}
 use Rattle.std.specs.Option.{option_map_or}
 use Rattle.indexmap.specs.IndexMap.{get}
-use Rattle.autocoder_1401.specs.Symbols.{same_label}
+use Rattle.symbols_1401.specs.Symbols.{same_label}
 use Rattle.autocoder_1401.proofs.CrossReferenceLemmas.{used}
 use Rattle.autocoder_1401.proofs.cross_reference.note_use.Goals as goal
 

@@ -4,7 +4,7 @@ use Rattle.std.proofs.lemmas.Bool.{eqb-true}
 use Rattle.std.proofs.lemmas.List.{nil_from_length}
 use Rattle.source_1401.specs.SourceLine.{lines_of}
 use Rattle.autocoder_1401.specs.Assembly.{assembly_of}
-use Rattle.autocoder_1401.proofs.ExplanationLemmas.{outside_explained}
+use Rattle.autocoder_1401.proofs.ExplainingLemmas.{outside_explained}
 use Rattle.autocoder_1401.proofs.explaining.add_outside_explained.Goals as goal
 
 pub returns-in_ok-push-clause-ok : goal.returns-in_ok-push-clause-ok

@@ -1,12 +1,14 @@
 -- What is explained is what is told: the first is the assembler's, and each is there.
 use Rattle.std.proofs.Common.{ap, sym, subst, ◌∙◌, List, All}
 use Rattle.source_1401.specs.SourceLine.{lines_of}
-use Rattle.autocoder_1401.specs.AllFaults.{first_in, IsTold}
-use Rattle.autocoder_1401.specs.Assembly.{lines_in, assembly_of}
-use Rattle.autocoder_1401.specs.Explanation.{faults_of}
-use Rattle.autocoder_1401.specs.declared.fault.AsmFault.{AsmFault}
+use Rattle.symbols_1401.specs.Reading.{lines_in}
+use Rattle.symbols_1401.specs.declared.fault.AsmFault.{AsmFault}
+use Rattle.faults_1401.specs.ToldFaults.{first_in}
+use Rattle.faults_1401.specs.Explanation.{faults_of}
+use Rattle.autocoder_1401.specs.AllFaults.{IsTold}
+use Rattle.autocoder_1401.specs.Assembly.{assembly_of}
 use Rattle.autocoder_1401.proofs.AllFaultsLemmas.{first_of_all, each_of_all}
-use Rattle.autocoder_1401.proofs.ExplanationLemmas.{told_all}
+use Rattle.autocoder_1401.proofs.ExplainingLemmas.{told_all}
 use Rattle.autocoder_1401.proofs.explaining.explained_faults.Goals as goal
 
 pub returns-clause-faults : goal.returns-clause-faults

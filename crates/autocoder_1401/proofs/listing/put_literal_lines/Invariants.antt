@@ -1,7 +1,7 @@
 -- The lines so far, with those of the literals that are left, are those of all.
 use Rattle.std.proofs.Common.{◌≡◌, ◌++◌, drop}
+use Rattle.placing_1401.specs.View.{places_of}
 use Rattle.autocoder_1401.specs.Listing.{literal_lines}
-use Rattle.autocoder_1401.specs.View.{places_of}
 use Rattle.autocoder_1401.proofs.listing.put_literal_lines.Given as goal
 
 abbrev pub invariant-loop-literal : goal.invariant-loop-literal

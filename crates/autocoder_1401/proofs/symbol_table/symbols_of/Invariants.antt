@@ -1,8 +1,8 @@
 -- The symbols so far, with those of the lines that are left, are those of all lines.
 use Rattle.std.proofs.Common.{◌≡◌, ◌+◌, ◌++◌, drop}
-use Rattle.autocoder_1401.specs.Placement.{unplaced}
+use Rattle.placing_1401.specs.Placement.{unplaced}
+use Rattle.placing_1401.specs.View.{places_of}
 use Rattle.autocoder_1401.specs.SymbolTable.{symbols_from}
-use Rattle.autocoder_1401.specs.View.{places_of}
 use Rattle.autocoder_1401.proofs.symbol_table.symbols_of.Given as goal
 
 abbrev pub invariant-loop-i : goal.invariant-loop-i

@@ -2,8 +2,8 @@
 use Rattle.std.proofs.Common.{ℕ, List, ◌∙◌, ap}
 use Rattle.std.specs.List.{flat_map}
 use Rattle.source_1401.specs.declared.label.Label.{Label}
+use Rattle.placing_1401.specs.Placement.{Placement, unplaced, placed}
 use Rattle.autocoder_1401.specs.CrossReference.{reference_line, uses_of}
-use Rattle.autocoder_1401.specs.Placement.{Placement, unplaced, placed}
 use Rattle.autocoder_1401.specs.SymbolTable.{symbols_from}
 use Rattle.autocoder_1401.specs.View.{lines_naming}
 use Rattle.autocoder_1401.specs.declared.symbol_table.Symbol.{Symbol}

@@ -1,7 +1,7 @@
 -- An image as it was read, and what a source stands for.
 use Rattle.std.proofs.Common.{◌≡◌, ◌⊎◌, ℕ, Ok, Err, refl, subst}
+use Rattle.symbols_1401.specs.Fault.{IsMemory}
 use Rattle.autocoder_1401.specs.Assembly.{assembly_in}
-use Rattle.autocoder_1401.specs.Fault.{IsMemory}
 use Rattle.running_1401.proofs.programs.program_of.Goals as goal
 
 pub returns-in-Ok-clause-image : goal.returns-in-Ok-clause-image

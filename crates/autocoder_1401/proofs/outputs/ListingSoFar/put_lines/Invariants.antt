@@ -1,8 +1,8 @@
 -- What is listed, with what the lines that are left stand for, is the whole.
 use Rattle.std.proofs.Common.{◌≡◌, ◌+◌, ◌++◌, length, drop}
 use Rattle.source_1401.specs.SourceLine.{lines_of}
+use Rattle.placing_1401.specs.View.{places_of}
 use Rattle.autocoder_1401.specs.Listing.{listing_from}
-use Rattle.autocoder_1401.specs.View.{places_of}
 use Rattle.autocoder_1401.proofs.outputs.ListingSoFar.put_lines.Given as goal
 
 abbrev pub invariant-loop-i : goal.invariant-loop-i

@@ -1,10 +1,10 @@
 -- What is made, with what the lines that are left stand for, is the whole; what is found in them is what is found in all
 -- lines.
 use Rattle.std.proofs.Common.{◌≡◌, ◌+◌, drop}
-use Rattle.autocoder_1401.specs.Built.{built}
-use Rattle.autocoder_1401.specs.Cells.{cells_from}
-use Rattle.autocoder_1401.specs.Values.{first_outside_from}
-use Rattle.autocoder_1401.specs.View.{places_of}
+use Rattle.placing_1401.specs.Built.{built}
+use Rattle.placing_1401.specs.Cells.{cells_from}
+use Rattle.placing_1401.specs.Values.{first_outside_from}
+use Rattle.placing_1401.specs.View.{places_of}
 use Rattle.autocoder_1401.proofs.outputs.SegmentsSoFar.put_lines.Given as goal
 
 abbrev pub invariant-loop-i : goal.invariant-loop-i

@@ -1,7 +1,7 @@
 -- The cells that are left, put after what is built, give what all cells give.
 use Rattle.std.proofs.Common.{◌≡◌, ◌+◌, ◌++◌, ℕ, List, drop}
 use Rattle.bcd_1401.specs.declared.cell.Cell.{Cell}
-use Rattle.autocoder_1401.specs.Cells.{numbered}
+use Rattle.placing_1401.specs.Cells.{numbered}
 use Rattle.disassembly_1401.specs.Stretches.{built}
 use Rattle.disassembly_1401.proofs.stretches.Builder.put_all.Given as goal
 

@@ -1,0 +1,6 @@
+pub mod ChainsLemmas
+pub mod ExplanationLemmas
+pub mod FirstFaultLemmas
+pub mod LowestLemmas
+pub mod SoundLemmas
+pub mod ToldFaultsLemmas

@@ -1,0 +1,13 @@
+pub mod Built
+pub mod Cells
+pub mod Characters
+pub mod Filling
+pub mod Fitted
+pub mod Laws
+pub mod Literals
+pub mod PlacedImage
+pub mod Placement
+pub mod PlacementLaws
+pub mod Segments
+pub mod Values
+pub mod View

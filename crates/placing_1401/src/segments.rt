@@ -1,0 +1,143 @@
+//! Cells in the order of placing, cut into segments.
+ghost use Rattle.std.specs.Prelude.{◌≡◌, ◌∷◌, ◌++◌, ◌+◌, ◌<◌, ℕ, List, [], length, drop, IfOk, IfErr, OnOk};
+ghost use Rattle.bcd_1401.specs.declared.cell.Cell.{Cell as ACell};
+ghost use Rattle.symbols_1401.specs.Fault.{IsMemory};
+ghost use Rattle.placing_1401.specs.Cells.{address_or_zero, numbered, row_cells};
+ghost use Rattle.placing_1401.specs.Placement.{start_by};
+ghost use Rattle.placing_1401.specs.Segments.{start_or_zero, closed, goes_on, segments_of};
+ghost use Rattle.placing_1401.specs.View.{places_of};
+ghost use Rattle.placing_1401.specs.Built.{built};
+
+use crate::cells::cells_of;
+use crate::placing::Placing;
+use bcd_1401::Cell;
+use core_1401::{ADDRESSES, Cells, MOST_CELLS};
+use image_1401::Segment;
+use source_1401::Description;
+use std::alloc::Global;
+use symbols_1401::{AsmFault, KeptLine};
+
+/// The segments so far, and the one that may go on.
+#[derive(Drop)]
+pub struct Builder {
+    /// The segments that are closed.
+    pub done: Vec<Segment>,
+    /// The address of the one that may go on.
+    pub address: usize,
+    /// Its cells.
+    pub cells: Vec<Cell>,
+}
+
+/// The address; 0 if it is none.
+fn start_or_zero(at: usize) -> u16
+    ensures { result ≡ start_or_zero at }
+{
+    if at < usize::from(ADDRESSES) {
+        at as u16
+    } else {
+        0
+    }
+}
+
+impl Builder {
+    /// No segment.
+    pub fn new(alloc: Global) -> Builder
+        ensures { (rest : List (ℕ × ACell)) → built result rest ≡ segments_of rest }
+    {
+        Builder {
+            done: Vec::new(alloc),
+            address: 0,
+            cells: Vec::new(alloc),
+        }
+    }
+
+    /// Whether a cell at this address goes on with the segment.
+    fn goes_on(&self, address: usize) -> bool
+        ensures { result ≡ goes_on self.now.address self.now.cells.items address }
+    {
+        self.cells.len() < MOST_CELLS
+            && address >= self.address
+            && address - self.address == self.cells.len()
+    }
+
+    /// Closes the segment that may go on, if it has a cell.
+    fn close(&mut self) -> Result<(), AsmFault>
+        ensures ok { OnOk result
+            (self.new.done.items ≡ self.old.done.items ++ closed self.old.address self.old.cells.items) }
+        ensures empty { OnOk result (self.new.cells.items ≡ []) }
+        ensures err { IfErr result IsMemory }
+    {
+        if let Some(cells) = Cells::from_slice(&self.cells) {
+            self.done.push(Segment {
+                address: start_or_zero(self.address),
+                cells,
+            })?;
+        }
+        self.cells.clear();
+        Ok(())
+    }
+
+    /// Puts a cell at an address.
+    fn put(&mut self, address: usize, cell: Cell) -> Result<(), AsmFault>
+        ensures ok { OnOk result
+            ((rest : List (ℕ × ACell)) → built self.new rest ≡ built self.old ((address, cell) ∷ rest)) }
+        ensures err { IfErr result IsMemory }
+    {
+        if !self.goes_on(address) {
+            self.close()?;
+            self.address = address;
+        }
+        self.cells.push(cell)?;
+        Ok(())
+    }
+
+    /// Puts cells from an address on.
+    fn put_all(&mut self, address: u16, cells: &[Cell]) -> Result<(), AsmFault>
+        ensures ok { OnOk result
+            ((rest : List (ℕ × ACell)) → built self.new rest ≡ built self.old (numbered address cells.now ++ rest)) }
+        ensures err { IfErr result IsMemory }
+    {
+        let mut at = usize::from(address);
+        for cell in cells {
+            self.put(at, *cell)?;
+            at = at.checked_add(1).ok_or(AsmFault::MEMORY)?;
+        }
+        Ok(())
+    }
+
+    /// Puts the cells of a statement with this row for which this is placed so far, with these lines after it.
+    pub fn put_row(
+        &mut self,
+        alloc: Global,
+        all: &Placing<'_>,
+        so_far: &Placing<'_>,
+        row: &Description,
+        behind: &[KeptLine],
+    ) -> Result<(), AsmFault>
+        ensures built { OnOk result ((rest : List (ℕ × ACell)) → built self.new rest ≡ built self.old
+            (numbered (address_or_zero (start_by (places_of so_far.now) row.now row.now.next))
+            (row_cells (places_of all.now) (places_of so_far.now) row.now row.now.next behind.now) ++ rest)) }
+        ensures err { IfErr result IsMemory }
+    {
+        let cells = cells_of(alloc, all, so_far, row, behind)?;
+        self.put_all(so_far.start_address(row)?, &cells)?;
+        Ok(())
+    }
+
+    /// The segments.
+    pub fn finish(mut self) -> Result<Vec<Segment>, AsmFault>
+        ensures ok { IfOk result (λ segments. segments.items ≡ built self []) }
+        ensures err { IfErr result IsMemory }
+    {
+        self.close()?;
+        Ok(self.done)
+    }
+}
+
+/// The lines after the one with this index.
+pub fn lines_behind(lines: &[KeptLine], i: usize) -> &[KeptLine]
+    requires { i < length lines.now }
+    ensures { result.now ≡ drop (i + 1) lines.now }
+{
+    lines.split_at(i + 1).1
+}

@@ -1,0 +1,4 @@
+pub mod ChainLawLemmas
+pub mod ChainLinksLemmas
+pub mod ReadingLemmas
+pub mod SymbolsLemmas
