@@ -125,7 +125,7 @@ lines_alike Ibm source none =
     (all_sound (declared_at Plain (lines_in Plain source)) first_place (lines_in Plain source) none)
 
 -- what the plain language takes has no fault in each language
-clean_in_each : (language : Language) (lines : List Line) → first_fault Plain lines ≡ None
+pub clean_in_each : (language : Language) (lines : List Line) → first_fault Plain lines ≡ None
     → first_fault language lines ≡ None
 clean_in_each Plain lines none = none
 clean_in_each Ibm lines none = clean_in_wider lines none

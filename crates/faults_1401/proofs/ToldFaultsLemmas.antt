@@ -49,7 +49,7 @@ first_told declared anywhere this (line ∷ lines) clean =
     same : told declared anywhere this line ≡ lowest declared this.at line
     same = rw clean refl
 
-first_of_lines : (language : Language) (lines : List Line)
+pub first_of_lines : (language : Language) (lines : List Line)
     → first_in (line_faults language lines) ≡ first_fault language lines
 first_of_lines language lines =
     first_told (declared_at language lines) (sites_anywhere lines) nothing_before lines refl
@@ -124,7 +124,7 @@ end_is_there declared lines i this whole here = by this.at.is_ended refl
     by true is = rw is (All-nil (IsThere declared lines))
     by false is = rw is (lost (not this.is_clean && this.lost_end) is)
 
-each_from : (declared : Declared) (anywhere : Sites) (lines rest : List Line) (i : ℕ) (this : Before) → rest ≡ drop i lines
+pub each_from : (declared : Declared) (anywhere : Sites) (lines rest : List Line) (i : ℕ) (this : Before) → rest ≡ drop i lines
     → i ≤ length lines → this.at ≡ place_at lines i
     → All (IsThere declared lines) (faults_from declared anywhere this rest)
 each_from declared anywhere lines [] i this left inside here =
