@@ -744,8 +744,8 @@ TOGETHER_REFUSED = [
     # an area literal is declared, whatever else is wrong with its line
     ("               A    SUM#3,Q\n               A    SUM,5\n", 1, "7 UNDEFINED", "27: UNDEFINED: Q is the label of no line"),
     ("     REC       DA   1X5\n     F\n", 2, "8 OPERAND", "21: OPERAND: an operand is missing"),
-    ("     REC       DA   1X5\n                    6\n", 2, "8 OPERAND", "21: OPERAND: 6 is no place of a field"),
-    ("     REC       DA   1X5\n                    3,6\n", 2, "8 OPERAND", "23: OPERAND: 6 is no place of a field"),
+    ("     REC       DA   1X5\n                    6\n", 2, "8 OPERAND", "21: OPERAND: the field ends after its area"),
+    ("     REC       DA   1X5\n                    3,6\n", 2, "8 OPERAND", "23: OPERAND: the field ends after its area"),
 ]
 
 
