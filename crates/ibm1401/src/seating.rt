@@ -11,14 +11,13 @@ use crate::journals::durability_of;
 use crate::loading::read_file;
 use crate::serving::start_fault;
 use arguments_1401::{NewJournal, Opening, Seating};
-use console_1401::OpenDoor;
 use core_1401::Core;
 use devices_1401::{Card, MOST_HELD};
 use image_1401::{Image, read_image};
 use keeping_1401::{JournalFile, TextKeeper, begin_journal};
 use room_1401::{Keeper, NoKeeper, Opened, RoomId, SharedRoom};
 use running_1401::read_cards;
-use serving_1401::{SeatsFault, SeatsServed, serve_pages};
+use serving_1401::{SeatsFault, SeatsServed, TakingTurns, serve_pages};
 use std::fs;
 use std::fs::File;
 use std::io::StdinLock;
@@ -201,7 +200,8 @@ pub(crate) fn serve_room<
     tell_ready(rt, pages)?;
     let input = FromReader::new(rt.reader());
     let consoles = entrances.consoles.as_ref();
-    let served = serve_pages(alloc, rt, room, seats, consoles, pages, input, &OpenDoor);
+    let door = TakingTurns::new(rt);
+    let served = serve_pages(alloc, rt, room, seats, consoles, pages, input, &door);
     let SeatsServed {
         room,
         keeper,

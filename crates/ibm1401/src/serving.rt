@@ -4,11 +4,13 @@ ghost use Rattle.ibm1401.specs.Status.{service_outcome, start_fault};
 
 use crate::fault::Fault;
 use arguments_1401::Service;
-use console_1401::{OpenDoor, ServeFault, serve};
+use console_1401::{ServeFault, serve};
 use room_1401::{Opened, RoomId, SharedRoom, StartFault};
+use serving_1401::TakingTurns;
 use std::alloc::Global;
 use std::marker::Brand;
 use std::net::{Ipv4Addr, Net, TcpListener, TcpStream};
+use std::rt::Clock;
 use std::sync::Wait;
 use std::thread::Threads;
 
@@ -50,6 +52,7 @@ pub fn open_room<
     R: Threads
         + Wait
         + Sync
+        + Clock
         + Print
         + AllocGlobal
         + Net<Listener = TcpListener, Stream = TcpStream>,
@@ -60,7 +63,7 @@ pub fn open_room<
 /// The same for a room of this name.
 fn serve_room<
     J: RoomId + Send + Sync,
-    R: Threads + Wait + Sync + Print + Net<Listener = TcpListener, Stream = TcpStream>,
+    R: Threads + Wait + Sync + Clock + Print + Net<Listener = TcpListener, Stream = TcpStream>,
 >(rt: &R, alloc: Global, service: Service, opened: Opened) -> Result<(), Fault>
     requires history { opened.book ≡ J.book }
     requires ledger { (opened.ledger ≡ J.name) × (opened.parts ≡ J.parts) × (J.parts ≡ J.seats) }
@@ -77,7 +80,8 @@ fn serve_room<
     if println!(rt; "READY").is_err() {
         return Err(Fault::Output);
     }
-    let served = serve(alloc, rt, room, seats, &listener, &OpenDoor);
+    let door = TakingTurns::new(rt);
+    let served = serve(alloc, rt, room, seats, &listener, &door);
     let told = println!(rt; "JOURNAL {}", served.room.journal().len());
     service_outcome(served.fault)?;
     told.map_err(|_| Fault::Output)

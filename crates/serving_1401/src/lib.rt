@@ -25,6 +25,9 @@ mod arrivals;
 mod consoles;
 pub mod paging;
 
+// at which operators take turns at the machine
+mod taking_turns;
+
 // the service
 pub mod serving;
 
@@ -35,3 +38,4 @@ pub use fault::SeatsFault;
 pub use giving::{GiveFault, foreign_seat, give, give_entries};
 pub use paging::PagePort;
 pub use serving::{SeatsServed, serve_pages, serve_seats};
+pub use taking_turns::TakingTurns;

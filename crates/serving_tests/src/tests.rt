@@ -8,3 +8,4 @@ mod operators;
 mod pages;
 mod seats;
 mod service;
+mod taking_turns;
