@@ -1,5 +1,6 @@
 -- The text of a deck is that of its cards: a line is read as the card with its characters.
-use Rattle.std.proofs.Common.{◌≡◌, ℕ, zero, suc, ◌+◌, ◌-◌, ◌/◌, ◌%◌, ◌<◌, ◌≤◌, ◌==◌, ◌&&◌, not, nat_lt, Bool, true, false, List, []}
+use Rattle.std.proofs.Common.{◌≡◌, ℕ, zero, suc, ◌+◌, ◌-◌, ◌/◌, ◌%◌, ◌<◌, ◌≤◌, ◌==◌, ◌&&◌, not, nat_lt, Bool, true}
+use Rattle.std.proofs.Common.{false, List, []}
 use Rattle.std.proofs.Common.{◌∷◌, ◌++◌, length, map, take, replicate, Some, if◌then◌else◌, refl, ap, ◌∙◌, arith, cond}
 use Rattle.std.specs.Prelude.{slice_index, Result, Ok, position}
 use Rattle.std.specs.Char.{to_ascii_uppercase}
@@ -113,7 +114,8 @@ first_between : (line : List ℕ) (parts : List (List ℕ)) → 0 < length parts
 first_between line [] some = absurd (omega (arith, some))
 first_between line (next ∷ more) some = refl
 
-first_line : (chars text : List ℕ) → Chars chars → lines_of (map graphic chars ++ 10 ∷ text) ≡ map graphic chars ∷ lines_of text
+first_line : (chars text : List ℕ) → Chars chars
+    → lines_of (map graphic chars ++ 10 ∷ text) ≡ map graphic chars ∷ lines_of text
 first_line chars text are =
     let line = map graphic chars in
     ap lines_between (slice_split_at is_line_feed line 10 text (no_ends chars are) refl)

@@ -1,6 +1,7 @@
 -- All cards of cells, one after the other.
 use Rattle.std.proofs.Common.{◌≡◌, ℕ, zero, suc, ◌+◌, ◌-◌, ◌≤◌, ◌==◌, Bool, true, false, List, [], ◌∷◌, ◌++◌}
-use Rattle.std.proofs.Common.{length, map, replicate, get_or, set, inl, inr, if◌then◌else◌, refl, ap, sym, subst, ◌∙◌, arith}
+use Rattle.std.proofs.Common.{length, map, replicate, get_or, set, inl, inr, if◌then◌else◌, refl, ap, sym, subst, ◌∙◌}
+use Rattle.std.proofs.Common.{arith}
 use Rattle.std.proofs.lemmas.Bool.Decides.{nat_tests}
 use Rattle.std.proofs.lemmas.List.{append_assoc, get_or_append_left, length-append, length-map, length-replicate}
 use Rattle.std.proofs.lemmas.List.FromFn.{fill_by_all}
@@ -9,7 +10,8 @@ use Rattle.core_1401.specs.Storage.{Storage, blanks, with_mark}
 use Rattle.devices_1401.specs.declared.card.Card.{Card}
 use Rattle.cpu_1401.specs.State.{State}
 use Rattle.deck_1401.specs.Card.{CellCard, marked_places}
-use Rattle.deck_1401.proofs.CellCardLemmas.{ArePlaces, CardCode, IsPlace, all_marked, all_set, card_chars, card_read, code_chars}
+use Rattle.deck_1401.proofs.CellCardLemmas.{ArePlaces, CardCode, IsPlace, all_marked, all_set, card_chars, card_read}
+use Rattle.deck_1401.proofs.CellCardLemmas.{code_chars}
 use Rattle.deck_1401.proofs.CellCardLemmas.{columns, mark_behind}
 use Rattle.deck_1401.proofs.CellLoadLemmas.{Brings, card_loaded, card_moved, first_marked, plain}
 use Rattle.deck_1401.proofs.LoaderCardLemmas.{loader_marks}

@@ -1,6 +1,7 @@
 -- A card that brings cells: it moves its columns to their places and sets their word marks, and the next card is read.
 use Rattle.std.proofs.Common.{◌≡◌, ℕ, zero, suc, ◌+◌, ◌-◌, ◌<◌, ◌≤◌, ◌⊎◌, ◌==◌, Bool, true, false}
-use Rattle.std.proofs.Common.{List, [], ◌∷◌, ◌++◌, length, map, get_or, set, inl, inr, if◌then◌else◌, refl, ap, sym, subst, ◌∙◌, arith}
+use Rattle.std.proofs.Common.{List, [], ◌∷◌, ◌++◌, length, map, get_or, set, inl, inr, if◌then◌else◌, refl, ap, sym}
+use Rattle.std.proofs.Common.{subst, ◌∙◌, arith}
 use Rattle.std.proofs.lemmas.Bool.Decides.{nat_tests}
 use Rattle.std.proofs.lemmas.List.{length-append}
 use Rattle.std.proofs.lemmas.List.{length-set}
@@ -94,7 +95,8 @@ marked_there low rest place size same is =
       | inr far ↦ marked_behind low rest place size far.0
     ]
 
-place_in : (low rest : Storage) (place : ℕ) → length low ≡ 81 → IsPlace (length rest) place → place < length (low ++ rest)
+place_in : (low rest : Storage) (place : ℕ) → length low ≡ 81 → IsPlace (length rest) place
+    → place < length (low ++ rest)
 place_in low rest place size is =
     elim is [
       | inl e ↦ omega (arith, length-append low rest)

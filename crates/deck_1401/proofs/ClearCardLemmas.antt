@@ -1,5 +1,6 @@
 -- The first card: storage is cleared down to 100, and the next card is read.
-use Rattle.std.proofs.Common.{◌≡◌, ℕ, zero, suc, ◌+◌, ◌-◌, ◌*◌, ◌<◌, ◌≤◌, ◌==◌, ◌&&◌, ◌||◌, not, Bool, true, false, List, [], ◌∷◌}
+use Rattle.std.proofs.Common.{◌≡◌, ℕ, zero, suc, ◌+◌, ◌-◌, ◌*◌, ◌<◌, ◌≤◌, ◌==◌, ◌&&◌, ◌||◌, not, Bool, true, false}
+use Rattle.std.proofs.Common.{List, [], ◌∷◌}
 use Rattle.std.proofs.Common.{◌++◌, length, min, nat_le, replicate, Some, refl, ap, sym, subst, ◌∙◌, arith}
 use Rattle.std.specs.Prelude.{Ok, slice_index}
 use Rattle.std.proofs.lemmas.Bool.{eqb-true}
@@ -190,7 +191,8 @@ same_at_099 : (n : ℕ) → compared (with_first_card first_marks 99 n) 39 62 (S
 unfolding highest_difference
 same_at_099 n = refl
 
-differ : (p q r : Bool) → (p ≡ true → q ≡ true → r ≡ true → ⊥) → ((not p || (not q || (not r || false))) || false) ≡ true
+differ : (p q r : Bool) → (p ≡ true → q ≡ true → r ≡ true → ⊥)
+    → ((not p || (not q || (not r || false))) || false) ≡ true
 differ false q r unequal = refl
 differ true false r unequal = refl
 differ true true false unequal = refl

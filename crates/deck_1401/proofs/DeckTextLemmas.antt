@@ -9,13 +9,15 @@ use Rattle.devices_1401.specs.declared.card.Card.{Card}
 use Rattle.source_1401.specs.SourceLine.{lines_of}
 use Rattle.job_1401.specs.declared.deck_text.DeckFault.{DeckFault}
 use Rattle.job_1401.specs.DeckText.{deck_from, deck_of}
-use Rattle.deck_1401.specs.Card.{CellCard, address_text, card_line, cards_from, cards_text, fitting, graphic_of, load_operation}
+use Rattle.deck_1401.specs.Card.{CellCard, address_text, card_line, cards_from, cards_text, fitting, graphic_of}
+use Rattle.deck_1401.specs.Card.{load_operation}
 use Rattle.deck_1401.specs.Card.{load_text, marked_places, marks_text, more_columns, most_marks}
 use Rattle.deck_1401.specs.Contents.{is_blank}
 use Rattle.deck_1401.specs.Deck.{cards_of, clear_card, loader_card, start_card}
 use Rattle.deck_1401.proofs.CardsLemmas.{card_of, chars_of, code_of, front_length, front_of, marked_place}
 use Rattle.deck_1401.proofs.BroughtLemmas.{fitting_most}
-use Rattle.deck_1401.proofs.CardTextLemmas.{Chars, chars_both, first_card_read, graphic, padded, spelled_chars, written_chars}
+use Rattle.deck_1401.proofs.CardTextLemmas.{Chars, chars_both, first_card_read, graphic, padded, spelled_chars}
+use Rattle.deck_1401.proofs.CardTextLemmas.{written_chars}
 use Rattle.deck_1401.proofs.CellCardLemmas.{code_line}
 use Rattle.deck_1401.proofs.ClearCardLemmas.{clear_back, clear_front, clear_line}
 use Rattle.deck_1401.proofs.DeckLemmas.{deck_cards, later_cards, start_chars, start_line}

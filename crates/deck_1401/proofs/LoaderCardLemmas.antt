@@ -1,5 +1,6 @@
 -- The second card: the rest of storage is cleared, the loader's word marks are set, and the next card is read.
-use Rattle.std.proofs.Common.{◌≡◌, ℕ, ◌+◌, List, [], ◌∷◌, ◌++◌, replicate, drop, ◌-◌, Some, refl, ap, sym, subst, ◌∙◌, arith}
+use Rattle.std.proofs.Common.{◌≡◌, ℕ, ◌+◌, List, [], ◌∷◌, ◌++◌, replicate, drop, ◌-◌, Some, refl, ap, sym, subst, ◌∙◌}
+use Rattle.std.proofs.Common.{arith}
 use Rattle.std.proofs.lemmas.List.{replicate-append-replicate}
 use Rattle.bcd_1401.specs.Graphic.{graphics}
 use Rattle.core_1401.specs.Places.{with_cells}
@@ -11,7 +12,8 @@ use Rattle.cpu_1401.specs.declared.operation.Operation.TheVariants as op
 use Rattle.cpu_1401.specs.State.{State}
 use Rattle.deck_1401.proofs.ClearCardLemmas.{clear_chars, first_marks, with_first_card}
 use Rattle.deck_1401.proofs.PlacesLemmas.{cells_in_front, chars_over, with_marks}
-use Rattle.deck_1401.proofs.ProgramLemmas.{clear_next, clear_one, clear_two, field_len_by, in_front, instruction, load_next}
+use Rattle.deck_1401.proofs.ProgramLemmas.{clear_next, clear_one, clear_two, field_len_by, in_front, instruction}
+use Rattle.deck_1401.proofs.ProgramLemmas.{load_next}
 use Rattle.deck_1401.proofs.ProgramLemmas.{read_next, set_one, set_two, with_card}
 use Rattle.deck_1401.proofs.StepLemmas.{Leaves, cleared_down}
 

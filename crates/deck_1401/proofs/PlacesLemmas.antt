@@ -1,5 +1,6 @@
 -- Cells in storage whose first places are known.
-use Rattle.std.proofs.Common.{◌≡◌, ℕ, zero, suc, ◌+◌, ◌-◌, ◌<◌, ◌≤◌, ◌⊎◌, Bool, true, false, List, [], ◌∷◌, ◌++◌, length, set}
+use Rattle.std.proofs.Common.{◌≡◌, ℕ, zero, suc, ◌+◌, ◌-◌, ◌<◌, ◌≤◌, ◌⊎◌, Bool, true, false, List, [], ◌∷◌, ◌++◌}
+use Rattle.std.proofs.Common.{length, set}
 use Rattle.std.proofs.Common.{get_or, inl, inr, refl, ap, sym, ◌∙◌, arith, if◌then◌else◌, ◌==◌, ◌||◌}
 use Rattle.std.proofs.Common.{Some, None, nat_lt, position, min}
 use Rattle.std.proofs.lemmas.Bool.{cases_lt}
@@ -121,7 +122,8 @@ cells_in_front low rest at n f at_in =
     (λ q lt. front_place low rest at n f q at_in (omega (arith, size)) (cases_lt q (length low)) (where_is at n q))
 
 -- a cell behind others
-pub set_behind : (low rest : Storage) (at : ℕ) (cell : Cell) → set (low ++ rest) (length low + at) cell ≡ low ++ set rest at cell
+pub set_behind : (low rest : Storage) (at : ℕ) (cell : Cell)
+    → set (low ++ rest) (length low + at) cell ≡ low ++ set rest at cell
 set_behind [] rest at cell =
     let place : 0 + at ≡ at = omega arith in ap (λ (k : ℕ). set rest k cell) place
 set_behind (first ∷ low) rest at cell =

@@ -1,5 +1,6 @@
 -- A program in the first places of storage, and its steps one after the other.
-use Rattle.std.proofs.Common.{◌≡◌, ℕ, ◌+◌, ◌%◌, ◌<◌, ◌&&◌, ◌||◌, Bool, true, false, List, [], ◌∷◌, ◌++◌, length, nat_le, nat_lt, not, ap, ◌∙◌, arith}
+use Rattle.std.proofs.Common.{◌≡◌, ℕ, ◌+◌, ◌%◌, ◌<◌, ◌&&◌, ◌||◌, Bool, true, false, List, [], ◌∷◌, ◌++◌, length, nat_le}
+use Rattle.std.proofs.Common.{nat_lt, not, ap, ◌∙◌, arith}
 use Rattle.std.proofs.Common.{Option, Some, take, reverse, position, if◌then◌else◌}
 use Rattle.std.proofs.lemmas.Bool.Decides.{nat_tests}
 use Rattle.std.proofs.lemmas.List.{length-append}
@@ -23,8 +24,10 @@ use Rattle.cpu_1401.specs.Operation.{operation_of}
 use Rattle.cpu_1401.specs.State.{State, power_on}
 use Rattle.cpu_1401.specs.Stepped.{step_to}
 use Rattle.deck_1401.proofs.PlacesLemmas.{with_marks}
-use Rattle.deck_1401.proofs.StepLemmas.{IsInstruction, Leaves, both_true, clear_one_step, clear_two_step, cleared_down, clear_step}
-use Rattle.deck_1401.proofs.StepLemmas.{is_there, machine, load_step, move_step, one_step, read_step, set_one_step, set_two_step}
+use Rattle.deck_1401.proofs.StepLemmas.{IsInstruction, Leaves, both_true, clear_one_step, clear_two_step, cleared_down}
+use Rattle.deck_1401.proofs.StepLemmas.{clear_step}
+use Rattle.deck_1401.proofs.StepLemmas.{is_there, machine, load_step, move_step, one_step, read_step, set_one_step}
+use Rattle.deck_1401.proofs.StepLemmas.{set_two_step}
 
 -- an address by its three characters, in front of others
 abbrev pub spelled : ℕ → List ℕ → List ℕ

@@ -1,5 +1,6 @@
 -- The card that brings cells to their places (own): 39 columns for them, and the instructions that load them.
-use Rattle.std.specs.Prelude.{ℕ, ◌+◌, ◌-◌, ◌*◌, ◌<◌, ◌==◌, Bool, ◌&&◌, ◌||◌, if◌then◌else◌, List, [], ◌∷◌, ◌++◌, length, map}
+use Rattle.std.specs.Prelude.{ℕ, ◌+◌, ◌-◌, ◌*◌, ◌<◌, ◌==◌, Bool, ◌&&◌, ◌||◌, if◌then◌else◌, List, [], ◌∷◌, ◌++◌, length}
+use Rattle.std.specs.Prelude.{map}
 use Rattle.std.specs.Prelude.{drop, take, slice_index, codes, nat_lt}
 use Rattle.std.specs.List.{flat_map}
 use Rattle.bcd_1401.specs.declared.cell.Cell.{Cell}

@@ -5,7 +5,8 @@ ghost use Rattle.core_1401.specs.Storage.{is_core_size};
 ghost use Rattle.image_1401.specs.Image.{IsInCore};
 ghost use Rattle.deck_1401.specs.Card.{HaveChars};
 ghost use Rattle.deck_1401.specs.Contents.{card_places, first_taken, storage_of};
-ghost use Rattle.deck_1401.specs.Deck.{AreBrought, IsWhyNoDeck, cards_of, clear_card, deck_text, loader_card, start_card};
+ghost use Rattle.deck_1401.specs.Deck.{AreBrought, IsWhyNoDeck, cards_of, clear_card, deck_text, loader_card};
+ghost use Rattle.deck_1401.specs.Deck.{start_card};
 ghost use Rattle.deck_1401.specs.Deck.{storage_deck};
 ghost use Rattle.deck_1401.specs.Loading.{LoadsItself};
 

@@ -1,5 +1,6 @@
 -- The cells that the assembler makes of an address and of a d-character.
-use Rattle.std.proofs.Common.{◌≡◌, ℕ, ◌+◌, ◌==◌, None, Some, ◌%◌, ◌<◌, ◌&&◌, nat_lt, Bool, true, false, not, if◌then◌else◌}
+use Rattle.std.proofs.Common.{◌≡◌, ℕ, ◌+◌, ◌==◌, None, Some, ◌%◌, ◌<◌, ◌&&◌, nat_lt, Bool, true, false, not}
+use Rattle.std.proofs.Common.{if◌then◌else◌}
 use Rattle.std.proofs.Common.{[], ◌∷◌}
 use Rattle.std.proofs.Common.{pos, refl, ap, ◌∙◌, arith}
 use Rattle.std.specs.Prelude.{ℤ, int_le, int_lt, unwrap_or}

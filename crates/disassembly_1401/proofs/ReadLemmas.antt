@@ -10,7 +10,8 @@ use Rattle.bcd_1401.specs.Graphic.{graphics}
 use Rattle.bcd_1401.specs.declared.cell.Cell.{Cell}
 use Rattle.core_1401.specs.Address.{value_of}
 use Rattle.source_1401.specs.SourceLine.{is_graphic}
-use Rattle.instruction_text_1401.specs.Address.{digit, thousands_text, number_text, index_text, register_in, address_text}
+use Rattle.instruction_text_1401.specs.Address.{digit, thousands_text, number_text, index_text, register_in}
+use Rattle.instruction_text_1401.specs.Address.{address_text}
 use Rattle.instruction_text_1401.specs.InstructionText.{IsOwn, graphic_of}
 
 digit_is_graphic : (d : ℕ) → d < 10 → is_graphic (48 + d) ≡ true

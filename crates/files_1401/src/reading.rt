@@ -10,7 +10,8 @@ use std::{fs, io};
 /// The most bytes that a file may have.
 const MOST_BYTES: u64 = 16_777_216;
 
-/// The bytes of the file of this name. Of a file that is too long, one byte more than it may have is read, and no other.
+/// The bytes of the file of this name. Of a file that is too long, one byte more than it may have is read, and no
+/// other.
 ///
 /// # Errors
 ///

@@ -1,5 +1,6 @@
 -- What a call that assembles a source has written and told, once the file is read (own).
-use Rattle.std.specs.Prelude.{◌≡◌, ◌⊎◌, ℕ, ⊤, Bool, IsTrue, if◌then◌else◌, List, [], ◌∷◌, ◌++◌, Option, Some, Result, Ok, Err, IsOk, codes}
+use Rattle.std.specs.Prelude.{◌≡◌, ◌⊎◌, ℕ, ⊤, Bool, IsTrue, if◌then◌else◌, List, [], ◌∷◌, ◌++◌, Option, Some, Result}
+use Rattle.std.specs.Prelude.{Ok, Err, IsOk, codes}
 use Rattle.std.specs.Io.KnownBytes.{Appends, Keeps}
 use Rattle.std.specs.List.{flat_map}
 use Rattle.autocoder_1401.specs.Assembly.{assembly_in}
@@ -40,12 +41,14 @@ with_part_if asked text part = if asked then with_part text part else text
 -- the listing, the symbol table and the cross-reference, so far as they are asked for
 abbrev pub tables_text : Tables → List ℕ → List ℕ → List ℕ → List ℕ
 tables_text asked listing symbols references =
-    with_part_if asked.references (with_part_if asked.symbols (with_part_if asked.listing [] listing) symbols) references
+    let listed = with_part_if asked.listing [] listing in
+    with_part_if asked.references (with_part_if asked.symbols listed symbols) references
 
 -- the text is what is written of a source and its assembly: that of its image in the newest version, its listing, or
 -- tables
 abbrev pub IsProduct : Language → Product → List ℕ → Assembly → List ℕ → Type 0
-IsProduct language product.Image source assembly text = (text ≡ written_text assembly.image) × IsTextOf text assembly.image
+IsProduct language product.Image source assembly text =
+    (text ≡ written_text assembly.image) × IsTextOf text assembly.image
 IsProduct language product.Listing source assembly text = text ≡ listing_text assembly.listing
 IsProduct language (product.Tables asked) source assembly text =
     text
@@ -98,7 +101,8 @@ pub record HasNoDeck (language : Language) (size : ℕ) (source : List ℕ) (tol
 
 -- why no deck was made: as for an image, or its own reason
 abbrev pub IsWhyNoDeckOf : Language → ℕ → List ℕ → Fault → Type 0
-IsWhyNoDeckOf language size source told = IsWhyNotAssembled language size source told ⊎ HasNoDeck language size source told
+IsWhyNoDeckOf language size source told =
+    IsWhyNotAssembled language size source told ⊎ HasNoDeck language size source told
 
 -- what an output received of a text: all of it, or a beginning where a write to it has failed
 abbrev pub Wrote : List ℕ → Option (List ℕ) → Option (List ℕ) → Bool → Result ⊤ Fault → Type 0
@@ -107,7 +111,8 @@ Wrote text old new failed outcome =
     ⊎ ((outcome ≡ Err fault.Output) × AppendsPart old new text × IsTrue failed)
 
 -- the text is what is written of what the source stands for
-pub record IsProductOf (language : Language) (size : ℕ) (source : List ℕ) (product : Product) (text : List ℕ) : Type 0 where
+pub record IsProductOf (language : Language) (size : ℕ) (source : List ℕ) (product : Product) (text : List ℕ)
+    : Type 0 where
   pub assembly : Assembly
   pub stands_for : assembly_in language size source ≡ Ok assembly
   pub text_is : IsProduct language product source assembly text
@@ -121,13 +126,15 @@ pub record NotAssembled (language : Language) (size : ℕ) (source : List ℕ) (
   pub unwritten : new ≡ old
 
 -- What the source stands for was written, and nothing else.
-pub record WroteAssembly (language : Language) (size : ℕ) (source : List ℕ) (product : Product) (old new : Option (List ℕ))
-    (failed : Bool) (outcome : Result ⊤ Fault) : Type 0 where
+pub record WroteAssembly (language : Language) (size : ℕ) (source : List ℕ) (product : Product)
+    (old new : Option (List ℕ)) (failed : Bool) (outcome : Result ⊤ Fault) : Type 0 where
   pub text : List ℕ
   pub text_is : IsProductOf language size source product text
   pub written : Wrote text old new failed outcome
 
 -- what a call did
-abbrev pub AssembleDid : Language → ℕ → List ℕ → Product → Option (List ℕ) → Option (List ℕ) → Bool → Result ⊤ Fault → Type 0
+abbrev pub AssembleDid : Language → ℕ → List ℕ → Product → Option (List ℕ) → Option (List ℕ) → Bool → Result ⊤ Fault
+    → Type 0
 AssembleDid language size source product old new failed outcome =
-    NotAssembled language size source old new outcome ⊎ WroteAssembly language size source product old new failed outcome
+    NotAssembled language size source old new outcome
+    ⊎ WroteAssembly language size source product old new failed outcome

@@ -83,7 +83,8 @@ pub(crate) fn assembly_text(
 
 /// The image of a source.
 fn image_of(alloc: Global, language: Language, source: &[u8], size: u16) -> Result<Image, Fault>
-    ensures ok { IfOk result (λ image. assembly_in language size source.now ≡ Ok (with_listing language source.now image)) }
+    ensures ok { IfOk result (λ image.
+        assembly_in language size source.now ≡ Ok (with_listing language source.now image)) }
     ensures in_core { is_core_size size ≡ true → IfOk result IsInCore }
     ensures err { IfErr result (IsWhyNotAssembled language size source.now) }
 {

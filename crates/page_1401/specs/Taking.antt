@@ -21,7 +21,8 @@ IsReplied size before line response after =
     ⊎ (IsUnanswered size before (said_by line) after × IsUntold response)
 
 -- A line is carried out at a seat, and answered by its reply. The seat has seen no less.
-pub record AnswersLine (size : ℕ) (before : SeatView) (line : List ℕ) (response : Response) (after : SeatView) : Type 0 where
+pub record AnswersLine (size : ℕ) (before : SeatView) (line : List ℕ) (response : Response) (after : SeatView)
+    : Type 0 where
   pub replied : IsReplied size before line response after
   pub number_is : after.number ≡ before.number
   pub grows : IsPrefix before.list after.list

@@ -74,8 +74,8 @@ fn origin_text(alloc: Global, host: &[u8]) -> Result<Vec<u8>, AllocError>
 }
 
 impl<'a, J: RoomId, R: Wait + Drop, P: Keeper + Drop, W: Wait> SeatPage<'a, J, R, P, W> {
-    /// The page of one of the room's `seats` seats, which is served at a port of 127.0.0.1, and at no other name. Not for
-    /// port 80, which a browser leaves out of what it sends.
+    /// The page of one of the room's `seats` seats, which is served at a port of 127.0.0.1, and at no other name. Not
+    /// for port 80, which a browser leaves out of what it sends.
     ///
     /// # Errors
     ///

@@ -1,5 +1,5 @@
-//! Tests of rooms and shared rooms: nothing but public calls of `room_1401`, so they stand apart, since a crate with tests
-//! is proved a second time with them.
+//! Tests of rooms and shared rooms: nothing but public calls of `room_1401`, so they stand apart, since a crate with
+//! tests is proved a second time with them.
 #![tactic(auto)]
 
 #[cfg(test)]

@@ -1,5 +1,6 @@
 -- A job is made of stretches.
-use Rattle.std.proofs.Common.{◌≡◌, ◌≢◌, ◌≤◌, ◌<◌, ◌⊎◌, inl, inr, ℕ, ◌+◌, ◌-◌, List, [], ◌++◌, length, min, Option, None, Some, refl, sym, ◌∙◌, ap, subst, arith, append_assoc, length-append}
+use Rattle.std.proofs.Common.{◌≡◌, ◌≢◌, ◌≤◌, ◌<◌, ◌⊎◌, inl, inr, ℕ, ◌+◌, ◌-◌, List, [], ◌++◌, length, min, Option, None}
+use Rattle.std.proofs.Common.{Some, refl, sym, ◌∙◌, ap, subst, arith, append_assoc, length-append}
 use Rattle.std.proofs.lemmas.List.{append-nil}
 use Rattle.devices_1401.specs.declared.card.Card.{Card}
 use Rattle.devices_1401.specs.declared.print_line.PrintLine.{PrintLine}
@@ -11,7 +12,8 @@ use Rattle.job_1401.specs.Paper.{place_behind}
 use Rattle.job_1401.specs.Unattended.{AtEnd, Begins, GoesOn, IsPartOf, Job, after_job, after_output, unattended}
 use Rattle.running_1401.specs.declared.deck_running.Stretch.{Stretch}
 use Rattle.running_1401.specs.declared.job_report.JobReport.{JobReport}
-use Rattle.running_1401.specs.RunDeck.{HasWritten, HasWrittenPart, RanStretch, Received, first_place, most_counted, report_of, rest_of}
+use Rattle.running_1401.specs.RunDeck.{HasWritten, HasWrittenPart, RanStretch, Received, first_place, most_counted}
+use Rattle.running_1401.specs.RunDeck.{report_of, rest_of}
 use Rattle.running_1401.proofs.WrittenLemmas.{both_written, none_written, part_written_behind, place_behind_both}
 
 -- a job with these ends

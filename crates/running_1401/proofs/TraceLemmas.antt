@@ -1,5 +1,6 @@
 -- A step of a job, and its line.
-use Rattle.std.proofs.Common.{◌≡◌, ◌≢◌, ◌<◌, ◌≤◌, ◌⊎◌, not, ℕ, ◌+◌, ◌-◌, zero, suc, Bool, true, false, List, [], ◌++◌, length, min, Option, None, Some}
+use Rattle.std.proofs.Common.{◌≡◌, ◌≢◌, ◌<◌, ◌≤◌, ◌⊎◌, not, ℕ, ◌+◌, ◌-◌, zero, suc, Bool, true, false, List, [], ◌++◌}
+use Rattle.std.proofs.Common.{length, min, Option, None, Some}
 use Rattle.std.proofs.Common.{refl, sym, ◌∙◌, ap, subst, arith, append_assoc, length-append, inl, inr}
 use Rattle.std.proofs.lemmas.Bool.{not-false, not-true}
 use Rattle.std.proofs.lemmas.Option.{none-some}
@@ -22,7 +23,8 @@ use Rattle.std.specs.Io.KnownBytes.{Appends}
 use Rattle.streams_1401.specs.Sink.{AppendsPart}
 use Rattle.arguments_1401.specs.declared.call.Start.{Start}
 use Rattle.arguments_1401.specs.declared.call.Start.TheVariants as start
-use Rattle.running_1401.specs.RunTrace.{IsWhyUntraced, TracedStretch, line_if, lines_after, most_at_once, rest_traced, seen_if, started_trace, traced}
+use Rattle.running_1401.specs.RunTrace.{IsWhyUntraced, TracedStretch, line_if, lines_after, most_at_once, rest_traced}
+use Rattle.running_1401.specs.RunTrace.{seen_if, started_trace, traced}
 use Rattle.running_1401.specs.declared.deck_running.Broken.{Broken}
 use Rattle.running_1401.specs.declared.deck_running.Broken.TheVariants as broken
 use Rattle.running_1401.proofs.WrittenLemmas.{part_behind, part_of_longer}

@@ -22,7 +22,8 @@ pub all_of_it : (old new : Option (List ℕ)) (text : List ℕ) → Appends old 
 all_of_it old new text all = (text, ([], sym (append-nil text)), all)
 
 -- a part of a text is one of any text that begins with it
-pub part_of_longer : (old new : Option (List ℕ)) (text more whole : List ℕ) → whole ≡ text ++ more → AppendsPart old new text
+pub part_of_longer : (old new : Option (List ℕ)) (text more whole : List ℕ) → whole ≡ text ++ more
+    → AppendsPart old new text
     → AppendsPart old new whole
 part_of_longer old new text more whole e part =
     (part.0, (part.1.0 ++ more, e ∙ ap (λ t. t ++ more) part.1.1 ∙ append_assoc part.0 part.1.0 more), part.2)

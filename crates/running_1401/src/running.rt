@@ -142,8 +142,8 @@ fn run_inputs<R: Files + Print + Eprint + Clock + AllocGlobal>(
 ///
 /// # Errors
 ///
-/// `Size` if there is no core storage of the size named; `File`, `Source`, `Image` or `Deck` if there is no program or no
-/// deck; `Unwritten` or `Output` if a file can't be made, or paper, cards or trace aren't written; `Stopped` if the
+/// `Size` if there is no core storage of the size named; `File`, `Source`, `Image` or `Deck` if there is no program or
+/// no deck; `Unwritten` or `Output` if a file can't be made, or paper, cards or trace aren't written; `Stopped` if the
 /// machine stopped otherwise than by a halt; or `Memory`.
 pub fn run_file<R: Files + Print + Eprint + Clock + AllocGlobal>(
     rt: &R,

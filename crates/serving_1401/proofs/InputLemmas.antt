@@ -67,7 +67,8 @@ closes_by n line (inr less) low high is =
     inl (is ∙ ap (λ count. take count quit_return) four)
 
 -- a line of which this much is matched closes the room, and its line feed comes
-pub quit_read : (matched : Option ℕ) (n : ℕ) (old mid new : Option (List ℕ)) (given : Option ℕ) → HasRead matched old mid
+pub quit_read : (matched : Option ℕ) (n : ℕ) (old mid new : Option (List ℕ)) (given : Option ℕ)
+    → HasRead matched old mid
     → matched ≡ Some n → 4 ≤ n → given ≡ Some 10 → Consumes mid new (option_to_list given) → SaysQuit old new
 quit_read matched n old mid new given so_far matched_is more is came =
     let line : IsMatched (Some n) so_far.line = subst (λ it. IsMatched it so_far.line) matched_is so_far.is in

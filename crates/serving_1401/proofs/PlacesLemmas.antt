@@ -103,7 +103,8 @@ free_given [] new d at given is less same = absurd (omega arith)
 free_given (place ∷ places) new d at given is less same =
     given_by place.number place.is_free places new d at (λ at'. free_given places new d at' given) is less given same
 
-none_by : (number : ℕ) (is_free : Bool) (places : List PlaceView) → (first_free places ≡ length places → free_in places ≡ [])
+none_by : (number : ℕ) (is_free : Bool) (places : List PlaceView) → (first_free places ≡ length places
+    → free_in places ≡ [])
     → first_free (place_of number is_free ∷ places) ≡ suc (length places) → free_in (place_of number is_free ∷ places) ≡ []
 none_by number true places more all = absurd (omega arith)
 none_by number false places more all = more (omega arith)

@@ -50,7 +50,8 @@ impl<J: RoomId> Desk<J> {
         }
     }
 
-    /// Gives the lowest free seat to a connection, and tells its number; or hands the connection back if no seat is free.
+    /// Gives the lowest free seat to a connection, and tells its number; or hands the connection back if no seat is
+    /// free.
     pub(crate) fn give(&mut self, stream: TcpStream) -> Result<u8, TcpStream>
         ensures given { IfOk result (λ number. free_in self.old ≡ number ∷ free_in self.new) }
         ensures number { IfOk result (λ number. (0 < number) × (number ≤ J.seats)) }

@@ -23,8 +23,8 @@ pub enum InputEnd {
     Failed,
 }
 
-/// Reads the input until a line says QUIT and nothing else, or to its end. A line may end with a carriage return too, as
-/// at the console. Every other line is passed over, an empty one too.
+/// Reads the input until a line says QUIT and nothing else, or to its end. A line may end with a carriage return too,
+/// as at the console. Every other line is passed over, an empty one too.
 pub(crate) fn read_to_quit<R: Wait, S: Source>(wait: &R, input: &mut S) -> InputEnd
     ensures quit { result ≡ InputEnd.Quit → SaysQuit (S.left input.old) (S.left input.new) }
     ensures end { result ≡ InputEnd.End → IsAtEnd (S.left input.new) }

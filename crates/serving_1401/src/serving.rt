@@ -43,8 +43,8 @@ pub struct SeatsServed<K: Keeper + Drop> {
 /// no connection any more; each console ends as at the end of its input, with its last reply out, and the room is
 /// closed. Other lines of the input say nothing. A peer that doesn't take its replies can keep the room from closing.
 ///
-/// A connection whose thread is refused is closed, and the room goes on. Once a connection couldn't be accepted, none is
-/// accepted any more; the consoles go on until the room is closed.
+/// A connection whose thread is refused is closed, and the room goes on. Once a connection couldn't be accepted, none
+/// is accepted any more; the consoles go on until the room is closed.
 pub fn serve_seats<J, H, K, R, S, D>(
     alloc: Global,
     rt: &R,

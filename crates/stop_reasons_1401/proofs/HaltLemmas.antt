@@ -3,7 +3,8 @@ use Rattle.std.proofs.Common.{◌≡◌, ◌≤◌, ◌<◌, ◌⊎◌, inl, inr
 use Rattle.std.proofs.Common.{List, [], ◌∷◌, length, refl, sym, ◌∙◌, ap, subst, arith}
 use Rattle.std.proofs.lemmas.Bool.{and_from, and_parts, eq-eqb, eqb-true, ltb-true}
 use Rattle.std.proofs.lemmas.Option.{none-some}
-use Rattle.std.specs.Prelude.{cond, find, is_some, option_map, Option, None, Some, Result, Ok, Err, if◌then◌else◌, nat_le, slice_index}
+use Rattle.std.specs.Prelude.{cond, find, is_some, option_map, Option, None, Some, Result, Ok, Err, if◌then◌else◌}
+use Rattle.std.specs.Prelude.{nat_le, slice_index}
 use Rattle.std.specs.List.{list_all}
 use Rattle.bcd_1401.specs.declared.cell.Cell.{Cell}
 use Rattle.bcd_1401.specs.Graphic.{graphics}
@@ -34,7 +35,8 @@ use Rattle.cpu_1401.specs.declared.operation.Operation.TheVariants as op
 use Rattle.cpu_1401.specs.declared.stop.Stop.{Stop}
 use Rattle.cpu_1401.specs.declared.stop.Stop.TheVariants as stop
 use Rattle.cpu_1401.specs.Branch.{after_branch, branch_on_cell, go_on, has_char, passes}
-use Rattle.cpu_1401.specs.CardsAndPrinter.{after_cards, after_control, after_line, all_three, asks, behind_last, behind_print_area, has_d, line_alone}
+use Rattle.cpu_1401.specs.CardsAndPrinter.{after_cards, after_control, after_line, all_three, asks, behind_last}
+use Rattle.cpu_1401.specs.CardsAndPrinter.{behind_print_area, has_d, line_alone}
 use Rattle.cpu_1401.specs.CardsAndPrinter.{lozenge}
 use Rattle.cpu_1401.specs.CardsAndPrinter.{first_io_stop, move_on, punching, reading, reading_and_punching, with_all}
 use Rattle.cpu_1401.specs.CardsAndPrinter.{writing_and_punching, writing_and_reading}
@@ -101,7 +103,8 @@ clear_goes this s (Ok done) = either (this.len == 7) _ _ (record { no = refl }) 
 clear_goes this s (Err why) = record { no = no_halt why }
 
 cell_goes : (test : Cell → Bool) (this : Instruction) (s : State) → GoesOn (branch_on_cell test this s)
-cell_goes test this s = either (is_in_core s.storage this.b) _ (stopped stop.Address s) (record { no = refl }) (record { no = refl })
+cell_goes test this s =
+    either (is_in_core s.storage this.b) _ (stopped stop.Address s) (record { no = refl }) (record { no = refl })
 
 branch_goes : (this : Instruction) (s : State) → GoesOn (after_branch this s)
 branch_goes this s =
@@ -109,7 +112,8 @@ branch_goes this s =
     (either (this.len == 5) _ _ (record { no = refl }) (cell_goes (has_char this.d) this s))
 
 store_goes : (address : ℕ) (this : Instruction) (s : State) → GoesOn (after_store address this s)
-store_goes address this s = either (has_places s.storage this.a 3) _ (stopped stop.Address s) (record { no = refl }) (record { no = refl })
+store_goes address this s =
+    either (has_places s.storage this.a 3) _ (stopped stop.Address s) (record { no = refl }) (record { no = refl })
 
 cards_go : (request : IoRequest) (b : ℕ) (this : Instruction) (s : State) → GoesOn (after_cards request b this s)
 cards_go request b this s =
@@ -156,10 +160,13 @@ perform_goes op.Halt this s = inr refl
 perform_goes op.SelectStacker this s = inl (record { no = refl })
 perform_goes op.ReadCard this s = inl (cards_go (asks reading s.storage) (behind_last reading) this s)
 perform_goes op.WriteLine this s = inl (line_goes this s)
-perform_goes op.WriteAndRead this s = inl (cards_go (asks writing_and_reading s.storage) (behind_last writing_and_reading) this s)
+perform_goes op.WriteAndRead this s =
+    inl (cards_go (asks writing_and_reading s.storage) (behind_last writing_and_reading) this s)
 perform_goes op.PunchCard this s = inl (cards_go (asks punching s.storage) (behind_last punching) this s)
-perform_goes op.ReadAndPunch this s = inl (cards_go (asks reading_and_punching s.storage) (behind_last reading_and_punching) this s)
-perform_goes op.WriteAndPunch this s = inl (cards_go (asks writing_and_punching s.storage) (behind_last writing_and_punching) this s)
+perform_goes op.ReadAndPunch this s =
+    inl (cards_go (asks reading_and_punching s.storage) (behind_last reading_and_punching) this s)
+perform_goes op.WriteAndPunch this s =
+    inl (cards_go (asks writing_and_punching s.storage) (behind_last writing_and_punching) this s)
 perform_goes op.WriteReadAndPunch this s = inl (cards_go (asks all_three s.storage) (behind_last all_three) this s)
 perform_goes op.ControlCarriage this s = inl (control_goes this s (controlled s.devices.carriage this.d))
 

@@ -4,7 +4,8 @@ ghost use Rattle.std.specs.Option.{option_map};
 ghost use Rattle.std.specs.Result.{result_err};
 ghost use Rattle.devices_1401.specs.Control.{line_of_channel, low_of, movement_of, skip_by, space_by};
 ghost use Rattle.cpu_1401.specs.declared.instruction.Instruction.{Instruction as AnInstruction};
-ghost use Rattle.cpu_1401.specs.CardsAndPrinter.{all_three, asks, first_io_stop, reading_and_punching, writing_and_punching};
+ghost use Rattle.cpu_1401.specs.CardsAndPrinter.{all_three, asks, first_io_stop, reading_and_punching};
+ghost use Rattle.cpu_1401.specs.CardsAndPrinter.{writing_and_punching};
 ghost use Rattle.cpu_1401.specs.CardsAndPrinter.{writing_and_reading};
 ghost use Rattle.stop_reasons_1401.specs.Reason.{IsSoOf, forms_stop, reader_stop, stacker_stop, stop_named};
 
@@ -51,7 +52,8 @@ pub(crate) fn stacker_reason(machine: &Machine) -> Option<Reason>
 
 /// Why a line can't be printed and a card be read.
 pub(crate) fn write_and_read_reason(machine: &Machine) -> Option<Reason>
-    ensures stop { option_map stop_named result ≡ first_io_stop (asks writing_and_reading machine.now.storage) machine.now.devices }
+    ensures stop { option_map stop_named result
+        ≡ first_io_stop (asks writing_and_reading machine.now.storage) machine.now.devices }
     ensures so { IfSome result (λ why. (this : AnInstruction) → IsSoOf this machine.now why) }
 {
     if let Some(why) = forms_reason(machine) {
@@ -62,7 +64,8 @@ pub(crate) fn write_and_read_reason(machine: &Machine) -> Option<Reason>
 
 /// Why a card can't be read and one be punched.
 pub(crate) fn read_and_punch_reason(machine: &Machine) -> Option<Reason>
-    ensures stop { option_map stop_named result ≡ first_io_stop (asks reading_and_punching machine.now.storage) machine.now.devices }
+    ensures stop { option_map stop_named result
+        ≡ first_io_stop (asks reading_and_punching machine.now.storage) machine.now.devices }
     ensures so { IfSome result (λ why. (this : AnInstruction) → IsSoOf this machine.now why) }
 {
     if let Some(why) = reader_reason(machine) {
@@ -73,7 +76,8 @@ pub(crate) fn read_and_punch_reason(machine: &Machine) -> Option<Reason>
 
 /// Why a line can't be printed and a card be punched.
 pub(crate) fn write_and_punch_reason(machine: &Machine) -> Option<Reason>
-    ensures stop { option_map stop_named result ≡ first_io_stop (asks writing_and_punching machine.now.storage) machine.now.devices }
+    ensures stop { option_map stop_named result
+        ≡ first_io_stop (asks writing_and_punching machine.now.storage) machine.now.devices }
     ensures so { IfSome result (λ why. (this : AnInstruction) → IsSoOf this machine.now why) }
 {
     if let Some(why) = forms_reason(machine) {
@@ -84,7 +88,8 @@ pub(crate) fn write_and_punch_reason(machine: &Machine) -> Option<Reason>
 
 /// Why a line can't be printed, a card be read and one be punched.
 pub(crate) fn all_three_reason(machine: &Machine) -> Option<Reason>
-    ensures stop { option_map stop_named result ≡ first_io_stop (asks all_three machine.now.storage) machine.now.devices }
+    ensures stop { option_map stop_named result
+        ≡ first_io_stop (asks all_three machine.now.storage) machine.now.devices }
     ensures so { IfSome result (λ why. (this : AnInstruction) → IsSoOf this machine.now why) }
 {
     if let Some(why) = forms_reason(machine) {

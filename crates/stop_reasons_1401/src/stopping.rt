@@ -1,5 +1,6 @@
 //! Why the next step stops the machine.
-ghost use Rattle.std.specs.Prelude.{◌≡◌, ◌≢◌, ◌⊎◌, ◌+◌, ◌-◌, ◌<◌, ◌≤◌, true, false, length, None, Some, IfOk, IfErr, IfSome};
+ghost use Rattle.std.specs.Prelude.{◌≡◌, ◌≢◌, ◌⊎◌, ◌+◌, ◌-◌, ◌<◌, ◌≤◌, true, false, length, None, Some, IfOk, IfErr};
+ghost use Rattle.std.specs.Prelude.{IfSome};
 ghost use Rattle.std.specs.Option.{option_map};
 ghost use Rattle.core_1401.specs.Address.{addresses};
 ghost use Rattle.core_1401.specs.Storage.{cell_at};
@@ -52,9 +53,9 @@ pub fn stop_reason(machine: &Machine) -> Option<Reason>
     }
 }
 
-/// Why a machine that ended a run with this stop has stopped; `None` after a halt and at the limit, and if the next step
-/// has another stop. The stops of reader, printer and punch aren't looked for in the step: a load key that finds no card
-/// is one of the reader too.
+/// Why a machine that ended a run with this stop has stopped; `None` after a halt and at the limit, and if the next
+/// step has another stop. The stops of reader, printer and punch aren't looked for in the step: a load key that finds
+/// no card is one of the reader too.
 pub fn reason_told(machine: &Machine, stop: Stop) -> Option<Reason>
     ensures stop { IfSome result (λ why. stop_named why ≡ stop) }
 

@@ -1,6 +1,7 @@
 -- What a line says can be said.
 use Rattle.std.proofs.Common.{◌≡◌, ℕ, suc, ◌+◌, ◌-◌, ◌*◌, ◌^◌, ◌<◌, ◌≤◌, ◌==◌, ◌&&◌, Bool, true, false, nat_le, nat_lt}
-use Rattle.std.proofs.Common.{if◌then◌else◌, List, [], ◌∷◌, ◌++◌, length, take, drop, map, replicate, Option, None, Some}
+use Rattle.std.proofs.Common.{if◌then◌else◌, List, [], ◌∷◌, ◌++◌, length, take, drop, map, replicate, Option, None}
+use Rattle.std.proofs.Common.{Some}
 use Rattle.std.proofs.Common.{is_some, Result, Ok, Err, refl, sym, ap, ◌∙◌, subst, arith, inl, inr, length-append}
 use Rattle.std.specs.Prelude.{All, IfOk, IfSome, filter_map, position, fold, slice_index}
 use Rattle.std.specs.List.{list_all}
@@ -27,7 +28,8 @@ use Rattle.text_1401.specs.declared.line.LineFault.TheVariants.{Word, Number, Gr
 use Rattle.text_1401.specs.declared.words.Keyword.{Keyword}
 use Rattle.text_1401.specs.declared.words.Keyword.TheVariants as keyword
 use Rattle.text_1401.specs.CardText.{card_of, card_with, char_of, chars_of}
-use Rattle.text_1401.specs.ConsoleLine.{Said, said_by, said_in_words, said_with, ended, if_cells, deposit_of, examine_of}
+use Rattle.text_1401.specs.ConsoleLine.{Said, said_by, said_in_words, said_with, ended, if_cells, deposit_of}
+use Rattle.text_1401.specs.ConsoleLine.{examine_of}
 use Rattle.text_1401.specs.ConsoleLine.{start_of, switch_said, feed_of, run_of, glance_of}
 use Rattle.text_1401.specs.LineText.{CanBeSaid}
 use Rattle.text_1401.specs.Words.{◌>>=◌, word_in, behind_word, keyword_of, number_of, address_of, count_of, most_digits}

@@ -1,12 +1,14 @@
 -- Changes found place by place.
-use Rattle.std.proofs.Common.{◌≡◌, ℕ, ◌+◌, ◌<◌, ◌≤◌, zero, suc, Bool, true, false, List, [], ◌∷◌, ◌==◌, length, take, drop}
+use Rattle.std.proofs.Common.{◌≡◌, ℕ, ◌+◌, ◌<◌, ◌≤◌, zero, suc, Bool, true, false, List, [], ◌∷◌, ◌==◌, length, take}
+use Rattle.std.proofs.Common.{drop}
 use Rattle.std.proofs.Common.{get_or, refl, sym, ◌∙◌, ap, subst, arith, inl, inr}
 use Rattle.std.proofs.lemmas.Bool.{cases_lt}
 use Rattle.std.proofs.lemmas.List.{drop_more, drop_all}
 use Rattle.std.specs.Prelude.{if◌then◌else◌}
 use Rattle.bcd_1401.specs.declared.cell.Cell.{Cell}
 use Rattle.core_1401.specs.Storage.{Storage, blank, cell_at}
-use Rattle.trace_1401.specs.Changes.{Change, change, change_at, changes_from, changes_on, in_front, is_changed, with_place}
+use Rattle.trace_1401.specs.Changes.{Change, change, change_at, changes_from, changes_on, in_front, is_changed}
+use Rattle.trace_1401.specs.Changes.{with_place}
 
 -- the first of the places that are left
 place : (before after : Storage) (at : ℕ) → at < length before → at < length after

@@ -1,10 +1,12 @@
 -- Cells that are equal, by eights and one by one.
-use Rattle.std.proofs.Common.{◌≡◌, ℕ, ◌+◌, ◌-◌, ◌<◌, ◌≤◌, ◌==◌, suc, Bool, true, false, List, [], ◌∷◌, ◌++◌, length, get_or, take, drop, replicate}
+use Rattle.std.proofs.Common.{◌≡◌, ℕ, ◌+◌, ◌-◌, ◌<◌, ◌≤◌, ◌==◌, suc, Bool, true, false, List, [], ◌∷◌, ◌++◌, length}
+use Rattle.std.proofs.Common.{get_or, take, drop, replicate}
 use Rattle.std.proofs.Common.{append_assoc, not, refl, sym, ◌∙◌, ap, subst, arith, inl, inr, ◌&&◌, ◌||◌}
 use Rattle.std.specs.Prelude.{if◌then◌else◌}
 use Rattle.notation_1401.specs.Cells.{cell_text, cells_text}
 use Rattle.std.proofs.lemmas.Bool.{cases_lt, eq-eqb, eqb-true, false≢true}
-use Rattle.std.proofs.lemmas.List.{drop_more, get_or_past, same_lists, get_or_default, get_or-drop, length-drop, length-append}
+use Rattle.std.proofs.lemmas.List.{drop_more, get_or_past, same_lists, get_or_default, get_or-drop, length-drop}
+use Rattle.std.proofs.lemmas.List.{length-append}
 use Rattle.std.proofs.lemmas.List.FromFn.{get_or-map-range_with_len}
 use Rattle.std.proofs.lemmas.Nat.{le_bytes_8}
 use Rattle.bcd_1401.specs.declared.cell.Cell.{Cell}

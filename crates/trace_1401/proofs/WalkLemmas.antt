@@ -6,7 +6,8 @@ use Rattle.std.proofs.lemmas.List.{append-nil, drop-drop}
 use Rattle.std.proofs.lemmas.List.Concat.{flat_map-cons}
 use Rattle.bcd_1401.specs.declared.cell.Cell.{Cell}
 use Rattle.core_1401.specs.Storage.{Storage, cell_at}
-use Rattle.trace_1401.specs.Changes.{Change, IsEndOfChange, IsNextChange, change_at, change_text, changes_from, changes_of, changes_on, changes_text, is_changed}
+use Rattle.trace_1401.specs.Changes.{Change, IsEndOfChange, IsNextChange, change_at, change_text, changes_from}
+use Rattle.trace_1401.specs.Changes.{changes_of, changes_on, changes_text, is_changed}
 use Rattle.trace_1401.proofs.ChangeLemmas.{changed_places, nothing_on, same_places}
 use Rattle.trace_1401.proofs.PlaceLemmas.{is_same, same_rest, same_storage}
 

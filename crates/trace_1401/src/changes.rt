@@ -1,5 +1,6 @@
 //! What a step changed in core storage.
-ghost use Rattle.std.specs.Prelude.{◌≡◌, ℕ, ◌+◌, ◌-◌, ◌<◌, ◌≤◌, ◌++◌, length, take, drop, true, false, IfErr, IfOk, OnOk};
+ghost use Rattle.std.specs.Prelude.{◌≡◌, ℕ, ◌+◌, ◌-◌, ◌<◌, ◌≤◌, ◌++◌, length, take, drop, true, false, IfErr, IfOk};
+ghost use Rattle.std.specs.Prelude.{OnOk};
 ghost use Rattle.core_1401.specs.Storage.{cell_at};
 ghost use Rattle.notation_1401.specs.Cells.{cells_text};
 ghost use Rattle.trace_1401.specs.Changes.{IsEndOfChange, IsNextChange, change_at, change_text, changes_of};

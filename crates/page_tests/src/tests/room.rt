@@ -25,8 +25,8 @@ pub enum Work<'a> {
     Answers(&'a [Exchange<'a>]),
     /// Pictures are asked for, each by a query, and the responses begin so.
     Statuses(&'a [(&'a str, &'a str)]),
-    /// The lines of a text are given, each of them a command, and then pictures are asked for, each by a query, and have
-    /// these texts. Before the lines the third seat gives a command.
+    /// The lines of a text are given, each of them a command, and then pictures are asked for, each by a query, and
+    /// have these texts. Before the lines the third seat gives a command.
     Pictures(&'a str, &'a [Shown<'a>]),
     /// A request is sent with damages, and then the page is asked for. No command is carried out.
     Damages(&'a [u8]),

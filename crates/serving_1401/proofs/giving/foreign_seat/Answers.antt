@@ -4,7 +4,8 @@ use Rattle.std.proofs.lemmas.List.{drop_all, drop_more}
 use Rattle.room_1401.specs.declared.entry.Entry.{Entry}
 use Rattle.serving_1401.specs.Giving.{foreign_in}
 use Rattle.serving_1401.proofs.GivingLemmas.{above_first, below_first, foreign_none, own_first}
-use Rattle.serving_1401.proofs.giving.foreign_seat.Goals.{then-entry-least-via-then-entry-least, then-entry-least-via-else-entry-least+then-entry-most}
+use Rattle.serving_1401.proofs.giving.foreign_seat.Goals.{then-entry-least-via-then-entry-least}
+use Rattle.serving_1401.proofs.giving.foreign_seat.Goals.{then-entry-least-via-else-entry-least+then-entry-most}
 use Rattle.serving_1401.proofs.giving.foreign_seat.Goals as goal
 
 pub loop-entry-init : goal.loop-entry-init
