@@ -5,7 +5,8 @@ use Rattle.std.specs.Prelude.{nat_lt, codes}
 use Rattle.std.specs.List.{flat_map, list_all}
 use Rattle.bcd_1401.specs.declared.cell.Cell.{Cell}
 use Rattle.bcd_1401.specs.Graphic.{graphics}
-use Rattle.notation_1401.specs.Cells.{cells_text, most_cells}
+use Rattle.core_1401.specs.Cells.{most_cells}
+use Rattle.notation_1401.specs.Cells.{cells_text}
 use Rattle.image_1401.specs.declared.fault.ImageFault.{ImageFault}
 use Rattle.image_1401.specs.declared.fault.ImageFault.TheVariants.{Memory, Header, BadRecord, Range, Truncated}
 use Rattle.image_1401.specs.declared.image.Image.{Image}
