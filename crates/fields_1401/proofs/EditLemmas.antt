@@ -250,7 +250,7 @@ none_suppressed old chars b n lent before char_of e =
     (le-ltb (n - 1 - i) 0 (omega arith))))
 
 pub one_suppressed : (old : Storage) (chars new : List ℕ) (b n i at char put : ℕ) → b < length old → i < n → n ≤ b + 1
-    → length chars ≡ length old → at ≡ b - (n - 1 - i) → char ≡ get_or chars at 0 → put ≡ without_zero char
+    → length chars ≡ length old → at ≡ b - (n - 1 - i) → char ≡ get_or chars at char → put ≡ without_zero char
     → new ≡ set chars at put → AreSuppressed old chars b n i → AreSuppressed old new b n (i + 1)
 one_suppressed old chars new b n i at char put b_in within above size e_at read shows made so_far before char_of e =
     let k : ℕ = n - 1 - i in
@@ -259,7 +259,7 @@ one_suppressed old chars new b n i at char put b_in within above size e_at read 
     let g : ℕ → ℕ = suppressed_to char_of n (i + 1) in
     let in_before : b < length before = omega (arith, b_in, ap length e, length-with_chars before b n char_of) in
     let was : char ≡ char_of k =
-    read ∙ ap (λ (q : ℕ). get_or chars q 0) e_at ∙ char_lent old chars (b - k) 0 (omega (arith, b_in)) size
+    read ∙ ap (λ (q : ℕ). get_or chars q char) e_at ∙ char_lent old chars (b - k) char (omega (arith, b_in)) size
     ∙ ap (λ (s : Storage). (cell_at s (b - k)).char) (so_far before char_of e)
     ∙ ap (λ (cell : Cell). cell.char) (cell_at-with_chars before b n f k in_before (omega (arith, above))
     (omega (arith, within)))

@@ -17,7 +17,6 @@ use crate::control_word::{ControlWord, is_replaceable, limit};
 use crate::done::{Done, FieldStop};
 use crate::registers::{below_field, registers};
 use crate::sign::Sign;
-use crate::slices::{char_at, put_char};
 use crate::suppression::{COMMA, ZERO};
 use bcd_1401::Char;
 use core_1401::Core;
@@ -122,18 +121,18 @@ fn put_unsuppressed(core: &mut Core, word: ControlWord, rules: Rules) -> usize
     let mut behind = 0;
     let mut significant = len;
     for i in 0..len {
-        let own = char_at(chars, units - i);
+        let own = chars[units - i];
         if !is_replaceable(own) {
-            put_char(chars, units - i, rules.kept_char(behind, own));
+            chars[units - i] = rules.kept_char(behind, own);
         } else if behind < rules.taken {
             let char = char_of_a(chars, usize::from(word.a), behind, units_of_a);
             if !is_replaceable(char) {
                 significant = len - 1 - i;
             }
-            put_char(chars, units - i, char);
+            chars[units - i] = char;
             behind += 1;
         } else {
-            put_char(chars, units - i, Char::BLANK);
+            chars[units - i] = Char::BLANK;
             behind += 1;
         }
     }
@@ -149,7 +148,7 @@ fn char_of_a(chars: &[Char], a: usize, behind: usize, units: Char) -> Char
     requires units { units ≡ with_zone_of (slice_index chars.now a) 0 }
     ensures { result ≡ unzoned_down chars.now a behind }
 {
-    let char = char_at(chars, a - behind);
+    let char = chars[a - behind];
     if behind == 0 { units } else { char }
 }
 
@@ -165,8 +164,7 @@ fn suppress_places(core: &mut Core, word: ControlWord, count: usize)
     let low = usize::from(word.b + 1 - word.len);
     let chars = core.chars_mut();
     for i in 0..count {
-        let char = char_at(chars, low + i);
-        put_char(chars, low + i, without_zero(char));
+        chars[low + i] = without_zero(chars[low + i]);
     }
 }
 
