@@ -1,5 +1,5 @@
 //! A field edited by the control word in the B field.
-ghost use Rattle.std.specs.Prelude.{◌≡◌, ℕ, ◌+◌, ◌<◌, ◌≤◌, false, length, slice_index, IfSome, IfOk, OnOk};
+ghost use Rattle.std.specs.Prelude.{◌≡◌, ℕ, ◌+◌, ◌<◌, ◌≤◌, length, slice_index, IfSome, IfOk, OnOk};
 ghost use Rattle.core_1401.specs.Address.{addresses};
 ghost use Rattle.core_1401.specs.Field.{field_len_of};
 ghost use Rattle.core_1401.specs.Storage.{Storage};
@@ -9,9 +9,10 @@ ghost use Rattle.fields_1401.specs.Across.{IsSameOutside, IsSameBeside, IsUnmark
 ghost use Rattle.fields_1401.specs.Edit.{replaceable_in, before_significant, is_left_over, is_comma_blanked};
 ghost use Rattle.fields_1401.specs.Edit.{is_sign_char, is_sign_blanked, is_blanked, kept_char, unsuppressed};
 ghost use Rattle.fields_1401.specs.Edit.{edited, sign_at, taken_at, edit_at, suppressed_to, without_zero, IsPlain};
-ghost use Rattle.fields_1401.specs.Edit.{ShowsWithBlanks};
+ghost use Rattle.fields_1401.specs.Edit.{unsuppressed_place, ShowsWithBlanks};
 ghost use Rattle.fields_1401.specs.Outcome.{CarriesOut};
 ghost use Rattle.fields_1401.specs.Places.{with_chars};
+ghost use Rattle.fields_1401.specs.Suppress.{comma_char};
 
 use crate::control_word::{ControlWord, is_replaceable, limit};
 use crate::done::{Done, FieldStop};
@@ -183,7 +184,7 @@ fn without_zero(char: Char) -> Char
 impl Rules {
     /// A character of the control word that took none of A.
     fn kept_char(self, behind: usize, own: Char) -> Char
-        ensures { result ≡ kept_char self.taken self.replaceable self.sign behind false own }
+        ensures { result ≡ kept_char self (unsuppressed_place own behind) }
     {
         if self.is_blanked(behind, own) {
             Char::BLANK
@@ -194,7 +195,7 @@ impl Rules {
 
     /// Whether a character of the control word becomes blank though nothing is suppressed.
     fn is_blanked(self, behind: usize, own: Char) -> bool
-        ensures { result ≡ is_blanked self.taken self.replaceable self.sign behind false own }
+        ensures { result ≡ is_blanked self (unsuppressed_place own behind) }
     {
         is_replaceable(own)
             || own.code() == AMPERSAND
@@ -204,7 +205,7 @@ impl Rules {
 
     /// Whether a comma becomes blank: with what is left over, and after all replaceable places.
     fn is_comma_blanked(self, behind: usize) -> bool
-        ensures { result ≡ is_comma_blanked self.taken self.replaceable behind false }
+        ensures { result ≡ is_comma_blanked self (unsuppressed_place comma_char behind) }
     {
         self.is_left_over(behind) || behind == 0
     }
@@ -222,7 +223,7 @@ impl Rules {
     /// Whether the characters of A were too few for the replaceable places, and all places that took one stand right
     /// of a place with this many replaceable ones right of it.
     fn is_left_over(self, behind: usize) -> bool
-        ensures { result ≡ is_left_over self.taken self.replaceable behind }
+        ensures { result ≡ is_left_over self behind }
     {
         self.taken < self.replaceable && self.taken <= behind
     }
