@@ -8,8 +8,11 @@
 //! ```
 #![tactic(auto)]
 
+// a character, and the cell that holds it with its word mark
 pub mod cell;
 pub mod character;
+
+// its graphic, its column of a card, and its place in the collating order
 pub mod collation;
 pub mod graphic;
 pub mod punch;

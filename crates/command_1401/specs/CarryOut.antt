@@ -2,8 +2,8 @@
 use Rattle.std.specs.Prelude.{ℕ, ◌+◌, ◌==◌, ◌&&◌, Bool, List, [], ◌∷◌, ◌++◌}
 use Rattle.std.specs.Prelude.{length, take, drop, nat_le, if◌then◌else◌}
 use Rattle.bcd_1401.specs.declared.cell.Cell.{Cell}
+use Rattle.core_1401.specs.Cells.{most_cells}
 use Rattle.core_1401.specs.Storage.{Storage, is_in_core}
-use Rattle.notation_1401.specs.Cells.{most_cells}
 use Rattle.cpu_1401.specs.CardsAndPrinter.{load, with_devices}
 use Rattle.cpu_1401.specs.Run.{Finished, most_steps, run_for}
 use Rattle.cpu_1401.specs.State.{State, regs_of, with_switch}

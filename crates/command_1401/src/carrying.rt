@@ -1,6 +1,6 @@
 //! A command carried out on the machine.
 ghost use Rattle.std.specs.Prelude.{◌≡◌, ◌+◌, ◌<◌, ◌≤◌, ◌^◌, IsTrue, length};
-ghost use Rattle.notation_1401.specs.Cells.{most_cells};
+ghost use Rattle.core_1401.specs.Cells.{most_cells};
 ghost use Rattle.command_1401.specs.CarryOut.{are_in_core, carry_out, deposit, deposited, examine, examined};
 ghost use Rattle.command_1401.specs.CarryOut.{feed, load_key, run, set_i, take_card, take_line};
 

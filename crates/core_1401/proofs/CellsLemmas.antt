@@ -3,24 +3,24 @@ use Rattle.std.proofs.Common.{◌≡◌, ◌-◌, ◌<◌, ◌≤◌, List, ◌+
 use Rattle.std.proofs.lemmas.List.{drop_at, drop-replicate, length-replicate}
 use Rattle.bcd_1401.specs.declared.cell.Cell.{Cell}
 use Rattle.core_1401.specs.Storage.{blank}
-use Rattle.core_1401.specs.Cells.{IsHeld}
+use Rattle.core_1401.specs.Cells.{IsHeld, most_cells}
 
 -- 1 to 40 cells in front of what is left of 40 blanks are held
-pub in_front : (cells front : List Cell) → front ≡ cells → 0 < length cells → length cells ≤ 40
-    → IsHeld (record { cells = front ++ drop (length cells) (replicate 40 blank); len = length cells })
+pub in_front : (cells front : List Cell) → front ≡ cells → 0 < length cells → length cells ≤ most_cells
+    → IsHeld (record { cells = front ++ drop (length cells) (replicate most_cells blank); len = length cells })
 in_front cells front e some most =
     let len : length front ≡ length cells = ap length e in
-    let behind : drop (length cells) (replicate 40 blank) ≡ replicate (40 - length cells) blank =
-    drop-replicate (length cells) 40 blank in
+    let behind : drop (length cells) (replicate most_cells blank) ≡ replicate (most_cells - length cells) blank =
+    drop-replicate (length cells) most_cells blank in
     record {
       some = some;
       most = most;
       room = omega (
         arith,
-        length-append front (drop (length cells) (replicate 40 blank)),
+        length-append front (drop (length cells) (replicate most_cells blank)),
         ap length behind,
-        length-replicate (40 - length cells) blank,
+        length-replicate (most_cells - length cells) blank,
         len,
       );
-      blanks = drop_at front (drop (length cells) (replicate 40 blank)) (length cells) len ∙ behind;
+      blanks = drop_at front (drop (length cells) (replicate most_cells blank)) (length cells) len ∙ behind;
     }

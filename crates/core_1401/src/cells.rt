@@ -1,5 +1,6 @@
 //! A few cells, held in place.
 ghost use Rattle.std.specs.Prelude.{◌≡◌, ◌≤◌, length, ◌&&◌, Some, None, nat_le, if◌then◌else◌};
+ghost use Rattle.core_1401.specs.Cells.{most_cells};
 
 use bcd_1401::Cell;
 use std::marker::Model;
@@ -10,7 +11,7 @@ pub const MOST_CELLS: usize = 40;
 /// From 1 to 40 cells. Contracts see the list of them.
 #[derive(Clone, Copy, Debug, PartialEq, Eq)]
 pub struct Cells {
-    cells: [Cell; 40],
+    cells: [Cell; MOST_CELLS],
     len: u8,
 }
 
@@ -35,13 +36,13 @@ impl Cells {
     /// These cells; none if there is none of them, or more than 40.
     pub fn from_slice(cells: &[Cell]) -> Option<Cells>
         ensures { let n = length cells.now in
-            result ≡ (if nat_le 1 n && nat_le n 40 then Some cells.now else None) }
+            result ≡ (if nat_le 1 n && nat_le n most_cells then Some cells.now else None) }
     {
         let len = cells.len();
         if len < 1 || len > MOST_CELLS {
             return None;
         }
-        let mut held = [Cell::BLANK; 40];
+        let mut held = [Cell::BLANK; MOST_CELLS];
         held[..len].copy_from_slice(cells);
         Some(Cells {
             cells: held,
@@ -53,7 +54,7 @@ impl Cells {
     pub fn as_slice(&self) -> &[Cell]
         ensures value { result.now ≡ self.now }
         ensures some { 1 ≤ length self.now }
-        ensures most { length self.now ≤ 40 }
+        ensures most { length self.now ≤ most_cells }
     {
         &self.cells[..usize::from(self.len)]
     }

@@ -29,7 +29,7 @@ nothing_yet limit first =
 
 -- the run that is left, by its first step
 left : (limit steps : ℕ) (first now : State) → steps < limit → SoFar limit first now steps
-    → run_for limit first ≡ after_steps steps (run_on (step now).stop (step now).state (run_for (limit - (steps + 1))))
+    → run_for limit first ≡ after_steps steps (run_on (step now) (run_for (limit - (steps + 1)) (step now).state))
 unfolding run_for
 left limit steps first now h s =
     let one_left : limit - steps ≡ suc (limit - (steps + 1)) = omega arith in
@@ -40,11 +40,13 @@ pub goes_on : (limit steps : ℕ) (first now next : State) → steps < limit →
     → (step now).stop ≡ None → next ≡ (step now).state → SoFar limit first next (steps + 1)
 goes_on limit steps first now next h s none e =
     let more = run_for (limit - (steps + 1)) in
+    let on : Option Stop → Finished = λ o.
+    run_on (record { state = (step now).state; stop = o }) (more (step now).state) in
     let further = counted (more next) (steps + ((more next).steps + 1)) (steps + 1 + (more next).steps) (omega arith) in
     record {
       whole =
           left limit steps first now h s
-          ∙ ap (λ (o : Option Stop). after_steps steps (run_on o (step now).state more)) none
+          ∙ ap (λ (o : Option Stop). after_steps steps (on o)) none
           ∙ ap (λ (state : State). after_steps steps (one_more (more state))) (sym e)
           ∙ further;
     }
@@ -54,10 +56,11 @@ pub stops : (limit steps : ℕ) (first now next : State) (why : Stop) → steps 
     → (step now).stop ≡ Some why → next ≡ (step now).state → run_for limit first
     ≡ record { state = next; steps = steps + carried_out_by why; stop = why }
 stops limit steps first now next why h s some e =
-    let more = run_for (limit - (steps + 1)) in
+    let rest = run_for (limit - (steps + 1)) (step now).state in
+    let on : State → Option Stop → Finished = λ state o. run_on (record { state = state; stop = o }) rest in
     left limit steps first now h s
-    ∙ ap (λ (o : Option Stop). after_steps steps (run_on o (step now).state more)) some
-    ∙ ap (λ (state : State). after_steps steps (run_on (Some why) state more)) (sym e)
+    ∙ ap (λ (o : Option Stop). after_steps steps (on (step now).state o)) some
+    ∙ ap (λ (state : State). after_steps steps (on state (Some why))) (sym e)
 
 -- no step is left
 pub limit_met : (limit : ℕ) (first now : State) → SoFar limit first now limit → run_for limit first

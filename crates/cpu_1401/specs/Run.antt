@@ -1,9 +1,10 @@
 -- Steps until the machine stops (own).
-use Rattle.std.specs.Prelude.{ℕ, ◌+◌, zero, suc, Option, None, Some}
+use Rattle.std.specs.Prelude.{ℕ, ◌+◌, zero, suc, option_map, unwrap_or}
 use Rattle.cpu_1401.specs.declared.stop.Stop.{Stop}
 use Rattle.cpu_1401.specs.declared.stop.Stop.TheVariants as stop
 use Rattle.cpu_1401.specs.State.{State}
 use Rattle.cpu_1401.specs.Step.{step}
+use Rattle.cpu_1401.specs.Stepped.{Stepped}
 
 -- how many instructions a run carries out at most
 abbrev pub most_steps : ℕ
@@ -35,12 +36,15 @@ carried_out_by stop.Carriage = 0
 carried_out_by stop.NotFitted = 0
 carried_out_by stop.DChar = 0
 
--- a run goes on after a step that doesn't stop the machine
-abbrev pub run_on : Option Stop → State → (State → Finished) → Finished
-run_on None s more = one_more (more s)
-run_on (Some why) s more = record { state = s; steps = carried_out_by why; stop = why }
+-- a run that ends with a step, which stops the machine
+abbrev pub ended_by : State → Stop → Finished
+ended_by s why = record { state = s; steps = carried_out_by why; stop = why }
+
+-- a run from a step on: it ends with the step's stop, if there is one, and else the rest follows
+abbrev pub run_on : Stepped → Finished → Finished
+run_on done rest = unwrap_or (option_map (ended_by done.state) done.stop) (one_more rest)
 
 -- steps until the first stop, or until the limit
 unfoldable pub run_for : ℕ → State → Finished
 run_for zero s = record { state = s; steps = 0; stop = stop.Limit }
-run_for (suc limit) s = run_on (step s).stop (step s).state (run_for limit)
+run_for (suc limit) s = run_on (step s) (run_for limit (step s).state)

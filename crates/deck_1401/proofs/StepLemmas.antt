@@ -43,7 +43,7 @@ one_step s t last e more = record {
   a = more.a;
   b = more.b;
   run =
-      ap (λ (done : Stepped). run_on done.stop done.state (run_for more.steps)) e ∙ ap one_more more.run
+      ap (λ (done : Stepped). run_on done (run_for more.steps done.state)) e ∙ ap one_more more.run
       ∙ ap (λ (n : ℕ). all_carried_out n (record last { a = more.a; b = more.b })) (omega arith);
 }
 

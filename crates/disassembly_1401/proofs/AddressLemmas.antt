@@ -14,7 +14,8 @@ use Rattle.source_1401.specs.declared.address.Base.TheVariants as bases
 use Rattle.source_1401.specs.declared.operands.Operand.TheVariants as operands
 use Rattle.source_1401.specs.declared.operands.OperandField.TheVariants as fields
 use Rattle.source_1401.specs.declared.language.Language.TheVariants.{Plain}
-use Rattle.instruction_text_1401.specs.Address.{index_text, number_text}
+use Rattle.notation_1401.specs.Digits.{digits_in}
+use Rattle.instruction_text_1401.specs.Address.{index_text}
 use Rattle.disassembly_1401.proofs.NumberLemmas.{IsNumber, number_again, short_number_of, no_other, no_higher}
 use Rattle.disassembly_1401.proofs.NumberLemmas.{operand_len-digits, prefix_len-digits}
 
@@ -115,21 +116,21 @@ begins_again (byte ∷ more) text value number rest =
     no_other byte 32 parts.0 (omega arith)
 
 pub number_is_address : (value index : ℕ) → value < 100000 → index < 4
-    → IsAddress (number_text value ++ index_text index) (numbered value index)
+    → IsAddress (digits_in 3 value ++ index_text index) (numbered value index)
 number_is_address value index fits few =
-    let number : IsNumber (number_text value) value = number_again value fits in
+    let number : IsNumber (digits_in 3 value) value = number_again value fits in
     let behind : IsIndex index (index_text index) = index_again index few in
     record {
       goes_on = λ rest.
-          ap (operand_len false) (append_assoc (number_text value) (index_text index) rest)
+          ap (operand_len false) (append_assoc (digits_in 3 value) (index_text index) rest)
           ∙ omega (
             arith,
-            operand_len-digits (number_text value) (index_text index ++ rest) number.digits,
+            operand_len-digits (digits_in 3 value) (index_text index ++ rest) number.digits,
             behind.goes_on rest,
-            length-append (number_text value) (index_text index),
+            length-append (digits_in 3 value) (index_text index),
           );
-      begins = begins_again (number_text value) (index_text index) value number;
-      is = operand_again (number_text value) (index_text index) value index number behind fits;
+      begins = begins_again (digits_in 3 value) (index_text index) value number;
+      is = operand_again (digits_in 3 value) (index_text index) value index number behind fits;
     }
 
 -- an address up to where it ends

@@ -195,12 +195,15 @@ pub record IsPlaced (h t u : Cell) : Type 0 where
   pub second : has_no_mark t ≡ true
   pub third : has_no_mark u ≡ true
 
+address_fits : (h t u : Cell) → IsPlaced h t u → value_of h.char t.char u.char < 100000
+address_fits h t u placed =
+    let parts = and_parts (nat_lt (value_of h.char t.char u.char) 16000) _ placed.spelling in
+    grind (arith, nat_tests, parts.0)
+
 is_address : (h t u : Cell) → IsPlaced h t u
     → IsAddress (address_text h.char t.char u.char) (numbered (value_of h.char t.char u.char) (register_in t.char))
 is_address h t u placed =
-    let parts = and_parts (nat_lt (value_of h.char t.char u.char) 16000) _ placed.spelling in
-    number_is_address (value_of h.char t.char u.char) (register_in t.char) (grind (arith, nat_tests, parts.0))
-    (omega arith)
+    number_is_address (value_of h.char t.char u.char) (register_in t.char) (address_fits h t u placed) (omega arith)
 
 address_cells : (h t u : Cell) (rest behind : List Cell) → IsPlaced h t u → rest ≡ behind
     → plain h.char ∷ plain t.char ∷ plain u.char ∷ rest ≡ h ∷ t ∷ u ∷ behind
@@ -219,6 +222,7 @@ pub one_read : (operation h t u : Cell) (says_d : Bool) (tail : List ℕ) (d : O
     → IsRead instruction (address_text h.char t.char u.char ++ tail) (operation ∷ h ∷ t ∷ u ∷ behind)
 one_read operation h t u says_d tail d behind instruction own mark placed this that =
     let word : List ℕ = address_text h.char t.char u.char in
+    let fits = address_fits h t u placed in
     record {
       of = whole (address_field (field_at h t u)) fields.Absent d;
       reads = λ more.
@@ -227,8 +231,8 @@ one_read operation h t u says_d tail d behind instruction own mark placed this t
           (that.ends more) (some_addresses 1 instruction.form.most (omega arith) this.most) this.least
           (that.one refl more) (that.reads more);
       good = refl;
-      few = omega (arith, address_few h.char t.char u.char, that.few, length-append word tail);
-      shows = list_all-append is_graphic word tail ∙ rw (address_shows h.char t.char u.char, that.shows) refl;
+      few = omega (arith, address_few h.char t.char u.char fits, that.few, length-append word tail);
+      shows = list_all-append is_graphic word tail ∙ rw (address_shows h.char t.char u.char fits, that.shows) refl;
       cells = λ all here.
           ap (λ (codes : List ℕ). marked (char_of instruction.operation)
           ∷ ((map plain codes ++ []) ++ map plain (d_codes d)))
@@ -249,6 +253,8 @@ pub two_read : (operation h t u x y z : Cell) (says_d : Bool) (tail : List ℕ) 
 two_read operation h t u x y z says_d tail d behind instruction own mark placed other this that =
     let word : List ℕ = address_text h.char t.char u.char in
     let second : List ℕ = address_text x.char y.char z.char in
+    let fits = address_fits h t u placed in
+    let second_fits = address_fits x y z other in
     record {
       of = whole (address_field (field_at h t u)) (address_field (field_at x y z)) d;
       reads = λ more.
@@ -263,16 +269,16 @@ two_read operation h t u x y z says_d tail d behind instruction own mark placed 
       few =
           omega (
             arith,
-            address_few h.char t.char u.char,
-            address_few x.char y.char z.char,
+            address_few h.char t.char u.char fits,
+            address_few x.char y.char z.char second_fits,
             that.few,
             length-append word (44 ∷ (second ++ tail)),
             length-append second tail,
           );
       shows =
           list_all-append is_graphic word (44 ∷ (second ++ tail))
-          ∙ rw (address_shows h.char t.char u.char, comma_shows)
-          (list_all-append is_graphic second tail ∙ rw (address_shows x.char y.char z.char, that.shows) refl);
+          ∙ rw (address_shows h.char t.char u.char fits, comma_shows)
+          (list_all-append is_graphic second tail ∙ rw (address_shows x.char y.char z.char second_fits, that.shows) refl);
       cells = λ all here.
           ap (λ (codes : List ℕ). marked (char_of instruction.operation)
           ∷ ((map plain codes ++ map plain (address_codes all here (field_at x y z))) ++ map plain (d_codes d)))

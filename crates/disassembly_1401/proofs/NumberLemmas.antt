@@ -1,13 +1,14 @@
 -- A number that is written is read again.
-use Rattle.std.proofs.Common.{◌≡◌, ℕ, ◌+◌, ◌/◌, ◌<◌, ◌≤◌, ◌==◌, nat_lt, Bool, true, false}
-use Rattle.std.proofs.Common.{if◌then◌else◌, List, [], ◌∷◌, ◌++◌, length, Some, refl, arith}
-use Rattle.std.proofs.lemmas.Bool.{and_parts}
+use Rattle.std.proofs.Common.{◌≡◌, ℕ, ◌+◌, ◌-◌, ◌/◌, ◌%◌, ◌<◌, ◌≤◌, ◌==◌, true, false, inl, inr}
+use Rattle.std.proofs.Common.{List, [], ◌∷◌, ◌++◌, length, Some, refl, sym, ap, subst, ◌∙◌, arith}
+use Rattle.std.proofs.lemmas.Bool.{and_parts, cases_lt}
 use Rattle.std.proofs.lemmas.Bool.Decides.{nat_tests}
 use Rattle.std.specs.List.{list_all, prefix_len}
+use Rattle.notation_1401.specs.Digits.{digits_in}
+use Rattle.notation_1401.proofs.DigitLemmas.{one_digit, digits_more}
 use Rattle.source_1401.specs.Label.{is_digit, is_letter_or_digit}
 use Rattle.source_1401.specs.Numbers.{value_of, short_number}
 use Rattle.source_1401.specs.Operands.{operand_len}
-use Rattle.instruction_text_1401.specs.Address.{digit, number_text}
 
 -- a word of one to five digits that writes a number
 pub record IsNumber (word : List ℕ) (value : ℕ) : Type 0 where
@@ -16,52 +17,85 @@ pub record IsNumber (word : List ℕ) (value : ℕ) : Type 0 where
   pub few : length word ≤ 5
   pub is : value_of word ≡ value
 
+-- the last digit of a number
+abbrev digit : ℕ → ℕ
+digit number = 48 + number % 10
+
 digit_is : (number : ℕ) → is_digit (digit number) ≡ true
 digit_is number = grind (arith, nat_tests)
 
-thousands_by : Bool → Bool → ℕ → List ℕ
-thousands_by is_short is_middling value =
-    if is_short then [] else if is_middling then digit (value / 1000) ∷ []
-    else digit (value / 10000) ∷ digit (value / 1000) ∷ []
+-- a number of two or three digits, in no more places
+in_two : (width number : ℕ) → width ≤ 1 → 10 ≤ number → number < 100
+    → digits_in width number ≡ digit (number / 10) ∷ digit number ∷ []
+in_two width number narrow least small =
+    digits_more width number (omega arith) (omega arith)
+    ∙ ap (λ (front : List ℕ). front ++ digit number ∷ [])
+    (one_digit (width - 1) (number / 10) (omega arith) (omega arith))
 
-number_by : (value : ℕ) → value < 100000 → (a b : Bool) → nat_lt value 1000 ≡ a → nat_lt value 10000 ≡ b
-    → IsNumber (thousands_by a b value ++ digit (value / 100) ∷ digit (value / 10) ∷ digit value ∷ []) value
-unfolding thousands_by
-number_by value fits true b e f =
-    let short : value < 1000 = grind (arith, nat_tests) in
-    record {
-      digits = rw (digit_is (value / 100), digit_is (value / 10), digit_is value) refl;
-      some = omega arith;
-      few = omega arith;
-      is = omega arith;
-    }
-number_by value fits false true e f =
-    let short : value < 10000 = grind (arith, nat_tests) in
-    record {
-      digits = rw (digit_is (value / 1000), digit_is (value / 100), digit_is (value / 10), digit_is value) refl;
-      some = omega arith;
-      few = omega arith;
-      is = omega arith;
-    }
-number_by value fits false false e f =
-    record {
-      digits =
-          rw (
-            digit_is (value / 10000),
-            digit_is (value / 1000),
-            digit_is (value / 100),
-            digit_is (value / 10),
-            digit_is value,
-          ) refl;
-      some = omega arith;
-      few = omega arith;
-      is = omega arith;
-    }
+in_three : (width number : ℕ) → width ≤ 1 → 100 ≤ number → number < 1000
+    → digits_in width number ≡ digit (number / 10 / 10) ∷ digit (number / 10) ∷ digit number ∷ []
+in_three width number narrow least small =
+    digits_more width number (omega arith) (omega arith)
+    ∙ ap (λ (front : List ℕ). front ++ digit number ∷ [])
+    (in_two (width - 1) (number / 10) (omega arith) (omega arith) (omega arith))
+
+-- the last two digits of a number in three places or more, and what is in front of them
+last_two : (number : ℕ) → number < 100000
+    → digits_in 3 number ≡ (digits_in 1 (number / 10 / 10) ++ digit (number / 10) ∷ []) ++ digit number ∷ []
+last_two number fits =
+    digits_more 3 number (omega arith) (omega arith)
+    ∙ ap (λ (front : List ℕ). front ++ digit number ∷ []) (digits_more 2 (number / 10) (omega arith) (omega arith))
+
+by_front : (number : ℕ) → number < 100000 → (front : List ℕ) → digits_in 1 (number / 10 / 10) ≡ front
+    → IsNumber ((front ++ digit (number / 10) ∷ []) ++ digit number ∷ []) number → IsNumber (digits_in 3 number) number
+by_front number fits front e is =
+    subst (λ (word : List ℕ). IsNumber word number)
+    (sym (last_two number fits
+    ∙ ap (λ (some : List ℕ). (some ++ digit (number / 10) ∷ []) ++ digit number ∷ []) e)) is
 
 -- a number in three to five digits
-pub number_again : (value : ℕ) → value < 100000 → IsNumber (number_text value) value
-unfolding thousands_by
-number_again value fits = number_by value fits (nat_lt value 1000) (nat_lt value 10000) refl refl
+pub number_again : (value : ℕ) → value < 100000 → IsNumber (digits_in 3 value) value
+number_again value fits = elim (cases_lt value 1000) [
+  | inl short ↦ by_front value fits (digit (value / 10 / 10) ∷ []) (one_digit 1 (value / 10 / 10) (omega arith) (omega arith))
+      (record {
+        digits = rw (digit_is (value / 10 / 10), digit_is (value / 10), digit_is value) refl;
+        some = omega arith;
+        few = omega arith;
+        is = omega arith;
+      })
+  | inr least ↦ elim (cases_lt value 10000) [
+    | inl middling ↦ by_front value fits (digit (value / 10 / 10 / 10) ∷ digit (value / 10 / 10) ∷ [])
+        (in_two 1 (value / 10 / 10) (omega arith) (omega arith) (omega arith))
+        (record {
+          digits =
+              rw (
+                digit_is (value / 10 / 10 / 10),
+                digit_is (value / 10 / 10),
+                digit_is (value / 10),
+                digit_is value,
+              ) refl;
+          some = omega arith;
+          few = omega arith;
+          is = omega arith;
+        })
+    | inr long ↦ by_front value fits
+        (digit (value / 10 / 10 / 10 / 10) ∷ digit (value / 10 / 10 / 10) ∷ digit (value / 10 / 10) ∷ [])
+        (in_three 1 (value / 10 / 10) (omega arith) (omega arith) (omega arith))
+        (record {
+          digits =
+              rw (
+                digit_is (value / 10 / 10 / 10 / 10),
+                digit_is (value / 10 / 10 / 10),
+                digit_is (value / 10 / 10),
+                digit_is (value / 10),
+                digit_is value,
+              ) refl;
+          some = omega arith;
+          few = omega arith;
+          is = omega arith;
+        })
+  ]
+]
 
 -- a word that writes a number is that number
 pub short_number_of : (word : List ℕ) (value : ℕ) → IsNumber word value → value < 100000

@@ -1,18 +1,21 @@
 -- The operands of an instruction with a word of its own: they are read again, and assembled as its cells.
-use Rattle.std.proofs.Common.{◌≡◌, ℕ, zero, suc, ◌+◌, ◌/◌, ◌%◌, ◌<◌, ◌≤◌, ◌==◌, nat_lt, Bool, true}
-use Rattle.std.proofs.Common.{false, if◌then◌else◌}
-use Rattle.std.proofs.Common.{List, [], ◌∷◌, ◌++◌, length, Option, Some, is_some, refl, ◌∙◌}
+use Rattle.std.proofs.Common.{◌≡◌, ℕ, zero, suc, ◌+◌, ◌-◌, ◌<◌, ◌≤◌, ◌==◌, true}
+use Rattle.std.proofs.Common.{List, [], ◌∷◌, ◌++◌, length, Option, Some, is_some, refl, subst, ◌∙◌}
 use Rattle.std.proofs.Common.{arith, length-append}
 use Rattle.std.specs.Prelude.{position}
 use Rattle.std.specs.List.{list_all}
+use Rattle.std.proofs.lemmas.Bool.{and_from, and_parts}
+use Rattle.std.proofs.lemmas.Bool.Decides.{nat_tests}
 use Rattle.std.proofs.lemmas.List.Folds.{list_all-append}
 use Rattle.bcd_1401.specs.Graphic.{graphics}
 use Rattle.bcd_1401.specs.declared.cell.Cell.{Cell}
 use Rattle.core_1401.specs.Address.{value_of}
+use Rattle.notation_1401.specs.Digits.{digits_in}
+use Rattle.source_1401.specs.Label.{is_digit}
 use Rattle.source_1401.specs.SourceLine.{is_graphic}
-use Rattle.instruction_text_1401.specs.Address.{digit, thousands_text, number_text, index_text, register_in}
-use Rattle.instruction_text_1401.specs.Address.{address_text}
+use Rattle.instruction_text_1401.specs.Address.{index_text, register_in, address_text}
 use Rattle.instruction_text_1401.specs.InstructionText.{IsOwn, graphic_of}
+use Rattle.disassembly_1401.proofs.NumberLemmas.{number_again}
 
 digit_is_graphic : (d : ℕ) → d < 10 → is_graphic (48 + d) ≡ true
 unfolding graphics
@@ -28,15 +31,17 @@ digit_is_graphic (suc (suc (suc (suc (suc (suc (suc (suc zero)))))))) h = refl
 digit_is_graphic (suc (suc (suc (suc (suc (suc (suc (suc (suc zero))))))))) h = refl
 digit_is_graphic (suc (suc (suc (suc (suc (suc (suc (suc (suc (suc more)))))))))) h = absurd (omega (arith, h))
 
-digit_shows : (number : ℕ) → is_graphic (digit number) ≡ true
-digit_shows number = digit_is_graphic (number % 10) (omega arith)
+digit_shows : (byte : ℕ) → is_digit byte ≡ true → is_graphic byte ≡ true
+digit_shows byte digit =
+    let low : 48 ≤ byte = grind (arith, nat_tests) in
+    let high : byte ≤ 57 = grind (arith, nat_tests) in
+    subst (λ (each : ℕ). is_graphic each ≡ true) (omega arith) (digit_is_graphic (byte - 48) (omega arith))
 
-thousands_show : (a b : Bool) (value : ℕ)
-    → list_all is_graphic (if a then [] else if b then digit (value / 1000) ∷ []
-    else digit (value / 10000) ∷ digit (value / 1000) ∷ []) ≡ true
-thousands_show true b value = refl
-thousands_show false true value = rw (digit_shows (value / 1000)) refl
-thousands_show false false value = rw (digit_shows (value / 10000), digit_shows (value / 1000)) refl
+digits_show : (word : List ℕ) → list_all is_digit word ≡ true → list_all is_graphic word ≡ true
+digits_show [] digits = refl
+digits_show (byte ∷ word) digits =
+    let parts = and_parts (is_digit byte) (list_all is_digit word) digits in
+    and_from _ _ (digit_shows byte parts.0) (digits_show word parts.1)
 
 index_shows : (index : ℕ) → index < 4 → list_all is_graphic (index_text index) ≡ true
 unfolding graphics
@@ -50,16 +55,11 @@ both_show : (front back : List ℕ) → list_all is_graphic front ≡ true → l
     → list_all is_graphic (front ++ back) ≡ true
 both_show front back f b = list_all-append is_graphic front back ∙ rw (f, b) refl
 
-number_shows : (value : ℕ) → list_all is_graphic (number_text value) ≡ true
-number_shows value =
-    both_show (thousands_text value) (digit (value / 100) ∷ digit (value / 10) ∷ digit value ∷ [])
-    (thousands_show (nat_lt value 1000) (nat_lt value 10000) value)
-    (rw (digit_shows (value / 100), digit_shows (value / 10), digit_shows value) refl)
-
 -- an address is written in graphics
-pub address_shows : (h t u : ℕ) → list_all is_graphic (address_text h t u) ≡ true
-address_shows h t u =
-    both_show (number_text (value_of h t u)) (index_text (register_in t)) (number_shows (value_of h t u))
+pub address_shows : (h t u : ℕ) → value_of h t u < 100000 → list_all is_graphic (address_text h t u) ≡ true
+address_shows h t u fits =
+    both_show (digits_in 3 (value_of h t u)) (index_text (register_in t))
+    (digits_show (digits_in 3 (value_of h t u)) (number_again (value_of h t u) fits).digits)
     (index_shows (register_in t) (omega arith))
 
 some_of : (found : Option ℕ) (char : ℕ) → found ≡ Some char → is_some found ≡ true
@@ -74,13 +74,6 @@ pub comma_shows : is_graphic 44 ≡ true
 unfolding graphics
 comma_shows = refl
 
-thousands_few : (a b : Bool) (value : ℕ)
-    → length (if a then [] else if b then digit (value / 1000) ∷ []
-    else digit (value / 10000) ∷ digit (value / 1000) ∷ []) ≤ 2
-thousands_few true b value = omega arith
-thousands_few false true value = omega arith
-thousands_few false false value = omega arith
-
 index_few : (index : ℕ) → index < 4 → length (index_text index) ≤ 3
 index_few zero h = omega arith
 index_few (suc zero) h = omega arith
@@ -89,13 +82,11 @@ index_few (suc (suc (suc zero))) h = omega arith
 index_few (suc (suc (suc (suc more)))) h = absurd (omega (arith, h))
 
 -- an address has up to eight columns
-pub address_few : (h t u : ℕ) → length (address_text h t u) ≤ 8
-address_few h t u =
-    let value : ℕ = value_of h t u in
+pub address_few : (h t u : ℕ) → value_of h t u < 100000 → length (address_text h t u) ≤ 8
+address_few h t u fits =
     omega (
       arith,
-      thousands_few (nat_lt value 1000) (nat_lt value 10000) value,
+      (number_again (value_of h t u) fits).few,
       index_few (register_in t) (omega arith),
-      length-append (thousands_text value) (digit (value / 100) ∷ digit (value / 10) ∷ digit value ∷ []),
-      length-append (number_text value) (index_text (register_in t)),
+      length-append (digits_in 3 (value_of h t u)) (index_text (register_in t)),
     )

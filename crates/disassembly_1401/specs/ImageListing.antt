@@ -9,7 +9,6 @@ use Rattle.image_1401.specs.declared.image.Image.{Image}
 use Rattle.image_1401.specs.declared.image.Segment.{Segment}
 use Rattle.notation_1401.specs.Cells.{cells_text}
 use Rattle.notation_1401.specs.Digits.{digits_in}
-use Rattle.instruction_text_1401.specs.Address.{number_text}
 use Rattle.instruction_text_1401.specs.InstructionText.{graphic_of, instruction_text}
 use Rattle.disassembly_1401.specs.Stretches.{stretches_of}
 
@@ -44,7 +43,7 @@ stretch_line stretch =
 
 -- the entry in decimal, which ends its line
 unfoldable pub start_text : ℕ → List ℕ
-start_text start = number_text start ++ codes "\n"
+start_text start = digits_in 3 start ++ codes "\n"
 
 -- the operation and the entry
 unfoldable pub entry_text : ℕ → List ℕ

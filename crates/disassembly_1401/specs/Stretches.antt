@@ -2,9 +2,9 @@
 use Rattle.std.specs.Prelude.{ℕ, ◌+◌, ◌==◌, Bool, not, ◌&&◌, nat_le, nat_lt, if◌then◌else◌, List, [], ◌∷◌, ◌++◌, length}
 use Rattle.std.specs.List.{flat_map}
 use Rattle.bcd_1401.specs.declared.cell.Cell.{Cell}
+use Rattle.core_1401.specs.Cells.{most_cells}
 use Rattle.image_1401.specs.declared.image.Segment.{Segment}
 use Rattle.placing_1401.specs.Cells.{numbered}
-use Rattle.notation_1401.specs.Cells.{most_cells}
 use Rattle.placing_1401.specs.Segments.{start_or_zero}
 use Rattle.disassembly_1401.specs.declared.stretches.Builder.{Builder}
 

@@ -12,7 +12,6 @@ use crate::stretches::stretches;
 use bcd_1401::{Cell, Char};
 use core_1401::Cells;
 use image_1401::{Image, Segment};
-use instruction_text_1401::put_number;
 use notation_1401::{put_cells, put_digits};
 use std::alloc::{AllocError, Global};
 
@@ -165,7 +164,7 @@ fn put_lines(text: &mut Vec<u8>, stretches: &[Segment]) -> Result<(), AllocError
 fn put_start_number(text: &mut Vec<u8>, start: u16) -> Result<(), AllocError>
     ensures { OnOk result (text.new.items ≡ text.old.items ++ start_text start) }
 {
-    put_number(text, start)?;
+    put_digits(text, 3, u64::from(start))?;
     Ok(text.push(b'\n')?)
 }
 

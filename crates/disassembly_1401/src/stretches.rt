@@ -1,7 +1,7 @@
 //! The cells of an image, cut at word marks.
 ghost use Rattle.std.specs.Prelude.{◌≡◌, ◌∷◌, ◌++◌, ◌≤◌, ℕ, List, [], length, IfOk, OnOk};
 ghost use Rattle.bcd_1401.specs.declared.cell.Cell.{Cell as ACell};
-ghost use Rattle.notation_1401.specs.Cells.{most_cells};
+ghost use Rattle.core_1401.specs.Cells.{most_cells};
 ghost use Rattle.placing_1401.specs.Cells.{numbered};
 ghost use Rattle.placing_1401.specs.Segments.{start_or_zero};
 ghost use Rattle.disassembly_1401.specs.Stretches.{closed, goes_on, cut, placed_cells, stretches_of, built};

@@ -11,11 +11,12 @@ use Rattle.std.proofs.lemmas.List.Sums.{sum_by-drop_more, position_or_len_is, su
 use Rattle.bcd_1401.specs.declared.cell.Cell.{Cell}
 use Rattle.core_1401.specs.Storage.{Storage, cell_at, with_char}
 use Rattle.fields_1401.specs.Across.{chars_across, units_unzoned, char_to}
-use Rattle.fields_1401.specs.Edit.{is_replaceable, taken_from, taken_by, replaceable_in, replaceable_behind}
+use Rattle.fields_1401.specs.Edit.{is_replaceable, taken_from, taken_by, replaceable_behind}
 use Rattle.fields_1401.specs.Edit.{is_significant, before_significant, limit_of, is_suppressed, is_shared, shown}
 use Rattle.fields_1401.specs.Edit.{shown_at, edited, taken_down, unsuppressed_at, unsuppressed, without_zero}
-use Rattle.fields_1401.specs.Edit.{suppressed_to}
+use Rattle.fields_1401.specs.Edit.{suppressed_to, rules_of, unsuppressed_place}
 use Rattle.fields_1401.specs.Edit.{taken_char, is_left_over, is_sign_char, is_sign_blanked}
+use Rattle.fields_1401.specs.declared.editing.Rules.{Rules}
 use Rattle.fields_1401.specs.Places.{is_within, with_chars, with_all_chars, chars_of}
 use Rattle.fields_1401.specs.declared.sign.Sign.{Sign}
 use Rattle.fields_1401.specs.Suppress.{zero_char}
@@ -96,19 +97,17 @@ unfolding edited
 length-edited word digits sign = length-map-range_with_len (shown_at word digits sign) 0 (length word)
 
 -- what a place shows before anything is suppressed, by what the rules go by
-pub shown_place : (word digits : List ℕ) (sign : Sign) (j t replaceable behind : ℕ) (taken : Option ℕ) (own : ℕ)
-    → j < length word → t ≡ length digits → replaceable ≡ replaceable_in word → behind ≡ replaceable_behind word j
+pub shown_place : (word digits : List ℕ) (sign : Sign) (j : ℕ) (rules : Rules) (behind : ℕ) (taken : Option ℕ) (own : ℕ)
+    → j < length word → rules ≡ rules_of word digits sign → behind ≡ replaceable_behind word j
     → taken ≡ taken_by word digits j → own ≡ get_or word j 0
-    → shown t replaceable sign behind false taken own ≡ get_or (unsuppressed word digits sign) j 0
+    → shown rules (unsuppressed_place own behind) taken ≡ get_or (unsuppressed word digits sign) j 0
 unfolding unsuppressed
-shown_place word digits sign j t replaceable behind taken own within e_t e_replaceable e_behind e_taken e_own =
-    ap (λ k. shown k replaceable sign behind false taken own) e_t
-    ∙ ap (λ k. shown (length digits) k sign behind false taken own) e_replaceable
-    ∙ ap (λ k. shown (length digits) (replaceable_in word) sign k false taken own) e_behind
-    ∙ ap (λ (o : Option ℕ). shown (length digits) (replaceable_in word) sign (replaceable_behind word j) false o own)
-    e_taken
-    ∙ ap (λ k. shown (length digits) (replaceable_in word) sign (replaceable_behind word j) false
-    (taken_by word digits j) k) e_own
+shown_place word digits sign j rules behind taken own within e_rules e_behind e_taken e_own =
+    let full : Rules = rules_of word digits sign in
+    ap (λ (each : Rules). shown each (unsuppressed_place own behind) taken) e_rules
+    ∙ ap (λ k. shown full (unsuppressed_place own k) taken) e_behind
+    ∙ ap (λ (o : Option ℕ). shown full (unsuppressed_place own (replaceable_behind word j)) o) e_taken
+    ∙ ap (λ k. shown full (unsuppressed_place k (replaceable_behind word j)) (taken_by word digits j)) e_own
     ∙ sym (get_or-map-range_with_len (unsuppressed_at word digits sign) 0 (length word) j j 0 within (omega arith))
 
 -- as many characters as the control word has
@@ -142,13 +141,13 @@ kept_suppressed false true false own = grind (arith, nat_tests)
 kept_suppressed false false true own = grind (arith, nat_tests)
 kept_suppressed false false false own = grind (arith, nat_tests)
 
-pub suppressed_shown : (t replaceable : ℕ) (sign : Sign) (behind own : ℕ) (taken : Option ℕ)
-    → is_significant taken ≡ false
-    → shown t replaceable sign behind true taken own ≡ without_zero (shown t replaceable sign behind false taken own)
-suppressed_shown t replaceable sign behind own (Some char) none = taken_suppressed char none
-suppressed_shown t replaceable sign behind own None none =
-    kept_suppressed (is_left_over t replaceable behind) (behind == 0)
-    (is_sign_char own && is_sign_blanked sign behind) own
+pub suppressed_shown : (rules : Rules) (own behind : ℕ) (taken : Option ℕ) → is_significant taken ≡ false
+    → shown rules (record { char = own; behind = behind; suppressed = true }) taken
+    ≡ without_zero (shown rules (unsuppressed_place own behind) taken)
+suppressed_shown rules own behind (Some char) none = taken_suppressed char none
+suppressed_shown rules own behind None none =
+    kept_suppressed (is_left_over rules behind) (behind == 0)
+    (is_sign_char own && is_sign_blanked rules.sign behind) own
 
 -- no place left of the first significant one is significant
 pub none_significant : (word digits : List ℕ) (j : ℕ) → j < length word → j < before_significant word digits
@@ -167,8 +166,8 @@ pub shown_again : (word digits : List ℕ) (sign : Sign) (j count : ℕ) → j <
 unfolding edited unsuppressed
 shown_again word digits sign j count within e =
     let taken = taken_by word digits j in
-    let place : Bool → ℕ = λ test. shown (length digits) (replaceable_in word) sign (replaceable_behind word j) test
-    taken (get_or word j 0) in
+    let place : Bool → ℕ = λ test. shown (rules_of word digits sign)
+    (record { char = get_or word j 0; behind = replaceable_behind word j; suppressed = test }) taken in
     let before = get_or (unsuppressed word digits sign) j 0 in
     let plain : before ≡ place false =
     get_or-map-range_with_len (unsuppressed_at word digits sign) 0 (length word) j j 0 within (omega arith) in
@@ -181,8 +180,8 @@ shown_again word digits sign j count within e =
           let on : nat_lt j count ≡ true = lt-ltb j count lt in
           let none = none_significant word digits j within (omega arith) in
           ap (λ b. if b then without_zero before else before) on ∙ ap without_zero plain
-          ∙ sym (suppressed_shown (length digits) (replaceable_in word) sign (replaceable_behind word j)
-          (get_or word j 0) taken none) ∙ ap place (sym on ∙ test) ∙ sym full
+          ∙ sym (suppressed_shown (rules_of word digits sign) (get_or word j 0) (replaceable_behind word j) taken none)
+          ∙ ap place (sym on ∙ test) ∙ sym full
       | inr le ↦
           let off : nat_lt j count ≡ false = le-ltb j count le in
           ap (λ b. if b then without_zero before else before) off ∙ plain ∙ ap place (sym off ∙ test) ∙ sym full
@@ -250,7 +249,7 @@ none_suppressed old chars b n lent before char_of e =
     (le-ltb (n - 1 - i) 0 (omega arith))))
 
 pub one_suppressed : (old : Storage) (chars new : List ℕ) (b n i at char put : ℕ) → b < length old → i < n → n ≤ b + 1
-    → length chars ≡ length old → at ≡ b - (n - 1 - i) → char ≡ get_or chars at 0 → put ≡ without_zero char
+    → length chars ≡ length old → at ≡ b - (n - 1 - i) → char ≡ get_or chars at char → put ≡ without_zero char
     → new ≡ set chars at put → AreSuppressed old chars b n i → AreSuppressed old new b n (i + 1)
 one_suppressed old chars new b n i at char put b_in within above size e_at read shows made so_far before char_of e =
     let k : ℕ = n - 1 - i in
@@ -259,7 +258,7 @@ one_suppressed old chars new b n i at char put b_in within above size e_at read 
     let g : ℕ → ℕ = suppressed_to char_of n (i + 1) in
     let in_before : b < length before = omega (arith, b_in, ap length e, length-with_chars before b n char_of) in
     let was : char ≡ char_of k =
-    read ∙ ap (λ (q : ℕ). get_or chars q 0) e_at ∙ char_lent old chars (b - k) 0 (omega (arith, b_in)) size
+    read ∙ ap (λ (q : ℕ). get_or chars q char) e_at ∙ char_lent old chars (b - k) char (omega (arith, b_in)) size
     ∙ ap (λ (s : Storage). (cell_at s (b - k)).char) (so_far before char_of e)
     ∙ ap (λ (cell : Cell). cell.char) (cell_at-with_chars before b n f k in_before (omega (arith, above))
     (omega (arith, within)))

@@ -7,10 +7,12 @@ use Rattle.std.proofs.lemmas.Bool.{cases_eq, lt-ltb, le-ltb}
 use Rattle.std.proofs.lemmas.Bool.Decides.{nat_tests}
 use Rattle.std.proofs.lemmas.List.{length-set, drop_all}
 use Rattle.core_1401.specs.Storage.{Storage, cell_at, with_char}
+use Rattle.fields_1401.specs.declared.editing.Rules.{Rules}
 use Rattle.fields_1401.specs.declared.sign.Sign.{Sign}
 use Rattle.fields_1401.specs.Across.{chars_across, units_unzoned, char_to, unzoned_down}
 use Rattle.fields_1401.specs.Edit.{is_replaceable, is_significant, replaceable_in, replaceable_behind, taken_by}
 use Rattle.fields_1401.specs.Edit.{kept_char, taken_char, taken_down, unsuppressed, sign_at, shown, is_shared}
+use Rattle.fields_1401.specs.Edit.{rules_of, unsuppressed_place}
 use Rattle.fields_1401.specs.Places.{is_within, with_chars, with_all_chars, chars_of}
 use Rattle.fields_1401.specs.Suppress.{blank_char}
 use Rattle.fields_1401.proofs.AcrossLemmas.{length-across, char_across, length-unzoned_across}
@@ -66,9 +68,9 @@ pub none_taken : (chars : List ℕ) (a t own behind : ℕ) → is_replaceable ow
 none_taken chars a t own behind isnt = rw isnt refl
 
 -- a replaceable place that took none shows a blank
-pub blank_left : (t replaceable behind own : ℕ) (sign : Sign) → is_replaceable own ≡ true
-    → blank_char ≡ kept_char t replaceable sign behind false own
-blank_left t replaceable behind own sign is = rw is refl
+pub blank_left : (rules : Rules) (own behind : ℕ) → is_replaceable own ≡ true
+    → blank_char ≡ kept_char rules (unsuppressed_place own behind)
+blank_left rules own behind is = rw is refl
 
 -- a character that is neither zero nor blank is significant
 pub significant_is : (char : ℕ) → is_significant (Some char) ≡ not (is_replaceable char)
@@ -90,16 +92,16 @@ units_kept s chars a t b m i behind significant a_in a_above apart le some befor
 
 -- one more
 pub put_more : (s : Storage) (chars after : List ℕ) (a t b m i place behind from significant next own char : ℕ)
-    (replaceable : ℕ) (sign : Sign) (taken : Option ℕ) → a < length s → t ≤ a + 1 → b < length s → m ≤ b + 1
-    → is_shared a t b m ≡ false → i < m → place ≡ b - i → sign ≡ sign_at s a
-    → replaceable ≡ replaceable_in (chars_across s b m) → own ≡ get_or chars place 0
-    → taken ≡ taken_down chars a t own behind → char ≡ shown t replaceable sign behind false taken own
+    (rules : Rules) (taken : Option ℕ) → a < length s → t ≤ a + 1 → b < length s → m ≤ b + 1
+    → is_shared a t b m ≡ false → i < m → place ≡ b - i → rules.taken ≡ t
+    → rules.sign ≡ sign_at s a → rules.replaceable ≡ replaceable_in (chars_across s b m) → own ≡ get_or chars place 0
+    → taken ≡ taken_down chars a t own behind → char ≡ shown rules (unsuppressed_place own behind) taken
     → after ≡ set chars place char
     → ((is_replaceable own ≡ true) × (from ≡ behind + 1)) ⊎ ((is_replaceable own ≡ false) × (from ≡ behind))
     → ((is_significant taken ≡ true) × (next ≡ m - 1 - i)) ⊎ ((is_significant taken ≡ false) × (next ≡ significant))
     → ArePut s chars a t b m i behind significant → ArePut s after a t b m (i + 1) from next
-put_more s chars after a t b m i place behind from significant next own char replaceable sign taken
-    a_in a_above b_in b_above apart lt here e_sign e_replaceable read takes shows made counts tells before =
+put_more s chars after a t b m i place behind from significant next own char rules taken
+    a_in a_above b_in b_above apart lt here e_taken e_sign e_replaceable read takes shows made counts tells before =
     let j : ℕ = m - 1 - i in
     let control : List ℕ = chars_across s b m in
     let digits : List ℕ = units_unzoned (chars_across s a t) in
@@ -121,10 +123,13 @@ put_more s chars after a t b m i place behind from significant next own char rep
     (takes ∙ taken_down_is s chars a t own behind a_in a_above
     (λ k less. still_lent s chars b i (a - k) kept before.size before.put (omega (arith, a_in))
     (not_shared a t b m i k apart a_above less (omega (arith, lt))))) in
+    let go_by : rules ≡ rules_of control digits (sign_at s a) =
+    ap (λ (k : ℕ). let made : Rules = record rules { taken = k } in made) (e_taken ∙ sym digits_size)
+    ∙ ap (λ (k : ℕ). let made : Rules = record rules { taken = length digits; replaceable = k } in made) e_replaceable
+    ∙ ap (λ (sign : Sign). rules_of control digits sign) e_sign in
     let shown_here : char ≡ get_or full (length full - 1 - i) 0 =
-    shows ∙ shown_place control digits sign j t replaceable behind taken own (omega (arith, lt, size))
-    (sym digits_size) e_replaceable right of_taken of_own
-    ∙ ap (λ (x : Sign). get_or (unsuppressed control digits x) j 0) e_sign
+    shows ∙ shown_place control digits (sign_at s a) j rules behind taken own (omega (arith, lt, size)) go_by
+    right of_taken of_own
     ∙ ap (λ (k : ℕ). get_or full k 0) (omega (arith, size, full_size)) in
     let more : from ≡ count_by is_replaceable (drop j control) =
     replaceable_more control j own behind from (omega (arith, lt, size)) of_own right counts in

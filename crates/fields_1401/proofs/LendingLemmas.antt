@@ -38,12 +38,12 @@ char_lent s chars q d in_core size =
     ∙ sym (ap (λ (cell : Cell). cell.char) (cell_at-with_all_chars s chars q in_core))
 
 -- the i-th below an address, read of the characters by address
-pub char_below : (s : Storage) (chars : List ℕ) (at from i char : ℕ) → chars ≡ chars_of s → from ≡ at → at < length s
-    → char ≡ slice_index_or chars (from - i) 0 → char ≡ (cell_at s (at - i)).char
-char_below s chars at from i char lent e in_core read =
-    read ∙ ap (λ (l : List ℕ). slice_index_or l (from - i) 0) lent
-    ∙ ap (λ (k : ℕ). slice_index_or (chars_of s) (k - i) 0) e
-    ∙ char_of_cell s (at - i) 0 (omega (arith, in_core))
+pub char_below : (s : Storage) (chars : List ℕ) (at from i char d : ℕ) → chars ≡ chars_of s → from ≡ at → at < length s
+    → char ≡ slice_index_or chars (from - i) d → char ≡ (cell_at s (at - i)).char
+char_below s chars at from i char d lent e in_core read =
+    read ∙ ap (λ (l : List ℕ). slice_index_or l (from - i) d) lent
+    ∙ ap (λ (k : ℕ). slice_index_or (chars_of s) (k - i) d) e
+    ∙ char_of_cell s (at - i) d (omega (arith, in_core))
 
 -- before anything is written
 pub lent_at_first : (s : Storage) (chars : List ℕ) → chars ≡ chars_of s → with_all_chars s chars ≡ s

@@ -16,6 +16,7 @@ use Rattle.fields_1401.specs.Suppress.{blank_char, zero_char, comma_char}
 use Rattle.fields_1401.specs.declared.done.Done.{Done}
 use Rattle.fields_1401.specs.declared.done.FieldStop.{FieldStop}
 use Rattle.fields_1401.specs.declared.done.FieldStop.TheVariants.{Address, Overlap}
+use Rattle.fields_1401.specs.declared.editing.Rules.{Rules}
 use Rattle.fields_1401.specs.declared.sign.Sign.{Sign}
 use Rattle.fields_1401.specs.declared.sign.Sign.TheVariants.{Plus, Minus}
 
@@ -88,19 +89,42 @@ is_suppressed word digits i = nat_lt i (before_significant word digits) && nat_l
 abbrev pub taken_char : Bool → ℕ → ℕ
 taken_char suppressed char = if char == zero_char && suppressed then blank_char else char
 
--- whether a place is left over: the t characters of A were too few for the replaceable places, and t of these or more
--- are to the right of it, so that all that took one do
-abbrev pub is_left_over : ℕ → ℕ → ℕ → Bool
-is_left_over t replaceable behind = nat_lt t replaceable && nat_le t behind
+-- a place of the control word: its character, how many replaceable places are to its right, and whether zeros and
+-- commas are suppressed there
+pub record Place : Type 0 where
+  pub char : ℕ
+  pub behind : ℕ
+  pub suppressed : Bool
+
+-- place i, and the same before zeros and commas are suppressed
+abbrev pub place_at : List ℕ → List ℕ → ℕ → Place
+place_at word digits i = record {
+  char = slice_index word i;
+  behind = replaceable_behind word i;
+  suppressed = is_suppressed word digits i;
+}
+
+abbrev pub unsuppressed_place : ℕ → ℕ → Place
+unsuppressed_place char behind = record { char = char; behind = behind; suppressed = false }
+
+-- what the rules go by at each place: how many characters of A are taken and A's sign, and how many places of the
+-- control word are replaceable
+abbrev pub rules_of : List ℕ → List ℕ → Sign → Rules
+rules_of word digits sign = record { taken = length digits; replaceable = replaceable_in word; sign = sign }
+
+-- whether a place is left over: the characters of A were too few for the replaceable places, and as many of these as
+-- took one, or more, are to the right of it
+abbrev pub is_left_over : Rules → ℕ → Bool
+is_left_over rules behind = nat_lt rules.taken rules.replaceable && nat_le rules.taken behind
 
 -- whether no replaceable place is to the right of a place
 abbrev pub is_behind_all : ℕ → Bool
 is_behind_all behind = behind == 0
 
 -- a comma goes with what is left over, after all replaceable places, and if zeros are suppressed
-abbrev pub is_comma_blanked : ℕ → ℕ → ℕ → Bool → Bool
-is_comma_blanked t replaceable behind suppressed =
-    is_left_over t replaceable behind || (is_behind_all behind || suppressed)
+abbrev pub is_comma_blanked : Rules → Place → Bool
+is_comma_blanked rules place =
+    is_left_over rules place.behind || (is_behind_all place.behind || place.suppressed)
 
 -- a part of a sign goes after all replaceable places, unless A is minus
 abbrev pub is_sign_blanked : Sign → ℕ → Bool
@@ -109,33 +133,30 @@ is_sign_blanked Minus behind = false
 
 -- whether a character of the control word becomes blank: what took none though it is replaceable, each ampersand, some
 -- commas and some parts of a sign
-abbrev pub is_blanked : ℕ → ℕ → Sign → ℕ → Bool → ℕ → Bool
-is_blanked t replaceable sign behind suppressed char =
-    is_replaceable char || (char == ampersand_char
-    || ((char == comma_char && is_comma_blanked t replaceable behind suppressed)
-    || (is_sign_char char && is_sign_blanked sign behind)))
+abbrev pub is_blanked : Rules → Place → Bool
+is_blanked rules place =
+    is_replaceable place.char || (place.char == ampersand_char
+    || ((place.char == comma_char && is_comma_blanked rules place)
+    || (is_sign_char place.char && is_sign_blanked rules.sign place.behind)))
 
 -- a character of the control word that took none of A
-abbrev pub kept_char : ℕ → ℕ → Sign → ℕ → Bool → ℕ → ℕ
-kept_char t replaceable sign behind suppressed char =
-    if is_blanked t replaceable sign behind suppressed char then blank_char else char
+abbrev pub kept_char : Rules → Place → ℕ
+kept_char rules place = if is_blanked rules place then blank_char else place.char
 
--- what a place shows, by what it took and by its own character
-abbrev pub shown : ℕ → ℕ → Sign → ℕ → Bool → Option ℕ → ℕ → ℕ
-shown t replaceable sign behind suppressed (Some char) own = taken_char suppressed char
-shown t replaceable sign behind suppressed None own = kept_char t replaceable sign behind suppressed own
+-- what a place shows, by what it took
+abbrev pub shown : Rules → Place → Option ℕ → ℕ
+shown rules place (Some char) = taken_char place.suppressed char
+shown rules place None = kept_char rules place
 
 -- what place i shows
 abbrev pub shown_at : List ℕ → List ℕ → Sign → ℕ → ℕ
-shown_at word digits sign i =
-    shown (length digits) (replaceable_in word) sign (replaceable_behind word i) (is_suppressed word digits i)
-    (taken_by word digits i) (slice_index word i)
+shown_at word digits sign i = shown (rules_of word digits sign) (place_at word digits i) (taken_by word digits i)
 
 -- what place i shows before zeros and commas are suppressed, and all places from left to right
 abbrev pub unsuppressed_at : List ℕ → List ℕ → Sign → ℕ → ℕ
 unsuppressed_at word digits sign i =
-    shown (length digits) (replaceable_in word) sign (replaceable_behind word i) false (taken_by word digits i)
-    (slice_index word i)
+    shown (rules_of word digits sign) (unsuppressed_place (slice_index word i) (replaceable_behind word i))
+    (taken_by word digits i)
 
 unfoldable pub unsuppressed : List ℕ → List ℕ → Sign → List ℕ
 unsuppressed word digits sign = map (unsuppressed_at word digits sign) (range_with_len 0 (length word))

@@ -12,7 +12,6 @@ use crate::done::{Done, FieldStop};
 use crate::lanes::{codes_across, differing_bits};
 use crate::refusals::are_in_core;
 use crate::registers::{below_field, registers};
-use crate::slices::char_at;
 use core_1401::Core;
 
 /// How many pairs of a longer field are compared at once.
@@ -155,8 +154,8 @@ fn highest_of_few(core: &Core, a: u16, b: u16, n: u16) -> Option<u16>
     let (a, b, n) = (usize::from(a), usize::from(b), usize::from(n));
     for behind in 0..n {
         let i = n - 1 - behind;
-        let of_a = char_at(chars, a - i);
-        let of_b = char_at(chars, b - i);
+        let of_a = chars[a - i];
+        let of_b = chars[b - i];
         if of_a != of_b {
             return Some(i as u16);
         }

@@ -1,5 +1,5 @@
 //! A field edited by the control word in the B field.
-ghost use Rattle.std.specs.Prelude.{◌≡◌, ℕ, ◌+◌, ◌<◌, ◌≤◌, false, length, slice_index, IfSome, IfOk, OnOk};
+ghost use Rattle.std.specs.Prelude.{◌≡◌, ℕ, ◌+◌, ◌<◌, ◌≤◌, length, slice_index, IfSome, IfOk, OnOk};
 ghost use Rattle.core_1401.specs.Address.{addresses};
 ghost use Rattle.core_1401.specs.Field.{field_len_of};
 ghost use Rattle.core_1401.specs.Storage.{Storage};
@@ -9,15 +9,15 @@ ghost use Rattle.fields_1401.specs.Across.{IsSameOutside, IsSameBeside, IsUnmark
 ghost use Rattle.fields_1401.specs.Edit.{replaceable_in, before_significant, is_left_over, is_comma_blanked};
 ghost use Rattle.fields_1401.specs.Edit.{is_sign_char, is_sign_blanked, is_blanked, kept_char, unsuppressed};
 ghost use Rattle.fields_1401.specs.Edit.{edited, sign_at, taken_at, edit_at, suppressed_to, without_zero, IsPlain};
-ghost use Rattle.fields_1401.specs.Edit.{ShowsWithBlanks};
+ghost use Rattle.fields_1401.specs.Edit.{unsuppressed_place, ShowsWithBlanks};
 ghost use Rattle.fields_1401.specs.Outcome.{CarriesOut};
 ghost use Rattle.fields_1401.specs.Places.{with_chars};
+ghost use Rattle.fields_1401.specs.Suppress.{comma_char};
 
 use crate::control_word::{ControlWord, is_replaceable, limit};
 use crate::done::{Done, FieldStop};
 use crate::registers::{below_field, registers};
 use crate::sign::Sign;
-use crate::slices::{char_at, put_char};
 use crate::suppression::{COMMA, ZERO};
 use bcd_1401::Char;
 use core_1401::Core;
@@ -122,18 +122,18 @@ fn put_unsuppressed(core: &mut Core, word: ControlWord, rules: Rules) -> usize
     let mut behind = 0;
     let mut significant = len;
     for i in 0..len {
-        let own = char_at(chars, units - i);
+        let own = chars[units - i];
         if !is_replaceable(own) {
-            put_char(chars, units - i, rules.kept_char(behind, own));
+            chars[units - i] = rules.kept_char(behind, own);
         } else if behind < rules.taken {
             let char = char_of_a(chars, usize::from(word.a), behind, units_of_a);
             if !is_replaceable(char) {
                 significant = len - 1 - i;
             }
-            put_char(chars, units - i, char);
+            chars[units - i] = char;
             behind += 1;
         } else {
-            put_char(chars, units - i, Char::BLANK);
+            chars[units - i] = Char::BLANK;
             behind += 1;
         }
     }
@@ -149,7 +149,7 @@ fn char_of_a(chars: &[Char], a: usize, behind: usize, units: Char) -> Char
     requires units { units ≡ with_zone_of (slice_index chars.now a) 0 }
     ensures { result ≡ unzoned_down chars.now a behind }
 {
-    let char = char_at(chars, a - behind);
+    let char = chars[a - behind];
     if behind == 0 { units } else { char }
 }
 
@@ -165,8 +165,7 @@ fn suppress_places(core: &mut Core, word: ControlWord, count: usize)
     let low = usize::from(word.b + 1 - word.len);
     let chars = core.chars_mut();
     for i in 0..count {
-        let char = char_at(chars, low + i);
-        put_char(chars, low + i, without_zero(char));
+        chars[low + i] = without_zero(chars[low + i]);
     }
 }
 
@@ -185,7 +184,7 @@ fn without_zero(char: Char) -> Char
 impl Rules {
     /// A character of the control word that took none of A.
     fn kept_char(self, behind: usize, own: Char) -> Char
-        ensures { result ≡ kept_char self.taken self.replaceable self.sign behind false own }
+        ensures { result ≡ kept_char self (unsuppressed_place own behind) }
     {
         if self.is_blanked(behind, own) {
             Char::BLANK
@@ -196,7 +195,7 @@ impl Rules {
 
     /// Whether a character of the control word becomes blank though nothing is suppressed.
     fn is_blanked(self, behind: usize, own: Char) -> bool
-        ensures { result ≡ is_blanked self.taken self.replaceable self.sign behind false own }
+        ensures { result ≡ is_blanked self (unsuppressed_place own behind) }
     {
         is_replaceable(own)
             || own.code() == AMPERSAND
@@ -206,7 +205,7 @@ impl Rules {
 
     /// Whether a comma becomes blank: with what is left over, and after all replaceable places.
     fn is_comma_blanked(self, behind: usize) -> bool
-        ensures { result ≡ is_comma_blanked self.taken self.replaceable behind false }
+        ensures { result ≡ is_comma_blanked self (unsuppressed_place comma_char behind) }
     {
         self.is_left_over(behind) || behind == 0
     }
@@ -224,7 +223,7 @@ impl Rules {
     /// Whether the characters of A were too few for the replaceable places, and all places that took one stand right
     /// of a place with this many replaceable ones right of it.
     fn is_left_over(self, behind: usize) -> bool
-        ensures { result ≡ is_left_over self.taken self.replaceable behind }
+        ensures { result ≡ is_left_over self behind }
     {
         self.taken < self.replaceable && self.taken <= behind
     }

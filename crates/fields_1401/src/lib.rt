@@ -21,7 +21,6 @@ pub mod loads;
 pub mod marks;
 pub mod moves;
 pub mod parts;
-mod slices;
 
 // fields compared
 pub mod comparison;

@@ -1,7 +1,6 @@
 //! Fields moved.
-ghost use Rattle.std.specs.Prelude.{◌≡◌, ◌+◌, ◌<◌, ◌≤◌, false, length};
+ghost use Rattle.std.specs.Prelude.{◌≡◌, ◌+◌, ◌<◌, ◌≤◌, length};
 ghost use Rattle.core_1401.specs.Address.{addresses};
-ghost use Rattle.fields_1401.specs.Load.{is_overwritten};
 ghost use Rattle.fields_1401.specs.Move.{moved, move_at};
 ghost use Rattle.fields_1401.specs.Outcome.{CarriesOut};
 ghost use Rattle.fields_1401.specs.Places.{marks_of};
@@ -64,22 +63,8 @@ fn move_places(core: &mut Core, a: u16, b: u16, n: u16)
     if is_overwritten(a, b, n) {
         move_repeating(core, a, b, n);
     } else {
-        copy_places(core, a, b, n);
+        core.copy_chars(a, b, n);
     }
-}
-
-/// Moves n characters, none of which is written over before it is read.
-fn copy_places(core: &mut Core, a: u16, b: u16, n: u16)
-    requires a_in { a < length core.old }
-    requires b_in { b < length core.old }
-    requires a_places { n ≤ a + 1 }
-    requires b_places { n ≤ b + 1 }
-    requires apart { is_overwritten a b n ≡ false }
-    ensures moved { core.new ≡ moved core.old a b n }
-    ensures marks { marks_of core.new ≡ marks_of core.old }
-    ensures size { length core.new ≡ length core.old }
-{
-    core.copy_chars(a, b, n);
 }
 
 /// Moves n characters place by place, so that some may repeat.

@@ -14,7 +14,6 @@ use crate::done::{Done, FieldStop};
 use crate::lengths::field_len;
 use crate::refusals::{has_places, is_overlap};
 use crate::registers::{below_field, registers};
-use crate::slices::put_char;
 use bcd_1401::Char;
 use core_1401::{ADDRESSES, Core};
 
@@ -120,6 +119,6 @@ fn put_figures(core: &mut Core, a: u16, b: u16, n: u16, blanks: u16)
         } else {
             unzoned_down(chars, usize::from(a), usize::from(i))
         };
-        put_char(chars, usize::from(b - i), char);
+        chars[usize::from(b - i)] = char;
     }
 }

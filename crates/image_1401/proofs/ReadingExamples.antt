@@ -1,6 +1,7 @@
 -- The text of an image worked out by hand, and what is read from it and from texts that are no image's.
 use Rattle.std.proofs.Common.{◌≡◌, ℕ, true, false, List, [], ◌∷◌, Ok, Err, Result, refl}
 use Rattle.std.specs.Prelude.{codes}
+use Rattle.std.specs.Fmt.{digits}
 use Rattle.bcd_1401.specs.declared.cell.Cell.{Cell}
 use Rattle.bcd_1401.specs.Graphic.{graphics}
 use Rattle.image_1401.specs.declared.fault.ImageFault.{ImageFault}
@@ -9,7 +10,7 @@ use Rattle.image_1401.specs.declared.image.Image.{Image}
 use Rattle.image_1401.specs.declared.version.Version.TheVariants.{One, Two}
 use Rattle.notation_1401.specs.Cells.{cells_of, cells_text, spelled}
 use Rattle.notation_1401.specs.Digits.{number_in}
-use Rattle.image_1401.specs.ImageText.{number_text, header_text, segment_text, segments_text, end_text}
+use Rattle.image_1401.specs.ImageText.{header_text, segment_text, segments_text, end_text}
 use Rattle.image_1401.specs.ImageText.{image_text}
 use Rattle.image_1401.specs.Reading.{number_at, header_with, header_in, segment_in}
 use Rattle.image_1401.specs.Reading.{end_in, parts_of, contents_in, image_in}
@@ -46,13 +47,13 @@ five_and_five =
 
 text_of_five_and_five : image_text One five_and_five
     ≡ codes "IMAGE1 4000\n0400 24 ~?423420~A423420~.414~   ~HI~E\nEND 0400\n"
-unfolding five_and_five zero_and_add halt_and_constants plain marked graphics number_text cells_text header_text
+unfolding five_and_five zero_and_add halt_and_constants plain marked graphics digits cells_text header_text
     segment_text segments_text end_text image_text
 text_of_five_and_five = refl
 
 in_version_2 : image_text Two five_and_five
     ≡ codes "IMAGE2 04000\n00400 24 ~?423420~A423420~.414~   ~HI~E\nEND 00400\n"
-unfolding five_and_five zero_and_add halt_and_constants plain marked graphics number_text cells_text header_text
+unfolding five_and_five zero_and_add halt_and_constants plain marked graphics digits cells_text header_text
     segment_text segments_text end_text image_text
 in_version_2 = refl
 

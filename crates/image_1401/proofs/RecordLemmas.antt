@@ -17,12 +17,12 @@ use Rattle.image_1401.specs.declared.version.Version.{Version}
 use Rattle.image_1401.specs.declared.version.Version.TheVariants.{One, Two}
 use Rattle.image_1401.specs.Version.{name_of, address_digits, has_size}
 use Rattle.notation_1401.specs.Cells.{cells_text}
-use Rattle.notation_1401.specs.Digits.{number_in}
-use Rattle.image_1401.specs.ImageText.{number_text, header_text, segment_text, end_text, is_character}
+use Rattle.notation_1401.specs.Digits.{digits_in, number_in}
+use Rattle.image_1401.specs.ImageText.{header_text, segment_text, end_text, is_character}
 use Rattle.image_1401.specs.ImageText.{is_segment}
 use Rattle.image_1401.specs.Reading.{◌>>=◌, number_at, few_cells_in, header_with}
 use Rattle.image_1401.specs.Reading.{in_version, header_in, segment_in, end_in}
-use Rattle.image_1401.proofs.NumberLemmas.{number_takes, number_again}
+use Rattle.image_1401.proofs.NumberLemmas.{Takes, number_takes, number_again}
 use Rattle.image_1401.proofs.SpellingLemmas.{few_cells_takes, few_cells_again}
 
 -- the value of a step that wasn't missed
@@ -40,6 +40,25 @@ pub size_bound : (version : Version) (size : ℕ) → has_size version size ≡ 
 size_bound One size h = let most : size ≤ 4000 = leb-true _ _ (and_parts (is_core_size size) _ h).1 in omega arith
 size_bound Two size h = grind (arith, nat_tests)
 
+-- so a number of a version is written in some digits, and read
+pub some_digits : (version : Version) → 0 < address_digits version
+some_digits One = omega arith
+some_digits Two = omega arith
+
+pub few_digits : (version : Version) → address_digits version ≤ 8
+few_digits One = omega arith
+few_digits Two = omega arith
+
+number_of_takes : (version : Version) (text : List ℕ) (found : ℕ × List ℕ)
+    → number_at (address_digits version) text ≡ Some found → Takes (address_digits version) text found
+number_of_takes version text found h =
+    number_takes (address_digits version) text found (some_digits version) (few_digits version) h
+
+number_of_again : (version : Version) (number : ℕ) (rest : List ℕ) → number < 10 ^ address_digits version
+    → number_at (address_digits version) (digits_in (address_digits version) number ++ rest) ≡ Some (number, rest)
+number_of_again version number rest small =
+    number_again (address_digits version) number rest (some_digits version) (few_digits version) small
+
 -- a header
 header_with_takes : (version : Version) (line : List ℕ) (size : ℕ) → header_with version line ≡ Some size
     → (line ≡ header_text version size) × (has_size version size ≡ true)
@@ -51,24 +70,25 @@ header_with_takes version line size h =
     cond_some (nat_le (length number.value.1) 0
     && has_size version number.value.0) number.value.0 size number.then_is in
     let named = after_prefix_takes (name_of version) line name.value name.is in
-    let digits = number_takes (address_digits version) name.value number.value number.is in
+    let digits = number_of_takes version name.value number.value number.is in
     let done : number.value.1
     ≡ [] =
     nil_from_length number.value.1
     (let few : length number.value.1 ≤ 0 = leb-true _ _ (and_parts _ _ good.0).0 in omega arith) in
-    let whole : name.value ≡ number_text (address_digits version) size = digits.parts
-    ∙ (ap (λ (rest : List ℕ). number_text (address_digits version) number.value.0 ++ rest) done
-    ∙ (append-nil _ ∙ ap (number_text (address_digits version)) good.1)) in (
+    let whole : name.value ≡ digits_in (address_digits version) size = digits.parts
+    ∙ (ap (λ (rest : List ℕ). digits_in (address_digits version) number.value.0 ++ rest) done
+    ∙ (append-nil _ ∙ ap (digits_in (address_digits version)) good.1)) in (
       named ∙ ap (λ (rest : List ℕ). name_of version ++ rest) whole,
       ap (has_size version) (sym good.1)
           ∙ (and_parts _ _ good.0).1,
     )
 
 -- a number that nothing follows
-number_alone : (places number : ℕ) → number < 10 ^ places
-    → number_at places (number_text places number) ≡ Some (number, [])
-number_alone places number small =
-    ap (number_at places) (sym (append-nil (number_text places number))) ∙ number_again places number [] small
+number_alone : (version : Version) (number : ℕ) → number < 10 ^ address_digits version
+    → number_at (address_digits version) (digits_in (address_digits version) number) ≡ Some (number, [])
+number_alone version number small =
+    ap (number_at (address_digits version)) (sym (append-nil (digits_in (address_digits version) number)))
+    ∙ number_of_again version number [] small
 
 header_with_again : (version : Version) (size : ℕ) → has_size version size ≡ true
     → header_with version (header_text version size) ≡ Some size
@@ -76,8 +96,8 @@ unfolding header_with header_text
 header_with_again version size h =
     let digits = address_digits version in
     rw (
-      after_prefix_again (name_of version) (number_text digits size),
-      number_alone digits size (size_bound version size h),
+      after_prefix_again (name_of version) (digits_in digits size),
+      number_alone version size (size_bound version size h),
       h,
     )
 
@@ -123,13 +143,13 @@ end_takes version line start h =
     let number = step (number_at (address_digits version) name.value) _ start name.then_is in
     let good = cond_some (nat_le (length number.value.1) 0) number.value.0 start number.then_is in
     let named = after_prefix_takes (codes "END ") line name.value name.is in
-    let digits = number_takes (address_digits version) name.value number.value number.is in
+    let digits = number_of_takes version name.value number.value number.is in
     let done : number.value.1
     ≡ [] =
     nil_from_length number.value.1 (let few : length number.value.1 ≤ 0 = leb-true _ _ good.0 in omega arith) in
-    let whole : name.value ≡ number_text (address_digits version) start = digits.parts
-    ∙ (ap (λ (rest : List ℕ). number_text (address_digits version) number.value.0 ++ rest) done
-    ∙ (append-nil _ ∙ ap (number_text (address_digits version)) good.1)) in
+    let whole : name.value ≡ digits_in (address_digits version) start = digits.parts
+    ∙ (ap (λ (rest : List ℕ). digits_in (address_digits version) number.value.0 ++ rest) done
+    ∙ (append-nil _ ∙ ap (digits_in (address_digits version)) good.1)) in
     named ∙ ap (λ (rest : List ℕ). codes "END " ++ rest) whole
 
 pub end_small : (version : Version) (line : List ℕ) (start : ℕ) → end_in version line ≡ Some start
@@ -139,19 +159,24 @@ end_small version line start h =
     let name = step (after_prefix (codes "END ") line) _ start h in
     let number = step (number_at (address_digits version) name.value) _ start name.then_is in
     let good = cond_some (nat_le (length number.value.1) 0) number.value.0 start number.then_is in
-    let digits = number_takes (address_digits version) name.value number.value number.is in
+    let digits = number_of_takes version name.value number.value number.is in
     subst (λ k. k < 10 ^ address_digits version) good.1 digits.small
 
 pub end_again : (version : Version) (start : ℕ) → start < 10 ^ address_digits version
     → end_in version (end_text version start) ≡ Some start
 unfolding end_in end_text
-end_again version start small = rw (number_alone (address_digits version) start small)
+end_again version start small = rw (number_alone version start small)
+
+-- nothing is found in a text, whether it is long enough or not
+missed : {A B : Type 0} (long : Bool) (f : A → Option B) → (cond {A = Option A} long None None >>= f) ≡ None
+missed true f = refl
+missed false f = refl
 
 -- the last line is no segment
 pub end_is_no_segment : (version : Version) (start : ℕ) → segment_in version (end_text version start) ≡ None
-unfolding segment_in end_text number_at number_in number_text
-end_is_no_segment One start = refl
-end_is_no_segment Two start = refl
+unfolding segment_in end_text number_at number_in
+end_is_no_segment One start = missed (nat_le 4 (length (end_text One start))) _
+end_is_no_segment Two start = missed (nat_le 5 (length (end_text Two start))) _
 
 -- what a segment's line says
 pub record IsSegmentLine (version : Version) (line : List ℕ) (segment : Segment) : Type 0 where
@@ -187,25 +212,25 @@ segment_takes version line segment h =
     let cells_are : e.value ≡ segment.cells = good.2 in
     let found = few_cells_takes d.value e.value e.is in
     let count : n.value.0 ≡ length segment.cells = sym (eqb-true _ _ good.0) ∙ ap length good.2 in
-    let front = number_takes digits line a.value a.is in
-    let middle = number_takes 2 b.value n.value n.is in
+    let front = number_of_takes version line a.value a.is in
+    let middle = number_takes 2 b.value n.value (omega arith) (omega arith) n.is in
     let cells_text_is : d.value ≡ cells_text segment.cells = found.spells.text_is ∙ ap cells_text cells_are in
     let last : n.value.1 ≡ 32 ∷ cells_text segment.cells = after_prefix_takes (codes " ") n.value.1 d.value d.is
     ∙ ap (λ (rest : List ℕ). 32 ∷ rest) cells_text_is in
-    let third : b.value ≡ number_text 2 (length segment.cells) ++ (32 ∷ cells_text segment.cells) = middle.parts
-    ∙ (ap (λ k. number_text 2 k ++ n.value.1) count
-    ∙ ap (λ (rest : List ℕ). number_text 2 (length segment.cells) ++ rest) last) in
+    let third : b.value ≡ digits_in 2 (length segment.cells) ++ (32 ∷ cells_text segment.cells) = middle.parts
+    ∙ (ap (λ k. digits_in 2 k ++ n.value.1) count
+    ∙ ap (λ (rest : List ℕ). digits_in 2 (length segment.cells) ++ rest) last) in
     let second : a.value.1 ≡ 32
-    ∷ (number_text 2 (length segment.cells) ++ (32 ∷ cells_text segment.cells)) =
+    ∷ (digits_in 2 (length segment.cells) ++ (32 ∷ cells_text segment.cells)) =
     after_prefix_takes (codes " ") a.value.1 b.value b.is ∙ ap (λ (rest : List ℕ). 32 ∷ rest) third in
-    let whole : line ≡ number_text digits segment.address
-    ++ (32 ∷ (number_text 2 (length segment.cells) ++ (32 ∷ cells_text segment.cells))) =
+    let whole : line ≡ digits_in digits segment.address
+    ++ (32 ∷ (digits_in 2 (length segment.cells) ++ (32 ∷ cells_text segment.cells))) =
     front.parts
-    ∙ (ap (λ k. number_text digits k ++ a.value.1) good.1
-    ∙ ap (λ (rest : List ℕ). number_text digits segment.address ++ rest) second) in
+    ∙ (ap (λ k. digits_in digits k ++ a.value.1) good.1
+    ∙ ap (λ (rest : List ℕ). digits_in digits segment.address ++ rest) second) in
     record {
       line_is =
-          whole ∙ regroup (number_text digits segment.address) (number_text 2 (length segment.cells))
+          whole ∙ regroup (digits_in digits segment.address) (digits_in 2 (length segment.cells))
           (cells_text segment.cells);
       cells =
           subst (λ (cells : List Cell). nat_le 1 (length cells) && nat_le (length cells) 40
@@ -227,15 +252,14 @@ segment_again version segment good small =
     let few = (and_parts _ (list_all is_character segment.cells) good).0 in
     let own = (and_parts (nat_le 1 count && nat_le count 40) _ good).1 in
     let cells = cells_text segment.cells in
-    let behind_address : List ℕ = 32 ∷ (number_text 2 count ++ (32 ∷ cells)) in
-    let line_is = regroup (number_text digits segment.address) (number_text 2 count) cells in
-    let address : number_at digits (number_text digits segment.address ++ codes " " ++ number_text 2 count ++ codes " "
+    let behind_address : List ℕ = 32 ∷ (digits_in 2 count ++ (32 ∷ cells)) in
+    let line_is = regroup (digits_in digits segment.address) (digits_in 2 count) cells in
+    let address : number_at digits (digits_in digits segment.address ++ codes " " ++ digits_in 2 count ++ codes " "
     ++ cells) ≡ Some (segment.address, behind_address) =
-    ap (number_at digits) (sym line_is) ∙ number_again digits segment.address behind_address small in
+    ap (number_at digits) (sym line_is) ∙ number_of_again version segment.address behind_address small in
     rw (
       address,
-      number_again 2 count (32
-          ∷ cells) (few_bound segment.cells few),
+      number_again 2 count (32 ∷ cells) (omega arith) (omega arith) (few_bound segment.cells few),
       few_cells_again segment.cells few own,
       eq-eqb count count refl,
     )

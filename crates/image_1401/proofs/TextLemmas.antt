@@ -21,8 +21,9 @@ use Rattle.image_1401.specs.declared.version.Version.{Version}
 use Rattle.image_1401.specs.declared.version.Version.TheVariants.{One, Two}
 use Rattle.image_1401.specs.Image.{is_inside}
 use Rattle.notation_1401.specs.Cells.{cell_text, cells_text}
-use Rattle.notation_1401.specs.Digits.{is_digit}
-use Rattle.image_1401.specs.ImageText.{number_text, header_text, segment_text, end_text, line_of}
+use Rattle.notation_1401.specs.Digits.{digits_in, is_digit}
+use Rattle.notation_1401.proofs.NumberLemmas.{below_eight}
+use Rattle.image_1401.specs.ImageText.{header_text, segment_text, end_text, line_of}
 use Rattle.image_1401.specs.ImageText.{segments_text, image_text, is_character, is_segment, HasText, HasTexts}
 use Rattle.image_1401.specs.ImageText.{IsTextOf}
 use Rattle.image_1401.specs.Reading.{segment_in, end_in, header_in, parts_of, is_done, Contents}
@@ -30,8 +31,8 @@ use Rattle.image_1401.specs.Reading.{with_segments, entry_alone, entry_by, conte
 use Rattle.image_1401.specs.Reading.{image_in}
 use Rattle.image_1401.specs.Version.{name_of, address_digits, most_places, has_size}
 use Rattle.image_1401.proofs.ContentsLemmas.{contents_in-line, image_in-line}
-use Rattle.image_1401.proofs.NumberLemmas.{digits-number_text}
-use Rattle.image_1401.proofs.RecordLemmas.{size_bound, header_takes, header_again, segment_takes, segment_again}
+use Rattle.image_1401.proofs.NumberLemmas.{digits-digits_in}
+use Rattle.image_1401.proofs.RecordLemmas.{size_bound, few_digits, header_takes, header_again, segment_takes, segment_again}
 use Rattle.image_1401.proofs.RecordLemmas.{end_takes, end_again, end_is_no_segment}
 use Rattle.image_1401.proofs.SpellingLemmas.{no_character}
 
@@ -53,8 +54,8 @@ digits_go_on [] h = refl
 digits_go_on (digit ∷ digits) h =
     and_from _ _ (digit_goes_on digit (and_parts _ _ h).0) (digits_go_on digits (and_parts (is_digit digit) _ h).1)
 
-number_goes_on : (digits number : ℕ) → IsLine (number_text digits number)
-number_goes_on digits number = digits_go_on (number_text digits number) (digits-number_text digits number)
+number_goes_on : (digits number : ℕ) → number < 2 ^ 64 → IsLine (digits_in digits number)
+number_goes_on digits number fits = digits_go_on (digits_in digits number) (digits-digits_in digits number fits)
 
 lines_go_on : (front back : List ℕ) → IsLine front → IsLine back → IsLine (front ++ back)
 lines_go_on front back p q = list_all-append goes_on front back ∙ and_from _ _ p q
@@ -85,25 +86,36 @@ name_goes_on : (version : Version) → IsLine (name_of version)
 name_goes_on One = refl
 name_goes_on Two = refl
 
-header_goes_on : (version : Version) (size : ℕ) → IsLine (header_text version size)
+-- a number of a version is far below the greatest
+fits_of : (version : Version) (number : ℕ) → number < 10 ^ address_digits version → number < 2 ^ 64
+fits_of version number small =
+    let fits = below_eight number (address_digits version) small (few_digits version) in omega arith
+
+header_goes_on : (version : Version) (size : ℕ) → size < 10 ^ address_digits version → IsLine (header_text version size)
 unfolding header_text
-header_goes_on version size =
-    lines_go_on (name_of version) _ (name_goes_on version) (number_goes_on (address_digits version) size)
+header_goes_on version size small =
+    lines_go_on (name_of version) _ (name_goes_on version)
+    (number_goes_on (address_digits version) size (fits_of version size small))
 
-end_goes_on : (version : Version) (start : ℕ) → IsLine (end_text version start)
+end_goes_on : (version : Version) (start : ℕ) → start < 10 ^ address_digits version → IsLine (end_text version start)
 unfolding end_text
-end_goes_on version start =
-    lines_go_on (codes "END ") (number_text (address_digits version) start) refl
-    (number_goes_on (address_digits version) start)
+end_goes_on version start small =
+    lines_go_on (codes "END ") (digits_in (address_digits version) start) refl
+    (number_goes_on (address_digits version) start (fits_of version start small))
 
-segment_goes_on : (version : Version) (segment : Segment) → list_all is_character segment.cells ≡ true
-    → IsLine (segment_text version segment)
+segment_goes_on : (version : Version) (segment : Segment) → is_segment segment ≡ true
+    → segment.address < 10 ^ address_digits version → IsLine (segment_text version segment)
 unfolding segment_text
-segment_goes_on version segment own =
-    let address = number_text (address_digits version) segment.address in
-    let count = number_text 2 (length segment.cells) in
-    let a = lines_go_on address (codes " ") (number_goes_on (address_digits version) segment.address) refl in
-    let b = lines_go_on (address ++ codes " ") count a (number_goes_on 2 (length segment.cells)) in
+segment_goes_on version segment good small =
+    let address = digits_in (address_digits version) segment.address in
+    let count = digits_in 2 (length segment.cells) in
+    let few = (and_parts _ (list_all is_character segment.cells) good).0 in
+    let own = (and_parts (nat_le 1 (length segment.cells) && nat_le (length segment.cells) 40) _ good).1 in
+    let most : length segment.cells ≤ 40 = leb-true _ _ (and_parts (nat_le 1 (length segment.cells)) _ few).1 in
+    let a =
+    lines_go_on address (codes " ")
+    (number_goes_on (address_digits version) segment.address (fits_of version segment.address small)) refl in
+    let b = lines_go_on (address ++ codes " ") count a (number_goes_on 2 (length segment.cells) (omega arith)) in
     let c = lines_go_on (address ++ codes " " ++ count) (codes " ") b refl in
     lines_go_on (address ++ codes " " ++ count
     ++ codes " ") (cells_text segment.cells) c (cells_go_on segment.cells own)
@@ -182,7 +194,7 @@ end_again-parts version size start h inside =
     let below = size_bound version size h in
     let small : start < size = ltb-true _ _ inside in
     let parts : parts_of (line_of line) ≡ line ∷ parts_of [] = ap parts_of (sym (append-nil (line_of line)))
-    ∙ parts_of-line line [] (end_goes_on version start) in
+    ∙ parts_of-line line [] (end_goes_on version start (omega arith)) in
     rw (parts, contents_in-line, end_is_no_segment version start, end_again version start (omega arith), inside)
 
 contents_again : (version : Version) (size : ℕ) (segments : List Segment) (start : ℕ) → has_size version size ≡ true
@@ -194,19 +206,19 @@ contents_again version size (segment ∷ segments) start h good inside entry =
     let line = segment_text version segment in
     let one = (and_parts _ _ good).0 in
     let lies = (and_parts _ _ inside).0 in
-    let own = (and_parts (nat_le 1 (length segment.cells) && nat_le (length segment.cells) 40) _ one).1 in
+    let small = address_bound version size segment h one lies in
     let behind : List ℕ = contents_text version (segments, start) in
     let whole : contents_text version (segment ∷ segments, start) ≡ line_of line
     ++ behind =
     append_assoc (line_of line) (flat_map (λ each. line_of (segment_text version each)) segments)
     (line_of (end_text version start)) in
     let parts : parts_of (contents_text version (segment ∷ segments, start)) ≡ line
-    ∷ parts_of behind = ap parts_of whole ∙ parts_of-line line behind (segment_goes_on version segment own) in
+    ∷ parts_of behind = ap parts_of whole ∙ parts_of-line line behind (segment_goes_on version segment one small) in
     let more =
     contents_again version size segments start h (and_parts (is_segment segment) _ good).1
     (and_parts (is_inside size segment) _ inside).1 entry in
     let first = contents_in-line version size line behind in
-    let found = segment_again version segment one (address_bound version size segment h one lies) in
+    let found = segment_again version segment one small in
     ap (contents_in version size) parts ∙ first ∙ rw (found, lies, more)
 
 -- an image's text is read as the image
@@ -220,7 +232,7 @@ image_again version image has =
     ++ behind =
     append_assoc (line_of header) (segments_text version image.segments) (line_of (end_text version image.start)) in
     let parts : parts_of (image_text version image) ≡ header ∷ parts_of behind = ap parts_of whole
-    ∙ parts_of-line header behind (header_goes_on version image.size) in
+    ∙ parts_of-line header behind (header_goes_on version image.size (size_bound version image.size has.size)) in
     let contents =
     contents_again version image.size image.segments image.start has.size has.cells has.segments has.start in
     ap image_in parts ∙ image_in-line header behind ∙ rw (header_again version image.size has.size, contents)

@@ -1,11 +1,13 @@
 -- The text of an image (own).
-use Rattle.std.specs.Prelude.{◌≡◌, ◌≤◌, ℕ, zero, suc, ◌+◌, ◌/◌, ◌%◌, ◌==◌, Bool, true, false, Option, None, Some}
-use Rattle.std.specs.Prelude.{position, Result, Ok, Err, ◌&&◌, List, [], ◌∷◌, ◌++◌, length, slice_index, nat_le}
+use Rattle.std.specs.Prelude.{◌≡◌, ◌≤◌, ℕ, ◌==◌, Bool, true, false, Option, None, Some}
+use Rattle.std.specs.Prelude.{position, Result, Ok, Err, ◌&&◌, List, ◌++◌, length, slice_index, nat_le}
 use Rattle.std.specs.Prelude.{nat_lt, codes}
 use Rattle.std.specs.List.{flat_map, list_all}
 use Rattle.bcd_1401.specs.declared.cell.Cell.{Cell}
 use Rattle.bcd_1401.specs.Graphic.{graphics}
-use Rattle.notation_1401.specs.Cells.{cells_text, most_cells}
+use Rattle.core_1401.specs.Cells.{most_cells}
+use Rattle.notation_1401.specs.Cells.{cells_text}
+use Rattle.notation_1401.specs.Digits.{digits_in}
 use Rattle.image_1401.specs.declared.fault.ImageFault.{ImageFault}
 use Rattle.image_1401.specs.declared.fault.ImageFault.TheVariants.{Memory, Header, BadRecord, Range, Truncated}
 use Rattle.image_1401.specs.declared.image.Image.{Image}
@@ -15,25 +17,20 @@ use Rattle.image_1401.specs.declared.version.Version.TheVariants.{One, Two}
 use Rattle.image_1401.specs.Image.{is_inside}
 use Rattle.image_1401.specs.Version.{name_of, address_digits, most_places, has_size}
 
--- a number in this many decimal digits
-unfoldable pub number_text : ℕ → ℕ → List ℕ
-number_text zero number = []
-number_text (suc places) number = number_text places (number / 10) ++ (48 + number % 10) ∷ []
-
 -- the first line: the version, and the size
 unfoldable pub header_text : Version → ℕ → List ℕ
-header_text version size = name_of version ++ number_text (address_digits version) size
+header_text version size = name_of version ++ digits_in (address_digits version) size
 
 -- the line of a segment: its address, how many cells it has, and the cells
 unfoldable pub segment_text : Version → Segment → List ℕ
 segment_text version segment =
-    number_text (address_digits version) segment.address
-    ++ codes " " ++ number_text 2 (length segment.cells)
+    digits_in (address_digits version) segment.address
+    ++ codes " " ++ digits_in 2 (length segment.cells)
     ++ codes " " ++ cells_text segment.cells
 
 -- the last line: the entry
 unfoldable pub end_text : Version → ℕ → List ℕ
-end_text version start = codes "END " ++ number_text (address_digits version) start
+end_text version start = codes "END " ++ digits_in (address_digits version) start
 
 -- a line with the line feed that ends it
 abbrev pub line_of : List ℕ → List ℕ

@@ -195,11 +195,12 @@ fn entry(version: Version, line: &[u8]) -> Option<u32>
 
 /// The number of this many digits at the beginning of a text, and what follows it.
 #[tactic(auto, unfolding(crate::specs::Reading::number_at))]
-fn split_number(text: &[u8], digits: usize) -> Option<(u32, &[u8])>
+fn split_number(text: &[u8], digits: u8) -> Option<(u32, &[u8])>
     requires { digits ≤ 5 }
     ensures { MatchOption result (number_at digits text.now ≡ None) (λ first.
         number_at digits text.now ≡ Some (first.0, first.1.now)) }
 {
+    let digits = usize::from(digits);
     if text.len() < digits {
         return None;
     }

@@ -28,7 +28,7 @@ impl Version {
     }
 
     /// How many digits a size and an address have.
-    pub(crate) fn address_digits(self) -> usize
+    pub(crate) fn address_digits(self) -> u8
         ensures value { result ≡ address_digits self }
         ensures bound { result ≤ 5 }
     {

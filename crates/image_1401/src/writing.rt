@@ -2,16 +2,16 @@
 ghost use Rattle.std.specs.Prelude.{◌≡◌, ◌++◌, true, length, IfOk, OnOk};
 ghost use Rattle.std.specs.List.{flat_map, list_all};
 ghost use Rattle.image_1401.specs.Image.{IsInCore};
-ghost use Rattle.image_1401.specs.ImageText.{number_text, header_text, segment_text, end_text, segments_text};
+ghost use Rattle.image_1401.specs.ImageText.{header_text, segment_text, end_text, segments_text};
 ghost use Rattle.image_1401.specs.ImageText.{image_text, written_text, line_of, is_segment, IsTextOf};
 
 use crate::image::{Image, Segment};
 use crate::version::Version;
-use notation_1401::put_cells;
+use notation_1401::{put_cells, put_digits};
 use std::alloc::{AllocError, Global};
 
 /// How many digits a segment's count of cells has.
-pub(crate) const COUNT_DIGITS: usize = 2;
+pub(crate) const COUNT_DIGITS: u8 = 2;
 
 /// The text of an image, in version 2.
 ///
@@ -40,7 +40,7 @@ fn put_header(text: &mut Vec<u8>, version: Version, size: u16) -> Result<(), All
     ensures { OnOk result (text.new.items ≡ text.old.items ++ line_of (header_text version size)) }
 {
     text.extend_from_slice(version.name())?;
-    put_number(text, version.address_digits(), size)?;
+    put_digits(text, version.address_digits(), u64::from(size))?;
     text.push(b'\n')?;
     Ok(())
 }
@@ -68,9 +68,9 @@ fn put_segment(text: &mut Vec<u8>, version: Version, segment: &Segment) -> Resul
     ensures cells { OnOk result (is_segment segment.now ≡ true) }
 {
     let count = segment.cells.as_slice().len();
-    put_number(text, version.address_digits(), segment.address)?;
+    put_digits(text, version.address_digits(), u64::from(segment.address))?;
     text.push(b' ')?;
-    put_number(text, COUNT_DIGITS, count as u16)?;
+    put_digits(text, COUNT_DIGITS, count as u64)?;
     text.push(b' ')?;
     put_cells(text, &segment.cells)?;
     text.push(b'\n')?;
@@ -83,19 +83,7 @@ fn put_end(text: &mut Vec<u8>, version: Version, start: u16) -> Result<(), Alloc
     ensures { OnOk result (text.new.items ≡ text.old.items ++ line_of (end_text version start)) }
 {
     text.extend_from_slice(b"END ")?;
-    put_number(text, version.address_digits(), start)?;
+    put_digits(text, version.address_digits(), u64::from(start))?;
     text.push(b'\n')?;
-    Ok(())
-}
-
-/// Adds the last digits of a number, as many as are asked for.
-#[tactic(auto, unfolding(crate::specs::ImageText::number_text))]
-fn put_number(text: &mut Vec<u8>, digits: usize, number: u16) -> Result<(), AllocError>
-    ensures { OnOk result (text.new.items ≡ text.old.items ++ number_text digits number) }
-{
-    if digits > 0 {
-        put_number(text, digits - 1, number / 10)?;
-        text.push(b'0' + (number % 10) as u8)?;
-    }
     Ok(())
 }

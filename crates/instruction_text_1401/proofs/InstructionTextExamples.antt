@@ -1,5 +1,6 @@
 -- Instructions and their texts, computed.
 use Rattle.std.proofs.Common.{◌≡◌, ◌==◌, ℕ, true, false, List, [], ◌∷◌, map, refl}
+use Rattle.std.specs.Fmt.{digits}
 use Rattle.std.specs.Prelude.{Bool, codes, unwrap_or, position}
 use Rattle.bcd_1401.specs.Graphic.{graphics}
 use Rattle.bcd_1401.specs.declared.cell.Cell.{Cell}
@@ -16,7 +17,7 @@ cells (first ∷ more) = cell true first ∷ map (cell false) more
     cell mark graphic = record { char = unwrap_or (position (λ each. each == graphic) graphics) 0; mark = mark }
 
 text : List ℕ → List ℕ
-unfolding graphics operations operations_with_d operands_text cells
+unfolding graphics operations operations_with_d operands_text digits cells
 text graphics_of = instruction_text (cells graphics_of)
 
 moves_have_up_to_two_addresses : map text (codes "M" ∷ codes "M510" ∷ codes "M510509" ∷ [])

@@ -1,47 +1,14 @@
 //! The text of an instruction.
 ghost use Rattle.std.specs.Prelude.{◌≡◌, ◌<◌, ◌≤◌, ◌++◌, length, OnOk};
-ghost use Rattle.instruction_text_1401.specs.Address.{digit, thousands_text, number_text, index_text, address_text};
+ghost use Rattle.instruction_text_1401.specs.Address.{index_text, address_text};
 ghost use Rattle.instruction_text_1401.specs.InstructionText.{addresses_in, d_in, instruction_text, operands_text, written};
 ghost use Rattle.instruction_text_1401.specs.InstructionText.{IsOwnD, IsOwnInstruction};
 
 use crate::mnemonic::Mnemonic;
 use bcd_1401::{Cell, Char};
 use core_1401::decode;
+use notation_1401::put_digits;
 use std::alloc::AllocError;
-
-/// A digit as a byte.
-fn digit(number: u16) -> u8
-    ensures { result ≡ digit number }
-{
-    b'0' + (number % 10) as u8
-}
-
-/// Adds the digits before the last three, if there are any.
-fn put_thousands(text: &mut Vec<u8>, number: u16) -> Result<(), AllocError>
-    ensures { OnOk result (text.new.items ≡ text.old.items ++ thousands_text number) }
-{
-    if number < 1_000 {
-        return Ok(());
-    }
-    if number >= 10_000 {
-        text.push(digit(number / 10_000))?;
-    }
-    Ok(text.push(digit(number / 1_000))?)
-}
-
-/// Adds a number in three to five digits.
-///
-/// # Errors
-///
-/// If the memory for the text is refused. Some of the digits may have been added then.
-pub fn put_number(text: &mut Vec<u8>, number: u16) -> Result<(), AllocError>
-    ensures { OnOk result (text.new.items ≡ text.old.items ++ number_text number) }
-{
-    put_thousands(text, number)?;
-    text.push(digit(number / 100))?;
-    text.push(digit(number / 10))?;
-    Ok(text.push(digit(number))?)
-}
 
 /// Adds an index register, or nothing for none.
 fn put_index(text: &mut Vec<u8>, index: u8) -> Result<(), AllocError>
@@ -61,7 +28,7 @@ fn put_address(text: &mut Vec<u8>, h: Char, t: Char, u: Char) -> Result<(), Allo
     ensures { OnOk result (text.new.items ≡ text.old.items ++ address_text h t u) }
 {
     let (value, index) = decode([h, t, u]);
-    put_number(text, value)?;
+    put_digits(text, 3, u64::from(value))?;
     put_index(text, index)
 }
 

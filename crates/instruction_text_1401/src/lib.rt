@@ -13,5 +13,5 @@ pub mod mnemonic;
 // addresses in decimal, and the whole instruction
 pub mod instruction;
 
-pub use instruction::{put_instruction, put_number};
+pub use instruction::put_instruction;
 pub use mnemonic::Mnemonic;

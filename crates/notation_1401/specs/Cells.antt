@@ -5,12 +5,9 @@ use Rattle.std.specs.Option.{option_map}
 use Rattle.std.specs.List.{flat_map, list_all}
 use Rattle.bcd_1401.specs.declared.cell.Cell.{Cell}
 use Rattle.bcd_1401.specs.Graphic.{graphics}
+use Rattle.core_1401.specs.Cells.{most_cells}
 use Rattle.notation_1401.specs.declared.fault.CellsFault.{CellsFault}
 use Rattle.notation_1401.specs.declared.fault.CellsFault.TheVariants.{Graphic, Length}
-
--- the most cells that a command or a segment has
-abbrev pub most_cells : ℕ
-most_cells = 40
 
 -- it precedes a cell with a word mark
 abbrev pub tilde : ℕ

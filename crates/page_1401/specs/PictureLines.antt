@@ -3,7 +3,8 @@
 use Rattle.std.specs.Prelude.{ℕ, ◌*◌, List, ◌++◌, take, drop, codes, Option, None, Some}
 use Rattle.std.specs.List.{flat_map, range_with_len}
 use Rattle.bcd_1401.specs.declared.cell.Cell.{Cell}
-use Rattle.notation_1401.specs.Cells.{cells_text, most_cells}
+use Rattle.core_1401.specs.Cells.{most_cells}
+use Rattle.notation_1401.specs.Cells.{cells_text}
 use Rattle.notation_1401.specs.Digits.{digits_in}
 use Rattle.devices_1401.specs.declared.card.Card.{Card}
 use Rattle.devices_1401.specs.declared.print_line.PrintLine.{PrintLine}

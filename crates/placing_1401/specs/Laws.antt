@@ -3,7 +3,7 @@ use Rattle.std.specs.Prelude.{◌≡◌, ℕ, ◌+◌, ◌<◌, ◌==◌, Bool, 
 use Rattle.std.specs.Prelude.{take, slice_index_or}
 use Rattle.std.specs.List.{flat_map, list_all}
 use Rattle.bcd_1401.specs.declared.cell.Cell.{Cell}
-use Rattle.notation_1401.specs.Cells.{most_cells}
+use Rattle.core_1401.specs.Cells.{most_cells}
 use Rattle.image_1401.specs.declared.image.Segment.{Segment}
 use Rattle.source_1401.specs.declared.statement.Line.{Line}
 use Rattle.symbols_1401.specs.declared.fault.AsmFault.{AsmFault}

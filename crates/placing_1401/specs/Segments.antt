@@ -2,7 +2,7 @@
 use Rattle.std.specs.Prelude.{ℕ, ◌+◌, ◌==◌, Bool, ◌&&◌, nat_le, nat_lt, if◌then◌else◌, List, [], ◌∷◌, ◌++◌, length}
 use Rattle.bcd_1401.specs.declared.cell.Cell.{Cell}
 use Rattle.core_1401.specs.Address.{addresses}
-use Rattle.notation_1401.specs.Cells.{most_cells}
+use Rattle.core_1401.specs.Cells.{most_cells}
 use Rattle.image_1401.specs.declared.image.Segment.{Segment}
 
 -- an address; one that is none counts as 0, and is a fault of its line

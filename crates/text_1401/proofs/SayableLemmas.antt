@@ -15,8 +15,9 @@ use Rattle.std.proofs.Math.Nat.{mul_assoc, mul-le-mul_right, pow-le-pow_right, p
 use Rattle.bcd_1401.specs.declared.cell.Cell.{Cell}
 use Rattle.bcd_1401.specs.Graphic.{graphics}
 use Rattle.core_1401.specs.Address.{addresses}
+use Rattle.core_1401.specs.Cells.{most_cells}
 use Rattle.devices_1401.specs.declared.card.Card.{Card}
-use Rattle.notation_1401.specs.Cells.{cell_of, cells_of, most_cells, spelled, tilde}
+use Rattle.notation_1401.specs.Cells.{cell_of, cells_of, spelled, tilde}
 use Rattle.notation_1401.specs.Digits.{is_digit, value_of}
 use Rattle.notation_1401.specs.declared.fault.CellsFault.{CellsFault}
 use Rattle.notation_1401.specs.declared.fault.CellsFault.TheVariants as cells_fault

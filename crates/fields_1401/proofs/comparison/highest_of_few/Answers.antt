@@ -12,13 +12,13 @@ returns-then-ne-clause-value c =
     let a = c.args.a in
     let b = c.args.b in
     let i = c.from-n.result - 1 - c.loop-behind.behind in
-    let x = char_below s c.chars-chars.result.now a c.from-a.result i _ c.chars-chars.ensures c.from-a.ensures
-    c.requires.a.1 c.char_at-of_a.ensures in
-    let y = char_below s c.chars-chars.result.now b c.from-b.result i _ c.chars-chars.ensures c.from-b.ensures
-    c.requires.b.1 c.char_at-of_b.ensures in
+    let x = char_below s c.chars-chars.result.now a c.from-a.result i _ _ c.chars-chars.ensures c.from-a.ensures
+    c.requires.a.1 c.index-chars-a.is in
+    let y = char_below s c.chars-chars.result.now b c.from-b.result i _ _ c.chars-chars.ensures c.from-b.ensures
+    c.requires.b.1 c.index-chars-b.is in
     let differs : not ((cell_at s (a - i)).char == (cell_at s (b - i)).char) ≡ true =
     sym (ap (λ (p : ℕ). not (p == (cell_at s (b - i)).char)) x)
-    ∙ sym (ap (λ (p : ℕ). not (c.char_at-of_a.result == p)) y) ∙ sym c.ne.ensures ∙ c.if-ne.true in
+    ∙ sym (ap (λ (p : ℕ). not (c.index-chars-a.result == p)) y) ∙ sym c.ne.ensures ∙ c.if-ne.true in
     found_pair s a b c.args.n (c.args.n - c.loop-behind.behind) i c.loop-behind.invariant (omega arith) differs
 
 pub loop-behind-preserved : goal.loop-behind-preserved
@@ -27,13 +27,13 @@ loop-behind-preserved c =
     let a = c.args.a in
     let b = c.args.b in
     let i = c.from-n.result - 1 - c.loop-behind.behind in
-    let x = char_below s c.chars-chars.result.now a c.from-a.result i _ c.chars-chars.ensures c.from-a.ensures
-    c.requires.a.1 c.char_at-of_a.ensures in
-    let y = char_below s c.chars-chars.result.now b c.from-b.result i _ c.chars-chars.ensures c.from-b.ensures
-    c.requires.b.1 c.char_at-of_b.ensures in
+    let x = char_below s c.chars-chars.result.now a c.from-a.result i _ _ c.chars-chars.ensures c.from-a.ensures
+    c.requires.a.1 c.index-chars-a.is in
+    let y = char_below s c.chars-chars.result.now b c.from-b.result i _ _ c.chars-chars.ensures c.from-b.ensures
+    c.requires.b.1 c.index-chars-b.is in
     let differs : not ((cell_at s (a - i)).char == (cell_at s (b - i)).char) ≡ false =
     sym (ap (λ (p : ℕ). not (p == (cell_at s (b - i)).char)) x)
-    ∙ sym (ap (λ (p : ℕ). not (c.char_at-of_a.result == p)) y) ∙ sym c.ne.ensures ∙ c.if-ne.false in
+    ∙ sym (ap (λ (p : ℕ). not (c.index-chars-a.result == p)) y) ∙ sym c.ne.ensures ∙ c.if-ne.false in
     ap (highest_difference s a b) (omega arith)
     ∙ passed_pair s a b c.args.n (c.args.n - c.loop-behind.behind) i c.loop-behind.invariant (omega arith) differs
 

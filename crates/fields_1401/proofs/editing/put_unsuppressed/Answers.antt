@@ -2,10 +2,11 @@
 use Rattle.std.proofs.Common.{◌≡◌, ℕ, ◌+◌, ◌-◌, ◌⊎◌, List, Option, Some, None, true, false, set}
 use Rattle.std.proofs.Common.{ap, sym, subst, ◌∙◌, inl, inr, arith, refl}
 use Rattle.std.specs.Prelude.{not, slice_index}
+use Rattle.std.proofs.lemmas.Grind.{get_or_default_zero}
 use Rattle.bcd_1401.specs.Character.{with_zone_of}
 use Rattle.bcd_1401.specs.declared.cell.Cell.{Cell}
 use Rattle.fields_1401.specs.Across.{chars_across, units_unzoned}
-use Rattle.fields_1401.specs.Edit.{is_replaceable, is_significant, kept_char, shown, taken_down}
+use Rattle.fields_1401.specs.Edit.{is_replaceable, is_significant, shown, taken_down, unsuppressed_place}
 use Rattle.fields_1401.proofs.AcrossLemmas.{length-across}
 use Rattle.fields_1401.proofs.EditLemmas.{before_significant_is}
 use Rattle.fields_1401.specs.Across.{unzoned_down}
@@ -44,10 +45,13 @@ loop-i-preserved c =
     let o = c.args.word in
     let i = c.loop-i.i in
     let place : ℕ = c.from-units.result - i in
-    let own = c.char_at-own.result in
+    let own = c.index-chars-units.result in
+    let read : own ≡ slice_index c.loop-i.chars place =
+    c.index-chars-units.is ∙ get_or_default_zero c.loop-i.chars place own
+    (omega (arith, c.from-units.ensures, c.loop-i.invariant.size, c.requires.b)) in
     let more : (after : List ℕ) (from next char : ℕ) (taken : Option ℕ)
     → taken ≡ taken_down c.loop-i.chars o.a o.taken own c.loop-i.behind
-    → char ≡ shown o.taken c.args.rules.replaceable c.args.rules.sign c.loop-i.behind false taken own
+    → char ≡ shown c.args.rules (unsuppressed_place own c.loop-i.behind) taken
     → after ≡ set c.loop-i.chars place char
     → ((is_replaceable own ≡ true) × (from ≡ c.loop-i.behind + 1))
     ⊎ ((is_replaceable own ≡ false) × (from ≡ c.loop-i.behind))
@@ -56,16 +60,15 @@ loop-i-preserved c =
     → ArePut s after o.a o.taken o.b o.len (i + 1) from next =
     λ after from next char taken takes shows made counts tells.
     put_more s c.loop-i.chars after o.a o.taken o.b o.len i place c.loop-i.behind from c.loop-i.significant next own char
-    c.args.rules.replaceable c.args.rules.sign taken c.requires.a o.a_above c.requires.b o.b_above o.apart (omega arith)
-    (omega (arith, c.from-units.ensures)) c.requires.sign c.requires.replaceable c.char_at-own.ensures takes shows made
+    c.args.rules taken c.requires.a o.a_above c.requires.b o.b_above o.apart (omega arith)
+    (omega (arith, c.from-units.ensures)) c.requires.taken c.requires.sign c.requires.replaceable read takes shows made
     counts tells c.loop-i.invariant in
     elim c.if-not-is_replaceable.branch [
       | then-not-is_replaceable w ↦
           let no : is_replaceable own ≡ false = sym c.is_replaceable.ensures ∙ w.if-not-is_replaceable.true in
           more c.if-not-is_replaceable.chars c.if-not-is_replaceable.behind c.if-not-is_replaceable.significant
           w.kept_char.result None (none_taken c.loop-i.chars o.a o.taken own c.loop-i.behind no)
-          (w.kept_char.ensures ∙ ap (λ (t : ℕ). kept_char t c.args.rules.replaceable c.args.rules.sign c.loop-i.behind
-          false own) c.requires.taken) (w.chars-is ∙ w.put_char.ensures)
+          w.kept_char.ensures w.chars-is
           (inr (no, w.behind-is)) (inr (refl, w.significant-is))
       | else-not-is_replaceable+then-behind-rules w ↦
           let yes : is_replaceable own ≡ true = sym c.is_replaceable.ensures ∙ w.if-not-is_replaceable.false in
@@ -78,7 +81,7 @@ loop-i-preserved c =
           (ap (λ (n : ℕ). Some n) here
           ∙ one_taken c.loop-i.chars o.a o.taken own c.loop-i.behind yes
           (omega (arith, w.if-behind-rules.true, c.requires.taken)))
-          (sym (taken_plain char)) (w.chars-is ∙ w.put_char-then-behind-rules.ensures)
+          (sym (taken_plain char)) w.chars-is
           (inl (yes, w.behind-is))
           (elim w.if-not-is_replaceable-2.branch [
             | then-not-is_replaceable-2 v ↦ inl (
@@ -98,8 +101,8 @@ loop-i-preserved c =
           blank_char None
           (none_left c.loop-i.chars o.a o.taken own c.loop-i.behind yes
           (omega (arith, w.if-behind-rules.false, c.requires.taken)))
-          (blank_left o.taken c.args.rules.replaceable c.loop-i.behind own c.args.rules.sign yes)
-          (w.chars-is ∙ w.put_char-else-behind-rules.ensures)
+          (blank_left c.args.rules own c.loop-i.behind yes)
+          w.chars-is
           (inl (yes, w.behind-is)) (inr (refl, w.significant-is))
     ]
 

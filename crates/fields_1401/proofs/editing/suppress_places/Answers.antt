@@ -1,5 +1,5 @@
 -- Each step suppresses one place more.
-use Rattle.std.proofs.Common.{◌≡◌, ◌+◌, length, ap, ◌∙◌, arith}
+use Rattle.std.proofs.Common.{◌≡◌, ◌+◌, length, refl, ap, ◌∙◌, arith}
 use Rattle.std.proofs.lemmas.List.{length-set}
 use Rattle.fields_1401.proofs.EditLemmas.{none_suppressed, one_suppressed}
 use Rattle.fields_1401.proofs.LendingLemmas.{length-chars_of, length-with_all_chars}
@@ -19,11 +19,11 @@ loop-i-preserved c =
     let o = c.args.word in
     let before = c.loop-i.invariant in
     record {
-      size = ap length c.put_char.ensures ∙ length-set _ _ _ ∙ before.size;
-      so_far = one_suppressed c.args.core.now c.loop-i.chars c.put_char.new.chars o.b o.len c.loop-i.i
-          (c.from-low.result + c.loop-i.i) c.char_at-char.result c.without_zero.result c.requires.b
-          (omega arith) o.b_above before.size (omega (arith, c.from-low.ensures)) c.char_at-char.ensures
-          c.without_zero.ensures c.put_char.ensures before.so_far;
+      size = length-set _ _ _ ∙ before.size;
+      so_far = one_suppressed c.args.core.now c.loop-i.chars _ o.b o.len c.loop-i.i
+          (c.from-low.result + c.loop-i.i) c.index-chars-low.result c.without_zero.result c.requires.b
+          (omega arith) o.b_above before.size (omega (arith, c.from-low.ensures)) c.index-chars-low.is
+          c.without_zero.ensures refl before.so_far;
     }
 
 pub returns-clause-suppressed : goal.returns-clause-suppressed

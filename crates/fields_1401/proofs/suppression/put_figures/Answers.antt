@@ -54,13 +54,12 @@ loop-i-preserved c =
     ] in
     record {
       put =
-          ap (with_all_chars old) c.put_char.ensures
-          ∙ ap (λ q. with_all_chars old (set chars q c.if-n-i.char)) place
+          ap (λ q. with_all_chars old (set chars q c.if-n-i.char)) place
           ∙ lent-set old chars (b - i) c.if-n-i.char (omega arith) held
           ∙ ap (λ (s : Storage). with_char s (b - i) c.if-n-i.char) put
           ∙ ap (λ k. with_char (with_chars old b i kept) (b - i) k) shows
           ∙ with_chars_more old b i kept c.requires.b_in (omega arith);
-      size = ap length c.put_char.ensures ∙ length-set chars c.from-in-loop-i.result _ ∙ held;
+      size = length-set chars c.from-in-loop-i.result _ ∙ held;
     }
 
 pub returns-clause-put : goal.returns-clause-put
