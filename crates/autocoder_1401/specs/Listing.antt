@@ -26,7 +26,8 @@ use Rattle.source_1401.specs.declared.statement.Statement.{Statement}
 use Rattle.source_1401.specs.declared.statement.Line.{Line}
 use Rattle.placing_1401.specs.Cells.{contents_cells, literal_cells}
 use Rattle.placing_1401.specs.Literals.{key_of}
-use Rattle.placing_1401.specs.Placement.{Placement, point_value, behind_literal, start_of, after_line, unplaced, placed}
+use Rattle.placing_1401.specs.Placement.{Placement, point_value, behind_literal, start_of, placed_after, unplaced}
+use Rattle.placing_1401.specs.Placement.{placed}
 
 -- the number of a line in at least four digits; four blanks for a line that isn't in the source
 unfoldable pub number_text : Option ℕ → List ℕ
@@ -157,7 +158,7 @@ listing_from all this number (line ∷ lines) [] = []
 listing_from all this number (line ∷ lines) (source ∷ sources) =
     literal_lines all (start_of this line.statement) (literals_in this line.statement)
     ++ line_for all this number source line.statement lines
-    ∷ listing_from all (after_line this line) (number + 1) lines sources
+    ∷ listing_from all (placed_after this line) (number + 1) lines sources
 
 -- the listing of lines, each with its text
 abbrev pub listing_with : List Line → List (List ℕ) → List (List ℕ)

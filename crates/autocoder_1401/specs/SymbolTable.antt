@@ -18,7 +18,7 @@ use Rattle.source_1401.specs.declared.statement.Line.{Line}
 use Rattle.source_1401.specs.declared.statement.Span.{Span}
 use Rattle.source_1401.specs.declared.statement.Statement.{Statement}
 use Rattle.placing_1401.specs.Literals.{same_key}
-use Rattle.placing_1401.specs.Placement.{Placement, symbols_of, contents_length, after_line, unplaced, placed}
+use Rattle.placing_1401.specs.Placement.{Placement, symbols_of, contents_length, placed_after, unplaced, placed}
 use Rattle.placing_1401.specs.declared.literals.LiteralKey.TheVariants as keys
 use Rattle.autocoder_1401.specs.Listing.{address_text}
 use Rattle.autocoder_1401.specs.declared.symbol_table.Symbol.{Symbol}
@@ -104,7 +104,7 @@ symbols_at all this number line =
 abbrev pub symbols_from : Placement → Placement → ℕ → List Line → List Symbol
 symbols_from all this number [] = []
 symbols_from all this number (line ∷ lines) =
-    symbols_at all this number line ++ symbols_from all (after_line this line) (number + 1) lines
+    symbols_at all this number line ++ symbols_from all (placed_after this line) (number + 1) lines
 
 -- the symbols of a source, in the order of the lines that declare them
 abbrev pub symbols_in : List Line → List Symbol

@@ -7,7 +7,7 @@ ghost use Rattle.source_1401.specs.SourceLine.{lines_of};
 ghost use Rattle.symbols_1401.specs.Fault.{IsMemory};
 ghost use Rattle.placing_1401.specs.Built.{built};
 ghost use Rattle.placing_1401.specs.Cells.{address_or_zero, numbered, statement_cells, cells_from};
-ghost use Rattle.placing_1401.specs.Placement.{start_of, after_line, after_statement, unplaced};
+ghost use Rattle.placing_1401.specs.Placement.{start_of, placed_after, after_statement, unplaced};
 ghost use Rattle.placing_1401.specs.Segments.{segments_of};
 ghost use Rattle.placing_1401.specs.Values.{first_outside_from};
 ghost use Rattle.placing_1401.specs.View.{places_of};
@@ -113,7 +113,7 @@ impl<'a> ListingSoFar<'a> {
             ++ line_for (places_of all.now) (places_of self.old.so_far) number source.now line.now.statement behind.now
             ∷ [])) }
         ensures placed { OnOk result
-            (places_of self.new.so_far ≡ after_line (places_of self.old.so_far) line.now) }
+            (places_of self.new.so_far ≡ placed_after (places_of self.old.so_far) line.now) }
         ensures err { IfErr result IsMemory }
     {
         list_line(

@@ -49,7 +49,7 @@ use Rattle.placing_1401.specs.Characters.{char_of, char_with, characters_of, cod
 use Rattle.placing_1401.specs.Literals.{key_length}
 use Rattle.placing_1401.specs.Placement.{Placement, unplaced, instruction_length, constant_length, areas_length}
 use Rattle.placing_1401.specs.Placement.{chain_length, contents_length, entry_value, pending, behind_literals}
-use Rattle.placing_1401.specs.Placement.{own_value, start_by, start_of, after_line, placed}
+use Rattle.placing_1401.specs.Placement.{own_value, start_by, start_of, placed_after, placed}
 use Rattle.placing_1401.specs.PlacementLaws.{total}
 use Rattle.placing_1401.specs.Segments.{start_or_zero, closed, goes_on, cut}
 use Rattle.placing_1401.specs.Values.{is_in_core, are_in_core, places_outside, literals_outside, next_outside}
@@ -337,14 +337,14 @@ line_below size all this line lines small inside = by line.statement inside
 pub one_line : (size : ℕ) (all : Placement) (number : ℕ) (this : Placement) (line : Line) (lines : List Line)
     → first_outside_from size all number this (line ∷ lines) ≡ None
     → (line_outside size all this line ≡ false)
-    × (first_outside_from size all (number + 1) (after_line this line) lines ≡ None)
+    × (first_outside_from size all (number + 1) (placed_after this line) lines ≡ None)
 one_line size all number this line lines none = by (line_outside size all this line) refl none
   where
     by : (b : Bool) → line_outside size all this line ≡ b
         → cond b (Some (record { line = number; kind = kinds.OutOfCore }))
-        (first_outside_from size all (number + 1) (after_line this line) lines) ≡ None
+        (first_outside_from size all (number + 1) (placed_after this line) lines) ≡ None
         → (line_outside size all this line ≡ false)
-        × (first_outside_from size all (number + 1) (after_line this line) lines ≡ None)
+        × (first_outside_from size all (number + 1) (placed_after this line) lines ≡ None)
     by true is h = cc
     by false is h = (is, h)
 
@@ -355,10 +355,10 @@ cells_below size all number this (line ∷ lines) small none =
     let parts = one_line size all number this line lines none in
     let first =
     numbered (address_or_zero (start_of this line.statement)) (statement_cells all this line.statement lines) in
-    let more = cells_from all (after_line this line) lines in
+    let more = cells_from all (placed_after this line) lines in
     list_all-append (λ (cell : ℕ × Cell). nat_lt cell.0 size) first more
     ∙ and_from (are_below size first) (are_below size more) (line_below size all this line lines small parts.0)
-    (cells_below size all (number + 1) (after_line this line) lines small parts.1)
+    (cells_below size all (number + 1) (placed_after this line) lines small parts.1)
 
 -- a segment of cells that end in core
 closed_inside : (size at : ℕ) (cells : List Cell) → size ≤ 16000 → (0 < length cells → at + length cells ≤ size)
@@ -438,7 +438,7 @@ entry_below size all number this [] bounds none = omega (arith, bounds.0)
 entry_below size all number this (line ∷ lines) bounds none =
     let parts = one_line size all number this line lines none in
     line_entry size all this line (entry_in all lines) bounds parts.0
-    (entry_below size all (number + 1) (after_line this line) lines bounds parts.1)
+    (entry_below size all (number + 1) (placed_after this line) lines bounds parts.1)
 
 -- the image of lines of which nothing is outside
 pub image_inside : (size : ℕ) (lines : List Line) → is_core_size size ≡ true → first_outside size lines ≡ None

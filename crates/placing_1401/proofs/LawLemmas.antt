@@ -18,7 +18,7 @@ use Rattle.symbols_1401.specs.declared.fault.AsmKind.TheVariants as kinds
 use Rattle.placing_1401.specs.PlacedImage.{placed_cells, image_of}
 use Rattle.placing_1401.specs.Cells.{numbered}
 use Rattle.placing_1401.specs.Laws.{IsFirstOutside, cells_in, has_few, is_parted, are_parted, IsCutOf}
-use Rattle.placing_1401.specs.Placement.{Placement, nothing_placed, after_line, unplaced, placed}
+use Rattle.placing_1401.specs.Placement.{Placement, nothing_placed, placed_after, unplaced, placed}
 use Rattle.placing_1401.specs.Segments.{start_or_zero, closed, goes_on, cut}
 use Rattle.placing_1401.specs.Values.{line_outside, first_outside_from, first_outside}
 use Rattle.placing_1401.proofs.CoreLemmas.{size_bound, are_below, cells_below}
@@ -32,20 +32,20 @@ record FoundFrom (size : ℕ) (all : Placement) (number : ℕ) (this : Placement
   numbered : fault.line ≡ index + number
   there : index < length lines
   earlier : (k : ℕ) → k < index → (d : Line)
-      → line_outside size all (fold after_line this (take k lines)) (get_or lines k d) ≡ false
-  here : (d : Line) → line_outside size all (fold after_line this (take index lines)) (get_or lines index d) ≡ true
+      → line_outside size all (fold placed_after this (take k lines)) (get_or lines k d) ≡ false
+  here : (d : Line) → line_outside size all (fold placed_after this (take index lines)) (get_or lines index d) ≡ true
 
 found_from : (size : ℕ) (all : Placement) (number : ℕ) (this : Placement) (lines : List Line) (fault : AsmFault)
     → first_outside_from size all number this lines ≡ Some fault → FoundFrom size all number this lines fault
 found_from size all number this [] fault e = cc
 found_from size all number this (line ∷ lines) fault e =
-    by (line_outside size all this line) refl e (found_from size all (number + 1) (after_line this line) lines fault)
+    by (line_outside size all this line) refl e (found_from size all (number + 1) (placed_after this line) lines fault)
   where
     by : (b : Bool) → line_outside size all this line ≡ b
         → cond b (Some (record { line = number; kind = kinds.OutOfCore }))
-        (first_outside_from size all (number + 1) (after_line this line) lines) ≡ Some fault
-        → (first_outside_from size all (number + 1) (after_line this line) lines ≡ Some fault
-        → FoundFrom size all (number + 1) (after_line this line) lines fault)
+        (first_outside_from size all (number + 1) (placed_after this line) lines) ≡ Some fault
+        → (first_outside_from size all (number + 1) (placed_after this line) lines ≡ Some fault
+        → FoundFrom size all (number + 1) (placed_after this line) lines fault)
         → FoundFrom size all number this (line ∷ lines) fault
     by true is h rest =
         let same : record { line = number; kind = kinds.OutOfCore } ≡ fault = cc in
@@ -68,9 +68,9 @@ found_from size all number this (line ∷ lines) fault e =
           here = f.here;
         }
       where
-        before : (f : FoundFrom size all (number + 1) (after_line this line) lines fault) → (k : ℕ) → k < suc f.index
+        before : (f : FoundFrom size all (number + 1) (placed_after this line) lines fault) → (k : ℕ) → k < suc f.index
             → (d : Line)
-            → line_outside size all (fold after_line this (take k (line ∷ lines))) (get_or (line ∷ lines) k d) ≡ false
+            → line_outside size all (fold placed_after this (take k (line ∷ lines))) (get_or (line ∷ lines) k d) ≡ false
         before f zero low d = is
         before f (suc k) low d = f.earlier k (omega (arith, low)) d
 

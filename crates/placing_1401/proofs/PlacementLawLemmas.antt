@@ -27,8 +27,8 @@ use Rattle.symbols_1401.specs.Chains.{chains_of}
 use Rattle.symbols_1401.specs.Symbols.{sites_of}
 use Rattle.placing_1401.specs.Literals.{key_of, same_key}
 use Rattle.placing_1401.specs.Placement.{Placement, nothing_placed, pending, with_literal, with_operand, with_uses}
-use Rattle.placing_1401.specs.Placement.{with_areas, moved, behind_row, behind_body, with_label, label_value}
-use Rattle.placing_1401.specs.Placement.{after_line, placed, placed_among, symbols_of, value_so_far}
+use Rattle.placing_1401.specs.Placement.{with_areas, next_moved, behind_row, behind_body, with_label, label_value}
+use Rattle.placing_1401.specs.Placement.{placed_after, placed, placed_among, symbols_of, value_so_far}
 use Rattle.placing_1401.specs.PlacementLaws.{row_length, body_length, length_with, lengths_from, origin_by, origin_in}
 use Rattle.placing_1401.specs.PlacementLaws.{origin_with, AreNoOrigins, literal_in, uses_by, uses_in, uses_with, uses}
 use Rattle.placing_1401.specs.PlacementLaws.{total, with_use, IsPlacedInTurn}
@@ -72,21 +72,22 @@ uses_next this (addressing.Equal of) = refl
 uses_next this (addressing.Value of) = refl
 uses_next this (addressing.Entry of) = refl
 
-row_next : (this : Placement) (row : Description) → (behind_row this row).next ≡ (moved this row row.next).next
+row_next : (this : Placement) (row : Description) → (behind_row this row).next ≡ (next_moved this row row.next).next
 row_next this row =
-    let on = moved this row row.next in
+    let on = next_moved this row row.next in
     uses_next (with_areas on this.next row.areas) row.addressing ∙ areas_next on this.next row.areas
 
-moved_next : (this : Placement) (row : Description) (step : Next) → origin_by step row.addressing ≡ None
-    → (moved this row step).next ≡ this.next +ℤ pos (row_length this row step)
-moved_next this row next.Behind none = refl
-moved_next this row next.Literals none = behind_total this.next (pending this)
-moved_next this row next.Value none = cc
-moved_next this row next.LiteralsAtValue none = cc
+next_moved_next : (this : Placement) (row : Description) (step : Next) → origin_by step row.addressing ≡ None
+    → (next_moved this row step).next ≡ this.next +ℤ pos (row_length this row step)
+next_moved_next this row next.Behind none = refl
+next_moved_next this row next.Literals none = behind_total this.next (pending this)
+next_moved_next this row next.Value none = cc
+next_moved_next this row next.LiteralsAtValue none = cc
 
 body_next : (this : Placement) (body : Body) → origin_in body ≡ None
     → (behind_body this body).next ≡ this.next +ℤ pos (body_length this body)
-body_next this body none = row_next this (describe body) ∙ moved_next this (describe body) (describe body).next none
+body_next this body none =
+    row_next this (describe body) ∙ next_moved_next this (describe body) (describe body).next none
 
 -- a label leaves the next place and the literals
 label_next : (this : Placement) (label : Option Label) (value : SymbolValue) → (with_label this label value).next ≡ this.next
@@ -104,11 +105,11 @@ label_spellings this None value = refl
 label_spellings this (Some label) value = refl
 
 line_next : (this : Placement) (line : Line) → origin_with line.statement ≡ None
-    → (after_line this line).next ≡ this.next +ℤ pos (length_with this line.statement)
+    → (placed_after this line).next ≡ this.next +ℤ pos (length_with this line.statement)
 line_next this line none = by line.statement none
   where
     by : (statement : Option Statement) → origin_with statement ≡ None
-        → (after_line this (record { bytes = line.bytes; statement = statement })).next
+        → (placed_after this (record { bytes = line.bytes; statement = statement })).next
         ≡ this.next +ℤ pos (length_with this statement)
     by None h = sym (+ℤ_idr this.next)
     by (Some statement) h =
@@ -116,25 +117,26 @@ line_next this line none = by line.statement none
         ∙ body_next this statement.body h
 
 lines_next : (this : Placement) (lines : List Line) → AreNoOrigins lines
-    → (fold after_line this lines).next ≡ this.next +ℤ pos (lengths_from this lines)
+    → (fold placed_after this lines).next ≡ this.next +ℤ pos (lengths_from this lines)
 lines_next this [] none = sym (+ℤ_idr this.next)
 lines_next this (line ∷ lines) none =
-    lines_next (after_line this line) lines none.1
-    ∙ ap (λ (n : ℤ). n +ℤ pos (lengths_from (after_line this line) lines)) (line_next this line none.0)
-    ∙ +ℤ_assoc this.next (pos (length_with this line.statement)) (pos (lengths_from (after_line this line) lines))
+    lines_next (placed_after this line) lines none.1
+    ∙ ap (λ (n : ℤ). n +ℤ pos (lengths_from (placed_after this line) lines)) (line_next this line none.0)
+    ∙ +ℤ_assoc this.next (pos (length_with this line.statement)) (pos (lengths_from (placed_after this line) lines))
 
 fold_append : (this : Placement) (before behind : List Line)
-    → fold after_line this (before ++ behind) ≡ fold after_line (fold after_line this before) behind
+    → fold placed_after this (before ++ behind) ≡ fold placed_after (fold placed_after this before) behind
 fold_append this [] behind = refl
-fold_append this (line ∷ before) behind = fold_append (after_line this line) before behind
+fold_append this (line ∷ before) behind = fold_append (placed_after this line) before behind
 
 origin_next : (this : Placement) (line : Line) (of : Operands) → origin_with line.statement ≡ Some of
-    → (after_line this line).next
+    → (placed_after this line).next
     ≡ value_so_far (symbols_of this) this.next of.a +ℤ pos (length_with this line.statement)
 origin_next this line of is = by line.statement is
   where
     moved_to : (row : Description) (step : Next) → origin_by step row.addressing ≡ Some of
-        → (moved this row step).next ≡ value_so_far (symbols_of this) this.next of.a +ℤ pos (row_length this row step)
+        → (next_moved this row step).next
+        ≡ value_so_far (symbols_of this) this.next of.a +ℤ pos (row_length this row step)
     moved_to row next.Behind h = cc
     moved_to row next.Literals h = cc
     moved_to row next.Value h =
@@ -152,7 +154,7 @@ origin_next this line of is = by line.statement is
     body given h = row_next this (describe given) ∙ moved_to (describe given) (describe given).next h
 
     by : (statement : Option Statement) → origin_with statement ≡ Some of
-        → (after_line this (record { bytes = line.bytes; statement = statement })).next
+        → (placed_after this (record { bytes = line.bytes; statement = statement })).next
         ≡ value_so_far (symbols_of this) this.next of.a +ℤ pos (length_with this statement)
     by None h = cc
     by (Some statement) h =
@@ -192,11 +194,12 @@ areas_literals this first areas.Keeps = refl
 areas_literals this first (areas.Makes made) = refl
 areas_literals this first (areas.Divides span) = refl
 
-moved_literals : (this : Placement) (row : Description) (step : Next) → (moved this row step).literals ≡ this.literals
-moved_literals this row next.Behind = refl
-moved_literals this row next.Literals = refl
-moved_literals this row next.Value = refl
-moved_literals this row next.LiteralsAtValue = refl
+next_moved_literals : (this : Placement) (row : Description) (step : Next)
+    → (next_moved this row step).literals ≡ this.literals
+next_moved_literals this row next.Behind = refl
+next_moved_literals this row next.Literals = refl
+next_moved_literals this row next.Value = refl
+next_moved_literals this row next.LiteralsAtValue = refl
 
 uses_use : (this : Placement) (asked : Addressing)
     → (with_uses this asked).literals ≡ fold with_use this.literals (uses_by asked)
@@ -213,17 +216,17 @@ uses_use this (addressing.Entry of) = refl
 body_use : (this : Placement) (body : Body) → (behind_body this body).literals ≡ fold with_use this.literals (uses_in body)
 body_use this body =
     let row = describe body in
-    let on = moved this row row.next in
+    let on = next_moved this row row.next in
     uses_use (with_areas on this.next row.areas) row.addressing
     ∙ ap (λ (used : List LiteralKey). fold with_use used (uses_by row.addressing))
-    (areas_literals on this.next row.areas ∙ moved_literals this row row.next)
+    (areas_literals on this.next row.areas ∙ next_moved_literals this row row.next)
 
 line_use : (this : Placement) (line : Line)
-    → (after_line this line).literals ≡ fold with_use this.literals (uses_with line.statement)
+    → (placed_after this line).literals ≡ fold with_use this.literals (uses_with line.statement)
 line_use this line = by line.statement
   where
     by : (statement : Option Statement)
-        → (after_line this (record { bytes = line.bytes; statement = statement })).literals
+        → (placed_after this (record { bytes = line.bytes; statement = statement })).literals
         ≡ fold with_use this.literals (uses_with statement)
     by None = refl
     by (Some statement) =
@@ -231,10 +234,10 @@ line_use this line = by line.statement
         ∙ body_use this statement.body
 
 lines_use : (this : Placement) (lines : List Line)
-    → (fold after_line this lines).literals ≡ fold with_use this.literals (uses lines)
+    → (fold placed_after this lines).literals ≡ fold with_use this.literals (uses lines)
 lines_use this [] = refl
 lines_use this (line ∷ lines) =
-    lines_use (after_line this line) lines
+    lines_use (placed_after this line) lines
     ∙ ap (λ (used : List LiteralKey). fold with_use used (uses lines)) (line_use this line)
     ∙ sym (uses_append this.literals (uses_with line.statement) (uses lines))
 
@@ -270,11 +273,12 @@ areas_spelled this first areas.Keeps so_far = so_far
 areas_spelled this first (areas.Makes made) so_far = so_far
 areas_spelled this first (areas.Divides span) so_far = so_far
 
-moved_spelled : (this : Placement) (row : Description) (step : Next) → IsSpelled this → IsSpelled (moved this row step)
-moved_spelled this row next.Behind so_far = so_far
-moved_spelled this row next.Literals so_far = so_far
-moved_spelled this row next.Value so_far = so_far
-moved_spelled this row next.LiteralsAtValue so_far = so_far
+next_moved_spelled : (this : Placement) (row : Description) (step : Next) → IsSpelled this
+    → IsSpelled (next_moved this row step)
+next_moved_spelled this row next.Behind so_far = so_far
+next_moved_spelled this row next.Literals so_far = so_far
+next_moved_spelled this row next.Value so_far = so_far
+next_moved_spelled this row next.LiteralsAtValue so_far = so_far
 
 uses_spelled : (this : Placement) (asked : Addressing) → IsSpelled this → IsSpelled (with_uses this asked)
 uses_spelled this addressing.Nothing so_far = so_far
@@ -288,15 +292,15 @@ uses_spelled this (addressing.Entry of) so_far = so_far
 body_spelled : (this : Placement) (body : Body) → IsSpelled this → IsSpelled (behind_body this body)
 body_spelled this body so_far =
     let row = describe body in
-    let on = moved this row row.next in
+    let on = next_moved this row row.next in
     uses_spelled (with_areas on this.next row.areas) row.addressing
-    (areas_spelled on this.next row.areas (moved_spelled this row row.next so_far))
+    (areas_spelled on this.next row.areas (next_moved_spelled this row row.next so_far))
 
-line_spelled : (this : Placement) (line : Line) → IsSpelled this → IsSpelled (after_line this line)
+line_spelled : (this : Placement) (line : Line) → IsSpelled this → IsSpelled (placed_after this line)
 line_spelled this line so_far = by line.statement
   where
     by : (statement : Option Statement)
-        → IsSpelled (after_line this (record { bytes = line.bytes; statement = statement }))
+        → IsSpelled (placed_after this (record { bytes = line.bytes; statement = statement }))
     by None = so_far
     by (Some statement) =
         let behind = behind_body this statement.body in
@@ -305,10 +309,10 @@ line_spelled this line so_far = by line.statement
         ap (map key_of) (label_spellings behind label value) ∙ body_spelled this statement.body so_far
         ∙ sym (label_literals behind label value)
 
-lines_spelled : (this : Placement) (lines : List Line) → IsSpelled this → IsSpelled (fold after_line this lines)
+lines_spelled : (this : Placement) (lines : List Line) → IsSpelled this → IsSpelled (fold placed_after this lines)
 lines_spelled this [] so_far = so_far
 lines_spelled this (line ∷ lines) so_far =
-    lines_spelled (after_line this line) lines (line_spelled this line so_far)
+    lines_spelled (placed_after this line) lines (line_spelled this line so_far)
 
 pub placed_in_turn : (lines : List Line) → IsPlacedInTurn lines
 placed_in_turn lines =
@@ -324,6 +328,6 @@ placed_in_turn lines =
       spelled = lines_spelled first lines refl;
       standing = λ before line rest k literal is places there.
           stands_behind (placed_among lines before) (placed lines) line rest (uses lines) k literal
-          (ap (fold after_line first) is ∙ fold_append first before (line ∷ rest))
+          (ap (fold placed_after first) is ∙ fold_append first before (line ∷ rest))
           (lines_use first lines) places there;
     }

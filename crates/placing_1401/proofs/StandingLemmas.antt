@@ -29,8 +29,8 @@ use Rattle.source_1401.specs.declared.statement.Line.{Line}
 use Rattle.placing_1401.specs.Literals.{key_of, same_key, key_length}
 use Rattle.placing_1401.specs.Cells.{literal_value}
 use Rattle.placing_1401.specs.Placement.{Placement, pending, units_from, with_literal, with_operand, with_uses}
-use Rattle.placing_1401.specs.Placement.{with_areas, own_value, moved, start_by, start_of, behind_body, label_value}
-use Rattle.placing_1401.specs.Placement.{with_label, after_line}
+use Rattle.placing_1401.specs.Placement.{with_areas, own_value, next_moved, start_by, start_of, behind_body}
+use Rattle.placing_1401.specs.Placement.{label_value, with_label, placed_after}
 use Rattle.placing_1401.specs.PlacementLaws.{total, places_by, places_in, places_with, with_use}
 use Rattle.placing_1401.specs.contracts.literals.LiteralKeyEq.TheImpl.Laws as key_laws
 use Rattle.placing_1401.specs.declared.literals.LiteralKey.{LiteralKey}
@@ -101,14 +101,14 @@ areas_grown this first areas.Keeps = unchanged this
 areas_grown this first (areas.Makes made) = record { literals = λ i v h. h; addresses = λ i v h. h }
 areas_grown this first (areas.Divides span) = unchanged this
 
-moved_grown : (this : Placement) (row : Description) (step : Next) → Grown this (moved this row step)
-moved_grown this row next.Behind = record { literals = λ i v h. h; addresses = λ i v h. h }
-moved_grown this row next.Literals = record {
+next_moved_grown : (this : Placement) (row : Description) (step : Next) → Grown this (next_moved this row step)
+next_moved_grown this row next.Behind = record { literals = λ i v h. h; addresses = λ i v h. h }
+next_moved_grown this row next.Literals = record {
   literals = λ i v h. h;
   addresses = more_at this.addresses (units_from this.next (pending this));
 }
-moved_grown this row next.Value = record { literals = λ i v h. h; addresses = λ i v h. h }
-moved_grown this row next.LiteralsAtValue = record {
+next_moved_grown this row next.Value = record { literals = λ i v h. h; addresses = λ i v h. h }
+next_moved_grown this row next.LiteralsAtValue = record {
   literals = λ i v h. h;
   addresses = more_at this.addresses (units_from (own_value this row.addressing) (pending this));
 }
@@ -126,10 +126,10 @@ uses_grown this (addressing.Entry of) = unchanged this
 body_grown : (this : Placement) (body : Body) → Grown this (behind_body this body)
 body_grown this body =
     let row = describe body in
-    let on = moved this row row.next in
+    let on = next_moved this row row.next in
     let made = with_areas on this.next row.areas in
     let whole = grown_on this made (with_uses made row.addressing)
-    (grown_on this on made (moved_grown this row row.next) (areas_grown on this.next row.areas))
+    (grown_on this on made (next_moved_grown this row row.next) (areas_grown on this.next row.areas))
     (uses_grown made row.addressing) in
     record { literals = whole.literals; addresses = whole.addresses }
 
@@ -137,11 +137,11 @@ label_grown : (this : Placement) (label : Option Label) (value : SymbolValue) �
 label_grown this None value = unchanged this
 label_grown this (Some label) value = record { literals = λ i v h. h; addresses = λ i v h. h }
 
-line_grown : (this : Placement) (line : Line) → Grown this (after_line this line)
+line_grown : (this : Placement) (line : Line) → Grown this (placed_after this line)
 line_grown this line = by line.statement
   where
     by : (statement : Option Statement)
-        → Grown this (after_line this (record { bytes = line.bytes; statement = statement }))
+        → Grown this (placed_after this (record { bytes = line.bytes; statement = statement }))
     by None = unchanged this
     by (Some statement) =
         let behind = behind_body this statement.body in
@@ -150,11 +150,11 @@ line_grown this line = by line.statement
         grown_on this behind (with_label behind label value) (body_grown this statement.body)
         (label_grown behind label value)
 
-lines_grown : (this : Placement) (lines : List Line) → Grown this (fold after_line this lines)
+lines_grown : (this : Placement) (lines : List Line) → Grown this (fold placed_after this lines)
 lines_grown this [] = unchanged this
 lines_grown this (line ∷ lines) =
-    grown_on this (after_line this line) (fold after_line (after_line this line) lines) (line_grown this line)
-    (lines_grown (after_line this line) lines)
+    grown_on this (placed_after this line) (fold placed_after (placed_after this line) lines) (line_grown this line)
+    (lines_grown (placed_after this line) lines)
 
 -- literals follow one another
 units_at : (from : ℤ) (literals : List LiteralKey) (k : ℕ) (literal : LiteralKey) → slice_get literals k ≡ Some literal
@@ -204,24 +204,24 @@ uses_units this (addressing.Entry of) = refl
 
 -- EX, END and LTORG place the literals that are used and not placed
 line_units : (this : Placement) (line : Line) → places_with line.statement ≡ true
-    → (after_line this line).addresses ≡ this.addresses ++ units_from (start_of this line.statement) (pending this)
+    → (placed_after this line).addresses ≡ this.addresses ++ units_from (start_of this line.statement) (pending this)
 line_units this line places = by line.statement places
   where
-    moved_units : (row : Description) (step : Next) → places_by step ≡ true
-        → (moved this row step).addresses ≡ this.addresses ++ units_from (start_by this row step) (pending this)
-    moved_units row next.Behind h = cc
-    moved_units row next.Literals h = refl
-    moved_units row next.Value h = cc
-    moved_units row next.LiteralsAtValue h = refl
+    next_moved_units : (row : Description) (step : Next) → places_by step ≡ true
+        → (next_moved this row step).addresses ≡ this.addresses ++ units_from (start_by this row step) (pending this)
+    next_moved_units row next.Behind h = cc
+    next_moved_units row next.Literals h = refl
+    next_moved_units row next.Value h = cc
+    next_moved_units row next.LiteralsAtValue h = refl
 
     body : (given : Body) → places_in given ≡ true
         → (behind_body this given).addresses
         ≡ this.addresses ++ units_from (start_by this (describe given) (describe given).next) (pending this)
     body given h =
         let row = describe given in
-        let on = moved this row row.next in
+        let on = next_moved this row row.next in
         uses_units (with_areas on this.next row.areas) row.addressing ∙ areas_units on this.next row.areas
-        ∙ moved_units row row.next h
+        ∙ next_moved_units row row.next h
 
     label_units : (behind : Placement) (label : Option Label) (value : SymbolValue)
         → (with_label behind label value).addresses ≡ behind.addresses
@@ -229,7 +229,7 @@ line_units this line places = by line.statement places
     label_units behind (Some label) value = refl
 
     by : (statement : Option Statement) → places_with statement ≡ true
-        → (after_line this (record { bytes = line.bytes; statement = statement })).addresses
+        → (placed_after this (record { bytes = line.bytes; statement = statement })).addresses
         ≡ this.addresses ++ units_from (start_of this statement) (pending this)
     by None h = cc
     by (Some statement) h =
@@ -300,12 +300,13 @@ value_at all i literal units distinct there is =
 
 -- a literal that a line places follows those that it places before it, whatever lines follow
 pub stands_behind : (this all : Placement) (line : Line) (rest : List Line) (more : List LiteralKey) (k : ℕ)
-    (literal : LiteralKey) → all ≡ fold after_line (after_line this line) rest → all.literals ≡ fold with_use [] more
+    (literal : LiteralKey)
+    → all ≡ fold placed_after (placed_after this line) rest → all.literals ≡ fold with_use [] more
     → places_with line.statement ≡ true → slice_get (pending this) k ≡ Some literal
     → literal_value all literal
     ≡ start_of this line.statement +ℤ pos (total (take (k + 1) (pending this))) +ℤ negsuc 0
 stands_behind this all line rest more k literal is used places there =
-    let after = after_line this line in
+    let after = placed_after this line in
     let i = length this.addresses + k in
     let from = start_of this line.statement in
     let value = from +ℤ pos (total (take (k + 1) (pending this))) +ℤ negsuc 0 in

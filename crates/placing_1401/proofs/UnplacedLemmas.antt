@@ -22,8 +22,8 @@ use Rattle.symbols_1401.specs.Chains.{chains_of}
 use Rattle.symbols_1401.specs.Symbols.{sites_of}
 use Rattle.placing_1401.specs.Literals.{key_of, same_key}
 use Rattle.placing_1401.specs.Placement.{Placement, nothing_placed, with_literal, with_operand, with_uses, with_areas}
-use Rattle.placing_1401.specs.Placement.{moved, behind_row, behind_body, with_label, label_value, after_line, unplaced}
-use Rattle.placing_1401.specs.Placement.{placed}
+use Rattle.placing_1401.specs.Placement.{next_moved, behind_row, behind_body, with_label, label_value, placed_after}
+use Rattle.placing_1401.specs.Placement.{unplaced, placed}
 use Rattle.placing_1401.specs.declared.symbol_values.SymbolValue.{SymbolValue}
 
 literal_chains : (this : Placement) (literal : Literal) → (with_literal this literal).chains ≡ this.chains
@@ -59,36 +59,37 @@ areas_chains this first areas.Keeps = refl
 areas_chains this first (areas.Makes made) = refl
 areas_chains this first (areas.Divides span) = refl
 
-moved_chains : (this : Placement) (row : Description) (step : Next) → (moved this row step).chains ≡ this.chains
-moved_chains this row next.Behind = refl
-moved_chains this row next.Literals = refl
-moved_chains this row next.Value = refl
-moved_chains this row next.LiteralsAtValue = refl
+next_moved_chains : (this : Placement) (row : Description) (step : Next)
+    → (next_moved this row step).chains ≡ this.chains
+next_moved_chains this row next.Behind = refl
+next_moved_chains this row next.Literals = refl
+next_moved_chains this row next.Value = refl
+next_moved_chains this row next.LiteralsAtValue = refl
 
 row_chains : (this : Placement) (row : Description) → (behind_row this row).chains ≡ this.chains
 row_chains this row =
-    let on = moved this row row.next in
+    let on = next_moved this row row.next in
     uses_chains (with_areas on this.next row.areas) row.addressing ∙ areas_chains on this.next row.areas
-    ∙ moved_chains this row row.next
+    ∙ next_moved_chains this row row.next
 
 label_chains : (this : Placement) (label : Option Label) (value : SymbolValue)
     → (with_label this label value).chains ≡ this.chains
 label_chains this None value = refl
 label_chains this (Some label) value = refl
 
-line_chains : (this : Placement) (line : Line) → (after_line this line).chains ≡ this.chains
+line_chains : (this : Placement) (line : Line) → (placed_after this line).chains ≡ this.chains
 line_chains this line = by line.statement
   where
     by : (statement : Option Statement)
-        → (after_line this (record { bytes = line.bytes; statement = statement })).chains ≡ this.chains
+        → (placed_after this (record { bytes = line.bytes; statement = statement })).chains ≡ this.chains
     by None = refl
     by (Some statement) =
         label_chains (behind_body this statement.body) (well_formed statement.label) (label_value this statement.body)
         ∙ row_chains this (describe statement.body)
 
-lines_chains : (this : Placement) (lines : List Line) → (fold after_line this lines).chains ≡ this.chains
+lines_chains : (this : Placement) (lines : List Line) → (fold placed_after this lines).chains ≡ this.chains
 lines_chains this [] = refl
-lines_chains this (line ∷ lines) = lines_chains (after_line this line) lines ∙ line_chains this line
+lines_chains this (line ∷ lines) = lines_chains (placed_after this line) lines ∙ line_chains this line
 
 -- before the first line there are the chains of the lines
 pub unplaced_is : (lines : List Line) → unplaced (placed lines) ≡ nothing_placed (chains_of (sites_of lines) lines)

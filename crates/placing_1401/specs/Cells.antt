@@ -36,7 +36,7 @@ use Rattle.source_1401.specs.declared.statement.Line.{Line}
 use Rattle.placing_1401.specs.Characters.{char_of, characters_of, codes_in}
 use Rattle.placing_1401.specs.Literals.{key_of, same_key}
 use Rattle.placing_1401.specs.Placement.{Placement, symbols_of, pending, instruction_length, chain_length}
-use Rattle.placing_1401.specs.Placement.{address_index, start_of, after_line}
+use Rattle.placing_1401.specs.Placement.{address_index, start_of, placed_after}
 use Rattle.placing_1401.specs.Values.{address_value, last_place}
 use Rattle.placing_1401.specs.declared.literals.LiteralKey.{LiteralKey}
 use Rattle.placing_1401.specs.declared.literals.LiteralKey.TheVariants as keys
@@ -241,4 +241,4 @@ abbrev pub cells_from : Placement → Placement → List Line → List (ℕ × C
 cells_from all this [] = []
 cells_from all this (line ∷ lines) =
     numbered (address_or_zero (start_of this line.statement)) (statement_cells all this line.statement lines)
-    ++ cells_from all (after_line this line) lines
+    ++ cells_from all (placed_after this line) lines

@@ -5,7 +5,7 @@ use Rattle.core_1401.specs.Storage.{blank}
 use Rattle.source_1401.specs.declared.statement.Line.{Line}
 use Rattle.placing_1401.specs.PlacedImage.{placed_cells}
 use Rattle.placing_1401.specs.Cells.{address_or_zero}
-use Rattle.placing_1401.specs.Placement.{Placement, after_line, unplaced, placed}
+use Rattle.placing_1401.specs.Placement.{Placement, placed_after, unplaced, placed}
 
 -- a cell more, at its address
 abbrev pub with_cell : List Cell → ℕ × Cell → List Cell
@@ -18,7 +18,7 @@ filled size lines = fold with_cell (replicate size blank) (placed_cells lines)
 -- the address at which each line begins
 abbrev pub addresses_from : Placement → List Line → List ℕ
 addresses_from this [] = []
-addresses_from this (line ∷ lines) = address_or_zero this.next ∷ addresses_from (after_line this line) lines
+addresses_from this (line ∷ lines) = address_or_zero this.next ∷ addresses_from (placed_after this line) lines
 
 abbrev pub addresses_of : List Line → List ℕ
 addresses_of lines = addresses_from (unplaced (placed lines)) lines

@@ -286,11 +286,11 @@ abbrev pub own_value : Placement → Addressing → ℤ
 own_value this asked = value_so_far (symbols_of this) (asterisk_place this.next next.Value) (operands_in asked).a
 
 -- what becomes of the next place
-abbrev pub moved : Placement → Description → Next → Placement
-moved this row next.Behind = with_next this (this.next +ℤ pos (contents_length row.contents))
-moved this row next.Literals = with_pending this
-moved this row next.Value = with_next this (own_value this row.addressing)
-moved this row next.LiteralsAtValue = with_pending (with_next this (own_value this row.addressing))
+abbrev pub next_moved : Placement → Description → Next → Placement
+next_moved this row next.Behind = with_next this (this.next +ℤ pos (contents_length row.contents))
+next_moved this row next.Literals = with_pending this
+next_moved this row next.Value = with_next this (own_value this row.addressing)
+next_moved this row next.LiteralsAtValue = with_pending (with_next this (own_value this row.addressing))
 
 -- where a statement places its cells: from the next place on, but those of LTORG from its value on
 abbrev pub start_by : Placement → Description → Next → ℤ
@@ -329,7 +329,7 @@ with_ends this first before_end = record this { first_instruction = first; befor
 
 -- what is placed after a statement, but for where the program begins
 abbrev pub gone_on : Placement → Description → Placement
-gone_on this row = with_uses (with_areas (moved this row row.next) this.next row.areas) row.addressing
+gone_on this row = with_uses (with_areas (next_moved this row row.next) this.next row.areas) row.addressing
 
 -- what is placed after a statement
 abbrev pub behind_row : Placement → Description → Placement
@@ -380,8 +380,8 @@ abbrev pub after_statement : Placement → Statement → Placement
 after_statement this statement =
     with_label (behind_body this statement.body) (well_formed statement.label) (label_value this statement.body)
 
-abbrev pub after_line : Placement → Line → Placement
-after_line this line = option_map_or (after_statement this) line.statement this
+abbrev pub placed_after : Placement → Line → Placement
+placed_after this line = option_map_or (after_statement this) line.statement this
 
 -- before the first line of a source all of which is placed
 abbrev pub unplaced : Placement → Placement
@@ -389,7 +389,7 @@ unplaced all = nothing_placed all.chains
 
 -- what is placed by lines that all these lines begin with
 abbrev pub placed_among : List Line → List Line → Placement
-placed_among all lines = fold after_line (nothing_placed (chains_of (sites_of all) all)) lines
+placed_among all lines = fold placed_after (nothing_placed (chains_of (sites_of all) all)) lines
 
 -- what is placed by all lines
 abbrev pub placed : List Line → Placement

@@ -19,7 +19,7 @@ use Rattle.source_1401.specs.declared.statement.Line.{Line}
 use Rattle.placing_1401.specs.Cells.{literal_value}
 use Rattle.placing_1401.specs.Literals.{key_of, same_key, key_length}
 use Rattle.placing_1401.specs.Placement.{Placement, symbols_of, pending, contents_length, value_so_far, start_of}
-use Rattle.placing_1401.specs.Placement.{after_line, placed, placed_among}
+use Rattle.placing_1401.specs.Placement.{placed_after, placed, placed_among}
 use Rattle.placing_1401.specs.declared.literals.LiteralKey.{LiteralKey}
 
 -- how many places literals take
@@ -44,7 +44,7 @@ length_with this (Some statement) = body_length this statement.body
 -- how many places lines take, one after the other
 abbrev pub lengths_from : Placement → List Line → ℕ
 lengths_from this [] = 0
-lengths_from this (line ∷ lines) = length_with this line.statement + lengths_from (after_line this line) lines
+lengths_from this (line ∷ lines) = length_with this line.statement + lengths_from (placed_after this line) lines
 
 -- the operand of an origin
 abbrev pub origin_by : Next → Addressing → Option Operands

@@ -20,7 +20,7 @@ use Rattle.source_1401.specs.declared.statement.Line.{Line}
 use Rattle.symbols_1401.specs.declared.fault.AsmKind.TheVariants as kinds
 use Rattle.symbols_1401.specs.declared.fault.AsmFault.{AsmFault}
 use Rattle.placing_1401.specs.Placement.{Placement, symbols_of, contents_length, pending, behind_literals, start_by}
-use Rattle.placing_1401.specs.Placement.{base_value, asked_value, entry_value, after_line, unplaced, placed}
+use Rattle.placing_1401.specs.Placement.{base_value, asked_value, entry_value, placed_after, unplaced, placed}
 use Rattle.placing_1401.specs.declared.literals.LiteralKey.{LiteralKey}
 
 -- the value of an address before indexing, with this place for an asterisk
@@ -111,7 +111,7 @@ abbrev pub first_outside_from : ℕ → Placement → ℕ → Placement → List
 first_outside_from size all number this [] = None
 first_outside_from size all number this (line ∷ lines) =
     if line_outside size all this line then Some (record { line = number; kind = kinds.OutOfCore })
-    else first_outside_from size all (number + 1) (after_line this line) lines
+    else first_outside_from size all (number + 1) (placed_after this line) lines
 
 abbrev pub first_outside : ℕ → List Line → Option AsmFault
 first_outside size lines = first_outside_from size (placed lines) 1 (unplaced (placed lines)) lines

@@ -4,7 +4,7 @@ ghost use Rattle.core_1401.specs.Storage.{blank};
 ghost use Rattle.symbols_1401.specs.Fault.{IsMemory};
 ghost use Rattle.placing_1401.specs.Cells.{address_or_zero, numbered, statement_cells, cells_from};
 ghost use Rattle.placing_1401.specs.Filling.{with_cell, addresses_from, addresses_of, filled};
-ghost use Rattle.placing_1401.specs.Placement.{after_line, placed, start_of, unplaced};
+ghost use Rattle.placing_1401.specs.Placement.{placed_after, placed, start_of, unplaced};
 ghost use Rattle.placing_1401.specs.View.{places_of};
 
 use crate::cells::cells_of;
@@ -65,7 +65,7 @@ impl FilledSoFar<'_> {
         ensures addresses { OnOk result (self.new.addresses.items
             ≡ self.old.addresses.items ++ address_or_zero (places_of self.old.so_far).next ∷ []) }
         ensures placed { OnOk result
-            (places_of self.new.so_far ≡ after_line (places_of self.old.so_far) line.now) }
+            (places_of self.new.so_far ≡ placed_after (places_of self.old.so_far) line.now) }
         ensures err { IfErr result IsMemory }
     {
         self.addresses.push(self.so_far.address())?;

@@ -10,8 +10,8 @@ ghost use Rattle.placing_1401.specs.Placement.{nothing_placed, with_literal, wit
 ghost use Rattle.placing_1401.specs.Placement.{pending, behind_literals, units_from, with_area, with_area_labels};
 ghost use Rattle.placing_1401.specs.Placement.{contents_length, value_so_far, index_so_far, asked_value, first_of_two};
 ghost use Rattle.placing_1401.specs.Placement.{end_of_two, counted_from, index_of_fields, with_areas, own_value};
-ghost use Rattle.placing_1401.specs.Placement.{start_by, with_ends, point_value, point_index, label_value, moved};
-ghost use Rattle.placing_1401.specs.Placement.{gone_on, behind_row, with_label, after_line, after_statement, placed};
+ghost use Rattle.placing_1401.specs.Placement.{start_by, with_ends, point_value, point_index, label_value, next_moved};
+ghost use Rattle.placing_1401.specs.Placement.{gone_on, behind_row, with_label, placed_after, after_statement, placed};
 ghost use Rattle.placing_1401.specs.Values.{last_place};
 ghost use Rattle.placing_1401.specs.View.{places_of};
 
@@ -328,7 +328,7 @@ impl<'a> Placing<'a> {
 
     /// Moves the next place on, and places the literals used so far if the statement does.
     fn move_on(&mut self, row: &Description) -> Result<(), AsmFault>
-        ensures ok { OnOk result (places_of self.new ≡ moved (places_of self.old) row.now row.now.next) }
+        ensures ok { OnOk result (places_of self.new ≡ next_moved (places_of self.old) row.now row.now.next) }
         ensures err { IfErr result IsMemory }
     {
         match row.next {
@@ -440,7 +440,7 @@ impl<'a> Placing<'a> {
 
     /// Places a line.
     pub fn place(&mut self, line: &KeptLine) -> Result<(), AsmFault>
-        ensures ok { OnOk result (places_of self.new ≡ after_line (places_of self.old) line.now) }
+        ensures ok { OnOk result (places_of self.new ≡ placed_after (places_of self.old) line.now) }
         ensures err { IfErr result IsMemory }
     {
         match &line.line().statement {
@@ -451,7 +451,7 @@ impl<'a> Placing<'a> {
 
     /// Places lines.
     fn place_each(&mut self, lines: &[KeptLine]) -> Result<(), AsmFault>
-        ensures ok { OnOk result (places_of self.new ≡ fold after_line (places_of self.old) lines.now) }
+        ensures ok { OnOk result (places_of self.new ≡ fold placed_after (places_of self.old) lines.now) }
         ensures err { IfErr result IsMemory }
     {
         for line in lines {

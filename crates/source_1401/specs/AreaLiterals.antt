@@ -2,6 +2,9 @@
 -- own).
 use Rattle.std.specs.Prelude.{Bool, true, false, if◌then◌else◌, Option, None, Some}
 use Rattle.std.specs.Option.{option_map}
+use Rattle.source_1401.specs.Description.{describe}
+use Rattle.source_1401.specs.declared.description.Contents.{Contents}
+use Rattle.source_1401.specs.declared.description.Contents.TheVariants as contents
 use Rattle.source_1401.specs.declared.label.Label.{Label}
 use Rattle.source_1401.specs.declared.literal.AreaLiteral.{AreaLiteral}
 use Rattle.source_1401.specs.declared.literal.Literal.{Literal}
@@ -12,7 +15,6 @@ use Rattle.source_1401.specs.declared.operands.OperandField.{OperandField}
 use Rattle.source_1401.specs.declared.operands.OperandField.TheVariants as fields
 use Rattle.source_1401.specs.declared.operands.Operands.{Operands}
 use Rattle.source_1401.specs.declared.statement.Body.{Body}
-use Rattle.source_1401.specs.declared.statement.Body.TheVariants as bodies
 use Rattle.source_1401.specs.declared.statement.Line.{Line}
 use Rattle.source_1401.specs.declared.statement.LineCheck.{LineCheck}
 use Rattle.source_1401.specs.declared.statement.LineCheck.TheVariants as bytes
@@ -44,31 +46,18 @@ abbrev pub areas_in : Operands → DeclaredAreas
 areas_in these = (area_at these.a, area_at these.b)
 
 -- only an instruction has them
+abbrev pub areas_of_contents : Contents → DeclaredAreas
+areas_of_contents contents.Nothing = no_areas
+areas_of_contents (contents.Instruction instruction of) = areas_in of
+areas_of_contents (contents.MarkedConstant constant) = no_areas
+areas_of_contents (contents.Constant constant) = no_areas
+areas_of_contents (contents.Space places) = no_areas
+areas_of_contents (contents.Areas areas) = no_areas
+areas_of_contents (contents.Chain chain) = no_areas
+areas_of_contents (contents.AddressConstant constant) = no_areas
+
 abbrev pub areas_of_body : Body → DeclaredAreas
-areas_of_body bodies.Unknown = no_areas
-areas_of_body (bodies.Instruction instruction of) = areas_in of
-areas_of_body (bodies.MarkedConstant constant) = no_areas
-areas_of_body (bodies.Constant constant) = no_areas
-areas_of_body (bodies.Space places) = no_areas
-areas_of_body (bodies.Areas areas) = no_areas
-areas_of_body (bodies.Field span) = no_areas
-areas_of_body (bodies.Equate of) = no_areas
-areas_of_body (bodies.Origin of) = no_areas
-areas_of_body (bodies.Execute of) = no_areas
-areas_of_body (bodies.End of) = no_areas
-areas_of_body (bodies.Heading is_well_formed) = no_areas
-areas_of_body (bodies.Control size) = no_areas
-areas_of_body bodies.SecondControl = no_areas
-areas_of_body (bodies.Suffix suffix) = no_areas
-areas_of_body (bodies.Transfer of) = no_areas
-areas_of_body (bodies.Chain chain) = no_areas
-areas_of_body (bodies.AddressConstant constant) = no_areas
-areas_of_body (bodies.LabelledOrigin of) = no_areas
-areas_of_body (bodies.LiteralOrigin of) = no_areas
-areas_of_body (bodies.WideField span) = no_areas
-areas_of_body (bodies.WideEquate of) = no_areas
-areas_of_body (bodies.WideExecute of) = no_areas
-areas_of_body (bodies.WideEnd of) = no_areas
+areas_of_body body = areas_of_contents (describe body).contents
 
 abbrev pub areas_of_statement : Option Statement → DeclaredAreas
 areas_of_statement None = no_areas

@@ -116,14 +116,15 @@ d_at most rest = if most == 0 then lone_d rest else d_behind_comma rest
 abbrev pub Read : Type 0
 Read = Option ℕ × Bool
 
-abbrev pub asked : Option ℕ → Read
-asked read = (read, is_some read)
+-- a d-character that must be there, and whether it is
+abbrev pub read_d : Option ℕ → Read
+read_d graphic = (graphic, is_some graphic)
 
 abbrev pub d_by : DCharacter → ℕ → List ℕ → Read
 d_by d.Never most rest = (None, is_ended rest)
 d_by (d.Fixed graphic) most rest = (Some graphic, is_ended rest)
-d_by d.Optional most rest = if is_ended rest then (None, true) else asked (d_at most rest)
-d_by d.Required most rest = asked (d_at most rest)
+d_by d.Optional most rest = if is_ended rest then (None, true) else read_d (d_at most rest)
+d_by d.Required most rest = read_d (d_at most rest)
 
 abbrev pub d_of : Form → List ℕ → Read
 d_of form rest = d_by form.d form.most rest

@@ -59,7 +59,7 @@ impl Operands {
 }
 
 impl Body {
-    /// The area literals of an instruction.
+    /// The area literals of the contents of the statement's row, without the row: far less to write than a row.
     fn areas(&self) -> DeclaredAreas
         ensures { result ≡ areas_of_body self.now }
     {

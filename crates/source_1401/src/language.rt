@@ -17,8 +17,8 @@ pub enum Language {
 }
 
 impl Line {
-    // What is inlined where a line is made adds room to be cleared for each line.
     /// Whether nothing is wrong with the line, whatever the other lines are.
+    // Never inlined, since a function makes room at its entry for the locals of all of its arms.
     #[inline(never)]
     pub fn is_sound(&self) -> bool
         ensures { result ≡ is_sound self.now }

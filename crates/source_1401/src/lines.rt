@@ -25,7 +25,7 @@ fn without_return(line: &[u8]) -> &[u8]
 }
 
 /// The first line of a source and what follows it; none if the source is empty. A line ends before a line feed, and a
-/// carriage return there isn't part of it. LineCheck after the last line feed are a line too.
+/// carriage return there isn't part of it. Bytes after the last line feed are a line too.
 pub fn split_line(source: &[u8]) -> Option<(&[u8], &[u8])>
     ensures { MatchOption result (source.now ≡ []) (λ first.
         (lines_of source.now ≡ first.0.now ∷ lines_of first.1.now) × (length first.1.now < length source.now)) }

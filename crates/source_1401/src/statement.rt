@@ -370,7 +370,13 @@ impl Line {
                     ..
                 },
             ) => Some(label),
-            _ => None,
+            Some(
+                Statement {
+                    label: LabelField::Absent | LabelField::Malformed,
+                    ..
+                },
+            )
+            | None => None,
         }
     }
 

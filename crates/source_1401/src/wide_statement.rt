@@ -75,8 +75,8 @@ impl Statement {
 }
 
 impl Line {
-    // Most lines are read without it, and where it is inlined it adds room to be cleared for each.
     /// What these columns say, of a line of this length.
+    // Never inlined, since its caller, which reads most lines without it, would make room for its locals at each entry.
     #[inline(never)]
     #[tactic(auto, unfolding(crate::specs::WideStatement::wide_line_with))]
     pub(crate) fn with_wide_columns(len: usize, columns: &[u8; COLUMNS]) -> Line

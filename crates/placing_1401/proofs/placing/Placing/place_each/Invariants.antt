@@ -1,10 +1,11 @@
 -- What is placed, with the lines that are left placed after it, is what all lines place.
 use Rattle.std.proofs.Common.{◌≡◌, drop}
 use Rattle.std.specs.Prelude.{fold}
-use Rattle.placing_1401.specs.Placement.{after_line}
+use Rattle.placing_1401.specs.Placement.{placed_after}
 use Rattle.placing_1401.specs.View.{places_of}
 use Rattle.placing_1401.proofs.placing.Placing.place_each.Given as goal
 
 abbrev pub invariant-loop-line : goal.invariant-loop-line
 invariant-loop-line l =
-    fold after_line (places_of l.self) (drop l.line-index l.lines) ≡ fold after_line (places_of l.initial.self) l.lines
+    fold placed_after (places_of l.self) (drop l.line-index l.lines)
+    ≡ fold placed_after (places_of l.initial.self) l.lines
