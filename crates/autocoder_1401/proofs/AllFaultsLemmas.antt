@@ -1,5 +1,5 @@
 -- What is told of a source: first the fault that the assembler tells; and nothing that isn't there.
-use Rattle.std.proofs.Common.{◌≡◌, ℕ, ◌+◌, List, [], ◌∷◌, ◌++◌, Option, None, Some, refl, sym, ap, ◌∙◌, arith, Ok, inl}
+use Rattle.std.proofs.Common.{◌≡◌, ℕ, List, [], ◌∷◌, ◌++◌, Option, None, Some, refl, sym, ap, ◌∙◌, arith, Ok, inl}
 use Rattle.std.proofs.Common.{inr, All}
 use Rattle.std.proofs.lemmas.List.Elements.{All-nil, All-cons, All-weaker}
 use Rattle.source_1401.specs.declared.language.Language.{Language}
@@ -10,7 +10,6 @@ use Rattle.symbols_1401.specs.declared.fault.AsmFault.{AsmFault}
 use Rattle.faults_1401.specs.ToldFaults.{line_faults, first_in, IsThere}
 use Rattle.faults_1401.specs.OwnFault.{told, nothing_before}
 use Rattle.faults_1401.specs.FirstFault.{first_fault}
-use Rattle.faults_1401.proofs.LowestLemmas.{found}
 use Rattle.faults_1401.proofs.ToldFaultsLemmas.{first_of_lines, each_from}
 use Rattle.placing_1401.specs.Values.{first_outside}
 use Rattle.placing_1401.proofs.LawLemmas.{found_outside}

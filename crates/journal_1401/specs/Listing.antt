@@ -14,8 +14,8 @@ abbrev pub command_columns : ℕ
 command_columns = 27
 
 -- a text followed by blanks, up to the columns of a command
-abbrev pub padded : List ℕ → List ℕ
-padded text = text ++ replicate (command_columns - length text) 32
+abbrev pub to_command_columns : List ℕ → List ℕ
+to_command_columns text = text ++ replicate (command_columns - length text) 32
 
 -- an entry's number and its seat, and two blanks
 unfoldable pub front_columns : ℕ → ℕ → List ℕ
@@ -24,7 +24,7 @@ front_columns number seat = digits_in 1 number ++ codes " seat " ++ digits_in 1 
 -- an entry as it is listed: its number, the seat, the command and the answer
 unfoldable pub listed_line : ℕ → Entry → List ℕ
 listed_line number entry =
-    front_columns number entry.seat ++ padded (command_text entry.command) ++ codes "  "
+    front_columns number entry.seat ++ to_command_columns (command_text entry.command) ++ codes "  "
     ++ with_feed (answer_text entry.answer)
 
 -- whether a seat is listed: each one if none is named

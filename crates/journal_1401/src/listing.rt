@@ -1,7 +1,8 @@
 //! A journal in columns, to be read by people.
 ghost use Rattle.std.specs.Prelude.{◌≡◌, ◌++◌, IfOk, OnOk};
 ghost use Rattle.text_1401.specs.CommandText.{command_text};
-ghost use Rattle.journal_1401.specs.Listing.{front_columns, is_seat, listed, listed_line, listing_text, padded};
+ghost use Rattle.journal_1401.specs.Listing.{front_columns, is_seat, listed, listed_line, listing_text};
+ghost use Rattle.journal_1401.specs.Listing.{to_command_columns};
 
 use notation_1401::put_digits;
 use room_1401::{Command, Entry};
@@ -69,7 +70,7 @@ fn put_line(alloc: Global, text: &mut Vec<u8>, number: u64, entry: &Entry) -> Re
     ensures { OnOk result (text.new.items ≡ text.old.items ++ listed_line number entry.now) }
 {
     put_front(text, number, entry.seat)?;
-    let command = padded(alloc, &entry.command)?;
+    let command = to_command_columns(alloc, &entry.command)?;
     text.extend_from_slice(command.as_slice())?;
     text.extend_from_slice(b"  ")?;
     let answer = reply_text(alloc, &entry.answer)?;
@@ -90,8 +91,8 @@ fn put_front(text: &mut Vec<u8>, number: u64, seat: u8) -> Result<(), AllocError
 }
 
 /// A command's text, followed by blanks up to the columns of a command.
-fn padded(alloc: Global, command: &Command) -> Result<Vec<u8>, AllocError>
-    ensures { IfOk result (λ text. text.items ≡ padded (command_text command.now)) }
+fn to_command_columns(alloc: Global, command: &Command) -> Result<Vec<u8>, AllocError>
+    ensures { IfOk result (λ text. text.items ≡ to_command_columns (command_text command.now)) }
 {
     let mut text = Vec::new(alloc);
     put_command(&mut text, command)?;

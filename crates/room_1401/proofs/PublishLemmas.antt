@@ -12,7 +12,7 @@ use Rattle.room_1401.specs.declared.published.Change.{Change}
 use Rattle.command_1401.specs.CarryOut.{carry_out}
 use Rattle.room_1401.specs.Journal.{most_entries}
 use Rattle.room_1401.specs.Replay.{pair, replay}
-use Rattle.room_1401.specs.Rule.{IsReplay, Publishes, changed, moved}
+use Rattle.room_1401.specs.Rule.{IsReplay, Publishes, changed, machine_after}
 use Rattle.room_1401.proofs.PrefixLemmas.{prefix_self, prefix_trans}
 use Rattle.room_1401.proofs.ReplayLemmas.{state_after-append}
 use Rattle.room_1401.proofs.SeenLemmas.{caught_up}
@@ -42,8 +42,8 @@ next_publishes book size shown change pending pairs seat command was next =
     let after : Shown = changed before change in
     let more : List SeatedCommand = pairs ++ pair seat command ∷ [] in
     let last : fold changed shown (pending ++ change ∷ []) ≡ after = fold-append changed shown pending (change ∷ []) in
-    let machine : moved before.machine change.command ≡ replay size more =
-    ap (λ (one : Option Command). moved before.machine one) next.of_command
+    let machine : machine_after before.machine change.command ≡ replay size more =
+    ap (λ (one : Option Command). machine_after before.machine one) next.of_command
     ∙ ap (λ (s : State). (carry_out s command).state)
     (was.follows.0.machine ∙ ap (λ (list : List SeatedCommand). replay size list) was.list)
     ∙ sym (state_after-append (power_on size) pairs (pair seat command)) in

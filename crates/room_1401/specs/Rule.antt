@@ -14,14 +14,14 @@ use Rattle.room_1401.specs.Journal.{most_entries}
 use Rattle.room_1401.specs.Replay.{replay}
 
 -- the machine after a command, if there is one
-abbrev pub moved : State → Option Command → State
-moved s None = s
-moved s (Some command) = (carry_out s command).state
+abbrev pub machine_after : State → Option Command → State
+machine_after s None = s
+machine_after s (Some command) = (carry_out s command).state
 
 -- what is shown after a change
 abbrev pub changed : Shown → Change → Shown
 changed shown change = record {
-  machine = moved shown.machine change.command;
+  machine = machine_after shown.machine change.command;
   count = change.count;
   front = change.front;
 }
