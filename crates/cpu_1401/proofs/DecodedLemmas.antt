@@ -1,5 +1,6 @@
 -- What cells say, wherever they are.
-use Rattle.std.proofs.Common.{◌≡◌, ◌⊎◌, ◌&&◌, ◌||◌, ℕ, ◌+◌, ◌-◌, ◌<◌, ◌≤◌, suc, zero, min, Bool, true, false, List, [], ◌∷◌}
+use Rattle.std.proofs.Common.{◌≡◌, ◌⊎◌, ◌&&◌, ◌||◌, ℕ, ◌+◌, ◌-◌, ◌<◌, ◌≤◌, suc, zero, min, Bool, true, false, List, []}
+use Rattle.std.proofs.Common.{◌∷◌}
 use Rattle.std.proofs.Common.{length, arith, refl, sym, ◌∙◌, ap, subst, drop, cond, get_or, inl, inr, nat_le, not}
 use Rattle.std.proofs.lemmas.Bool.{and_parts, cases_lt, false≢true, leb-true, lt-ltb, le-leb, lt-leb}
 use Rattle.std.proofs.lemmas.List.{get_or-drop, length-drop, get_or_past}

@@ -1,5 +1,5 @@
--- A step with a deck below the hopper's cards, and with cards in front of the stacker's, computed. The codes: 1 reads, 4
--- punches, 10 is zero, 59 the full stop.
+-- A step with a deck below the hopper's cards, and with cards in front of the stacker's, computed. The codes: 1 reads,
+-- 4 punches, 10 is zero, 59 the full stop.
 use Rattle.std.proofs.Common.{◌≡◌, List, [], ◌∷◌, replicate, None, Some, refl}
 use Rattle.bcd_1401.specs.Graphic.{graphics}
 use Rattle.devices_1401.specs.Devices.{no_cards}

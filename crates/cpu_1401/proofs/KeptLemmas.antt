@@ -1,5 +1,6 @@
 -- What is kept of decoded instructions, when word marks change.
-use Rattle.std.proofs.Common.{◌≡◌, ◌≢◌, ◌⊎◌, ℕ, ◌+◌, ◌-◌, ◌==◌, ◌<◌, ◌≤◌, min, max, Bool, true, false, List, length, set}
+use Rattle.std.proofs.Common.{◌≡◌, ◌≢◌, ◌⊎◌, ℕ, ◌+◌, ◌-◌, ◌==◌, ◌<◌, ◌≤◌, min, max, Bool, true, false, List, length}
+use Rattle.std.proofs.Common.{set}
 use Rattle.std.proofs.Common.{Option, None, Some, Result, Ok, Err, IfOk, OnErr, IfSome, is_ok, if◌then◌else◌}
 use Rattle.std.proofs.Common.{slice_index_or, inl, inr, ap, sym, ◌∙◌, ◌%◌, arith, subst}
 use Rattle.std.proofs.lemmas.Bool.{cases_eq, cases_lt, false≢true, lt-ltb, le-ltb}
@@ -14,7 +15,8 @@ use Rattle.core_1401.specs.Address.{addresses}
 use Rattle.core_1401.specs.Field.{field_len_of}
 use Rattle.core_1401.specs.Storage.{Storage, blank, cell_at, with_char, with_mark}
 use Rattle.cpu_1401.specs.declared.cache_entry.CacheEntry.{CacheEntry}
-use Rattle.cpu_1401.specs.Kept.{entry_count, AreMarks, IsKept, IsCurrent, AreBetween, AreCovered, AreInside, IsPart, IsApart}
+use Rattle.cpu_1401.specs.Kept.{entry_count, AreMarks, IsKept, IsCurrent, AreBetween, AreCovered, AreInside, IsPart}
+use Rattle.cpu_1401.specs.Kept.{IsApart}
 use Rattle.cpu_1401.specs.Kept.{IsInside, lowest_written}
 use Rattle.fields_1401.specs.Across.{IsSameBeside, IsSameOutside}
 use Rattle.fields_1401.specs.Places.{is_within, marks_of}

@@ -1,7 +1,8 @@
 //! Branches, and what goes on at an address.
 ghost use Rattle.std.specs.Prelude.{◌≡◌, ◌==◌, ◌<◌, None, Some, length};
 ghost use Rattle.core_1401.specs.Address.{addresses};
-ghost use Rattle.cpu_1401.specs.Branch.{after_branch, after_look, branch_if, branch_on, branch_on_cell, condition_of, go_on, is_so};
+ghost use Rattle.cpu_1401.specs.Branch.{after_branch, after_look, branch_if, branch_on, branch_on_cell, condition_of};
+ghost use Rattle.cpu_1401.specs.Branch.{go_on, is_so};
 ghost use Rattle.cpu_1401.specs.Branch.{passes};
 
 use crate::condition::{Condition, passes};

@@ -9,8 +9,8 @@ use bcd_1401::Char;
 /// The place of an entry that keeps nothing: no address has it.
 pub(crate) const NO_PLACE: u16 = u16::MAX;
 
-/// The codes and the word marks of eight cells, the instruction that they are, and the place at which it was decoded, once
-/// more where its addresses are ready: 32 bytes.
+/// The codes and the word marks of eight cells, the instruction that they are, and the place at which it was decoded,
+/// once more where its addresses are ready: 32 bytes.
 #[derive(Clone, Copy)]
 pub(crate) struct CacheEntry {
     pub(crate) codes: u64,

@@ -4,7 +4,8 @@ ghost use Rattle.core_1401.specs.Address.{addresses};
 ghost use Rattle.core_1401.specs.PlaceSet.{has_place};
 ghost use Rattle.cpu_1401.specs.declared.cache_entry.CacheEntry.{CacheEntry};
 ghost use Rattle.cpu_1401.specs.Decoded.{Says};
-ghost use Rattle.cpu_1401.specs.Kept.{AreMarks, IsApart, IsCurrent, IsKept, IsPart, entry_count, lowest_written, no_place};
+ghost use Rattle.cpu_1401.specs.Kept.{AreMarks, IsApart, IsCurrent, IsKept, IsPart, entry_count, lowest_written};
+ghost use Rattle.cpu_1401.specs.Kept.{no_place};
 ghost use Rattle.cpu_1401.specs.NeededPlaces.{HasPlaces};
 ghost use Rattle.fields_1401.specs.Places.{marks_of};
 
@@ -34,8 +35,8 @@ const NEAR_PLACES: u16 = 64;
 pub(crate) struct DecodeCache {
     entries: Vec<CacheEntry>,
     covered: PlaceSet,
-    // No instruction that is kept has a cell below the first place, nor above the last. Most of what a program writes is
-    // on one side of its instructions.
+    // No instruction that is kept has a cell below the first place, nor above the last. Most of what a program writes
+    // is on one side of its instructions.
     first: u16,
     last: u16,
     size: u16,
@@ -74,8 +75,8 @@ impl DecodeCache {
         })
     }
 
-    /// The instruction at a place, if it was decoded there from the same cells that are there now, and its addresses are
-    /// ready: if it needs them to be those of places, they are.
+    /// The instruction at a place, if it was decoded there from the same cells that are there now, and its addresses
+    /// are ready: if it needs them to be those of places, they are.
     #[inline(always)]
     pub(crate) fn find_ready(&self, core: &Core, at: u16) -> Option<&Decoded>
         requires place { at < addresses }
@@ -152,8 +153,8 @@ impl DecodeCache {
         }
     }
 
-    /// Forgets each instruction that has one of the places among its eight cells that an operation wrote: from its units
-    /// down to the place above its register afterwards.
+    /// Forgets each instruction that has one of the places among its eight cells that an operation wrote: from its
+    /// units down to the place above its register afterwards.
     #[inline(always)]
     pub(crate) fn forget_down(&mut self, units: u16, below: u16)
         requires { units < addresses }

@@ -1,5 +1,6 @@
 //! The load key, and what an operator does at the devices.
-ghost use Rattle.std.specs.Prelude.{ℕ, ◌≡◌, ◌+◌, ◌<◌, ◌==◌, not, is_ok, length, slice_get, slice_index_or, IfOk, IfSome};
+ghost use Rattle.std.specs.Prelude.{ℕ, ◌≡◌, ◌+◌, ◌<◌, ◌==◌, not, is_ok, length, slice_get, slice_index_or, IfOk};
+ghost use Rattle.std.specs.Prelude.{IfSome};
 ghost use Rattle.std.specs.Prelude.{if◌then◌else◌};
 ghost use Rattle.devices_1401.specs.Devices.{after_card, after_line, fed, is_full};
 ghost use Rattle.core_1401.specs.Storage.{cell_at};

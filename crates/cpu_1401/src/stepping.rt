@@ -51,8 +51,8 @@ impl Machine {
         self.perform_fetched(fetched)
     }
 
-    /// The operation and the instruction at the I register, kept or decoded anew, or why it can't be carried out: what is
-    /// asked where no addresses are ready.
+    /// The operation and the instruction at the I register, kept or decoded anew, or why it can't be carried out: what
+    /// is asked where no addresses are ready.
     #[inline(always)]
     #[tactic(auto, using(crate::proofs::DecodedLemmas::says_step))]
     fn fetch(&mut self) -> Result<(Operation, Instruction), Stop>
@@ -279,8 +279,8 @@ impl Machine {
         }
     }
 
-    /// Does what was fetched. The instruction is made anew of its parts, so that these alone are carried along, and no gap
-    /// between them.
+    /// Does what was fetched. The instruction is made anew of its parts, so that these alone are carried along, and no
+    /// gap between them.
     #[inline(always)]
     fn perform_fetched(&mut self, fetched: (Operation, Instruction)) -> Option<Stop>
         requires a { fetched.1.a < addresses }

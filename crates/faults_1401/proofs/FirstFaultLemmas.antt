@@ -31,14 +31,16 @@ next_place lines i d h =
     λ j. of (sym ended j) (sym areas j)
 
 -- the place after a line is that of the next
-pub next_place_is : (lines : List Line) (i : ℕ) (d : Line) (at after : LineContext) → i < length lines → at ≡ place_at lines i
+pub next_place_is : (lines : List Line) (i : ℕ) (d : Line) (at after : LineContext) → i < length lines
+    → at ≡ place_at lines i
     → after ≡ place_behind at (get_or lines i d)
     → after ≡ place_at lines (i + 1)
 next_place_is lines i d at after h here e =
     e ∙ ap (λ (p : LineContext). place_behind p (get_or lines i d)) here ∙ next_place lines i d h
 
 -- one line more without fault
-pub next_clean : (declared : Declared) (lines : List Line) (i : ℕ) (d : Line) (at : LineContext) → AreClean declared lines i
+pub next_clean : (declared : Declared) (lines : List Line) (i : ℕ) (d : Line) (at : LineContext)
+    → AreClean declared lines i
     → i < length lines → at ≡ place_at lines i
     → IsClean declared at (get_or lines i d) → AreClean declared lines (i + 1)
 next_clean declared lines i d at before h here clean =

@@ -66,7 +66,8 @@ none_passes test (first ∷ kinds) kind e stands = by (test first) refl e (none_
     by false fails e rest = elim stands [ inl here ↦ ap test here ∙ fails | inr behind ↦ rest e behind ]
 
 -- a kind is one that lines are looked at for, or no line has it
-either : (declared : Declared) (at : LineContext) (line : Line) (kind : AsmKind) → (has_fault declared at line kind ≡ false)
+either : (declared : Declared) (at : LineContext) (line : Line) (kind : AsmKind)
+    → (has_fault declared at line kind ≡ false)
     ⊎ Stands kind scanned
 either declared at line kinds.Memory = inl refl
 either declared at line kinds.OutOfCore = inl refl

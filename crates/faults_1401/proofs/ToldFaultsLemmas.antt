@@ -124,7 +124,8 @@ end_is_there declared lines i this whole here = by this.at.is_ended refl
     by true is = rw is (All-nil (IsThere declared lines))
     by false is = rw is (lost (not this.is_clean && this.lost_end) is)
 
-pub each_from : (declared : Declared) (anywhere : Sites) (lines rest : List Line) (i : ℕ) (this : Before) → rest ≡ drop i lines
+pub each_from : (declared : Declared) (anywhere : Sites) (lines rest : List Line) (i : ℕ) (this : Before)
+    → rest ≡ drop i lines
     → i ≤ length lines → this.at ≡ place_at lines i
     → All (IsThere declared lines) (faults_from declared anywhere this rest)
 each_from declared anywhere lines [] i this left inside here =

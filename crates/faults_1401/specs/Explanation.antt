@@ -136,8 +136,8 @@ undefined_operand declared anywhere (addressing.Equal of) = symbol_in of.a
 undefined_operand declared anywhere (addressing.Value of) = symbol_in of.a
 undefined_operand declared anywhere (addressing.Entry of) = symbol_in of.a
 
--- why a symbol that is declared can't be named on the line of this number: it is declared too late, or its value is known
--- too late
+-- why a symbol that is declared can't be named on the line of this number: it is declared too late, or its value is
+-- known too late
 abbrev pub known_cause : ℕ → Declaration → Known → Cause
 known_cause number declaration (known.From line) =
     if nat_lt declaration.line number then causes.KnownLate line else causes.DeclaredLate declaration.line
@@ -218,14 +218,16 @@ statement_stretch language declared anywhere number areas columns this kinds.Gra
 statement_stretch language declared anywhere number areas columns this kinds.Label = filled 6 (columns_in 6 15 columns)
 statement_stretch language declared anywhere number areas columns this kinds.DoubleLabel =
     double_stretch declared.sites number areas columns this.label
-statement_stretch language declared anywhere number areas columns this kinds.Operation = filled 16 (columns_in 16 20 columns)
+statement_stretch language declared anywhere number areas columns this kinds.Operation =
+    filled 16 (columns_in 16 20 columns)
 statement_stretch language declared anywhere number areas columns this kinds.Undefined =
     base_stretch (is_second declared.sites anywhere (describe this.body).addressing) (columns_in 21 72 columns)
 statement_stretch language declared anywhere number areas columns this kinds.Operand =
     operand_stretch (operand_flaw_in language columns)
 statement_stretch language declared anywhere number areas columns this kinds.OutOfCore = stretch 1 0
 statement_stretch language declared anywhere number areas columns this kinds.NoEnd = stretch 1 0
-statement_stretch language declared anywhere number areas columns this kinds.AfterEnd = filled 6 (columns_in 6 72 columns)
+statement_stretch language declared anywhere number areas columns this kinds.AfterEnd =
+    filled 6 (columns_in 6 72 columns)
 
 -- a comment can only be too long, or hold a byte that can't be there
 abbrev pub comment_cause : Language → LineCheck → List ℕ → Cause

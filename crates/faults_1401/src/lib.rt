@@ -6,8 +6,8 @@
 //! source_explanations(alloc, language, source)?               // each with what is wrong, and in which columns
 //! ```
 //!
-//! Kind 9, what isn't in core, shows only once all is placed: see `placing_1401`. `notes` collects what the lines say of
-//! labels, for warnings of sources without a fault.
+//! Kind 9, what isn't in core, shows only once all is placed: see `placing_1401`. `notes` collects what the lines say
+//! of labels, for warnings of sources without a fault.
 #![tactic(auto)]
 
 pub mod first_fault; // faults of kinds 2 to 8, 10 and 11

@@ -275,7 +275,8 @@ fn named_labels(
     hashing: SourceHashing,
     lines: &[KeptLine],
 ) -> Result<LabelSet, AsmFault>
-    ensures labels { IfOk result (λ labels. (label : ALabel) → contains same_label labels label ≡ is_named lines.now label) }
+    ensures labels { IfOk result (λ labels. (label : ALabel)
+        → contains same_label labels label ≡ is_named lines.now label) }
     ensures err { IfErr result IsMemory }
 {
     let mut labels = IndexSet::with_hasher(alloc, hashing);
@@ -291,7 +292,8 @@ fn number_labels(
     hashing: SourceHashing,
     lines: &[KeptLine],
 ) -> Result<LabelSet, AsmFault>
-    ensures labels { IfOk result (λ labels. (label : ALabel) → contains same_label labels label ≡ is_number_of lines.now label) }
+    ensures labels { IfOk result (λ labels. (label : ALabel)
+        → contains same_label labels label ≡ is_number_of lines.now label) }
     ensures err { IfErr result IsMemory }
 {
     let mut labels = IndexSet::with_hasher(alloc, hashing);
@@ -307,7 +309,8 @@ fn signed_labels(
     hashing: SourceHashing,
     lines: &[KeptLine],
 ) -> Result<LabelSet, AsmFault>
-    ensures labels { IfOk result (λ labels. (label : ALabel) → contains same_label labels label ≡ is_signed lines.now label) }
+    ensures labels { IfOk result (λ labels. (label : ALabel)
+        → contains same_label labels label ≡ is_signed lines.now label) }
     ensures err { IfErr result IsMemory }
 {
     let mut labels = IndexSet::with_hasher(alloc, hashing);

@@ -1,6 +1,7 @@
 -- Numbers in a given number of digits, written and read.
 use Rattle.std.proofs.Common.{◌≡◌, ℕ, ◌+◌, ◌-◌, ◌*◌, ◌/◌, ◌%◌, ◌^◌, ◌<◌, ◌≤◌, ◌&&◌, Bool, true, false, List, [], ◌∷◌}
-use Rattle.std.proofs.Common.{◌++◌, length, take, drop, replicate, get_or, zero, suc, Option, Some, None, cond, leb, refl, sym, ap}
+use Rattle.std.proofs.Common.{◌++◌, length, take, drop, replicate, get_or, zero, suc, Option, Some, None, cond, leb}
+use Rattle.std.proofs.Common.{refl, sym, ap}
 use Rattle.std.proofs.Common.{subst, ◌∙◌, arith, length-append, length-take}
 use Rattle.std.specs.Fmt.{decimal}
 use Rattle.std.specs.Option.{option_map}

@@ -32,7 +32,8 @@ use Rattle.image_1401.specs.Reading.{image_in}
 use Rattle.image_1401.specs.Version.{name_of, address_digits, most_places, has_size}
 use Rattle.image_1401.proofs.ContentsLemmas.{contents_in-line, image_in-line}
 use Rattle.image_1401.proofs.NumberLemmas.{digits-digits_in}
-use Rattle.image_1401.proofs.RecordLemmas.{size_bound, few_digits, header_takes, header_again, segment_takes, segment_again}
+use Rattle.image_1401.proofs.RecordLemmas.{size_bound, few_digits, header_takes, header_again, segment_takes}
+use Rattle.image_1401.proofs.RecordLemmas.{segment_again}
 use Rattle.image_1401.proofs.RecordLemmas.{end_takes, end_again, end_is_no_segment}
 use Rattle.image_1401.proofs.SpellingLemmas.{no_character}
 

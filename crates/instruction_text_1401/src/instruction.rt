@@ -1,7 +1,8 @@
 //! The text of an instruction.
 ghost use Rattle.std.specs.Prelude.{◌≡◌, ◌<◌, ◌≤◌, ◌++◌, length, OnOk};
 ghost use Rattle.instruction_text_1401.specs.Address.{index_text, address_text};
-ghost use Rattle.instruction_text_1401.specs.InstructionText.{addresses_in, d_in, instruction_text, operands_text, written};
+ghost use Rattle.instruction_text_1401.specs.InstructionText.{addresses_in, d_in, instruction_text, operands_text};
+ghost use Rattle.instruction_text_1401.specs.InstructionText.{written};
 ghost use Rattle.instruction_text_1401.specs.InstructionText.{IsOwnD, IsOwnInstruction};
 
 use crate::mnemonic::Mnemonic;

@@ -4,8 +4,8 @@
 //! put_instruction(&mut text, &cells)?     // of M510509: MCW  510,509
 //! ```
 //!
-//! The text of an instruction is a source line from column 16 on. That the assembler makes the same cells of it again is
-//! said above the assembler, in `disassembly_1401`.
+//! The text of an instruction is a source line from column 16 on. That the assembler makes the same cells of it again
+//! is said above the assembler, in `disassembly_1401`.
 #![tactic(auto)]
 
 pub mod mnemonic;

@@ -19,7 +19,8 @@ in_turn before between after first second one two =
     two ∙ ap (λ (cells : List Cell). cells ++ second) one ∙ append_assoc before first second
 
 -- one operand after the other
-pub operands_in_turn : (all : Placement) (here given : ℤ) (of : Operands) (before between after : List Cell) → given ≡ here
+pub operands_in_turn : (all : Placement) (here given : ℤ) (of : Operands) (before between after : List Cell)
+    → given ≡ here
     → between ≡ before ++ map plain (operand_codes all given of.a)
     → after ≡ between ++ map plain (operand_codes all given of.b) → after ≡ before ++ operands_cells all here of
 operands_in_turn all here given of before between after same one two =

@@ -432,7 +432,8 @@ line_entry size all this line behind bounds inside low = by line.statement insid
     by None h = low
     by (Some statement) h = body_entry size all this statement.body behind bounds h low
 
-entry_below : (size : ℕ) (all : Placement) (number : ℕ) (this : Placement) (lines : List Line) → (0 < size) × (size ≤ 16000)
+entry_below : (size : ℕ) (all : Placement) (number : ℕ) (this : Placement) (lines : List Line)
+    → (0 < size) × (size ≤ 16000)
     → first_outside_from size all number this lines ≡ None → address_or_zero (entry_in all lines) < size
 entry_below size all number this [] bounds none = omega (arith, bounds.0)
 entry_below size all number this (line ∷ lines) bounds none =

@@ -90,7 +90,8 @@ body_next this body none =
     row_next this (describe body) ∙ next_moved_next this (describe body) (describe body).next none
 
 -- a label leaves the next place and the literals
-label_next : (this : Placement) (label : Option Label) (value : SymbolValue) → (with_label this label value).next ≡ this.next
+label_next : (this : Placement) (label : Option Label) (value : SymbolValue)
+    → (with_label this label value).next ≡ this.next
 label_next this None value = refl
 label_next this (Some label) value = refl
 
@@ -188,7 +189,8 @@ uses_append : (used first second : List LiteralKey)
 uses_append used [] second = refl
 uses_append used (literal ∷ first) second = uses_append (with_use used literal) first second
 
-areas_literals : (this : Placement) (first : ℤ) (role : AreaRole) → (with_areas this first role).literals ≡ this.literals
+areas_literals : (this : Placement) (first : ℤ) (role : AreaRole)
+    → (with_areas this first role).literals ≡ this.literals
 areas_literals this first areas.Ends = refl
 areas_literals this first areas.Keeps = refl
 areas_literals this first (areas.Makes made) = refl
@@ -213,7 +215,8 @@ uses_use this (addressing.Equal of) = refl
 uses_use this (addressing.Value of) = refl
 uses_use this (addressing.Entry of) = refl
 
-body_use : (this : Placement) (body : Body) → (behind_body this body).literals ≡ fold with_use this.literals (uses_in body)
+body_use : (this : Placement) (body : Body)
+    → (behind_body this body).literals ≡ fold with_use this.literals (uses_in body)
 body_use this body =
     let row = describe body in
     let on = next_moved this row row.next in
@@ -267,7 +270,8 @@ operand_spelled this (fields.Operand (operands.Address address)) so_far = so_far
 operand_spelled this (fields.Operand (operands.Literal literal)) so_far = literal_spelled this literal so_far
 operand_spelled this (fields.Operand (operands.Unit unit)) so_far = so_far
 
-areas_spelled : (this : Placement) (first : ℤ) (role : AreaRole) → IsSpelled this → IsSpelled (with_areas this first role)
+areas_spelled : (this : Placement) (first : ℤ) (role : AreaRole) → IsSpelled this
+    → IsSpelled (with_areas this first role)
 areas_spelled this first areas.Ends so_far = so_far
 areas_spelled this first areas.Keeps so_far = so_far
 areas_spelled this first (areas.Makes made) so_far = so_far

@@ -1,5 +1,5 @@
--- What makes two literals one, and how long they are (Autocoder, "Literals", C24-3258 and J24-1434; that an address and a
--- text never are one own).
+-- What makes two literals one, and how long they are (Autocoder, "Literals", C24-3258 and J24-1434; that an address and
+-- a text never are one own).
 use Rattle.std.specs.Prelude.{ℕ, Bool}
 use Rattle.source_1401.specs.declared.literal.Literal.{Literal}
 use Rattle.source_1401.specs.declared.literal.Literal.TheVariants as literals

@@ -45,8 +45,8 @@ use Rattle.placing_1401.specs.declared.symbol_values.SymbolValue.{SymbolValue}
 
 -- what is placed so far: the chains of EQUs of all lines, the next place, the first place of the last areas, the place
 -- that the labels of their fields are counted from and the index of these, the place of the first instruction, the next
--- place as it was before END, the labels' values, the literals in order of first use with what each was first written as,
--- and the units places of those that are placed
+-- place as it was before END, the labels' values, the literals in order of first use with what each was first written
+-- as, and the units places of those that are placed
 pub record Placement : Type 0 where
   pub chains : Chains
   pub next : ℤ
@@ -264,7 +264,8 @@ with_uses this (addressing.Equal of) = this
 with_uses this (addressing.Value of) = this
 with_uses this (addressing.Entry of) = this
 
--- the place that the labels of fields of areas are counted from: the first place of the areas, or 0 where they ask for it
+-- the place that the labels of fields of areas are counted from: the first place of the areas, or 0 where they ask for
+-- it
 abbrev pub counted_from : ℤ → Option Areas → ℤ
 counted_from first None = first
 counted_from first (Some made) = if made.counts_from_zero then pos 0 else first
@@ -344,7 +345,8 @@ behind_body this body = behind_row this (describe body)
 abbrev pub asked_value : Placement → Placement → Next → Addressing → ℤ
 asked_value by this step addressing.Nothing = pos 0
 asked_value by this step (addressing.Addresses of) = value_so_far (symbols_of by) (asterisk_place this.next step) of.a
-asked_value by this step (addressing.EarlierValue of) = value_so_far (symbols_of by) (asterisk_place this.next step) of.a
+asked_value by this step (addressing.EarlierValue of) =
+    value_so_far (symbols_of by) (asterisk_place this.next step) of.a
 asked_value by this step (addressing.Equal of) = value_so_far (symbols_of by) (asterisk_place this.next step) of.a
 asked_value by this step (addressing.Value of) = value_so_far (symbols_of by) (asterisk_place this.next step) of.a
 asked_value by this step (addressing.Entry of) = entry_value by of.a

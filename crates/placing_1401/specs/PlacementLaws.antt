@@ -128,9 +128,9 @@ pub record IsPlacedInTurn (lines : List Line) : Type 0 where
   pub literals : (placed lines).literals ≡ fold with_use [] (uses lines)
   -- and each is kept as it was written there.
   pub spelled : map key_of (placed lines).spellings ≡ (placed lines).literals
-  -- EX, END and LTORG place the literals that are used and not placed, in this order, one after the other, from the next
-  -- place on, and those of LTORG from its value on: the units place of each, which operands name, is as far on as it and
-  -- those in front of it are long.
+  -- EX, END and LTORG place the literals that are used and not placed, in this order, one after the other, from the
+  -- next place on, and those of LTORG from its value on: the units place of each, which operands name, is as far on as
+  -- it and those in front of it are long.
   pub standing : (before : List Line) (line : Line) (rest : List Line) (k : ℕ) (literal : LiteralKey)
       → lines ≡ before ++ line ∷ rest → places_with line.statement ≡ true
       → slice_get (pending (placed_among lines before)) k ≡ Some literal

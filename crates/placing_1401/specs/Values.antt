@@ -49,8 +49,8 @@ literal_outside size all (literals.Constant constant) = false
 literal_outside size all (literals.Address literal) = not (is_in_core size (address_value all (pos 0) literal.address))
 literal_outside size all (literals.Area literal) = false
 
--- an address whose value isn't in core, as an operand or as a literal; the places of a literal are looked at where it is
--- placed, and a unit is no address
+-- an address whose value isn't in core, as an operand or as a literal; the places of a literal are looked at where it
+-- is placed, and a unit is no address
 abbrev pub operand_outside : ℕ → Placement → ℤ → OperandField → Bool
 operand_outside size all here fields.Absent = false
 operand_outside size all here fields.Malformed = false

@@ -1,5 +1,5 @@
-//! Where the statements and the literals of a source are placed, what its symbols and addresses stand for, and the cells
-//! that its lines are made into.
+//! Where the statements and the literals of a source are placed, what its symbols and addresses stand for, and the
+//! cells that its lines are made into.
 //!
 //! ```text
 //! let all = place_all(alloc, hashing, &chains, lines)?;       // the chains of EQUs, as `symbols_1401` follows them

@@ -36,7 +36,8 @@ abbrev pub sum_to : (ℕ → ℕ) → ℕ → ℕ
 sum_to weight zero = 0
 sum_to weight (suc n) = weight (suc n) + sum_to weight n
 
-weigh_out_by : (weight : ℕ → ℕ) (n : ℕ) (seat : SeatView) (seats : List SeatView) (test : Bool) → (seat.number == n) ≡ test
+weigh_out_by : (weight : ℕ → ℕ) (n : ℕ) (seat : SeatView) (seats : List SeatView) (test : Bool)
+    → (seat.number == n) ≡ test
     → (has_seat n seats ≡ true → weigh weight seats ≡ weight n + weigh weight (take_out n seats))
     → (test || has_seat n seats) ≡ true
     → weigh weight (seat ∷ seats) ≡ weight n + weigh weight (without test seat seats (take_out n seats))
@@ -189,7 +190,8 @@ all_seated n seats (pair ∷ pairs) all full =
     )
 
 -- each has at least what it made
-fit_most : (pairs : List SeatedCommand) (seats : List SeatView) → AllFit pairs seats → made_of seats ≤ weigh (owns pairs) seats
+fit_most : (pairs : List SeatedCommand) (seats : List SeatView) → AllFit pairs seats
+    → made_of seats ≤ weigh (owns pairs) seats
 fit_most pairs [] fit = omega arith
 fit_most pairs (seat ∷ seats) fit =
     let rest : made_of seats ≤ weigh (owns pairs) seats = fit_most pairs seats fit.1 in
@@ -197,7 +199,8 @@ fit_most pairs (seat ∷ seats) fit =
     omega arith
 
 -- and exactly this, if they have no more together
-all_exact : (pairs : List SeatedCommand) (seats : List SeatView) → AllFit pairs seats → weigh (owns pairs) seats ≤ made_of seats
+all_exact : (pairs : List SeatedCommand) (seats : List SeatView) → AllFit pairs seats
+    → weigh (owns pairs) seats ≤ made_of seats
     → AllExact pairs seats
 all_exact pairs [] fit full = tt
 all_exact pairs (seat ∷ seats) fit full =

@@ -26,7 +26,8 @@ GoesOn seen pair old words history =
     Goes IsKept shown moved 0 (seen, (no_nib, None)) (one_more old)
     (Adds (step 0 old (old + 1) pair) (seen, (no_nib, None))) words history
 
-pub adds_goes : (history seen : List SeatedCommand) (pair : SeatedCommand) (old : ℕ) → length seen ≡ old → IsPrefix seen history
+pub adds_goes : (history seen : List SeatedCommand) (pair : SeatedCommand) (old : ℕ) → length seen ≡ old
+    → IsPrefix seen history
     → (same : Bool) → (length history == old) ≡ same
     → GoesOn seen pair old ((length history, true) ∷ (0, true) ∷ []) history
 adds_goes history seen pair old len begins true is =

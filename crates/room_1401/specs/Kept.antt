@@ -36,7 +36,8 @@ pub record BreaksOff (form : Form) (size : ℕ) (journal : List Entry) (first ke
   pub begins : BeginsWith (lines_by form.line (length front + 1) last) part
   pub kept_is : Appends first kept (kept_text form size front ++ part)
 
--- what was kept since the first is the text of the journal; if a write has failed (true), it breaks off in the last line
+-- what was kept since the first is the text of the journal; if a write has failed (true), it breaks off in the last
+-- line
 abbrev pub IsKeptAs : Form → ℕ → List Entry → Bool → Option (List ℕ) → Option (List ℕ) → Type 0
 IsKeptAs form size journal false first kept = Appends first kept (kept_text form size journal)
 IsKeptAs form size journal true first kept = BreaksOff form size journal first kept

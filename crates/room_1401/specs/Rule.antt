@@ -51,6 +51,7 @@ Follows book size shown changes =
     let last = fold changed shown changes in IsReplay book size last × IsPrefix shown.front.log last.front.log
 
 -- Once the pending changes are shown, what is shown is the replay of these commands.
-pub record Publishes (book : Book) (size : ℕ) (shown : Shown) (pending : List Change) (pairs : List SeatedCommand) : Type 0 where
+pub record Publishes (book : Book) (size : ℕ) (shown : Shown) (pending : List Change) (pairs : List SeatedCommand)
+    : Type 0 where
   pub follows : Follows book size shown pending
   pub list : (fold changed shown pending).front.log ≡ pairs

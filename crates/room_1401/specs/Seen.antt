@@ -19,7 +19,8 @@ own seat (pair ∷ pairs) = cond (pair.seat == seat) 1 0 + own seat pairs
 
 -- A list goes on to another one, which ends with this command of the seat. It is answered as the sequential machine of
 -- this size answers it after the commands before it.
-pub record Carries (size : ℕ) (before after : List SeatedCommand) (seat : ℕ) (command : Command) (answer : Answer) : Type 0 where
+pub record Carries (size : ℕ) (before after : List SeatedCommand) (seat : ℕ) (command : Command) (answer : Answer)
+    : Type 0 where
   pub front : List SeatedCommand
   pub begins : IsPrefix before front
   pub ends : after ≡ front ++ pair seat command ∷ []

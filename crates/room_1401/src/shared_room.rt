@@ -152,8 +152,8 @@ impl<J: RoomId, R: Wait + Drop, K: Keeper + Drop> SharedRoom<J, R, K> {
     ///
     /// # Errors
     ///
-    /// `NoReading` as those of `command`; else `Unkept` if an earlier entry wasn't kept; else as those of `command`. The
-    /// room's journal and machine are as they were, and so is what is kept.
+    /// `NoReading` as those of `command`; else `Unkept` if an earlier entry wasn't kept; else as those of `command`.
+    /// The room's journal and machine are as they were, and so is what is kept.
     pub fn command_kept<W: Wait>(
         &self,
         wait: &W,

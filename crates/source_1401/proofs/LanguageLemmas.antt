@@ -29,7 +29,8 @@ stays : (byte : ℕ) → is_no_small_letter byte ≡ true → to_ascii_uppercase
 unfolding is_no_small_letter
 stays byte h = grind (arith, nat_tests)
 
-passes : (test : ℕ → Bool) (each : List ℕ) (i : ℕ) → list_all test each ≡ true → i < length each → test (get_or each i 0) ≡ true
+passes : (test : ℕ → Bool) (each : List ℕ) (i : ℕ) → list_all test each ≡ true → i < length each
+    → test (get_or each i 0) ≡ true
 passes test each i all inside = by (test (get_or each i 0)) refl
   where
     by : (b : Bool) → test (get_or each i 0) ≡ b → b ≡ true
@@ -84,7 +85,8 @@ of_good false true good = absurd (true≢false (sym good))
 of_good false false good = refl
 
 -- a line with foreign bytes isn't sound
-none_foreign : (len : ℕ) (columns : List ℕ) → is_sound (line_with len columns) ≡ true → has_foreign_bytes columns ≡ false
+none_foreign : (len : ℕ) (columns : List ℕ) → is_sound (line_with len columns) ≡ true
+    → has_foreign_bytes columns ≡ false
 none_foreign len columns sound =
     of_good (nat_lt 80 len) (has_foreign_bytes columns)
     (and_parts (are_good (bytes_with len columns)) (is_sound_statement (line_with len columns).statement) sound).0

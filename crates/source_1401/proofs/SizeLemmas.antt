@@ -1,5 +1,6 @@
 -- CTL asks for a size that it has a digit for, or for none.
-use Rattle.std.proofs.Common.{◌≡◌, ℕ, ◌<◌, ◌≤◌, ◌==◌, nat_le, Bool, true, false, cond, List, [], ◌∷◌, ◌++◌, length, map, take, drop}
+use Rattle.std.proofs.Common.{◌≡◌, ℕ, ◌<◌, ◌≤◌, ◌==◌, nat_le, Bool, true, false, cond, List, [], ◌∷◌, ◌++◌, length, map}
+use Rattle.std.proofs.Common.{take, drop}
 use Rattle.std.proofs.Common.{Option, Some, None, IfSome, refl, sym, ap, subst, ◌∙◌, slice_index, arith}
 use Rattle.std.specs.Prelude.{codes}
 use Rattle.std.specs.Char.{to_ascii_lowercase, to_ascii_uppercase}
@@ -242,7 +243,8 @@ in_capitals columns = take 5 columns ++ (map to_ascii_uppercase (columns_in 6 72
 operation_read : (columns : List ℕ) → length columns ≡ 80
     → (columns_in 16 20 (plus_signs columns) ≡ columns_in 16 20 columns)
     × (columns_in 16 20 (plus_signs (in_capitals columns)) ≡ map to_ascii_uppercase (columns_in 16 20 columns))
-operation_read (a ∷ b ∷ c ∷ d ∷ e ∷ f ∷ g ∷ h ∷ i ∷ j ∷ k ∷ l ∷ m ∷ n ∷ o ∷ p ∷ q ∷ r ∷ s ∷ t ∷ more) full = (refl, refl)
+operation_read (a ∷ b ∷ c ∷ d ∷ e ∷ f ∷ g ∷ h ∷ i ∷ j ∷ k ∷ l ∷ m ∷ n ∷ o ∷ p ∷ q ∷ r ∷ s ∷ t ∷ more) full =
+    (refl, refl)
 operation_read columns full = absurd (omega (arith, full))
 
 operation_alike : (columns : List ℕ) → length columns ≡ 80
@@ -272,7 +274,8 @@ front_read line many = absurd (omega (arith, many))
 
 blank_read : (line : List ℕ) → length line < 18 → slice_index (columns_of line) 17 ≡ 32
 unfolding columns_of
-blank_read (a ∷ b ∷ c ∷ d ∷ e ∷ f ∷ g ∷ h ∷ i ∷ j ∷ k ∷ l ∷ m ∷ n ∷ o ∷ p ∷ q ∷ r ∷ more) few = absurd (omega (arith, few))
+blank_read (a ∷ b ∷ c ∷ d ∷ e ∷ f ∷ g ∷ h ∷ i ∷ j ∷ k ∷ l ∷ m ∷ n ∷ o ∷ p ∷ q ∷ r ∷ more) few =
+    absurd (omega (arith, few))
 blank_read line few = refl
 
 -- a line that asks for CTL has its letters where an operation begins
@@ -297,7 +300,8 @@ letters_stand line asks = by (nat_le 18 (length line)) refl
         absurd (omega (arith, small))
 
 -- a line without the letters of CTL where an operation begins says nothing of the size of core
-pub no_control : (line : List ℕ) → may_be_control line ≡ false → control_in (line_in languages.Ibm line).statement ≡ None
+pub no_control : (line : List ℕ) → may_be_control line ≡ false
+    → control_in (line_in languages.Ibm line).statement ≡ None
 no_control line other =
     (of_columns (length line) (capitals (columns_of line))).0 (other_columns read (by (bytes_eq (codes "CTL  ") read) refl))
   where

@@ -63,7 +63,8 @@ indexed language base adjustment rest =
 
 -- an adjustment is a sign and a number
 abbrev pub is_adjusted : List ℕ → Bool
-is_adjusted rest = ((slice_index rest 0 == plus_sign) || (slice_index rest 0 == minus_sign)) && is_digit (slice_index rest 1)
+is_adjusted rest =
+    ((slice_index rest 0 == plus_sign) || (slice_index rest 0 == minus_sign)) && is_digit (slice_index rest 1)
 
 abbrev pub adjustment_of : ℕ → ℕ → ℤ
 adjustment_of sign number = if sign == minus_sign then neg_ℤ (pos number) else pos number

@@ -55,8 +55,8 @@ second_base columns =
 abbrev pub without_first_blanks : List ℕ → List ℕ
 without_first_blanks columns = drop (prefix_len is_blank columns) columns
 
--- what is wrong with columns for an operation that hold none: they hold one that begins too far right, or a word that is
--- none, and may nearly be one
+-- what is wrong with columns for an operation that hold none: they hold one that begins too far right, or a word that
+-- is none, and may nearly be one
 abbrev pub operation_flaw : List ℕ → OperationFlaw
 operation_flaw columns =
     let word = without_first_blanks columns in

@@ -1,5 +1,6 @@
 -- What is wrong with operands, and in which columns (own).
-use Rattle.std.specs.Prelude.{ℕ, ◌+◌, ◌-◌, nat_lt, Bool, true, false, if◌then◌else◌, not, ◌&&◌, ◌||◌, List, length, drop}
+use Rattle.std.specs.Prelude.{ℕ, ◌+◌, ◌-◌, nat_lt, Bool, true, false, if◌then◌else◌, not, ◌&&◌, ◌||◌, List, length}
+use Rattle.std.specs.Prelude.{drop}
 use Rattle.std.specs.Prelude.{Option}
 use Rattle.std.specs.Prelude.{is_none, is_some}
 use Rattle.std.specs.Option.{option_map}
@@ -87,7 +88,8 @@ wide_operands_flaw first form columns =
 abbrev pub lone_flaw : OperandFlaw → ℕ → List ℕ → Flaw
 lone_flaw kind skipped columns =
     if is_ended (behind_operand columns) then flaw_after skipped (operand_len false columns) kind
-    else flaw_after (skipped + operand_len false columns) (position_or_len is_blank (behind_operand columns)) flaws.TooMuch
+    else flaw_after (skipped + operand_len false columns) (position_or_len is_blank (behind_operand columns))
+        flaws.TooMuch
 
 -- a field may have one place alone, and has it
 abbrev pub is_lone_place : Language → List ℕ → Bool

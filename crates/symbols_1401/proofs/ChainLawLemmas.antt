@@ -139,7 +139,8 @@ meant_far n meaning all each (label ∷ labels) (link ∷ links) said =
       meant_far n meaning all each labels links said.1,
     )
 
-meant_by_doubling : (rounds : ℕ) (meaning : Label → Meaning) (all : Chains) → AllZip (IsMeant meaning) all.labels all.links
+meant_by_doubling : (rounds : ℕ) (meaning : Label → Meaning) (all : Chains)
+    → AllZip (IsMeant meaning) all.labels all.links
     → AllZip (IsMeant meaning) all.labels (twice_over rounds (joined_in all))
 meant_by_doubling rounds meaning all said = by (are_far rounds (joined_in all))
   where

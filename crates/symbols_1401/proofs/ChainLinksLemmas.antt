@@ -226,7 +226,8 @@ grows (a ∷ before) (b ∷ after) kept = by a b kept.0 (grows before after kept
     by false false first (inr more) = inr more
 
 -- a chain that has ended has ended after one link more
-still_ended : (n : ℕ) (links : List Link) (this : Link) → Implies (has_ended n links this) (has_ended (suc n) links this)
+still_ended : (n : ℕ) (links : List Link) (this : Link)
+    → Implies (has_ended n links this) (has_ended (suc n) links this)
 still_ended n links this ended =
     ap (λ (far : Link). is_none far.next)
     (goes_no_further links (one_by_one n links this) (no_next (one_by_one n links this).next ended))

@@ -32,8 +32,8 @@ known_behind last (known.From line) = known.From (max last line)
 known_behind last known.WhenPlaced = known.WhenPlaced
 known_behind last known.Never = known.Never
 
--- the value of a label by its chain: from the last of the chain's lines on, and never if the chain never ends. At the end
--- a symbol that isn't declared is the fault of the EQU that names it.
+-- the value of a label by its chain: from the last of the chain's lines on, and never if the chain never ends. At the
+-- end a symbol that isn't declared is the fault of the EQU that names it.
 abbrev pub known_by_chain : Sites → Link → Known
 known_by_chain sites link =
     if is_some link.next then known.Never

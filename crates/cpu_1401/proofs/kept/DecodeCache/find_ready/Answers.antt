@@ -1,5 +1,5 @@
--- An entry with the place of ready addresses has that place, so it keeps the instruction there, whose addresses are ready
--- and those of places if it needs that.
+-- An entry with the place of ready addresses has that place, so it keeps the instruction there, whose addresses are
+-- ready and those of places if it needs that.
 use Rattle.std.proofs.Common.{◌≡◌, ◌≢◌, ◌-◌, ◌^◌, Bor, List, Option, None, Some, IfSome, length, ap, sym, ◌∙◌, arith}
 use Rattle.std.proofs.Common.{subst}
 use Rattle.cpu_1401.specs.declared.cache_entry.CacheEntry.{CacheEntry}
