@@ -4,7 +4,8 @@ use Rattle.std.specs.Prelude.{codes}
 use Rattle.bcd_1401.specs.Graphic.{graphics}
 use Rattle.devices_1401.specs.declared.print_line.PrintLine.{PrintLine}
 use Rattle.job_1401.specs.declared.paper.Place.{Place}
-use Rattle.job_1401.specs.Paper.{graphics_of, line_text, paper_text, trimmed}
+use Rattle.notation_1401.specs.Characters.{graphics_of, trimmed}
+use Rattle.job_1401.specs.Paper.{line_text, paper_text}
 use Rattle.job_1401.specs.PaperRead.{ReadLine, read_back, read_of}
 
 abbrev place : ℕ → ℕ → Place

@@ -1,28 +1,15 @@
 -- The paper as a text (own): each line at its place on the form, and a form feed for each new form.
-use Rattle.std.specs.Prelude.{ℕ, ◌+◌, ◌-◌, ◌%◌, ◌==◌, ◌&&◌, nat_lt, if◌then◌else◌, List, [], ◌∷◌, ◌++◌, length, map}
-use Rattle.std.specs.Prelude.{take, replicate, slice_index}
-use Rattle.std.specs.List.{suffix_len}
-use Rattle.bcd_1401.specs.Graphic.{graphics}
+use Rattle.std.specs.Prelude.{ℕ, ◌+◌, ◌-◌, ◌%◌, ◌==◌, ◌&&◌, nat_lt, if◌then◌else◌, List, [], ◌∷◌, ◌++◌, replicate}
 use Rattle.devices_1401.specs.Carriage.{forms}
 use Rattle.devices_1401.specs.declared.print_line.PrintLine.{PrintLine}
+use Rattle.notation_1401.specs.Characters.{graphics_of, trimmed}
 use Rattle.job_1401.specs.declared.paper.Place.{Place}
-
-abbrev pub blank_code : ℕ
-blank_code = 0
 
 abbrev pub line_feed : ℕ
 line_feed = 10
 
 abbrev pub form_feed : ℕ
 form_feed = 12
-
--- characters without trailing blanks
-unfoldable pub trimmed : List ℕ → List ℕ
-trimmed chars = take (length chars - suffix_len (λ char. char == blank_code) chars) chars
-
--- characters by their graphics
-unfoldable pub graphics_of : List ℕ → List ℕ
-graphics_of chars = map (λ char. slice_index graphics char) chars
 
 -- how many forms a line is further on than a place, by their numbers
 abbrev pub forms_on : Place → PrintLine → ℕ

@@ -5,9 +5,9 @@ ghost use Rattle.std.specs.Prelude.{◌≡◌, ◌≢◌, ◌++◌, length, Ok, 
 ghost use Rattle.source_1401.specs.SourceLine.{lines_of};
 ghost use Rattle.job_1401.specs.DeckText.{card_of_line, card_text, deck_of};
 
-use crate::paper::put_trimmed;
 use bcd_1401::Char;
 use devices_1401::Card;
+use notation_1401::put_characters;
 use source_1401::split_line;
 use std::alloc::{AllocError, Global};
 use thiserror::Error;
@@ -110,7 +110,7 @@ pub fn put_cards(text: &mut Vec<u8>, cards: &[Card]) -> Result<(), AllocError>
     ensures { OnOk result (text.new.items ≡ text.old.items ++ flat_map card_text cards.now) }
 {
     for card in cards {
-        put_trimmed(text, &card.0)?;
+        put_characters(text, &card.0)?;
         text.push(b'\n')?;
     }
     Ok(())

@@ -1,12 +1,10 @@
 //! The paper as a text: each line at its place on the form, and a form feed for each new form.
-ghost use Rattle.std.specs.Prelude.{◌≡◌, ◌-◌, ◌≤◌, ◌==◌, ◌++◌, length, replicate, IfOk, OnOk};
-ghost use Rattle.std.specs.List.{suffix_len};
-ghost use Rattle.job_1401.specs.Paper.{blank_code, trimmed, graphics_of, line_text, new_forms, paper_text};
-ghost use Rattle.job_1401.specs.Paper.{place_after, place_behind};
+ghost use Rattle.std.specs.Prelude.{◌≡◌, ◌++◌, replicate, IfOk, OnOk};
+ghost use Rattle.job_1401.specs.Paper.{line_text, new_forms, paper_text, place_after, place_behind};
 ghost use Rattle.job_1401.specs.PaperRead.{IsOnlyPaper, IsReadBack};
 
-use bcd_1401::Char;
 use devices_1401::PrintLine;
+use notation_1401::put_characters;
 use std::alloc::AllocError;
 
 /// Forms are numbered modulo 10,000.
@@ -24,44 +22,6 @@ pub struct Place {
 impl Place {
     /// The first line of form 1.
     pub const FIRST: Place = Place { form: 1, line: 1 };
-}
-
-/// How many trailing blanks there are.
-fn blanks_at_end(chars: &[Char]) -> usize
-    ensures value { result ≡ suffix_len (λ char. char == blank_code) chars.now }
-    ensures bound { result ≤ length chars.now }
-{
-    chars
-        .iter()
-        .rev()
-        .take_while(|char| **char == Char::BLANK)
-        .count()
-}
-
-/// The characters without trailing blanks.
-#[tactic(auto, unfolding(crate::specs::Paper::trimmed))]
-fn trimmed(chars: &[Char]) -> &[Char]
-    ensures { result.now ≡ trimmed chars.now }
-{
-    &chars[..chars.len() - blanks_at_end(chars)]
-}
-
-/// Adds characters by their graphics.
-#[tactic(auto, unfolding(crate::specs::Paper::graphics_of))]
-fn put_graphics(text: &mut Vec<u8>, chars: &[Char]) -> Result<(), AllocError>
-    ensures { OnOk result (text.new.items ≡ text.old.items ++ graphics_of chars.now) }
-{
-    for char in chars {
-        text.push(char.graphic())?;
-    }
-    Ok(())
-}
-
-/// Adds characters by their graphics, without trailing blanks.
-pub(crate) fn put_trimmed(text: &mut Vec<u8>, chars: &[Char]) -> Result<(), AllocError>
-    ensures { OnOk result (text.new.items ≡ text.old.items ++ graphics_of (trimmed chars.now)) }
-{
-    put_graphics(text, trimmed(chars))
 }
 
 /// Adds a byte as many times as asked for.
@@ -100,7 +60,7 @@ fn put_line(text: &mut Vec<u8>, place: Place, line: &PrintLine) -> Result<Place,
     let number = u16::from(line.line);
     put_times(text, forms, b'\x0c')?;
     put_times(text, u32::from(number.saturating_sub(from)), b'\n')?;
-    put_trimmed(text, &line.text)?;
+    put_characters(text, &line.text)?;
     text.push(b'\n')?;
     Ok(Place {
         form: line.form,

@@ -30,7 +30,7 @@ use Rattle.text_1401.specs.declared.line.Line.TheVariants as line
 use Rattle.text_1401.specs.declared.line.LineFault.{LineFault}
 use Rattle.text_1401.specs.declared.line.LineFault.TheVariants as fault
 use Rattle.text_1401.specs.AnswerText.{answer_text}
-use Rattle.text_1401.specs.CardText.{graphics_of, trimmed}
+use Rattle.notation_1401.specs.Characters.{graphics_of, trimmed}
 use Rattle.text_1401.specs.CommandText.{command_text}
 use Rattle.text_1401.specs.ConsoleLine.{said_by, said_in_words, most_line_bytes}
 use Rattle.text_1401.specs.LineText.{CanBeSaid, setting_text}

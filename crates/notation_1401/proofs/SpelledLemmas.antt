@@ -1,15 +1,14 @@
 -- What is made of a text whose first cells are these.
 use Rattle.std.proofs.Common.{◌≡◌, ℕ, ◌==◌, ◌<◌, ◌≤◌, ◌&&◌, Bool, true, false, nat_le, if◌then◌else◌, List, [], ◌∷◌}
-use Rattle.std.proofs.Common.{◌++◌, length, take, get_or, map, Option, None, Some, Result, Ok, Err, is_some, refl, ap}
+use Rattle.std.proofs.Common.{◌++◌, length, map, Option, None, Some, Result, Ok, Err, is_some, refl, ap}
 use Rattle.std.proofs.Common.{subst, ◌∙◌, arith, length-append}
 use Rattle.std.proofs.lemmas.Bool.{and_parts, eqb-true, false≢true}
 use Rattle.bcd_1401.specs.Graphic.{graphics}
-use Rattle.std.specs.Prelude.{filter_map, position, slice_index, OnOk}
+use Rattle.std.specs.Prelude.{position, slice_index, OnOk}
 use Rattle.std.specs.Option.{ok_or}
 use Rattle.std.specs.List.{list_all}
-use Rattle.std.proofs.lemmas.List.{take_at, take_all, append-nil, length-map, length-take, get_or-take, get_or_at}
+use Rattle.std.proofs.lemmas.List.{append-nil, length-map}
 use Rattle.std.proofs.lemmas.List.{map_push}
-use Rattle.std.proofs.lemmas.List.Folds.{list_all_at}
 use Rattle.std.proofs.lemmas.Bool.Decides.{nat_tests}
 use Rattle.bcd_1401.specs.declared.cell.Cell.{Cell}
 use Rattle.notation_1401.specs.declared.fault.CellsFault.TheVariants.{Graphic, Length}

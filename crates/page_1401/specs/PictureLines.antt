@@ -13,7 +13,7 @@ use Rattle.command_1401.specs.declared.answer.Answer.{Answer}
 use Rattle.command_1401.specs.declared.answer.Answer.TheVariants as answer
 use Rattle.room_1401.specs.declared.picture.Picture.{Picture}
 use Rattle.text_1401.specs.AnswerText.{answer_text}
-use Rattle.text_1401.specs.CardText.{graphics_of, trimmed}
+use Rattle.notation_1401.specs.Characters.{graphics_of, trimmed}
 
 -- it ends each line of the text
 abbrev pub line_feed : List ℕ

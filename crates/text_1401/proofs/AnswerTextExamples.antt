@@ -12,7 +12,7 @@ use Rattle.command_1401.specs.declared.answer.Refusal.TheVariants.{Address, Hopp
 use Rattle.text_1401.specs.AnswerText.{answer_text, switches_text, regs_text, ran_text, line_text}
 use Rattle.notation_1401.specs.Cells.{cells_text}
 use Rattle.text_1401.specs.AnswerText.{card_text}
-use Rattle.text_1401.specs.CardText.{graphics_of, trimmed}
+use Rattle.notation_1401.specs.Characters.{graphics_of, trimmed}
 
 -- the text of an answer, with all that it consists of open
 text : Answer → List ℕ

@@ -1,17 +1,16 @@
 -- A card and its text.
 use Rattle.std.proofs.Common.{◌≡◌, ℕ, zero, suc, ◌+◌, ◌-◌, ◌<◌, ◌≤◌, ◌==◌, Bool, true, false, List, [], ◌∷◌, ◌++◌}
 use Rattle.std.proofs.Common.{length, take, drop, get_or, map, reverse, replicate, set, cond, Option, None, Some}
-use Rattle.std.proofs.Common.{is_some, refl, sym, ap, ◌∙◌, arith, length-append}
-use Rattle.std.specs.Prelude.{All, Ok, Err, position, slice_index, filter_map}
-use Rattle.std.specs.List.{list_all, prefix_len}
+use Rattle.std.proofs.Common.{refl, sym, ap, ◌∙◌, arith, length-append}
+use Rattle.std.specs.Prelude.{All, Ok, Err, position, slice_index}
+use Rattle.std.specs.List.{prefix_len}
 use Rattle.std.proofs.lemmas.Bool.{eqb-true}
 use Rattle.std.proofs.lemmas.Bool.Decides.{nat_tests}
-use Rattle.std.proofs.lemmas.List.{drop_more, drop-replicate, get_or-take, get_or_at, length-drop, length-map}
+use Rattle.std.proofs.lemmas.List.{drop_more, drop-replicate, length-drop, length-map}
 use Rattle.std.proofs.lemmas.List.{length-reverse, length-take, map-append, replicate-append-replicate}
-use Rattle.std.proofs.lemmas.List.{reverse-append, reverse-reverse, take_all, take_at, take_more, take_more_set}
+use Rattle.std.proofs.lemmas.List.{reverse-append, reverse-reverse, take_at, take_more, take_more_set}
 use Rattle.std.proofs.lemmas.List.{take-append-drop}
 use Rattle.std.proofs.lemmas.List.Elements.{All-head, All-tail}
-use Rattle.std.proofs.lemmas.List.Folds.{list_all_at}
 use Rattle.std.proofs.lemmas.List.Sums.{suffix_len-le-length}
 use Rattle.bcd_1401.specs.Graphic.{graphics}
 use Rattle.devices_1401.specs.declared.card.Card.{Card}
@@ -19,7 +18,8 @@ use Rattle.command_1401.specs.declared.command.Command.TheVariants as command
 use Rattle.text_1401.specs.declared.line.Line.TheVariants.{Command}
 use Rattle.text_1401.specs.declared.line.LineFault.TheVariants.{Graphic, Length}
 use Rattle.notation_1401.proofs.MissingLemmas.{all_there, missed, taken_all, taken_first, the_values}
-use Rattle.text_1401.specs.CardText.{char_of, chars_of, card_of, card_with, graphics_of, trimmed}
+use Rattle.notation_1401.specs.Characters.{char_of, chars_of, graphics_of, trimmed}
+use Rattle.text_1401.specs.CardText.{card_of, card_with}
 use Rattle.text_1401.specs.ConsoleLine.{feed_of}
 
 -- characters that are there, 80 at most
@@ -165,19 +165,3 @@ unfolding feed_of
 fed_again card eighty again =
     let few : length (trimmed card.0) ≤ 80 = omega (arith, trimmed_few card.0, eighty) in
     rw (again, card_of-all (trimmed card.0) few, card_with-trimmed card eighty) refl
-
--- one character more
-pub graphics_again-push : (chars : List ℕ) (char : ℕ) → chars_of (graphics_of chars) ≡ map Some chars
-    → position (λ each. each == slice_index graphics char) graphics ≡ Some char
-    → chars_of (graphics_of (chars ++ char ∷ [])) ≡ map Some (chars ++ char ∷ [])
-unfolding chars_of graphics_of
-graphics_again-push chars char again own =
-    let front : List ℕ = map (λ c. slice_index graphics c) chars in
-    ap (map char_of) (map-append (λ c. slice_index graphics c) chars (char ∷ []))
-    ∙ map-append char_of front (slice_index graphics char ∷ [])
-    ∙ rw (again, own) (sym (map-append Some chars (char ∷ [])))
-
-pub graphics_of-push : (chars : List ℕ) (char : ℕ)
-    → graphics_of (chars ++ char ∷ []) ≡ graphics_of chars ++ slice_index graphics char ∷ []
-unfolding graphics_of
-graphics_of-push chars char = map-append (λ c. slice_index graphics c) chars (char ∷ [])

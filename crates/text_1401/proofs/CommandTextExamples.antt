@@ -9,7 +9,7 @@ use Rattle.command_1401.specs.declared.command.Command.TheVariants.{Deposit, Exa
 use Rattle.command_1401.specs.declared.command.Command.TheVariants.{LoadKey, Run, TakeLine, TakeCard}
 use Rattle.cpu_1401.specs.declared.switch_name.SwitchName.TheVariants.{A, G}
 use Rattle.notation_1401.specs.Cells.{cells_text}
-use Rattle.text_1401.specs.CardText.{graphics_of, trimmed}
+use Rattle.notation_1401.specs.Characters.{graphics_of, trimmed}
 use Rattle.text_1401.specs.CommandText.{command_text}
 
 -- the text of a command, with all that it consists of open

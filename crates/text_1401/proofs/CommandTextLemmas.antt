@@ -1,10 +1,10 @@
 -- The text of a command is typed for it.
 use Rattle.std.proofs.Common.{◌≡◌, ℕ, ◌+◌, ◌-◌, ◌*◌, ◌^◌, ◌<◌, ◌≤◌, Bool, true, false, List, [], ◌∷◌, ◌++◌}
-use Rattle.std.proofs.Common.{length, replicate, refl, sym, ap, subst, ◌∙◌, arith, length-append}
+use Rattle.std.proofs.Common.{length, replicate, refl, sym, ap, subst, arith, length-append}
 use Rattle.std.specs.Prelude.{codes, slice_index}
 use Rattle.std.specs.Fmt.{decimal}
 use Rattle.std.specs.List.{flat_map}
-use Rattle.std.proofs.lemmas.Fmt.{length-decimal-le, decimal_nonempty}
+use Rattle.std.proofs.lemmas.Fmt.{length-decimal-le}
 use Rattle.std.proofs.lemmas.List.{append_assoc, append-nil, length-map, length-replicate}
 use Rattle.bcd_1401.specs.declared.cell.Cell.{Cell}
 use Rattle.bcd_1401.specs.Graphic.{graphics}
@@ -19,9 +19,9 @@ use Rattle.command_1401.specs.declared.command.Command.TheVariants.{Deposit, Exa
 use Rattle.command_1401.specs.declared.command.Command.TheVariants.{LoadKey, Run, TakeLine, TakeCard}
 use Rattle.text_1401.specs.declared.line.Line.TheVariants as line
 use Rattle.text_1401.specs.Words.{blank, letter_of, most_digits}
-use Rattle.text_1401.specs.CardText.{graphics_of, trimmed}
+use Rattle.notation_1401.specs.Characters.{graphics_of, trimmed}
 use Rattle.text_1401.specs.ConsoleLine.{most_line_bytes}
-use Rattle.text_1401.specs.LineText.{CanBeSaid, IsLineOf, IsTyped, IsTypedAs, Text, setting_text, text_of}
+use Rattle.text_1401.specs.LineText.{CanBeSaid, IsLineOf, IsTyped, IsTypedAs, setting_text, text_of}
 use Rattle.text_1401.specs.LineText.Part.{Numeral}
 use Rattle.text_1401.specs.LineText.Text.{Blanks}
 use Rattle.text_1401.specs.CommandText.{command_text}

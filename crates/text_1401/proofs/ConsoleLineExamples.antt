@@ -13,7 +13,8 @@ use Rattle.text_1401.specs.Words.{setting_of}
 use Rattle.text_1401.specs.ConsoleLine.{Said, said_by, said_in_words, said_with, ended}
 use Rattle.notation_1401.specs.Cells.{spelled, cells_of}
 use Rattle.text_1401.specs.ConsoleLine.{deposit_of, examine_of, start_of, switch_said, feed_of, run_of}
-use Rattle.text_1401.specs.CardText.{chars_of, card_of}
+use Rattle.notation_1401.specs.Characters.{chars_of}
+use Rattle.text_1401.specs.CardText.{card_of}
 
 -- what a line says, with all that its grammar consists of open
 says : List ℕ → Said

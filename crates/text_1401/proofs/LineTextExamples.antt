@@ -8,7 +8,8 @@ use Rattle.bcd_1401.specs.Graphic.{graphics}
 use Rattle.cpu_1401.specs.declared.switch_name.SwitchName.TheVariants.{C}
 use Rattle.command_1401.specs.declared.command.Command.TheVariants.{Deposit, Examine, Switch}
 use Rattle.text_1401.specs.declared.line.Line.TheVariants.{Empty, Command}
-use Rattle.text_1401.specs.CardText.{card_with, graphics_of}
+use Rattle.notation_1401.specs.Characters.{graphics_of}
+use Rattle.text_1401.specs.CardText.{card_with}
 use Rattle.text_1401.specs.LineText.{IsLineOf, IsExamineOf, IsTypedBehind}
 use Rattle.text_1401.specs.LineText.Text.{Columns}
 use Rattle.notation_1401.specs.Cells.{cells_text}

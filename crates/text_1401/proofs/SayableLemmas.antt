@@ -1,9 +1,9 @@
 -- What a line says can be said.
 use Rattle.std.proofs.Common.{◌≡◌, ℕ, suc, ◌+◌, ◌-◌, ◌*◌, ◌^◌, ◌<◌, ◌≤◌, ◌==◌, ◌&&◌, Bool, true, false, nat_le, nat_lt}
-use Rattle.std.proofs.Common.{if◌then◌else◌, List, [], ◌∷◌, ◌++◌, length, take, drop, map, replicate, Option, None}
+use Rattle.std.proofs.Common.{if◌then◌else◌, List, [], ◌∷◌, ◌++◌, length, take, drop, replicate, Option, None}
 use Rattle.std.proofs.Common.{Some}
-use Rattle.std.proofs.Common.{is_some, Result, Ok, Err, refl, sym, ap, ◌∙◌, subst, arith, inl, inr, length-append}
-use Rattle.std.specs.Prelude.{All, IfOk, IfSome, filter_map, position, fold, slice_index}
+use Rattle.std.proofs.Common.{is_some, Result, Ok, Err, refl, sym, ap, ◌∙◌, subst, arith, length-append}
+use Rattle.std.specs.Prelude.{All, IfOk, IfSome, filter_map, fold}
 use Rattle.std.specs.List.{list_all}
 use Rattle.std.specs.Option.{option_map}
 use Rattle.std.proofs.lemmas.Bool.{and_parts, leb-true, ltb-true}
@@ -23,13 +23,14 @@ use Rattle.notation_1401.specs.declared.fault.CellsFault.{CellsFault}
 use Rattle.notation_1401.specs.declared.fault.CellsFault.TheVariants as cells_fault
 use Rattle.command_1401.specs.declared.command.Command.TheVariants as command
 use Rattle.text_1401.specs.declared.line.Line.{Line}
-use Rattle.text_1401.specs.declared.line.Line.TheVariants.{Empty, Command, Glance, Quit}
+use Rattle.text_1401.specs.declared.line.Line.TheVariants.{Empty, Command, Quit}
 use Rattle.text_1401.specs.declared.line.LineFault.{LineFault}
-use Rattle.text_1401.specs.declared.line.LineFault.TheVariants.{Word, Number, Graphic, Length, Extra}
+use Rattle.text_1401.specs.declared.line.LineFault.TheVariants.{Number, Graphic, Length, Extra}
 use Rattle.text_1401.specs.declared.words.Keyword.{Keyword}
 use Rattle.text_1401.specs.declared.words.Keyword.TheVariants as keyword
-use Rattle.text_1401.specs.CardText.{card_of, card_with, char_of, chars_of}
-use Rattle.text_1401.specs.ConsoleLine.{Said, said_by, said_in_words, said_with, ended, if_cells, deposit_of}
+use Rattle.notation_1401.specs.Characters.{char_of, chars_of}
+use Rattle.text_1401.specs.CardText.{card_of}
+use Rattle.text_1401.specs.ConsoleLine.{Said, said_in_words, said_with, ended, if_cells, deposit_of}
 use Rattle.text_1401.specs.ConsoleLine.{examine_of}
 use Rattle.text_1401.specs.ConsoleLine.{start_of, switch_said, feed_of, run_of, glance_of}
 use Rattle.text_1401.specs.LineText.{CanBeSaid}

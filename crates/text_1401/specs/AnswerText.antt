@@ -19,7 +19,7 @@ use Rattle.command_1401.specs.declared.command.Command.TheVariants as command
 use Rattle.text_1401.specs.declared.line.LineFault.{LineFault}
 use Rattle.text_1401.specs.declared.line.LineFault.TheVariants as line_fault
 use Rattle.text_1401.specs.declared.line.Line.TheVariants as line
-use Rattle.text_1401.specs.CardText.{graphics_of, trimmed}
+use Rattle.notation_1401.specs.Characters.{graphics_of, trimmed}
 use Rattle.text_1401.specs.ConsoleLine.{feed_of}
 use Rattle.text_1401.specs.Words.{letter_of}
 

@@ -13,7 +13,8 @@ use Rattle.text_1401.specs.declared.words.Keyword.{Keyword}
 use Rattle.text_1401.specs.declared.words.Keyword.TheVariants as keyword
 use Rattle.text_1401.specs.Words.{◌>>=◌, word_in, behind_word, keyword_of, number_of, address_of, count_of}
 use Rattle.text_1401.specs.Words.{switch_of, setting_of}
-use Rattle.text_1401.specs.CardText.{card_of, chars_of}
+use Rattle.notation_1401.specs.Characters.{chars_of}
+use Rattle.text_1401.specs.CardText.{card_of}
 
 -- what a line says, or its first fault from left to right
 abbrev pub Said : Type 0

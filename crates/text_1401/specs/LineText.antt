@@ -11,7 +11,8 @@ use Rattle.command_1401.specs.declared.command.Command.TheVariants as command
 use Rattle.text_1401.specs.declared.line.Line.{Line}
 use Rattle.text_1401.specs.declared.line.Line.TheVariants as line
 use Rattle.text_1401.specs.Words.{blank}
-use Rattle.text_1401.specs.CardText.{card_with, graphics_of}
+use Rattle.notation_1401.specs.Characters.{graphics_of}
+use Rattle.text_1401.specs.CardText.{card_with}
 use Rattle.text_1401.specs.ConsoleLine.{most_line_bytes}
 use Rattle.text_1401.specs.Words.{most_digits}
 use Rattle.notation_1401.specs.Cells.{cells_text}

@@ -7,7 +7,6 @@ ghost use Rattle.text_1401.specs.AnswerText.{regs_text, ran_text};
 ghost use Rattle.text_1401.specs.AnswerText.{indicator_text, switch_text, switches_text};
 ghost use Rattle.text_1401.specs.AnswerText.{line_text, card_text, fault_text, glance_text};
 
-use crate::card_text::{put_chars, trimmed};
 use crate::line::LineFault;
 use crate::words::letter;
 use bcd_1401::Cell;
@@ -15,7 +14,7 @@ use command_1401::Answer;
 use core_1401::Cells;
 use cpu_1401::{Regs, Stop, SwitchName};
 use devices_1401::{Card, PrintLine};
-use notation_1401::{put_cell, put_cells, put_digits};
+use notation_1401::{put_cell, put_cells, put_characters, put_digits};
 use std::alloc::{AllocError, Global};
 
 /// The text of an answer.
@@ -96,7 +95,7 @@ fn line_reply(alloc: Global, line: &PrintLine) -> Result<Vec<u8>, AllocError>
     put_number(&mut text, b"LINE ", 4, u32::from(line.form))?;
     put_number(&mut text, b" ", 2, u32::from(line.line))?;
     text.extend_from_slice(b" ")?;
-    put_chars(&mut text, trimmed(&line.text))?;
+    put_characters(&mut text, &line.text)?;
     Ok(text)
 }
 
@@ -107,7 +106,7 @@ fn card_reply(alloc: Global, card: &Card) -> Result<Vec<u8>, AllocError>
     ensures again { IfOk result (λ text. IsFedAgain card.now text.items) }
 {
     let mut text = Vec::from_slice(alloc, b"CARD ")?;
-    put_chars(&mut text, trimmed(&card.0))?;
+    put_characters(&mut text, &card.0)?;
     Ok(text)
 }
 

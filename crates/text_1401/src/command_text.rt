@@ -5,13 +5,12 @@ ghost use Rattle.text_1401.specs.LineText.{setting_text};
 ghost use Rattle.text_1401.specs.Words.{letter_of};
 
 use crate::answer_text::put_number;
-use crate::card_text::{put_chars, trimmed};
 use crate::words::letter;
 use command_1401::Command;
 use core_1401::Cells;
 use cpu_1401::SwitchName;
 use devices_1401::Card;
-use notation_1401::put_cells;
+use notation_1401::{put_cells, put_characters};
 use std::alloc::AllocError;
 
 /// Adds the text of a command, the line by which it is typed (own). `parse_line` reads it as that command, if a line
@@ -74,7 +73,7 @@ fn put_feed(text: &mut Vec<u8>, card: &Card) -> Result<(), AllocError>
     ensures { OnOk result (text.new.items ≡ text.old.items ++ command_text (Command.Feed card.now)) }
 {
     text.extend_from_slice(b"FEED ")?;
-    put_chars(text, trimmed(&card.0))
+    put_characters(text, &card.0)
 }
 
 /// ON, or OFF.

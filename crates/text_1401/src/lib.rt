@@ -18,6 +18,6 @@ pub mod answer_text;
 pub mod command_text;
 
 pub use answer_text::{fault_text, glance_text, reply_text};
-pub use card_text::put_characters;
 pub use command_text::put_command;
 pub use line::{LINE_LIMIT, Line, LineFault, parse_line};
+pub use notation_1401::put_characters;

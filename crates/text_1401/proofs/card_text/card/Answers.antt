@@ -3,7 +3,7 @@ use Rattle.std.proofs.Common.{rules, ◌≡◌, ℕ, ◌+◌, ◌<◌, List, len
 use Rattle.std.proofs.Common.{refl, sym, ◌∙◌, ap, subst, arith, take_all}
 use Rattle.std.proofs.lemmas.List.{drop-set-lt, length-set, length-take-le}
 use Rattle.std.proofs.lemmas.Grind.{drop_more_same}
-use Rattle.text_1401.specs.CardText.{char_of, chars_of}
+use Rattle.notation_1401.specs.Characters.{char_of, chars_of}
 use Rattle.text_1401.proofs.CardTextLemmas.{card_of-columns, card_of-missed, card_of-long, chars_of-more}
 use Rattle.text_1401.proofs.CardTextLemmas.{chars_of-split}
 use Rattle.text_1401.proofs.card_text.card.Goals as goal

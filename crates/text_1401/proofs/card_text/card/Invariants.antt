@@ -1,6 +1,6 @@
 -- The columns so far are the characters of the text so far, and the others are blank.
 use Rattle.std.proofs.Common.{◌≡◌, ◌≤◌, length, take, drop, map, replicate, Some}
-use Rattle.text_1401.specs.CardText.{chars_of}
+use Rattle.notation_1401.specs.Characters.{chars_of}
 use Rattle.text_1401.proofs.card_text.card.Given as goal
 
 abbrev pub invariant-loop-i : goal.invariant-loop-i

@@ -1,7 +1,7 @@
 -- The text is that of the characters so far, and spells them.
 use Rattle.std.proofs.Common.{◌≡◌, ◌++◌, take, map, Some}
-use Rattle.text_1401.specs.CardText.{chars_of, graphics_of}
-use Rattle.text_1401.proofs.card_text.put_chars.Given as goal
+use Rattle.notation_1401.specs.Characters.{chars_of, graphics_of}
+use Rattle.notation_1401.proofs.characters.put_each.Given as goal
 
 abbrev pub invariant-loop-char : goal.invariant-loop-char
 invariant-loop-char l = record {

@@ -2,9 +2,9 @@
 use Rattle.std.proofs.Common.{◌≡◌, ◌+◌, [], ◌∷◌, ◌++◌, take, arith, refl, sym, ap, ◌∙◌}
 use Rattle.std.proofs.lemmas.Grind.{common_steps}
 use Rattle.std.proofs.lemmas.List.{take_more, append-nil}
-use Rattle.text_1401.specs.CardText.{chars_of, graphics_of}
-use Rattle.text_1401.proofs.CardTextLemmas.{graphics_of-push, graphics_again-push}
-use Rattle.text_1401.proofs.card_text.put_chars.Goals as goal
+use Rattle.notation_1401.specs.Characters.{chars_of, graphics_of}
+use Rattle.notation_1401.proofs.CharacterLemmas.{graphics_of-push, graphics_again-push}
+use Rattle.notation_1401.proofs.characters.put_each.Goals as goal
 
 pub loop-char-init : goal.loop-char-init
 unfolding chars_of graphics_of
