@@ -1,4 +1,5 @@
 pub mod CardCode
 pub mod Character
 pub mod Collation
+pub mod Digits
 pub mod Graphic

@@ -7,7 +7,8 @@ use Rattle.std.proofs.lemmas.Bool.{and_parts}
 use Rattle.std.proofs.Math.Seq.{take-append_seam, drop-append_seam}
 use Rattle.std.specs.List.{list_all, prefix_len}
 use Rattle.source_1401.specs.Address.{address_of, is_adjusted, index_of, base_of, base_len}
-use Rattle.source_1401.specs.Label.{is_digit, is_letter_or_digit}
+use Rattle.bcd_1401.specs.Digits.{is_digit}
+use Rattle.source_1401.specs.Label.{is_letter_or_digit}
 use Rattle.source_1401.specs.Operands.{operand_len, operand_of, is_ended, read_operand}
 use Rattle.source_1401.specs.declared.address.Address.{Address}
 use Rattle.source_1401.specs.declared.address.Base.TheVariants as bases

@@ -6,8 +6,9 @@ use Rattle.std.proofs.lemmas.Bool.Decides.{nat_tests}
 use Rattle.std.specs.List.{list_all, prefix_len}
 use Rattle.notation_1401.specs.Digits.{digits_in}
 use Rattle.notation_1401.proofs.DigitLemmas.{one_digit, digits_more}
-use Rattle.source_1401.specs.Label.{is_digit, is_letter_or_digit}
-use Rattle.source_1401.specs.Numbers.{value_of, short_number}
+use Rattle.bcd_1401.specs.Digits.{is_digit, value_of}
+use Rattle.source_1401.specs.Label.{is_letter_or_digit}
+use Rattle.source_1401.specs.Numbers.{short_number}
 use Rattle.source_1401.specs.Operands.{operand_len}
 
 -- a word of one to five digits that writes a number

@@ -11,7 +11,7 @@ use Rattle.bcd_1401.specs.Graphic.{graphics}
 use Rattle.bcd_1401.specs.declared.cell.Cell.{Cell}
 use Rattle.core_1401.specs.Address.{value_of}
 use Rattle.notation_1401.specs.Digits.{digits_in}
-use Rattle.source_1401.specs.Label.{is_digit}
+use Rattle.bcd_1401.specs.Digits.{is_digit}
 use Rattle.source_1401.specs.SourceLine.{is_graphic}
 use Rattle.instruction_text_1401.specs.Address.{index_text, register_in, address_text}
 use Rattle.instruction_text_1401.specs.InstructionText.{IsOwn, graphic_of}

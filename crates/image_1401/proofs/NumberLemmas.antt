@@ -14,7 +14,8 @@ use Rattle.std.proofs.lemmas.List.{take_more, take_all, take_at, drop_at, take-a
 use Rattle.std.proofs.lemmas.List.Folds.{list_all-append}
 use Rattle.std.proofs.lemmas.List.Sums.{fold_push}
 use Rattle.std.proofs.Math.Nat.{pow-succ'}
-use Rattle.notation_1401.specs.Digits.{digits_in, is_digit, number_in, value_of}
+use Rattle.bcd_1401.specs.Digits.{is_digit, value_of}
+use Rattle.notation_1401.specs.Digits.{digits_in, number_in}
 use Rattle.notation_1401.proofs.DigitLemmas.{one_digit, digits_more}
 use Rattle.notation_1401.proofs.NumberLemmas.{below_eight}
 use Rattle.image_1401.specs.Reading.{number_at}

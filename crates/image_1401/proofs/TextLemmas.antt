@@ -21,7 +21,8 @@ use Rattle.image_1401.specs.declared.version.Version.{Version}
 use Rattle.image_1401.specs.declared.version.Version.TheVariants.{One, Two}
 use Rattle.image_1401.specs.Image.{is_inside}
 use Rattle.notation_1401.specs.Cells.{cell_text, cells_text}
-use Rattle.notation_1401.specs.Digits.{digits_in, is_digit}
+use Rattle.bcd_1401.specs.Digits.{is_digit}
+use Rattle.notation_1401.specs.Digits.{digits_in}
 use Rattle.notation_1401.proofs.NumberLemmas.{below_eight}
 use Rattle.image_1401.specs.ImageText.{header_text, segment_text, end_text, line_of}
 use Rattle.image_1401.specs.ImageText.{segments_text, image_text, is_character, is_segment, HasText, HasTexts}

@@ -14,7 +14,8 @@ use Rattle.source_1401.specs.Constant.{constant_of}
 use Rattle.source_1401.specs.Context.{in_context, body_below, statement_in, below, below_body, below_statement}
 use Rattle.source_1401.specs.Context.{with_context, nothing_above, registers_of, rule_in, with_registers, settled}
 use Rattle.source_1401.specs.Context.{lines_said}
-use Rattle.source_1401.specs.Label.{is_digit, label_of, label_in}
+use Rattle.bcd_1401.specs.Digits.{is_digit}
+use Rattle.source_1401.specs.Label.{label_of, label_in}
 use Rattle.source_1401.specs.Language.{is_sound, line_in}
 use Rattle.source_1401.specs.Mnemonic.{operation_of}
 use Rattle.source_1401.specs.Numbers.{short_number}

@@ -2,7 +2,8 @@
 use Rattle.std.proofs.Common.{◌≡◌, ℕ, suc, ◌<◌, ◌≤◌, List, [], ◌∷◌, length, drop, get_or, None, drop-cons, arith}
 use Rattle.std.proofs.lemmas.Bool.Decides.{nat_tests}
 use Rattle.std.specs.Prelude.{fold}
-use Rattle.source_1401.specs.Numbers.{with_digit, value_of, number_between}
+use Rattle.bcd_1401.specs.Digits.{with_digit, value_of}
+use Rattle.source_1401.specs.Numbers.{number_between}
 
 pub no_less : (number : ℕ) (digits : List ℕ) → number ≤ fold with_digit number digits
 no_less number [] = omega arith

@@ -5,7 +5,8 @@ use Rattle.std.specs.Prelude.{neg_ℤ, Option, None, Some, codes}
 use Rattle.std.specs.Option.{option_map, option_and_then}
 use Rattle.std.specs.List.{prefix_len}
 use Rattle.std.specs.Str.{bytes_eq}
-use Rattle.source_1401.specs.Label.{is_digit, is_letter_or_digit, label_of, register_of}
+use Rattle.bcd_1401.specs.Digits.{is_digit}
+use Rattle.source_1401.specs.Label.{is_letter_or_digit, label_of, register_of}
 use Rattle.source_1401.specs.Numbers.{short_number}
 use Rattle.source_1401.specs.Punctuation.{asterisk, plus_sign, minus_sign}
 use Rattle.source_1401.specs.declared.address.Address.{Address}

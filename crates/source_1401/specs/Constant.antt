@@ -4,7 +4,7 @@ use Rattle.std.specs.Prelude.{None, Some}
 use Rattle.std.specs.Option.{option_map}
 use Rattle.std.specs.List.{position_or_len, list_all}
 use Rattle.source_1401.specs.SourceLine.{padded}
-use Rattle.source_1401.specs.Label.{is_digit}
+use Rattle.bcd_1401.specs.Digits.{is_digit}
 use Rattle.source_1401.specs.Numbers.{number_between}
 use Rattle.source_1401.specs.Punctuation.{at_sign, number_sign, plus_sign, minus_sign}
 use Rattle.source_1401.specs.declared.constant.Text.{Text}

@@ -3,6 +3,7 @@ use Rattle.std.specs.Prelude.{ℕ, ◌==◌, nat_le, Bool, true, not, ◌&&◌, 
 use Rattle.std.specs.Prelude.{slice_index, Option, None, Some, is_some, codes}
 use Rattle.std.specs.List.{position_or_len, list_all}
 use Rattle.std.specs.Str.{bytes_eq}
+use Rattle.bcd_1401.specs.Digits.{is_digit}
 use Rattle.source_1401.specs.SourceLine.{padded, is_blank}
 use Rattle.source_1401.specs.declared.label.Label.{Label}
 use Rattle.source_1401.specs.declared.label.LabelField.{LabelField}
@@ -12,9 +13,6 @@ use Rattle.source_1401.specs.declared.language.Language.TheVariants as languages
 
 abbrev pub is_letter : ℕ → Bool
 is_letter byte = nat_le 65 byte && nat_le byte 90
-
-abbrev pub is_digit : ℕ → Bool
-is_digit byte = nat_le 48 byte && nat_le byte 57
 
 abbrev pub is_letter_or_digit : ℕ → Bool
 is_letter_or_digit byte = is_letter byte || is_digit byte

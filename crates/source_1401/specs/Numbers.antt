@@ -1,16 +1,7 @@
 -- The numbers of operands (Autocoder, "Operand").
-use Rattle.std.specs.Prelude.{ℕ, ◌+◌, ◌-◌, ◌*◌, nat_le, nat_lt, Bool, ◌&&◌, if◌then◌else◌, List, length, fold, Option}
-use Rattle.std.specs.Prelude.{None, Some}
+use Rattle.std.specs.Prelude.{ℕ, nat_le, nat_lt, Bool, ◌&&◌, if◌then◌else◌, List, length, Option, None, Some}
 use Rattle.std.specs.List.{list_all}
-use Rattle.source_1401.specs.Label.{is_digit}
-
--- a digit after a number makes ten times the number and the digit
-abbrev pub with_digit : ℕ → ℕ → ℕ
-with_digit number digit = 10 * number + (digit - 48)
-
--- the number that digits write
-abbrev pub value_of : List ℕ → ℕ
-value_of digits = fold with_digit 0 digits
+use Rattle.bcd_1401.specs.Digits.{is_digit, value_of}
 
 -- a word of digits alone, however many
 abbrev pub is_number : List ℕ → Bool

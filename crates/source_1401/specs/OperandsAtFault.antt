@@ -89,7 +89,7 @@ abbrev pub lone_flaw : OperandFlaw → ℕ → List ℕ → Flaw
 lone_flaw kind skipped columns =
     if is_ended (behind_operand columns) then flaw_after skipped (operand_len false columns) kind
     else flaw_after (skipped + operand_len false columns) (position_or_len is_blank (behind_operand columns))
-        flaws.TooMuch
+    flaws.TooMuch
 
 -- a field may have one place alone, and has it
 abbrev pub is_lone_place : Language → List ℕ → Bool

@@ -2,7 +2,8 @@
 use Rattle.std.specs.Prelude.{ℕ, ◌==◌, Bool, true, false, ◌&&◌, ◌||◌, if◌then◌else◌, List, [], ◌∷◌, length, slice_index}
 use Rattle.std.specs.Prelude.{Option, None, Some}
 use Rattle.std.specs.Option.{option_map, option_or}
-use Rattle.source_1401.specs.Label.{is_letter, is_digit}
+use Rattle.bcd_1401.specs.Digits.{is_digit}
+use Rattle.source_1401.specs.Label.{is_letter}
 use Rattle.source_1401.specs.Operands.{OperandAndRest, behind_operand, field_with, instruction_operand_of, is_ended}
 use Rattle.source_1401.specs.Operands.{operand_in, operands_after}
 use Rattle.source_1401.specs.Punctuation.{percent_sign}

@@ -2,7 +2,8 @@
 ghost use Rattle.std.specs.Prelude.{◌≡◌, ◌<◌, ◌≤◌, ◌+ℤ◌, length, pos, slice_index};
 ghost use Rattle.std.specs.List.{prefix_len};
 ghost use Rattle.source_1401.specs.Numbers.{greatest_number};
-ghost use Rattle.source_1401.specs.Label.{is_digit, is_letter_or_digit};
+ghost use Rattle.bcd_1401.specs.Digits.{is_digit};
+ghost use Rattle.source_1401.specs.Label.{is_letter_or_digit};
 ghost use Rattle.source_1401.specs.Address.{begins_with_asterisk, is_adjusted, adjustment_of, is_no_index, index_of};
 ghost use Rattle.source_1401.specs.Address.{base_len, named_base, base_of, indexed, adjusted_by, adjusted, address_of};
 

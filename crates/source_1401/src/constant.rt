@@ -2,7 +2,7 @@
 ghost use Rattle.std.specs.Prelude.{◌≡◌, ◌≤◌, length};
 ghost use Rattle.std.specs.Option.{option_map, ForSome};
 ghost use Rattle.std.specs.List.{position_or_len, list_all};
-ghost use Rattle.source_1401.specs.Label.{is_digit};
+ghost use Rattle.bcd_1401.specs.Digits.{is_digit};
 ghost use Rattle.source_1401.specs.declared.constant.Constant.TheVariants.{Blanks};
 ghost use Rattle.source_1401.specs.Constant.{is_at_sign, text_of, bytes_of, quoted, digits_in, constant_of};
 

@@ -1,7 +1,8 @@
 //! Labels.
 ghost use Rattle.std.specs.Prelude.{◌≡◌, ◌≤◌, length, slice_index};
 ghost use Rattle.std.specs.List.{position_or_len, list_all};
-ghost use Rattle.source_1401.specs.Label.{is_letter, is_digit, is_letter_or_digit, register_of, may_be_label, is_label};
+ghost use Rattle.bcd_1401.specs.Digits.{is_digit};
+ghost use Rattle.source_1401.specs.Label.{is_letter, is_letter_or_digit, register_of, may_be_label, is_label};
 ghost use Rattle.source_1401.specs.Label.{label_of, label_in};
 ghost use Rattle.source_1401.specs.SourceLine.{is_blank};
 

@@ -1,6 +1,6 @@
 //! The numbers of operands.
 ghost use Rattle.std.specs.Prelude.{◌≡◌, ◌-◌, ◌<◌, ◌≤◌, IfSome, if◌then◌else◌};
-ghost use Rattle.source_1401.specs.Label.{is_digit};
+ghost use Rattle.bcd_1401.specs.Digits.{is_digit};
 ghost use Rattle.source_1401.specs.Numbers.{number_between, greatest_number, short_number};
 
 /// The most digits that a number of an address may have.

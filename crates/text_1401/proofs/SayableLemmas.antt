@@ -18,7 +18,7 @@ use Rattle.core_1401.specs.Address.{addresses}
 use Rattle.core_1401.specs.Cells.{most_cells}
 use Rattle.devices_1401.specs.declared.card.Card.{Card}
 use Rattle.notation_1401.specs.Cells.{cell_of, cells_of, spelled, tilde}
-use Rattle.notation_1401.specs.Digits.{is_digit, value_of}
+use Rattle.bcd_1401.specs.Digits.{is_digit, value_of}
 use Rattle.notation_1401.specs.declared.fault.CellsFault.{CellsFault}
 use Rattle.notation_1401.specs.declared.fault.CellsFault.TheVariants as cells_fault
 use Rattle.command_1401.specs.declared.command.Command.TheVariants as command

@@ -19,7 +19,7 @@ use Rattle.text_1401.specs.LineText.{IsParted, IsTypedAs}
 use Rattle.text_1401.specs.LineText.Part.{Numeral}
 use Rattle.text_1401.specs.Words.{most_digits}
 use Rattle.text_1401.specs.Words.{is_blank, without_blanks, word_in, behind_word, number_of}
-use Rattle.notation_1401.specs.Digits.{is_digit, value_of}
+use Rattle.bcd_1401.specs.Digits.{is_digit, value_of}
 
 -- whether a byte is a part of a word
 abbrev pub in_word : ℕ → Bool

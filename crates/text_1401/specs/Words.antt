@@ -4,7 +4,7 @@ use Rattle.std.specs.Prelude.{[], ◌∷◌, length, drop, find, Option, Result,
 use Rattle.std.specs.List.{prefix_len, position_or_len, before_first, list_all}
 use Rattle.std.specs.Option.{ok_or}
 use Rattle.std.specs.Str.{bytes_eq}
-use Rattle.notation_1401.specs.Digits.{is_digit, value_of}
+use Rattle.bcd_1401.specs.Digits.{is_digit, value_of}
 use Rattle.core_1401.specs.Address.{addresses}
 use Rattle.cpu_1401.specs.declared.switch_name.SwitchName.{SwitchName}
 use Rattle.cpu_1401.specs.declared.switch_name.SwitchName.TheVariants.{A, B, C, D, E, F, G}

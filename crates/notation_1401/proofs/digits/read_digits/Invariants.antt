@@ -1,7 +1,7 @@
 -- The bytes so far are digits, and the number so far is theirs.
 use Rattle.std.proofs.Common.{◌≡◌, ◌^◌, ◌<◌, true, take}
 use Rattle.std.specs.List.{list_all}
-use Rattle.notation_1401.specs.Digits.{is_digit, value_of}
+use Rattle.bcd_1401.specs.Digits.{is_digit, value_of}
 use Rattle.notation_1401.proofs.digits.read_digits.Given as goal
 
 abbrev pub invariant-loop-digit : goal.invariant-loop-digit

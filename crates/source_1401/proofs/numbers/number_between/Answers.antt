@@ -1,7 +1,7 @@
 -- With a digit that makes it too great, all digits do.
 use Rattle.std.proofs.Common.{◌≡◌, ◌-◌, ◌<◌, sym, get_or, arith}
 use Rattle.std.proofs.lemmas.Bool.Decides.{nat_tests}
-use Rattle.source_1401.specs.Numbers.{value_of}
+use Rattle.bcd_1401.specs.Digits.{value_of}
 use Rattle.source_1401.proofs.NumbersLemmas.{with_one, too_great}
 use Rattle.source_1401.proofs.numbers.number_between.Goals as goal
 

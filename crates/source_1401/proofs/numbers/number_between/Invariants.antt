@@ -2,8 +2,8 @@
 use Rattle.std.proofs.Common.{◌≡◌, ◌≤◌, drop}
 use Rattle.std.specs.Prelude.{fold}
 use Rattle.std.specs.List.{list_all}
-use Rattle.source_1401.specs.Label.{is_digit}
-use Rattle.source_1401.specs.Numbers.{with_digit, value_of}
+use Rattle.bcd_1401.specs.Digits.{is_digit}
+use Rattle.bcd_1401.specs.Digits.{with_digit, value_of}
 use Rattle.source_1401.proofs.numbers.number_between.Given as goal
 
 abbrev pub invariant-loop-byte : goal.invariant-loop-byte
