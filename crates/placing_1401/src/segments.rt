@@ -14,7 +14,7 @@ use bcd_1401::Cell;
 use core_1401::{ADDRESSES, Cells, MOST_CELLS};
 use image_1401::Segment;
 use source_1401::Description;
-use std::alloc::Global;
+use std::alloc::{AllocError, Global};
 use symbols_1401::{AsmFault, KeptLine};
 
 /// The segments so far, and the one that may go on.
@@ -42,7 +42,8 @@ fn start_or_zero(at: usize) -> u16
 impl Builder {
     /// No segment.
     pub fn new(alloc: Global) -> Builder
-        ensures { (rest : List (ℕ × ACell)) → built result rest ≡ segments_of rest }
+        ensures built { (rest : List (ℕ × ACell)) → built result rest ≡ segments_of rest }
+        ensures empty { (result.done.items ≡ []) × (result.address ≡ 0) × (result.cells.items ≡ []) }
     {
         Builder {
             done: Vec::new(alloc),
@@ -52,7 +53,7 @@ impl Builder {
     }
 
     /// Whether a cell at this address goes on with the segment.
-    fn goes_on(&self, address: usize) -> bool
+    pub fn goes_on(&self, address: usize) -> bool
         ensures { result ≡ goes_on self.now.address self.now.cells.items address }
     {
         self.cells.len() < MOST_CELLS
@@ -61,11 +62,10 @@ impl Builder {
     }
 
     /// Closes the segment that may go on, if it has a cell.
-    fn close(&mut self) -> Result<(), AsmFault>
+    pub fn close(&mut self) -> Result<(), AllocError>
         ensures ok { OnOk result
             (self.new.done.items ≡ self.old.done.items ++ closed self.old.address self.old.cells.items) }
         ensures empty { OnOk result (self.new.cells.items ≡ []) }
-        ensures err { IfErr result IsMemory }
     {
         if let Some(cells) = Cells::from_slice(&self.cells) {
             self.done.push(Segment {
