@@ -93,9 +93,10 @@ pub(crate) fn is_replaceable(char: Char) -> bool
     (REPLACEABLE >> char.code()) & 1 == 1
 }
 
-/// How many replaceable places n places that end at an address have.
+/// How many of the n places that end at an address have a character that an edit may replace by one of A: a blank or a
+/// zero.
 #[inline(always)]
-fn count_replaceable(core: &Core, at: u16, n: u16) -> u16
+pub fn count_replaceable(core: &Core, at: u16, n: u16) -> u16
     requires at { at < length core.now }
     requires n { n ≤ at + 1 }
     ensures value { result ≡ replaceable_in (chars_across core.now at n) }

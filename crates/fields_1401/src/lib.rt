@@ -38,13 +38,14 @@ pub mod zero_sums;
 
 // editing by a control word, and zero suppression
 mod across;
-mod control_word;
+pub mod control_word;
 pub mod editing;
 mod lanes;
 pub mod suppression;
 
 pub use arithmetic::{add, add_within, subtract, subtract_within};
 pub use comparison::{compare, compare_within};
+pub use control_word::count_replaceable;
 pub use done::{Done, FieldStop};
 pub use editing::edit;
 pub use loads::load_chars;

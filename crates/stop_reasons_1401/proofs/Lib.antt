@@ -1,4 +1,3 @@
-mod AcrossLemmas
 mod StopLemmas
 pub mod ToldLemmas
 pub mod HaltLemmas

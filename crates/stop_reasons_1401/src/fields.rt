@@ -16,9 +16,9 @@ ghost use Rattle.fields_1401.specs.Refusal.{used_len_of};
 ghost use Rattle.fields_1401.specs.Suppress.{suppress_at};
 ghost use Rattle.stop_reasons_1401.specs.FieldReason.{IsFieldSo, address_of, field_stop};
 
-use crate::control_word::count_replaceable;
 use crate::field_reason::{FieldReason, Operand, Span};
 use core_1401::Core;
+use fields_1401::count_replaceable;
 
 /// How many places an address of three characters takes.
 const ADDRESS_PLACES: u16 = 3;

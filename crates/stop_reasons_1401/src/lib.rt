@@ -14,7 +14,6 @@ pub mod field_reason;
 pub mod reason;
 
 // why the operations on fields can't be carried out
-mod control_word;
 mod fields;
 
 // the instruction at the I register, and why it stops the machine
