@@ -17,7 +17,8 @@ use Rattle.autocoder_1401.specs.AllFaults.{or_outside, all_faults, fault_in, IsT
 use Rattle.autocoder_1401.specs.Assembly.{fault_or, unless_fault}
 
 -- if no fault of a line is told, the assembler has no other than what isn't in core
-pub only_outside : {X : Type 0} (language : Language) (size : ℕ) (lines : List Line) (answer : X) → line_faults language lines ≡ []
+pub only_outside : {X : Type 0} (language : Language) (size : ℕ) (lines : List Line) (answer : X)
+    → line_faults language lines ≡ []
     → fault_in (unless_fault language size lines answer) ≡ first_outside size lines
 only_outside {X} language size lines answer none =
     let clean : first_fault language lines ≡ None = sym (first_of_lines language lines) ∙ ap first_in none in
@@ -54,7 +55,8 @@ first_of_all {X} language size lines answer = by (line_faults language lines) re
         sym (ap (λ found. fault_in (fault_or found (fault_or (first_outside size lines) (Ok answer)))) first)
 
 -- each that is told is there
-pub each_of_all : (language : Language) (size : ℕ) (lines : List Line) → All (IsTold language size lines) (all_faults language size lines)
+pub each_of_all : (language : Language) (size : ℕ) (lines : List Line)
+    → All (IsTold language size lines) (all_faults language size lines)
 each_of_all language size lines =
     by (line_faults language lines) refl
     (each_from (declared_at language lines) (sites_anywhere lines) lines lines 0 nothing_before refl (omega arith) refl)

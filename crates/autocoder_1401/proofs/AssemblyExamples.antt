@@ -120,7 +120,8 @@ an_entry_in_a_larger_core = refl
 
 -- the last places of 16,000, and an address with zones over its hundreds and units
 at_the_last_place : List ℕ
-at_the_last_place = codes "               ORG  15992\n               MLC  15999,12345\n               H\n               END  15992\n"
+at_the_last_place =
+    codes "               ORG  15992\n               MLC  15999,12345\n               H\n               END  15992\n"
 
 the_last_place_of_16_000 : in_places 16000 at_the_last_place
     ≡ Ok (record {

@@ -158,7 +158,8 @@ labelled : List ℕ → LabelField
 labelled text = labels.Label (record { text = text })
 
 area : List ℕ → ℕ → OperandField
-area text places = fields.Operand (operands.Literal (literals.Area (record { label = record { text = text }; places = places })))
+area text places =
+    fields.Operand (operands.Literal (literals.Area (record { label = record { text = text }; places = places })))
 
 end_line : Line
 end_line =

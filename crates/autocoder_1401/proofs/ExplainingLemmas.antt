@@ -20,7 +20,8 @@ with_outside [] None = refl
 with_outside [] (Some outside) = refl
 with_outside (first ∷ more) outside = refl
 
-pub told_all : (language : Language) (size : ℕ) (sources : List (List ℕ)) → faults_of (all_explained language size sources)
+pub told_all : (language : Language) (size : ℕ) (sources : List (List ℕ))
+    → faults_of (all_explained language size sources)
     ≡ all_faults language size (lines_said language sources)
 told_all language size sources =
     with_outside (explained_lines language sources) (first_outside size (lines_said language sources))

@@ -1,5 +1,5 @@
--- Sources in the wider language with literals of addresses and areas, LTORG and indexes of symbols, and the images, lines
--- and tables worked out for them by hand.
+-- Sources in the wider language with literals of addresses and areas, LTORG and indexes of symbols, and the images,
+-- lines and tables worked out for them by hand.
 use Rattle.std.proofs.Common.{◌≡◌, ℕ, List, [], ◌∷◌, ◌++◌, map, Option, Some, None, refl}
 use Rattle.std.specs.Prelude.{codes, if◌then◌else◌}
 use Rattle.std.specs.Fmt.{digits}

@@ -40,7 +40,8 @@ fitted_is_not_told false number e = All-nil IsOther
 -- a warning of another kind doesn't tell that an instruction isn't fitted
 other_warning : (is : Bool) (number : ℕ) (kind : WarningKind) → kind ≢ kinds.NotFitted
     → AllFitted (warned_if is number kind)
-other_warning true number kind other = All-cons IsOther (record { line = number; kind = kind }) [] other (All-nil IsOther)
+other_warning true number kind other =
+    All-cons IsOther (record { line = number; kind = kind }) [] other (All-nil IsOther)
 other_warning false number kind other = All-nil IsOther
 
 -- nor does one that an instruction is read on

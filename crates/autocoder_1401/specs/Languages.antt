@@ -6,8 +6,9 @@ use Rattle.symbols_1401.specs.Reading.{lines_in}
 use Rattle.autocoder_1401.specs.Assembly.{assembly_in}
 use Rattle.autocoder_1401.specs.declared.assembly.Assembly.{Assembly}
 
--- A source means in a language what it means in the plain one, where this is its image and its listing: each line says the
--- same, and the image and the listing are the same. So are its tables and its warnings, which are those of the lines.
+-- A source means in a language what it means in the plain one, where this is its image and its listing: each line says
+-- the same, and the image and the listing are the same. So are its tables and its warnings, which are those of the
+-- lines.
 pub record MeansTheSame (language : Language) (size : ℕ) (source : List ℕ) (plain : Assembly) : Type 0 where
   pub lines : lines_in language source ≡ lines_in Plain source
   pub assembly : assembly_in language size source ≡ Ok plain

@@ -33,9 +33,8 @@ field_length areas.Keeps = None
 field_length (areas.Makes made) = None
 field_length (areas.Divides span) = option_map span_length span
 
--- how many places a label names: those of an instruction, a constant, DS or all areas of DA with their group mark, or of
--- the field of one area; EQU names a value alone, and ORG and LTORG a place at which
--- nothing begins
+-- how many places a label names: those of an instruction, a constant, DS or all areas of DA with their group mark, or
+-- of the field of one area; EQU names a value alone, and ORG and LTORG a place at which nothing begins
 abbrev pub length_by : Description → Point → Option ℕ
 length_by row point.First = Some (contents_length row.contents)
 length_by row point.Last = Some (contents_length row.contents)

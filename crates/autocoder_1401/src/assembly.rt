@@ -176,8 +176,8 @@ pub fn assemble(
     ensures segments { is_core_size size ≡ true → IfOk result (λ assembly.
         IsCutOf (placed_cells (lines_in language source.now)) assembly.image.segments) }
 
-    // Places advance by the lengths of the lines, and from the value of an origin after one; literals are kept once each
-    // in the order of their first use, and EX, END and LTORG place them one after the other.
+    // Places advance by the lengths of the lines, and from the value of an origin after one; literals are kept once
+    // each in the order of their first use, and EX, END and LTORG place them one after the other.
     ensures placement { OnOk result (IsPlacedInTurn (lines_in language source.now)) }
 
     // A fault is the lowest of the first line that has one, or that something of a faultless source isn't in core.

@@ -61,7 +61,8 @@ between_from : (first before after : List SeatedCommand) (P : List SeatedCommand
 between_from first before after P p b = (b.0, prefix_trans first before b.0 p b.1, b.2, b.3)
 
 -- a reply between two lists is one between a beginning of the first and the second
-reply_from : (size : ℕ) (first before after : List SeatedCommand) (said : Said) (given : Option Reply) → IsPrefix first before
+reply_from : (size : ℕ) (first before after : List SeatedCommand) (said : Said) (given : Option Reply)
+    → IsPrefix first before
     → LineReplied size before after said given → LineReplied size first after said given
 reply_from size first before after (Ok line.Empty) given p r = r
 reply_from size first before after (Ok (line.Command command)) None p r = r
@@ -133,7 +134,8 @@ same size before said given middle after is none replied =
     })
 
 -- a list that goes on from a full one, and isn't longer than a full one, is full
-all_seen : (full list : List SeatedCommand) → length full ≡ most_entries → IsPrefix full list → length list ≤ most_entries
+all_seen : (full list : List SeatedCommand) → length full ≡ most_entries → IsPrefix full list
+    → length list ≤ most_entries
     → length list ≡ most_entries
 all_seen full list is grows few = omega (arith, is, few, ap length (grows.1), length-append full grows.0)
 

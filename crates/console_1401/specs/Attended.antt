@@ -103,7 +103,8 @@ AllReplied size before after (given ∷ more) =
 -- The lines of a console at a seat were answered: what was written are their replies. The commands that the room
 -- didn't refuse are, in order, the seat's own in the list that it has seen then, beyond the one that it had seen,
 -- and each was answered as the machine answers it there; it made more by their number.
-pub record Attended (size : ℕ) (before : SeatView) (lines : List Said) (written : List ℕ) (after : SeatView) : Type 0 where
+pub record Attended (size : ℕ) (before : SeatView) (lines : List Said) (written : List ℕ) (after : SeatView)
+    : Type 0 where
   pub replied : List Replied
   pub lines_are : map (λ (given : Replied). given.said) replied ≡ lines
   pub written_is : written ≡ flat_map (λ (given : Replied). bytes_of given.reply) replied

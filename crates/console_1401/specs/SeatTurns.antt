@@ -59,13 +59,15 @@ LineResponds size before (Err fault) given after = (given ≡ Some (reply.LineFa
 
 -- One line was answered at a seat of a room of this size, whose number stays, and which has seen no more than a full
 -- journal.
-pub record SeatResponds (size : ℕ) (before : SeatView) (said : Said) (given : Option Reply) (after : SeatView) : Type 0 where
+pub record SeatResponds (size : ℕ) (before : SeatView) (said : Said) (given : Option Reply) (after : SeatView)
+    : Type 0 where
   pub number_is : after.number ≡ before.number
   pub bound : length after.list ≤ most_entries
   pub line : LineResponds size before said given after
 
 -- One line was answered at a seat, and these bytes are its reply: none for an empty line.
-pub record AnswersAtSeat (size : ℕ) (before : SeatView) (said : Said) (written : List ℕ) (after : SeatView) : Type 0 where
+pub record AnswersAtSeat (size : ℕ) (before : SeatView) (said : Said) (written : List ℕ) (after : SeatView)
+    : Type 0 where
   pub reply : Option Reply
   pub responded : SeatResponds size before said reply after
   pub written_is : written ≡ bytes_of reply

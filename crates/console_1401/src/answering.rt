@@ -29,8 +29,8 @@ fn without_carriage_return(line: &[u8]) -> &[u8]
     }
 }
 
-/// Answers one line, of this number: it is carried out, and then its reply is written, if what it did is kept. Gives the
-/// session's end, if that was it.
+/// Answers one line, of this number: it is carried out, and then its reply is written, if what it did is kept. Gives
+/// the session's end, if that was it.
 fn answer_line<T: Responder, W: Sink>(
     alloc: Global,
     responder: &mut T,

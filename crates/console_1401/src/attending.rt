@@ -31,7 +31,8 @@ pub enum Unanswered {
     Unkept,
 }
 
-/// Carries out at a seat what a line says. Gives its reply, which an empty line hasn't, and whether what it did is kept.
+/// Carries out at a seat what a line says. Gives its reply, which an empty line hasn't, and whether what it did is
+/// kept.
 fn respond_at<J: RoomId, R: Wait + Drop, P: Keeper + Drop, W: Wait>(
     wait: &W,
     room: &SharedRoom<J, R, P>,

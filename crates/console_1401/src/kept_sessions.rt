@@ -59,7 +59,8 @@ pub fn session_kept<K: Keeper + Drop, R: Source, W: Sink>(
     ensures good_read { result ≢ SessionEnd.Read → R.has_failed reader.new ≡ false }
     ensures good_write { result ≢ SessionEnd.Write → W.has_failed writer.new ≡ W.has_failed writer.old }
 
-    // What is kept is the text of the journal; or it breaks off in the last line, if and only if that ended the session.
+    // What is kept is the text of the journal; or it breaks off in the last line, if and only if that ended the
+    // session.
     ensures kept { IsKeptAs K.form room.new.room.size room.new.room.journal room.new.failed K.first room.new.kept }
     ensures good { result ≢ SessionEnd.Unkept → room.new.failed ≡ false }
     ensures unkept { result ≡ SessionEnd.Unkept → room.new.failed ≡ true }

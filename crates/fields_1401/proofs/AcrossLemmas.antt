@@ -14,7 +14,8 @@ use Rattle.fields_1401.specs.Across.{chars_across, unzoned_at, units_unzoned, un
 use Rattle.fields_1401.specs.Across.{char_to, unzoned_down, IsSameOutside, IsSameBeside}
 use Rattle.fields_1401.specs.Outcome.{below_by}
 use Rattle.fields_1401.specs.Places.{is_within, with_cells, with_chars, unmarked_place, rewritten_cell}
-use Rattle.fields_1401.proofs.PlacesLemmas.{cell_at-within, cell_at-outside, is_within-inside, is_within-above, is_within-below}
+use Rattle.fields_1401.proofs.PlacesLemmas.{cell_at-within, cell_at-outside, is_within-inside, is_within-above}
+use Rattle.fields_1401.proofs.PlacesLemmas.{is_within-below}
 use Rattle.fields_1401.proofs.PlacesLemmas.{length-with_cells, with_cells_same, with_cells_again, cell_at-with_chars}
 
 -- there is a character for each place

@@ -1,6 +1,7 @@
 -- The highest pair that differs decides, as the first letters that differ do in a dictionary.
 use Rattle.std.proofs.Common.{◌≡◌, ◌≢◌, ℕ, ◌+◌, ◌-◌, ◌<◌, ◌≤◌, ◌==◌, ◌||◌, ◌&&◌, ◌++◌, Bool, true, false, List, [], ◌∷◌}
-use Rattle.std.proofs.Common.{Option, Some, None, Ok, IfSome, length, get_or, map, not, ap, sym, ◌∙◌, refl, arith, zero, suc}
+use Rattle.std.proofs.Common.{Option, Some, None, Ok, IfSome, length, get_or, map, not, ap, sym, ◌∙◌, refl, arith, zero}
+use Rattle.std.proofs.Common.{suc}
 use Rattle.std.proofs.Common.{if◌then◌else◌, cond, take, drop, add-one, subst, drop-cons}
 use Rattle.std.proofs.Common.{Ordering, Less, Equal, Greater}
 use Rattle.std.proofs.Common.{inl, inr}
@@ -390,7 +391,8 @@ tells_high s a b (Some i) =
     high_by (nat_lt x y) (x == y)
 
 -- what is told of fields of one length
-pub tells : (s : Storage) (a b n : ℕ) (pair : Option ℕ) (ends some higher : Bool) (r : Done) → a < length s → b < length s
+pub tells : (s : Storage) (a b n : ℕ) (pair : Option ℕ) (ends some higher : Bool) (r : Done) → a < length s
+    → b < length s
     → n ≤ a + 1 → n ≤ b + 1 → Some n ≡ pair_len_of s a b → pair ≡ highest_difference s a b n → ends ≡ ends_first s a b n
     → some ≡ is_some pair → higher ≡ is_higher s a b pair → IsApart s a b pair → (m : ℕ) → field_len_of s a ≡ Some m
     → field_len_of s b ≡ Some m → Tells (record r {

@@ -1,5 +1,6 @@
 -- The places of a control word, and what they take.
-use Rattle.std.proofs.Common.{◌≡◌, ◌≢◌, bit_and, ◌/◌, ◌^◌, set, ℕ, ◌+◌, ◌-◌, ◌<◌, ◌≤◌, ◌⊎◌, ◌==◌, Bool, true, false, List, Option, Some, None, min}
+use Rattle.std.proofs.Common.{◌≡◌, ◌≢◌, bit_and, ◌/◌, ◌^◌, set, ℕ, ◌+◌, ◌-◌, ◌<◌, ◌≤◌, ◌⊎◌, ◌==◌, Bool, true, false}
+use Rattle.std.proofs.Common.{List, Option, Some, None, min}
 use Rattle.std.proofs.Common.{length, get_or, map, drop, cond, ap, sym, ◌∙◌, inl, inr, arith}
 use Rattle.std.specs.List.{count_by, range_with_len}
 use Rattle.std.specs.Prelude.{not, nat_lt, ◌&&◌, ◌||◌, if◌then◌else◌}

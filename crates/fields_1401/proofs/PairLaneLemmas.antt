@@ -1,6 +1,7 @@
 -- Pairs compared at once: the bit of a lane tells whether its pair differs.
 use Rattle.std.proofs.Common.{◌≡◌, ◌≢◌, ℕ, ◌+◌, ◌-◌, ◌/◌, ◌%◌, ◌^◌, ◌==◌, ◌<◌, ◌≤◌, Bool, true, false, List, [], ◌∷◌}
-use Rattle.std.proofs.Common.{Some, None, length, drop, get_or, not, ap, sym, refl, ◌∙◌, inl, inr, arith, zero, suc, cond}
+use Rattle.std.proofs.Common.{Some, None, length, drop, get_or, not, ap, sym, refl, ◌∙◌, inl, inr, arith, zero, suc}
+use Rattle.std.proofs.Common.{cond}
 use Rattle.std.specs.Simd.Lanes.{chunk, mask_l, zip2}
 use Rattle.std.specs.Int.{trailing_zeros, w64}
 use Rattle.std.proofs.lemmas.Bool.{cases_lt}
@@ -42,7 +43,8 @@ zip_bit f (x ∷ xs) (y ∷ ys) zero in_xs in_ys = refl
 zip_bit f (x ∷ xs) (y ∷ ys) (suc i) in_xs in_ys = zip_bit f xs ys i (omega (arith, in_xs)) (omega (arith, in_ys))
 
 lane_count : (s : Storage) (at : ℕ) → 15 ≤ at → at < length s → length (lanes_at s at) ≡ 16
-lane_count s at least in_core = length-chunk (at - 15) 16 (chars_of s) (omega (arith, least, in_core, length-chars_of s))
+lane_count s at least in_core =
+    length-chunk (at - 15) 16 (chars_of s) (omega (arith, least, in_core, length-chars_of s))
 
 lane_char : (s : Storage) (at i : ℕ) → 15 ≤ at → at < length s → i < 16
     → get_or (lanes_at s at) (15 - i) 0 ≡ (cell_at s (at - i)).char

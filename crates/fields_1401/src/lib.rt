@@ -1,6 +1,6 @@
 //! The operations of the IBM 1401 on fields of core storage: each is carried out whole, or refused and nothing is
-//! changed. What ends in `_within` is for a caller who knows that both addresses are those of places, and doesn't ask for
-//! that again.
+//! changed. What ends in `_within` is for a caller who knows that both addresses are those of places, and doesn't ask
+//! for that again.
 //!
 //! ```text
 //! let moved = move_chars(&mut core, 510, 509)?;   // the A field to the B field, right to left

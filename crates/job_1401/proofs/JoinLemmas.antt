@@ -1,5 +1,6 @@
 -- A job of more steps goes on from one that met its limit, and is at its end if one has stopped.
-use Rattle.std.proofs.Common.{◌≡◌, ◌≢◌, ℕ, ◌+◌, zero, suc, List, [], ◌++◌, Option, None, Some, refl, subst, sym, ◌∙◌, ap, arith, append_assoc}
+use Rattle.std.proofs.Common.{◌≡◌, ◌≢◌, ℕ, ◌+◌, zero, suc, List, [], ◌++◌, Option, None, Some, refl, subst, sym, ◌∙◌}
+use Rattle.std.proofs.Common.{ap, arith, append_assoc}
 use Rattle.std.proofs.lemmas.List.{append-nil}
 use Rattle.devices_1401.specs.declared.card.Card.{Card}
 use Rattle.devices_1401.specs.declared.print_line.PrintLine.{PrintLine}

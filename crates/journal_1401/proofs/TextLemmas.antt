@@ -24,7 +24,8 @@ lines_by-push {A} line number front entry =
     ∙ ap (λ (text : List A). lines_by line number front ++ text) (append-nil (line (number + length front) entry))
 
 -- the entries up to one of them
-pub lines_by-take : {A : Type 0} (line : ℕ → Entry → List A) (journal : List Entry) (i : ℕ) (entry : Entry) → i < length journal
+pub lines_by-take : {A : Type 0} (line : ℕ → Entry → List A) (journal : List Entry) (i : ℕ) (entry : Entry)
+    → i < length journal
     → entry ≡ get_or journal i entry
     → lines_by line 1 (take (i + 1) journal) ≡ lines_by line 1 (take i journal) ++ line (i + 1) entry
 lines_by-take line journal i entry within is =

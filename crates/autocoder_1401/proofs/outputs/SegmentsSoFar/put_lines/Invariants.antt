@@ -1,5 +1,5 @@
--- What is made, with what the lines that are left stand for, is the whole; what is found in them is what is found in all
--- lines.
+-- What is made, with what the lines that are left stand for, is the whole; what is found in them is what is found in
+-- all lines.
 use Rattle.std.proofs.Common.{◌≡◌, ◌+◌, drop}
 use Rattle.placing_1401.specs.Built.{built}
 use Rattle.placing_1401.specs.Cells.{cells_from}
