@@ -1,9 +1,9 @@
 //! The words of the subcommand `assemble`.
 
-use crate::call::{Assembling, Call, Product, Tables, Told};
 use crate::languages::{language_arg, language_in};
 use crate::reading::{name_in, named_size_in, refusal, size_arg};
 use crate::sizes::SizeTexts;
+use calls_1401::{Assembling, Call, Product, Tables, Told};
 use clap::{Arg, ArgAction, ArgMatches, Command, Error};
 use std::alloc::{AllocError, Global};
 

@@ -1,8 +1,8 @@
 //! The options of journals, read by `clap`.
 
-use crate::call::{Call, NewJournal, Resuming, Showing};
 use crate::reading::{LINES, name_in, refusal};
 use crate::serving::{operators_in, page_arg, pages_refused, port_arg, ports_group, seats_arg};
+use calls_1401::{Call, NewJournal, Resuming, Showing};
 use clap::{Arg, ArgAction, ArgMatches, Command, Error, value_parser};
 use std::alloc::{AllocError, Global};
 

@@ -5,9 +5,6 @@
 //! ```
 #![tactic(auto)]
 
-// what is asked for
-pub mod call;
-
 // the words of each subcommand, and the options that several have
 mod assembling;
 mod journals;
@@ -18,9 +15,8 @@ mod sizes;
 // all of them read
 pub mod reading;
 
-pub use call::{
-    Assembling, Call, Job, NewJournal, Opening, Operators, Product, Resuming, Seating, Service,
-    Showing, Start, Tables, Told,
+pub use calls_1401::{
+    Assembling, Call, DEFAULT_SIZE, Job, NewJournal, Opening, Operators, Product, Resuming,
+    Seating, Service, Showing, Start, Tables, Told,
 };
 pub use reading::read_call;
-pub use sizes::DEFAULT_SIZE;

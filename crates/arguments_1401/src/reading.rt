@@ -1,14 +1,14 @@
 //! The words of the command line, read by `clap`.
 
 use crate::assembling::{assemble_call, assemble_command};
-use crate::call::{Call, Job, Start};
 use crate::journals::{
     journal_arg, journal_call, journal_command, new_journal_in, new_sync_arg, resume_call,
     resume_command,
 };
 use crate::languages::{language_arg, language_in};
 use crate::serving::{operators_in, serve_call, serve_command};
-use crate::sizes::{DEFAULT_SIZE, SizeTexts};
+use crate::sizes::SizeTexts;
+use calls_1401::{Call, DEFAULT_SIZE, Job, Start};
 use clap::error::ErrorKind;
 use clap::parser::ValueSource;
 use clap::{Arg, ArgAction, ArgMatches, Command, Error, value_parser};

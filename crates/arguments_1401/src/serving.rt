@@ -1,9 +1,9 @@
 //! The options of a room that operators share, read by `clap`.
 
-use crate::call::{Call, Opening, Operators, Seating, Service};
 use crate::journals::{journal_arg, new_journal_in, new_sync_arg};
 use crate::reading::{LINES, name_in, refusal, size_arg, size_in};
 use crate::sizes::SizeTexts;
+use calls_1401::{Call, Opening, Operators, Seating, Service};
 use clap::{Arg, ArgAction, ArgGroup, ArgMatches, Command, Error, value_parser};
 use std::alloc::{AllocError, Global};
 

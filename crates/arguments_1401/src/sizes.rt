@@ -1,10 +1,8 @@
 //! What the help says of the sizes of core storage.
 
+use calls_1401::DEFAULT_SIZE;
 use core_1401::SIZES;
 use std::alloc::{AllocError, Global};
-
-/// The size of core storage if none is named.
-pub const DEFAULT_SIZE: u16 = SIZES[2];
 
 /// The texts of the option `--size`, from the one list of sizes.
 #[derive(Drop)]

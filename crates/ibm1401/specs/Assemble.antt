@@ -15,9 +15,9 @@ use Rattle.deck_1401.specs.declared.fault.DeckFault.TheVariants.{Place}
 use Rattle.source_1401.specs.declared.language.Language.{Language}
 use Rattle.streams_1401.specs.Sink.{AppendsPart}
 use Rattle.image_1401.specs.ImageText.{IsTextOf, written_text}
-use Rattle.arguments_1401.specs.declared.call.Product.{Product}
-use Rattle.arguments_1401.specs.declared.call.Product.TheVariants as product
-use Rattle.arguments_1401.specs.declared.call.Tables.{Tables}
+use Rattle.calls_1401.specs.declared.call.Product.{Product}
+use Rattle.calls_1401.specs.declared.call.Product.TheVariants as product
+use Rattle.calls_1401.specs.declared.call.Tables.{Tables}
 use Rattle.ibm1401.specs.declared.fault.Fault.{Fault}
 use Rattle.ibm1401.specs.declared.fault.Fault.TheVariants as fault
 

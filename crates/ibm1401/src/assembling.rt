@@ -3,13 +3,13 @@ ghost use Rattle.std.specs.Prelude.{◌≡◌, true, false, Ok, Err, IfOk, IfErr
 ghost use Rattle.core_1401.specs.Storage.{is_core_size};
 ghost use Rattle.image_1401.specs.Image.{IsInCore};
 ghost use Rattle.autocoder_1401.specs.Assembly.{assembly_in, with_listing};
-ghost use Rattle.arguments_1401.specs.declared.call.Product.TheVariants.{Image as InImage, Listing, Tables as InTables};
+ghost use Rattle.calls_1401.specs.declared.call.Product.TheVariants.{Image as InImage, Listing, Tables as InTables};
 ghost use Rattle.ibm1401.specs.Assemble.{listing_text, with_part, tables_text, IsProductOf, IsWhyNotAssembled};
 ghost use Rattle.ibm1401.specs.Assemble.{IsDeckOf, IsWhyNoDeckOf, Wrote, AssembleDid};
 
 use crate::fault::Fault;
-use arguments_1401::{Product, Tables};
 use autocoder_1401::{AssemblyTables, ListingLine, assemble, assemble_image, assemble_with_tables};
+use calls_1401::{Product, Tables};
 use console_1401::{Sink, put_all};
 use core_1401::Core;
 use deck_1401::{DeckFault, write_deck};

@@ -2,7 +2,7 @@
 ghost use Rattle.std.specs.Prelude.{◌≤◌, IfOk, vec_len};
 
 use crate::fault::Fault;
-use arguments_1401::Operators;
+use calls_1401::Operators;
 use serving_1401::PagePort;
 use std::net::{Ipv4Addr, Net, TcpListener, TcpStream};
 

@@ -3,7 +3,7 @@ ghost use Rattle.std.specs.Prelude.{◌≡◌, false};
 
 use crate::fault::{Fault, ended};
 use crate::loading::{loaded_room, read_file};
-use arguments_1401::{NewJournal, Resuming, Showing};
+use calls_1401::{NewJournal, Resuming, Showing};
 use console_1401::{FromReader, SessionEnd, Sink, Source, ToWriter, session};
 use core_1401::CoreFault;
 use journal_1401::{JournalFault, View, carry_chosen};

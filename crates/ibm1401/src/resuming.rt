@@ -7,7 +7,7 @@ use crate::entrances::{Entrances, open_entrances};
 use crate::fault::Fault;
 use crate::journals::{chosen_room, durability_of, tell_cut};
 use crate::seating::{open_new, serve_room};
-use arguments_1401::{NewJournal, Operators, Resuming};
+use calls_1401::{NewJournal, Operators, Resuming};
 use console_1401::Sink;
 use keeping_1401::{
     Durability, JournalFile, TakenUp, TextKeeper, Verifier, find_journal, read_room, verify_journal,

@@ -10,7 +10,7 @@ use crate::fault::Fault;
 use crate::journals::durability_of;
 use crate::loading::read_file;
 use crate::serving::start_fault;
-use arguments_1401::{NewJournal, Opening, Seating};
+use calls_1401::{NewJournal, Opening, Seating};
 use core_1401::Core;
 use devices_1401::{Card, MOST_HELD};
 use image_1401::{Image, read_image};

@@ -3,7 +3,7 @@ ghost use Rattle.std.specs.Prelude.{◌≡◌};
 ghost use Rattle.ibm1401.specs.Status.{service_outcome, start_fault};
 
 use crate::fault::Fault;
-use arguments_1401::Service;
+use calls_1401::Service;
 use console_1401::{ServeFault, serve};
 use room_1401::{Opened, RoomId, SharedRoom, StartFault};
 use serving_1401::TakingTurns;

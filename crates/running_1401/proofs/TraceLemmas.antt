@@ -21,8 +21,8 @@ use Rattle.running_1401.specs.TraceText.{trace_on, trace_text}
 use Rattle.std.proofs.KnownBytes.{Appends-nil, Appends-trans}
 use Rattle.std.specs.Io.KnownBytes.{Appends}
 use Rattle.streams_1401.specs.Sink.{AppendsPart}
-use Rattle.arguments_1401.specs.declared.call.Start.{Start}
-use Rattle.arguments_1401.specs.declared.call.Start.TheVariants as start
+use Rattle.calls_1401.specs.declared.call.Start.{Start}
+use Rattle.calls_1401.specs.declared.call.Start.TheVariants as start
 use Rattle.running_1401.specs.RunTrace.{IsWhyUntraced, TracedStretch, line_if, lines_after, most_at_once, rest_traced}
 use Rattle.running_1401.specs.RunTrace.{seen_if, started_trace, traced}
 use Rattle.running_1401.specs.declared.deck_running.Broken.{Broken}

@@ -14,8 +14,8 @@ use Rattle.job_1401.specs.declared.paper.Place.{Place}
 use Rattle.job_1401.specs.Paper.{paper_text, place_behind}
 use Rattle.job_1401.specs.Unattended.{Job, after_output, ended, unattended}
 use Rattle.streams_1401.specs.Sink.{AppendsPart}
-use Rattle.arguments_1401.specs.declared.call.Start.{Start}
-use Rattle.arguments_1401.specs.declared.call.Start.TheVariants as start
+use Rattle.calls_1401.specs.declared.call.Start.{Start}
+use Rattle.calls_1401.specs.declared.call.Start.TheVariants as start
 use Rattle.running_1401.specs.declared.deck_running.Broken.{Broken}
 use Rattle.running_1401.specs.declared.deck_running.Broken.TheVariants as broken
 use Rattle.running_1401.specs.declared.deck_running.Stretch.{Stretch}

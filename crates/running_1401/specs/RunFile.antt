@@ -2,9 +2,9 @@
 -- its bytes.
 use Rattle.std.specs.Prelude.{◌≡◌, ◌≢◌, ◌⊎◌, ℕ, ⊤, true, List, Option, Some, option_map, string_bytes}
 use Rattle.cpu_1401.specs.declared.stop.Stop.TheVariants as stop
-use Rattle.arguments_1401.specs.declared.call.Job.{Job}
-use Rattle.arguments_1401.specs.declared.call.Start.{Start}
-use Rattle.arguments_1401.specs.declared.call.Start.TheVariants as start
+use Rattle.calls_1401.specs.declared.call.Job.{Job}
+use Rattle.calls_1401.specs.declared.call.Start.{Start}
+use Rattle.calls_1401.specs.declared.call.Start.TheVariants as start
 use Rattle.running_1401.specs.Sizes.{is_refused}
 use Rattle.running_1401.specs.declared.fault.RunFault.{RunFault}
 use Rattle.running_1401.specs.declared.fault.RunFault.TheVariants as fault

@@ -5,8 +5,8 @@ use Rattle.std.specs.Io.KnownBytes.{Appends}
 use Rattle.cpu_1401.specs.declared.stop.Stop.{Stop}
 use Rattle.cpu_1401.specs.CardsAndPrinter.{load}
 use Rattle.cpu_1401.specs.State.{State}
-use Rattle.arguments_1401.specs.declared.call.Start.{Start}
-use Rattle.arguments_1401.specs.declared.call.Start.TheVariants as start
+use Rattle.calls_1401.specs.declared.call.Start.{Start}
+use Rattle.calls_1401.specs.declared.call.Start.TheVariants as start
 use Rattle.running_1401.specs.declared.deck_running.Broken.{Broken}
 use Rattle.running_1401.specs.declared.deck_running.Broken.TheVariants as broken
 use Rattle.trace_1401.specs.declared.work.Work.{Work}

@@ -13,7 +13,7 @@ ghost use Rattle.running_1401.specs.TraceText.{trace_text};
 use crate::job_report::JobReport;
 use crate::tracing::Trace;
 use crate::watching::{HowFar, Watch};
-use arguments_1401::Start;
+use calls_1401::Start;
 use cpu_1401::{Machine, Stop};
 use devices_1401::{Card, PrintLine};
 use job_1401::{Cards, Collected, Deck, Place, press_load_key, put_cards, put_paper, run_job};

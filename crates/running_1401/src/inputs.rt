@@ -6,8 +6,8 @@ ghost use Rattle.running_1401.specs.RunFile.{IsOfFile, IsUnread, IsUnreadFile, i
 use crate::fault::RunFault;
 use crate::programs::{Program, loaded_machine, program_of};
 use crate::sizes::is_refused;
-use arguments_1401::{DEFAULT_SIZE, Start};
 use autocoder_1401::Listing;
+use calls_1401::{DEFAULT_SIZE, Start};
 use core_1401::CoreFault;
 use cpu_1401::Machine;
 use devices_1401::Card;

@@ -12,7 +12,7 @@ use crate::job_report::JobReport;
 use crate::outputs::{OutputNames, Outputs, create_outputs};
 use crate::tracing::Trace;
 use crate::watching::{Shown, Unwatched, Watch};
-use arguments_1401::{Job, Start};
+use calls_1401::{Job, Start};
 use cpu_1401::{Machine, Stop};
 use devices_1401::Card;
 use files_1401::hold_closed_streams;

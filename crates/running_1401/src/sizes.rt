@@ -3,7 +3,7 @@ ghost use Rattle.std.specs.Prelude.{◌≡◌, true, false};
 ghost use Rattle.core_1401.specs.Storage.{is_core_size};
 ghost use Rattle.running_1401.specs.Sizes.{is_refused, size_for};
 
-use arguments_1401::DEFAULT_SIZE;
+use calls_1401::DEFAULT_SIZE;
 use core_1401::Core;
 use source_1401::{Language, size_asked};
 

@@ -1,6 +1,10 @@
-//! What the command line asks for, as plain data.
+//! What the command line asks for.
 
+use core_1401::SIZES;
 use source_1401::Language;
+
+/// The size of core storage if none is named.
+pub const DEFAULT_SIZE: u16 = SIZES[2];
 
 /// What `assemble` writes.
 #[derive(Clone, Copy, Debug, PartialEq, Eq)]

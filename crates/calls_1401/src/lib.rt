@@ -1,0 +1,14 @@
+//! What the program is called for, as plain data: `arguments_1401` reads it off the command line, and what carries it out
+//! needs to know nothing of that.
+//!
+//! ```text
+//! Call::Console { size: DEFAULT_SIZE }    // a session on a machine of 4,000 places
+//! ```
+#![tactic(auto)]
+
+pub mod call;
+
+pub use call::{
+    Assembling, Call, DEFAULT_SIZE, Job, NewJournal, Opening, Operators, Product, Resuming,
+    Seating, Service, Showing, Start, Tables, Told,
+};
