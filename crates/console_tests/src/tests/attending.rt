@@ -1,8 +1,9 @@
 //! Consoles at the seats of a shared room.
 ghost use Rattle.std.specs.Prelude.{◌≡◌};
 
+use crate::tests::{expect_commands, expect_end, expect_output};
 use console_1401::{Door, FromReader, OpenDoor, SessionEnd, ToWriter, attend};
-use room_1401::{Command, Opened, RoomId, Seat, SharedRoom};
+use room_1401::{Command, Entry, Opened, RoomId, Seat, SharedRoom};
 use std::alloc::Global;
 use std::cell::RefCell;
 use std::marker::Brand;
@@ -37,6 +38,41 @@ impl Door for Watch<'_> {
     }
 }
 
+/// A new room of this size, with its seats.
+fn open_room<J: RoomId, R: Wait>(
+    rt: &R,
+    alloc: Global,
+    size: u16,
+    seats: u8,
+    opened: Opened,
+) -> Result<(SharedRoom<J, &R>, Vec<Seat<J>>), Fail>
+    requires history { opened.book ≡ J.book }
+    requires ledger { (opened.ledger ≡ J.name) × (opened.parts ≡ J.parts) × (J.parts ≡ J.seats) }
+    requires named { (size ≡ J.size) × (seats ≡ J.seats) }
+{
+    Ok(SharedRoom::<J, &R>::power_on(rt, alloc, size, seats, opened)?)
+}
+
+/// Takes the seat of the highest number, which this names.
+fn take_seat<J: RoomId>(seats: &mut Vec<Seat<J>>, name: &'static str) -> Result<Seat<J>, Fail> {
+    Ok(seats.pop().ok_or(name)?)
+}
+
+/// What a console at the seat writes and how it ends, with the seat.
+fn attend_lines<J: RoomId, R: Wait, D: Door>(
+    rt: &R,
+    alloc: Global,
+    room: &SharedRoom<J, &R>,
+    seat: Seat<J>,
+    door: &D,
+    lines: &str,
+) -> (Seat<J>, SessionEnd, Vec<u8>) {
+    let mut reader = FromReader::new(lines.as_bytes());
+    let mut writer = ToWriter::new(Vec::new(alloc));
+    let (seat, ended) = attend(alloc, rt, room, seat, &mut reader, &mut writer, door);
+    (seat, ended, writer.into_inner())
+}
+
 /// Has these lines answered at the seat, and compares the replies and how the console ends.
 fn expect_replies<J: RoomId, R: Wait + Abort, D: Door>(
     rt: &R,
@@ -46,16 +82,33 @@ fn expect_replies<J: RoomId, R: Wait + Abort, D: Door>(
     door: &D,
     (lines, replies, end): (&str, &str, SessionEnd),
 ) -> Seat<J> {
-    let mut reader = FromReader::new(lines.as_bytes());
-    let mut writer = ToWriter::new(Vec::new(alloc));
-    let (seat, ended) = attend(alloc, rt, room, seat, &mut reader, &mut writer, door);
-    assert_eq!(rt;
-        writer.into_inner().as_slice(),
-        replies.as_bytes(),
-        "{lines}"
-    );
-    assert_eq!(rt; ended, end, "{lines}");
+    let (seat, ended, written) = attend_lines(rt, alloc, room, seat, door, lines);
+    expect_output(rt, lines, written.as_slice(), replies);
+    expect_end(rt, lines, ended, end);
     seat
+}
+
+/// Compares a seat's number, and how many commands it has made.
+fn expect_made<J: RoomId>(rt: &impl Abort, seat: &Seat<J>, number_and_made: (u8, u64)) {
+    assert_eq!(rt; (seat.number(), seat.made()), number_and_made);
+}
+
+/// Closes the room with this seat too, and compares how many commands it leaves.
+fn expect_closed<J: RoomId, R: Wait + Abort>(
+    rt: &R,
+    room: SharedRoom<J, &R>,
+    mut seats: Vec<Seat<J>>,
+    seat: Seat<J>,
+    commands: usize,
+) -> Result<(), Fail>
+    requires { J.parts ≡ J.seats }
+{
+    seats.push(seat)?;
+    let Ok(room) = room.close(seats) else {
+        return Err(Fail::from("not closed"));
+    };
+    expect_commands(rt, "closed", room.journal().len(), commands);
+    Ok(())
 }
 
 fn one_operator<J: RoomId, R: Wait + Abort>(
@@ -67,26 +120,46 @@ fn one_operator<J: RoomId, R: Wait + Abort>(
     requires ledger { (opened.ledger ≡ J.name) × (opened.parts ≡ J.parts) × (J.parts ≡ J.seats) }
     requires named { (4000 ≡ J.size) × (1 ≡ J.seats) }
 {
-    let (room, mut seats) = SharedRoom::<J, &R>::power_on(rt, alloc, 4_000, 1, opened)?;
-    let seat = seats.pop().ok_or("seat 1")?;
+    let (room, mut seats) = open_room::<J, R>(rt, alloc, 4_000, 1, opened)?;
+    let seat = take_seat(&mut seats, "seat 1")?;
     let console = (
         "DEPOSIT 0500 ~K\nGLANCE 0500\nQUIT\nREGS\n",
         "OK\nAFTER 1 ~K\nBYE\n",
         SessionEnd::Quit,
     );
     let seat = expect_replies(rt, alloc, &room, seat, &OpenDoor, console);
-    assert_eq!(rt; (seat.number(), seat.made()), (1, 1));
-    seats.push(seat)?;
-    let Ok(room) = room.close(seats) else {
-        return Err(Fail::from("not closed"));
-    };
-    assert_eq!(rt; room.journal().len(), 1);
-    Ok(())
+    expect_made(rt, &seat, (1, 1));
+    expect_closed(rt, room, seats, seat, 1)
 }
 
 #[test]
 fn an_operator_sees_what_he_deposits(rt: HostRuntime) -> Result<(), Fail> {
     one_operator::<Brand, _>(&rt, rt.alloc(), Opened::new(1))
+}
+
+/// Has some lines of seat 2 and then some of seat 1 answered, with this door.
+fn attend_both<J: RoomId, R: Wait + Abort, D: Door>(
+    rt: &R,
+    alloc: Global,
+    room: &SharedRoom<J, &R>,
+    one: Seat<J>,
+    two: Seat<J>,
+    door: &D,
+) {
+    let console = (
+        "HELLO\n\nDEPOSIT 1399 ~K\nEXAMINE 1400",
+        "ERROR 1 WORD\nOK\nREFUSED 1 ADDRESS\n",
+        SessionEnd::EndOfInput,
+    );
+    let two = expect_replies(rt, alloc, room, two, door, console);
+    let console = (
+        "EXAMINE 1399\nGLANCE 1399\nGLANCE 1400\nGLANCE\nQUIT",
+        "~K\nAFTER 3 ~K\nGLANCE FAULT 1 RANGE\nERROR 2 NUMBER\nBYE\n",
+        SessionEnd::Quit,
+    );
+    let one = expect_replies(rt, alloc, room, one, door, console);
+    expect_made(rt, &one, (1, 1));
+    expect_made(rt, &two, (2, 2));
 }
 
 fn two_operators<J: RoomId, R: Wait + Abort>(
@@ -98,28 +171,14 @@ fn two_operators<J: RoomId, R: Wait + Abort>(
     requires ledger { (opened.ledger ≡ J.name) × (opened.parts ≡ J.parts) × (J.parts ≡ J.seats) }
     requires named { (1400 ≡ J.size) × (2 ≡ J.seats) }
 {
-    let (room, mut seats) = SharedRoom::<J, &R>::power_on(rt, alloc, 1_400, 2, opened)?;
-    let two = seats.pop().ok_or("seat 2")?;
-    let one = seats.pop().ok_or("seat 1")?;
+    let (room, mut seats) = open_room::<J, R>(rt, alloc, 1_400, 2, opened)?;
+    let two = take_seat(&mut seats, "seat 2")?;
+    let one = take_seat(&mut seats, "seat 1")?;
     let calls = RefCell::new(Vec::new(alloc));
-    let door = Watch { calls: &calls };
-    let console = (
-        "HELLO\n\nDEPOSIT 1399 ~K\nEXAMINE 1400",
-        "ERROR 1 WORD\nOK\nREFUSED 1 ADDRESS\n",
-        SessionEnd::EndOfInput,
-    );
-    let two = expect_replies(rt, alloc, &room, two, &door, console);
-    let console = (
-        "EXAMINE 1399\nGLANCE 1399\nGLANCE 1400\nGLANCE\nQUIT",
-        "~K\nAFTER 3 ~K\nGLANCE FAULT 1 RANGE\nERROR 2 NUMBER\nBYE\n",
-        SessionEnd::Quit,
-    );
-    let one = expect_replies(rt, alloc, &room, one, &door, console);
-    assert_eq!(rt; (one.made(), two.made()), (1, 2));
-    let calls = calls.into_inner();
+    attend_both(rt, alloc, &room, one, two, &Watch { calls: &calls });
     let expected = "2<12>12<22>22<32>32<42>41<11>11<21>21<31>31<41>41<51>5";
-    assert_eq!(rt; calls.as_slice(), expected.as_bytes());
-    assert_eq!(rt; room.abandon().journal().len(), 3);
+    expect_output(rt, "calls", calls.into_inner().as_slice(), expected);
+    expect_commands(rt, "abandoned", room.abandon().journal().len(), 3);
     Ok(())
 }
 
@@ -179,6 +238,17 @@ fn start_twice<'b, J: RoomId, R: Wait + Abort>(
     let _one = expect_replies(rt, alloc, room, one, &door, console);
 }
 
+/// Compares an entry with its kind: `?` for the registers and `!` for place 0, both asked for by seat 2, and `S` for a
+/// start by seat 1.
+fn expect_kind(rt: &impl Abort, entry: &Entry, kind: u8) {
+    let found = match entry.command {
+        Command::Registers => (2, b'?'),
+        Command::SetI { .. } => (1, b'S'),
+        _ => (2, b'!'),
+    };
+    assert_eq!(rt; (entry.seat, kind), found);
+}
+
 fn interrupted<J: RoomId, R: Wait + Abort>(
     rt: &R,
     alloc: Global,
@@ -188,19 +258,14 @@ fn interrupted<J: RoomId, R: Wait + Abort>(
     requires ledger { (opened.ledger ≡ J.name) × (opened.parts ≡ J.parts) × (J.parts ≡ J.seats) }
     requires named { (1400 ≡ J.size) × (2 ≡ J.seats) }
 {
-    let (room, mut seats) = SharedRoom::<J, &R>::power_on(rt, alloc, 1_400, 2, opened)?;
-    let two = seats.pop().ok_or("seat 2")?;
-    let one = seats.pop().ok_or("seat 1")?;
+    let (room, mut seats) = open_room::<J, R>(rt, alloc, 1_400, 2, opened)?;
+    let two = take_seat(&mut seats, "seat 2")?;
+    let one = take_seat(&mut seats, "seat 1")?;
     start_twice(rt, alloc, &room, one, two);
     let room = room.abandon();
-    assert_eq!(rt; room.journal().len(), 6);
+    expect_commands(rt, "abandoned", room.journal().len(), 6);
     for (entry, kind) in room.journal().iter().zip(b"?S!?S!") {
-        let found = match entry.command {
-            Command::Registers => (2, b'?'),
-            Command::SetI { .. } => (1, b'S'),
-            _ => (2, b'!'),
-        };
-        assert_eq!(rt; (entry.seat, *kind), found);
+        expect_kind(rt, entry, *kind);
     }
     Ok(())
 }

@@ -1,9 +1,10 @@
 //! Reads and writes that fail.
 ghost use Rattle.std.specs.Prelude.{Some};
 
-use crate::tests::{answers, hold};
+use crate::tests::{expect_answers, expect_commands, expect_end, expect_output, hold};
 use console_1401::{Failed, FromReader, ServeFault, SessionEnd, Sink, Source, ToWriter};
 use std::alloc::Global;
+use std::fmt::Display;
 use std::process::Abort;
 use std::test::Fail;
 
@@ -92,10 +93,25 @@ impl Sink for Narrow {
 #[test]
 fn a_failed_read_leaves_the_unfinished_line(rt: HostRuntime) -> Result<(), Fail> {
     let mut reader = BreaksOff::new(b"DEPOSIT 0500 K\nEXAMINE 0500");
-    let (ended, written, recorded) = answers(rt.alloc(), &mut reader)?;
-    assert_eq!(rt; ended, SessionEnd::Read);
-    assert_eq!(rt; written.as_slice(), b"OK\n".as_slice());
-    assert_eq!(rt; recorded, 1);
+    let expected = (SessionEnd::Read, "OK\n", 1);
+    expect_answers(&rt, rt.alloc(), "unfinished", &mut reader, expected)
+}
+
+/// Compares how these lines are answered at a sink of this width and limit: the end, the output, and the commands.
+fn expect_answers_at(
+    rt: &impl Abort,
+    alloc: Global,
+    lines: &str,
+    (width, limit): (usize, usize),
+    (end, output, commands): (SessionEnd, &str, usize),
+) -> Result<(), Fail> {
+    let row = format!(in alloc; "{width} {limit}")?;
+    let mut reader = FromReader::new(lines.as_bytes());
+    let mut writer = Narrow::new(alloc, width, limit);
+    let (ended, recorded) = hold(alloc, &mut reader, &mut writer)?;
+    expect_end(rt, row.as_str(), ended, end);
+    expect_output(rt, row.as_str(), writer.received.as_slice(), output);
+    expect_commands(rt, row.as_str(), recorded, commands);
     Ok(())
 }
 
@@ -107,16 +123,13 @@ pub fn expect_narrow(
     rows: &[(usize, usize, SessionEnd, &str, usize)],
 ) -> Result<(), Fail> {
     for (width, limit, end, output, commands) in rows {
-        let mut reader = FromReader::new(lines.as_bytes());
-        let mut writer = Narrow::new(alloc, *width, *limit);
-        let (ended, recorded) = hold(alloc, &mut reader, &mut writer)?;
-        assert_eq!(rt; ended, *end, "{width} {limit}");
-        assert_eq!(rt;
-            writer.received.as_slice(),
-            output.as_bytes(),
-            "{width} {limit}"
-        );
-        assert_eq!(rt; recorded, *commands, "{width} {limit}");
+        expect_answers_at(
+            rt,
+            alloc,
+            lines,
+            (*width, *limit),
+            (*end, *output, *commands),
+        )?;
     }
     Ok(())
 }
@@ -145,8 +158,8 @@ fn a_writer_that_takes_nothing_has_failed(rt: HostRuntime) -> Result<(), Fail> {
     let mut reader = FromReader::new(b"HELLO\nQUIT\n".as_slice());
     let mut writer = ToWriter::new(space.as_mut_slice());
     let (ended, _) = hold(rt.alloc(), &mut reader, &mut writer)?;
-    assert_eq!(rt; ended, SessionEnd::Write);
-    assert_eq!(rt; space, *b"ERRO");
+    expect_end(&rt, "4 bytes", ended, SessionEnd::Write);
+    expect_output(&rt, "4 bytes", space.as_slice(), "ERRO");
     Ok(())
 }
 
@@ -174,16 +187,21 @@ fn each_byte_is_read(rt: HostRuntime) -> Result<(), Fail> {
     Ok(())
 }
 
+/// Compares a failure's text.
+fn expect_text(
+    rt: &impl Abort,
+    alloc: Global,
+    failure: &impl Display,
+    text: &str,
+) -> Result<(), Fail> {
+    let shown = format!(in alloc; "{failure}")?;
+    assert_eq!(rt; shown.as_str(), text);
+    Ok(())
+}
+
 #[test]
 fn each_failure_has_its_text(rt: HostRuntime) -> Result<(), Fail> {
-    let failed = format!(in rt.alloc(); "{Failed}")?;
-    assert_eq!(rt; failed.as_str(), "a read or a write failed");
-    for (fault, text) in [
-        (ServeFault::Accept, "accept failed"),
-        (ServeFault::Thread, "thread refused"),
-    ] {
-        let shown = format!(in rt.alloc(); "{fault}")?;
-        assert_eq!(rt; shown.as_str(), text);
-    }
-    Ok(())
+    expect_text(&rt, rt.alloc(), &Failed, "a read or a write failed")?;
+    expect_text(&rt, rt.alloc(), &ServeFault::Accept, "accept failed")?;
+    expect_text(&rt, rt.alloc(), &ServeFault::Thread, "thread refused")
 }

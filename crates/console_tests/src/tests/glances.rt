@@ -1,7 +1,7 @@
 //! Glances, in lines and at a room.
 
-use console_1401::{FromReader, Line, LineFault, SessionEnd, ToWriter, parse_line, session};
-use room_1401::Room;
+use crate::tests::expect_answers;
+use console_1401::{FromReader, Line, LineFault, SessionEnd, parse_line};
 use std::test::Fail;
 
 #[test]
@@ -25,12 +25,7 @@ fn a_glance_counts_the_commands_and_is_none(rt: HostRuntime) -> Result<(), Fail>
                  GLANCE 16000\nQUIT\n";
     let replies =
         "AFTER 0  \nOK\nAFTER 1 ~K\n~K\nAFTER 2  \nAFTER 2  \nGLANCE FAULT 1 RANGE\nERROR 2 NUMBER\nBYE\n";
-    let mut room = Room::power_on(rt.alloc(), 4000)?;
     let mut reader = FromReader::new(lines.as_bytes());
-    let mut writer = ToWriter::new(Vec::new(rt.alloc()));
-    let end = session(rt.alloc(), &mut room, &mut reader, &mut writer);
-    assert_eq!(rt; end, SessionEnd::Quit);
-    assert_eq!(rt; writer.into_inner().as_slice(), replies.as_bytes());
-    assert_eq!(rt; room.journal().len(), 2);
-    Ok(())
+    let expected = (SessionEnd::Quit, replies, 2);
+    expect_answers(&rt, rt.alloc(), "glances", &mut reader, expected)
 }
