@@ -1,5 +1,5 @@
-//! What the program is called for, as plain data: `arguments_1401` reads it off the command line, and what carries it out
-//! needs to know nothing of that.
+//! What the program is called for, as plain data: `arguments_1401` reads it off the command line, and what carries it
+//! out needs to know nothing of that.
 //!
 //! ```text
 //! Call::Console { size: DEFAULT_SIZE }    // a session on a machine of 4,000 places

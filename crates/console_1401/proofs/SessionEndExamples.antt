@@ -13,7 +13,7 @@ use Rattle.room_1401.specs.Journal.{entry}
 use Rattle.text_1401.specs.declared.line.Line.TheVariants.{Command, Quit}
 use Rattle.text_1401.specs.ConsoleLine.{Said}
 use Rattle.console_1401.specs.declared.session_end.SessionEnd.TheVariants as end
-use Rattle.console_1401.specs.Bytes.{line_feed}
+use Rattle.notation_1401.specs.Bytes.{line_feed}
 use Rattle.console_1401.specs.Session.{NoQuit, SessionDid}
 use Rattle.console_1401.specs.Turns.{Turn, Answered, NoneRefused}
 use Rattle.console_1401.specs.Limits.{most_bytes}

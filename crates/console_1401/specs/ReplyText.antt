@@ -4,7 +4,7 @@ use Rattle.text_1401.specs.AnswerText.{answer_text, fault_text, glance_text}
 use Rattle.room_1401.specs.FaultText.{glance_fault_text, room_fault_text}
 use Rattle.console_1401.specs.declared.reply.Reply.{Reply}
 use Rattle.console_1401.specs.declared.reply.Reply.TheVariants as reply
-use Rattle.console_1401.specs.Bytes.{line_feed}
+use Rattle.notation_1401.specs.Bytes.{line_feed}
 
 -- the text of a reply
 unfoldable pub text_of_reply : Reply → List ℕ

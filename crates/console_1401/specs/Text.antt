@@ -2,7 +2,8 @@
 use Rattle.std.specs.Prelude.{ℕ, ◌-◌, ◌==◌, Bool, true, false, List, [], ◌∷◌, ◌++◌, map, length, take, slice_index}
 use Rattle.std.specs.Prelude.{if◌then◌else◌}
 use Rattle.text_1401.specs.ConsoleLine.{Said, said_by}
-use Rattle.console_1401.specs.Bytes.{line_feed, carriage_return}
+use Rattle.notation_1401.specs.Bytes.{line_feed}
+use Rattle.console_1401.specs.Bytes.{carriage_return}
 
 -- a text cut at its line feeds: the finished lines, and what comes after the last line feed
 pub record Cut : Type 0 where

@@ -3,7 +3,7 @@ ghost use Rattle.std.specs.Prelude.{◌≡◌, ◌≢◌, ◌==◌, false, IsTru
 ghost use Rattle.console_1401.specs.Session.{SessionDid};
 ghost use Rattle.console_1401.specs.Answering.{AnsweredAll, AnswersLine, AnswersLast, EntersByte};
 ghost use Rattle.console_1401.specs.Text.{without_return};
-ghost use Rattle.console_1401.specs.Bytes.{line_feed};
+ghost use Rattle.notation_1401.specs.Bytes.{line_feed};
 
 use crate::line_buffer::LineBuffer;
 use crate::reply::reply_bytes;

@@ -12,8 +12,9 @@ use Rattle.bcd_1401.specs.Graphic.{graphics}
 use Rattle.devices_1401.specs.Carriage.{forms}
 use Rattle.devices_1401.specs.declared.print_line.PrintLine.{PrintLine}
 use Rattle.job_1401.specs.declared.paper.Place.{Place}
+use Rattle.notation_1401.specs.Bytes.{line_feed}
 use Rattle.notation_1401.specs.Characters.{graphics_of, trimmed}
-use Rattle.job_1401.specs.Paper.{begun_at, form_feed, forms_on, line_feed, line_text, new_forms, paper_text}
+use Rattle.job_1401.specs.Paper.{begun_at, form_feed, forms_on, line_text, new_forms, paper_text}
 use Rattle.job_1401.specs.Paper.{place_after}
 use Rattle.job_1401.specs.PaperRead.{IsOnForm, IsOnlyPaper, IsReadBack, ReadLine, read_back, read_of}
 use Rattle.job_1401.specs.PaperRead.{read_of_line, read_on}

@@ -6,11 +6,11 @@ use Rattle.std.specs.Prelude.{replicate, Option, is_some, position, unwrap_or, R
 use Rattle.bcd_1401.specs.Graphic.{graphics}
 use Rattle.cpu_1401.specs.CardsAndPrinter.{card_columns}
 use Rattle.devices_1401.specs.declared.card.Card.{Card}
+use Rattle.notation_1401.specs.Bytes.{line_feed}
 use Rattle.notation_1401.specs.Characters.{blank_code, graphics_of, trimmed}
 use Rattle.source_1401.specs.SourceLine.{lines_of}
 use Rattle.job_1401.specs.declared.deck_text.DeckFault.{DeckFault}
 use Rattle.job_1401.specs.declared.deck_text.DeckFault.TheVariants.{Graphic, Length}
-use Rattle.job_1401.specs.Paper.{line_feed}
 
 -- the line of a card
 abbrev pub card_text : Card → List ℕ

@@ -2,12 +2,11 @@
 use Rattle.std.specs.Prelude.{ℕ, ◌+◌, ◌-◌, ◌%◌, ◌==◌, ◌&&◌, nat_lt, if◌then◌else◌, List, [], ◌∷◌, ◌++◌, replicate}
 use Rattle.devices_1401.specs.Carriage.{forms}
 use Rattle.devices_1401.specs.declared.print_line.PrintLine.{PrintLine}
+use Rattle.notation_1401.specs.Bytes.{line_feed}
 use Rattle.notation_1401.specs.Characters.{graphics_of, trimmed}
 use Rattle.job_1401.specs.declared.paper.Place.{Place}
 
-abbrev pub line_feed : ℕ
-line_feed = 10
-
+-- it begins a form
 abbrev pub form_feed : ℕ
 form_feed = 12
 

@@ -4,8 +4,9 @@ use Rattle.std.specs.List.{All, flat_map}
 use Rattle.devices_1401.specs.Carriage.{forms}
 use Rattle.devices_1401.specs.declared.print_line.PrintLine.{PrintLine}
 use Rattle.job_1401.specs.declared.paper.Place.{Place}
+use Rattle.notation_1401.specs.Bytes.{line_feed}
 use Rattle.notation_1401.specs.Characters.{graphics_of, trimmed}
-use Rattle.job_1401.specs.Paper.{form_feed, line_feed, paper_text}
+use Rattle.job_1401.specs.Paper.{form_feed, paper_text}
 
 -- a line that isn't blank: its place, and its graphics without trailing blanks
 pub record ReadLine : Type 0 where

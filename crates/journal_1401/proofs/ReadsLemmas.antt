@@ -12,6 +12,7 @@ use Rattle.std.proofs.lemmas.List.Elements.{All-nil, All-cons, All-head, All-tai
 use Rattle.std.proofs.lemmas.List.Folds.{list_any-append}
 use Rattle.core_1401.specs.Storage.{core_sizes, is_core_size}
 use Rattle.cpu_1401.specs.State.{State, power_on}
+use Rattle.notation_1401.specs.Bytes.{line_feed}
 use Rattle.notation_1401.specs.Digits.{digits_in}
 use Rattle.notation_1401.specs.Prefix.{after_prefix}
 use Rattle.notation_1401.proofs.PrefixLemmas.{after_prefix_again, after_prefix_takes}
@@ -24,7 +25,7 @@ use Rattle.room_1401.specs.Replay.{answers_after, state_after}
 use Rattle.journal_1401.specs.declared.fault.Wrong.{Wrong}
 use Rattle.journal_1401.specs.declared.fault.Wrong.TheVariants as wrong
 use Rattle.journal_1401.specs.JournalText.{CanBeKept, IsJournal, entries_text, entry_text, header_text, journal_text}
-use Rattle.journal_1401.specs.JournalText.{line_feed, with_feed, with_tab}
+use Rattle.journal_1401.specs.JournalText.{with_feed, with_tab}
 use Rattle.journal_1401.specs.Reading.{HasHeader, IsRefusedIn, IsTextOf, IsThat, IsWhy}
 use Rattle.journal_1401.specs.Reading.{IsCut, IsWrongAt, Takes}
 use Rattle.journal_1401.specs.Reading.{entry_at, has_line, size_at}

@@ -1,6 +1,7 @@
 -- The text of a journal (own): a line that names the size of core storage, and one for each entry.
 use Rattle.std.specs.Prelude.{◌≡◌, ◌<◌, ◌≤◌, ℕ, ◌+◌, true, All, List, [], ◌∷◌, ◌++◌, length, codes}
 use Rattle.core_1401.specs.Storage.{is_core_size}
+use Rattle.notation_1401.specs.Bytes.{line_feed}
 use Rattle.notation_1401.specs.Digits.{digits_in}
 use Rattle.text_1401.specs.declared.line.Line.TheVariants as line
 use Rattle.text_1401.specs.AnswerText.{answer_text}
@@ -13,10 +14,6 @@ use Rattle.room_1401.specs.Kept.{Form, kept_text, lines_by}
 -- it parts the fields of a line
 abbrev pub tab : ℕ
 tab = 9
-
--- it ends a line
-abbrev pub line_feed : ℕ
-line_feed = 10
 
 -- a field and its tab
 abbrev pub with_tab : List ℕ → List ℕ

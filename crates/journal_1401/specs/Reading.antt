@@ -6,6 +6,7 @@ use Rattle.std.specs.Prelude.{Ok, Err}
 use Rattle.std.specs.List.{before_first, list_any}
 use Rattle.std.specs.Option.{ok_or}
 use Rattle.core_1401.specs.Storage.{core_sizes}
+use Rattle.notation_1401.specs.Bytes.{line_feed}
 use Rattle.notation_1401.specs.Digits.{digits_in, number_in}
 use Rattle.notation_1401.specs.Prefix.{after_prefix}
 use Rattle.command_1401.specs.declared.answer.Answer.{Answer}
@@ -21,7 +22,7 @@ use Rattle.room_1401.specs.Journal.{answer_to, entry, is_full}
 use Rattle.journal_1401.specs.declared.fault.JournalFault.{JournalFault}
 use Rattle.journal_1401.specs.declared.fault.Wrong.{Wrong}
 use Rattle.journal_1401.specs.declared.fault.Wrong.TheVariants as wrong
-use Rattle.journal_1401.specs.JournalText.{tab, line_feed, with_tab, with_feed, header_text, journal_text, IsJournal}
+use Rattle.journal_1401.specs.JournalText.{tab, with_tab, with_feed, header_text, journal_text, IsJournal}
 
 infixl 10 ◌>>=◌
 -- what is read, and what is then read of it, or the first thing that is wrong
