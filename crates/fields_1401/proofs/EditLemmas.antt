@@ -15,7 +15,7 @@ use Rattle.fields_1401.specs.Across.{chars_across, units_unzoned, char_to}
 use Rattle.fields_1401.specs.Edit.{is_replaceable, taken_from, taken_by, replaceable_behind}
 use Rattle.fields_1401.specs.Edit.{is_significant, before_significant, limit_of, is_suppressed, is_shared, shown}
 use Rattle.fields_1401.specs.Edit.{shown_at, edited, taken_down, unsuppressed_at, unsuppressed, without_zero}
-use Rattle.fields_1401.specs.Edit.{suppressed_to, rules_of, unsuppressed_place}
+use Rattle.fields_1401.specs.Edit.{replaceable_in, rules_of, sign_at, suppressed_to, unsuppressed_place}
 use Rattle.fields_1401.specs.Edit.{taken_char, is_left_over, is_sign_char, is_sign_blanked}
 use Rattle.fields_1401.specs.declared.editing.Rules.{Rules}
 use Rattle.fields_1401.specs.Places.{is_within, with_chars, with_all_chars, chars_of}
@@ -110,6 +110,17 @@ shown_place word digits sign j rules behind taken own within e_rules e_behind e_
     ∙ ap (λ (o : Option ℕ). shown full (unsuppressed_place own (replaceable_behind word j)) o) e_taken
     ∙ ap (λ k. shown full (unsuppressed_place k (replaceable_behind word j)) (taken_by word digits j)) e_own
     ∙ sym (get_or-map-range_with_len (unsuppressed_at word digits sign) 0 (length word) j j 0 within (omega arith))
+
+-- what the rules go by
+pub rules_are : (s : Storage) (a b t m : ℕ) (rules : Rules) → a < length s → t ≤ a + 1 → rules.taken ≡ t
+    → rules.replaceable ≡ replaceable_in (chars_across s b m) → rules.sign ≡ sign_at s a
+    → rules ≡ rules_of (chars_across s b m) (units_unzoned (chars_across s a t)) (sign_at s a)
+rules_are s a b t m rules in_core above taken replaceable sign =
+    let digits : List ℕ = units_unzoned (chars_across s a t) in
+    let size : length digits ≡ t = length-unzoned_across s a t in_core above in
+    ap (λ (k : ℕ). let made : Rules = record rules { taken = k } in made) (taken ∙ sym size)
+    ∙ ap (λ (k : ℕ). let made : Rules = record rules { taken = length digits; replaceable = k } in made) replaceable
+    ∙ ap (λ (of_a : Sign). rules_of (chars_across s b m) digits of_a) sign
 
 -- as many characters as the control word has
 pub length-unsuppressed : (word digits : List ℕ) (sign : Sign) → length (unsuppressed word digits sign) ≡ length word

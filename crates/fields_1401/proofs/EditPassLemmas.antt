@@ -8,7 +8,6 @@ use Rattle.std.proofs.lemmas.Bool.Decides.{nat_tests}
 use Rattle.std.proofs.lemmas.List.{length-set, drop_all}
 use Rattle.core_1401.specs.Storage.{Storage, cell_at, with_char}
 use Rattle.fields_1401.specs.declared.editing.Rules.{Rules}
-use Rattle.fields_1401.specs.declared.sign.Sign.{Sign}
 use Rattle.fields_1401.specs.Across.{chars_across, units_unzoned, char_to, unzoned_down}
 use Rattle.fields_1401.specs.Edit.{is_replaceable, is_significant, replaceable_in, replaceable_behind, taken_by}
 use Rattle.fields_1401.specs.Edit.{kept_char, taken_char, taken_down, unsuppressed, sign_at, shown, is_shared}
@@ -16,7 +15,7 @@ use Rattle.fields_1401.specs.Edit.{rules_of, unsuppressed_place}
 use Rattle.fields_1401.specs.Places.{is_within, with_chars, with_all_chars, chars_of}
 use Rattle.fields_1401.specs.Suppress.{blank_char}
 use Rattle.fields_1401.proofs.AcrossLemmas.{length-across, char_across, length-unzoned_across}
-use Rattle.fields_1401.proofs.EditLemmas.{not_shared, length-unsuppressed, shown_place, replaceable_more}
+use Rattle.fields_1401.proofs.EditLemmas.{not_shared, length-unsuppressed, rules_are, shown_place, replaceable_more}
 use Rattle.fields_1401.proofs.EditLemmas.{taken_down_is, takes_here}
 use Rattle.fields_1401.proofs.LendingLemmas.{lent_at_first, length-chars_of, still_lent, lent-set}
 use Rattle.fields_1401.proofs.PlacesLemmas.{is_within-below, with_chars_none, with_chars_more}
@@ -124,9 +123,7 @@ put_more s chars after a t b m i place behind from significant next own char rul
     (λ k less. still_lent s chars b i (a - k) kept before.size before.put (omega (arith, a_in))
     (not_shared a t b m i k apart a_above less (omega (arith, lt))))) in
     let go_by : rules ≡ rules_of control digits (sign_at s a) =
-    ap (λ (k : ℕ). let made : Rules = record rules { taken = k } in made) (e_taken ∙ sym digits_size)
-    ∙ ap (λ (k : ℕ). let made : Rules = record rules { taken = length digits; replaceable = k } in made) e_replaceable
-    ∙ ap (λ (sign : Sign). rules_of control digits sign) e_sign in
+    rules_are s a b t m rules a_in a_above e_taken e_replaceable e_sign in
     let shown_here : char ≡ get_or full (length full - 1 - i) 0 =
     shows ∙ shown_place control digits (sign_at s a) j rules behind taken own (omega (arith, lt, size)) go_by
     right of_taken of_own

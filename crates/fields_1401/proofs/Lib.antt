@@ -25,5 +25,6 @@ mod PlacesLemmas
 mod PlainLemmas
 mod RefusalLemmas
 mod SixteenLemmas
+mod SixteenPlacesLemmas
 mod SuppressExamples
 mod SuppressLemmas

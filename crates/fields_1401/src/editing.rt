@@ -18,31 +18,33 @@ use crate::control_word::{ControlWord, is_replaceable, limit};
 use crate::done::{Done, FieldStop};
 use crate::registers::{below_field, registers};
 use crate::sign::Sign;
+use crate::sixteen_columns::LANES;
+use crate::sixteen_places::put_at_once;
 use crate::suppression::{COMMA, ZERO};
 use bcd_1401::Char;
 use core_1401::Core;
 
 /// The code of an ampersand.
-const AMPERSAND: u8 = 48;
+pub(crate) const AMPERSAND: u8 = 48;
 
 /// The code of a minus sign.
-const MINUS: u8 = 32;
+pub(crate) const MINUS: u8 = 32;
 
 /// The code of the letter C.
-const LETTER_C: u8 = 51;
+pub(crate) const LETTER_C: u8 = 51;
 
 /// The code of the letter R.
-const LETTER_R: u8 = 41;
+pub(crate) const LETTER_R: u8 = 41;
 
 /// What the rules of a control word go by.
 #[derive(Clone, Copy)]
-struct Rules {
+pub(crate) struct Rules {
     /// How many characters of the A field are taken.
-    taken: usize,
+    pub(crate) taken: usize,
     /// How many places of the control word are replaceable.
-    replaceable: usize,
+    pub(crate) replaceable: usize,
     /// The sign of the A field.
-    sign: Sign,
+    pub(crate) sign: Sign,
 }
 
 /// Edits the A field by the control word in the B field (A24-1403, "Move Characters and Edit"). From the right, the
@@ -97,10 +99,35 @@ fn put_edited(core: &mut Core, word: ControlWord, rules: Rules)
     core.clear_marks(word.b, word.len);
 }
 
-/// Puts what each place shows before zeros and commas are suppressed, from the right, and counts the places left of the
-/// first significant one. Word marks stay.
+/// Puts what each place shows before zeros and commas are suppressed, and counts the places left of the first
+/// significant one. Word marks stay.
 #[inline(always)]
 fn put_unsuppressed(core: &mut Core, word: ControlWord, rules: Rules) -> usize
+    requires a { word.a < length core.old }
+    requires b { word.b < length core.old }
+    requires taken { rules.taken ≡ word.taken }
+    requires replaceable { rules.replaceable ≡ replaceable_in (chars_across core.old word.b word.len) }
+    requires sign { rules.sign ≡ sign_at core.old word.a }
+    ensures put { let control = chars_across core.old word.b word.len in
+        let digits = units_unzoned (chars_across core.old word.a word.taken) in
+        let shown = unsuppressed control digits (sign_at core.old word.a) in
+        core.new ≡ with_chars core.old word.b word.len (char_to shown) }
+    ensures significant { let control = chars_across core.old word.b word.len in
+        let digits = units_unzoned (chars_across core.old word.a word.taken) in
+        result ≡ before_significant control digits }
+    ensures most { result ≤ word.len }
+    ensures size { length core.new ≡ length core.old }
+{
+    if word.len <= LANES as u16 && word.a >= LANES as u16 - 1 && word.b >= LANES as u16 - 1 {
+        put_at_once(core, word, rules)
+    } else {
+        put_by_places(core, word, rules)
+    }
+}
+
+/// The same, place by place from the right.
+#[inline(never)]
+fn put_by_places(core: &mut Core, word: ControlWord, rules: Rules) -> usize
     requires a { word.a < length core.old }
     requires b { word.b < length core.old }
     requires taken { rules.taken ≡ word.taken }

@@ -41,6 +41,7 @@ mod across;
 pub mod control_word;
 pub mod editing;
 mod lanes;
+mod sixteen_places;
 pub mod suppression;
 
 pub use arithmetic::{add, add_within, subtract, subtract_within};

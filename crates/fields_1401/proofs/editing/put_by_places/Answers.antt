@@ -14,11 +14,11 @@ use Rattle.fields_1401.specs.Suppress.{blank_char}
 use Rattle.fields_1401.proofs.EditPassLemmas.{ArePut, put_none, put_more, one_taken, none_left, none_taken, blank_left}
 use Rattle.fields_1401.proofs.EditPassLemmas.{significant_is, taken_plain, units_kept}
 use Rattle.fields_1401.proofs.LendingLemmas.{length-with_all_chars}
-use Rattle.fields_1401.proofs.editing.put_unsuppressed.Goals as goal
-use Rattle.fields_1401.proofs.editing.put_unsuppressed.Goals.{then-not-is_replaceable}
-use Rattle.fields_1401.proofs.editing.put_unsuppressed.Goals.{else-not-is_replaceable+then-behind-rules}
-use Rattle.fields_1401.proofs.editing.put_unsuppressed.Goals.{else-not-is_replaceable+else-behind-rules}
-use Rattle.fields_1401.proofs.editing.put_unsuppressed.Goals.{then-not-is_replaceable-2, else-not-is_replaceable-2}
+use Rattle.fields_1401.proofs.editing.put_by_places.Goals as goal
+use Rattle.fields_1401.proofs.editing.put_by_places.Goals.{then-not-is_replaceable}
+use Rattle.fields_1401.proofs.editing.put_by_places.Goals.{else-not-is_replaceable+then-behind-rules}
+use Rattle.fields_1401.proofs.editing.put_by_places.Goals.{else-not-is_replaceable+else-behind-rules}
+use Rattle.fields_1401.proofs.editing.put_by_places.Goals.{then-not-is_replaceable-2, else-not-is_replaceable-2}
 
 pub loop-i-init : goal.loop-i-init
 loop-i-init c =

@@ -1,6 +1,6 @@
 -- The places so far, from the right, show what they are to show before anything is suppressed.
 use Rattle.fields_1401.proofs.EditPassLemmas.{ArePut}
-use Rattle.fields_1401.proofs.editing.put_unsuppressed.Given as goal
+use Rattle.fields_1401.proofs.editing.put_by_places.Given as goal
 
 abbrev pub invariant-loop-i : goal.invariant-loop-i
 invariant-loop-i l =
