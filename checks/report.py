@@ -7,6 +7,7 @@ from pathlib import Path
 TOP = Path(__file__).resolve().parent.parent
 LAUNCHER = TOP / "ibm1401"
 PROGRAM = TOP / "crates/ibm1401/out/ibm1401"
+LONE = TOP / "crates/lone_console/out/lone_console"
 BUILT = TOP / "crates/ibm1401/out/ibm1401.built"
 MOST_BYTES = 16_777_216
 MOST_ENTRIES = 100_000

@@ -11,8 +11,8 @@ use Rattle.room_1401.specs.Account.{Account}
 use Rattle.room_1401.specs.Journal.{most_entries}
 use Rattle.ibm1401.specs.declared.fault.Fault.{Fault}
 use Rattle.ibm1401.specs.declared.fault.Fault.TheVariants as fault
-use Rattle.ibm1401.specs.Console.{Streams}
-use Rattle.ibm1401.specs.Status.{outcome_of}
+use Rattle.terminal_1401.specs.Console.{outcome_of, Streams}
+use Rattle.ibm1401.specs.Status.{session_outcome}
 
 -- a room of an image's size, whose journal is that of loading the image
 pub record IsLoadedRoom (text : List ℕ) (room : Account) : Type 0 where
@@ -44,11 +44,8 @@ IsWhyNotLoaded text (fault.Run why) = ⊥
 IsWhyNotLoaded text (fault.Hopper name count) = ⊥
 IsWhyNotLoaded text fault.JournalFull = IsTooLong text
 IsWhyNotLoaded text fault.Memory = (image : Image) × IsTextOf text image
-IsWhyNotLoaded text fault.Read = ⊥
-IsWhyNotLoaded text fault.Write = ⊥
-IsWhyNotLoaded text fault.Bound = ⊥
-IsWhyNotLoaded text fault.Reply = ⊥
-IsWhyNotLoaded text fault.Unkept = ⊥
+IsWhyNotLoaded text (fault.Console why) = ⊥
+IsWhyNotLoaded text (fault.Session why) = ⊥
 IsWhyNotLoaded text (fault.Kept why) = ⊥
 IsWhyNotLoaded text fault.NoReader = ⊥
 IsWhyNotLoaded text (fault.NoSeat seat) = ⊥
@@ -68,7 +65,7 @@ pub record NotLoaded (text : List ℕ) (old new : Streams) (outcome : Result ⊤
 -- One session was held at a room with the image loaded, and all that was read and written is that session's.
 pub record HeldLoaded (text : List ℕ) (old new : Streams) (outcome : Result ⊤ Fault) : Type 0 where
   pub end : SessionEnd
-  pub told : outcome ≡ outcome_of end
+  pub told : outcome ≡ session_outcome (outcome_of end)
   pub before : Account
   pub loaded : IsLoadedRoom text before
   pub after : Account

@@ -4,14 +4,14 @@ use Rattle.room_1401.specs.declared.fault.StartFault.{StartFault}
 use Rattle.room_1401.specs.declared.fault.StartFault.TheVariants as start
 use Rattle.console_1401.specs.declared.serving.ServeFault.{ServeFault}
 use Rattle.console_1401.specs.declared.serving.ServeFault.TheVariants as serve
-use Rattle.console_1401.specs.declared.session_end.SessionEnd.{SessionEnd}
-use Rattle.console_1401.specs.declared.session_end.SessionEnd.TheVariants as end
 use Rattle.room_1401.specs.declared.fault.RoomFault.{RoomFault}
 use Rattle.room_1401.specs.declared.fault.RoomFault.TheVariants as room
 use Rattle.serving_1401.specs.declared.fault.SeatsFault.{SeatsFault}
 use Rattle.serving_1401.specs.declared.fault.SeatsFault.TheVariants as seats
 use Rattle.serving_1401.specs.declared.giving.GiveFault.{GiveFault}
 use Rattle.serving_1401.specs.declared.giving.GiveFault.TheVariants as give
+use Rattle.terminal_1401.specs.declared.fault.SessionFault.{SessionFault}
+use Rattle.terminal_1401.specs.declared.fault.SessionFault.TheVariants as session
 use Rattle.ibm1401.specs.declared.fault.Fault.{Fault}
 use Rattle.ibm1401.specs.declared.fault.Fault.TheVariants as fault
 
@@ -32,11 +32,8 @@ status_of (fault.Run why) = 1
 status_of (fault.Hopper name count) = 1
 status_of fault.JournalFull = 1
 status_of fault.Memory = 1
-status_of fault.Read = 1
-status_of fault.Write = 1
-status_of fault.Bound = 1
-status_of fault.Reply = 1
-status_of fault.Unkept = 1
+status_of (fault.Console why) = 1
+status_of (fault.Session why) = 1
 status_of (fault.Kept why) = 1
 status_of fault.NoReader = 1
 status_of (fault.NoSeat seat) = 1
@@ -50,15 +47,10 @@ abbrev pub run_status : Result ⊤ Fault → ℕ
 run_status (Ok _) = 0
 run_status (Err why) = status_of why
 
--- what a session's end is for the program: QUIT and the end of the input are no faults
-abbrev pub outcome_of : SessionEnd → Result ⊤ Fault
-outcome_of end.Quit = Ok tt
-outcome_of end.EndOfInput = Ok tt
-outcome_of end.Read = Err fault.Read
-outcome_of end.Write = Err fault.Write
-outcome_of end.Bound = Err fault.Bound
-outcome_of end.Memory = Err fault.Reply
-outcome_of end.Unkept = Err fault.Unkept
+-- what the end of a session is for the program
+abbrev pub session_outcome : Result ⊤ SessionFault → Result ⊤ Fault
+session_outcome (Ok _) = Ok tt
+session_outcome (Err why) = Err (fault.Session why)
 
 -- what a room that couldn't be opened is for the program: of seats that it can't have no reader has a place
 abbrev pub start_fault : StartFault → Fault
@@ -75,7 +67,7 @@ service_outcome (Some serve.Thread) = Err fault.Thread
 
 -- what became of a room whose seats are taken again is for the program: a journal that wasn't kept comes first
 abbrev pub seats_outcome : Bool → Option SeatsFault → Result ⊤ Fault
-seats_outcome true why = Err fault.Unkept
+seats_outcome true why = Err (fault.Session session.Unkept)
 seats_outcome false None = Ok tt
 seats_outcome false (Some why) = Err (fault.Seats why)
 
@@ -84,7 +76,7 @@ abbrev pub room_fault : RoomFault → Fault
 room_fault room.Memory = fault.Memory
 room_fault room.JournalFull = fault.JournalFull
 room_fault room.NoReading = fault.Seats seats.Unreturned
-room_fault room.Unkept = fault.Unkept
+room_fault room.Unkept = fault.Session session.Unkept
 
 -- what it is for the program that the commands of a journal aren't all given again
 abbrev pub give_fault : GiveFault → Fault

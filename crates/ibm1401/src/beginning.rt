@@ -9,6 +9,7 @@ use image_1401::Image;
 use room_1401::{Command, Keeper, Room, RoomFault, RoomId, Seat, SharedRoom};
 use serving_1401::{GiveFault, SeatsFault, give, give_entries};
 use std::sync::Wait;
+use terminal_1401::SessionFault;
 
 /// What the room that refused a command, or didn't keep its entry, means for the program.
 fn room_fault(fault: RoomFault) -> Fault
@@ -18,7 +19,7 @@ fn room_fault(fault: RoomFault) -> Fault
         RoomFault::Memory => Fault::Memory,
         RoomFault::JournalFull => Fault::JournalFull,
         RoomFault::NoReading => Fault::Seats(SeatsFault::Unreturned),
-        RoomFault::Unkept => Fault::Unkept,
+        RoomFault::Unkept => Fault::Session(SessionFault::Unkept),
     }
 }
 

@@ -1,6 +1,7 @@
 //! What a run of the program may fail by, and the status that it ends with.
 ghost use Rattle.std.specs.Prelude.{◌≡◌};
-ghost use Rattle.ibm1401.specs.Status.{outcome_of, run_status, status_of};
+ghost use Rattle.terminal_1401.specs.Console.{outcome_of};
+ghost use Rattle.ibm1401.specs.Status.{run_status, session_outcome, status_of};
 
 use autocoder_1401::AsmFault;
 use clap::Error as Refusal;
@@ -11,6 +12,7 @@ use image_1401::ImageFault;
 use keeping_1401::KeepFault;
 use running_1401::RunFault;
 use serving_1401::SeatsFault;
+use terminal_1401::{ConsoleFault, SessionFault};
 use thiserror::Error;
 
 /// The status of a command line that can't be read.
@@ -71,21 +73,12 @@ pub enum Fault {
     /// Memory was refused before the session, or for the text of an image or a listing.
     #[error("memory refused")]
     Memory,
-    /// A read of the session failed.
-    #[error("session ended: READ")]
-    Read,
-    /// A write of the session failed, or took nothing.
-    #[error("session ended: WRITE")]
-    Write,
-    /// The session read as many bytes as it may.
-    #[error("session ended: BOUND")]
-    Bound,
-    /// The memory for a reply was refused.
-    #[error("session ended: MEMORY")]
-    Reply,
-    /// An entry of the journal wasn't kept.
-    #[error("session ended: UNKEPT")]
-    Unkept,
+    /// No session was held on a new machine, or it ended so.
+    #[error("{0}")]
+    Console(ConsoleFault),
+    /// A session ended so.
+    #[error("{0}")]
+    Session(SessionFault),
     /// A journal isn't kept, or isn't taken up.
     #[error("{0}")]
     Kept(KeepFault),
@@ -117,8 +110,7 @@ impl Fault {
             Fault::Unread(_) | Fault::File(..) | Fault::Image(_) | Fault::JournalFull => FAILED,
             Fault::Source(_) | Fault::Faulty(_) | Fault::Deck(_) => FAILED,
             Fault::Unwritten(_) | Fault::Run(_) | Fault::Hopper(..) => FAILED,
-            Fault::Read | Fault::Write | Fault::Bound | Fault::Reply => FAILED,
-            Fault::Unkept | Fault::Kept(_) => FAILED,
+            Fault::Console(_) | Fault::Session(_) | Fault::Kept(_) => FAILED,
             Fault::NoReader | Fault::Port | Fault::Accept | Fault::Thread => FAILED,
             Fault::NoSeat(_) | Fault::Seats(_) => FAILED,
         }
@@ -129,18 +121,11 @@ impl Fault {
 ///
 /// # Errors
 ///
-/// Any end but QUIT and the end of the input.
+/// `Session` with any end but QUIT and the end of the input.
 pub fn ended(end: SessionEnd) -> Result<(), Fault>
-    ensures { result ≡ outcome_of end }
+    ensures { result ≡ session_outcome (outcome_of end) }
 {
-    match end {
-        SessionEnd::Quit | SessionEnd::EndOfInput => Ok(()),
-        SessionEnd::Read => Err(Fault::Read),
-        SessionEnd::Write => Err(Fault::Write),
-        SessionEnd::Bound => Err(Fault::Bound),
-        SessionEnd::Memory => Err(Fault::Reply),
-        SessionEnd::Unkept => Err(Fault::Unkept),
-    }
+    terminal_1401::ended(end).map_err(Fault::Session)
 }
 
 /// Tells on standard error what a run failed by, and gives the exit status, which is the same if standard error

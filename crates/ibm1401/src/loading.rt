@@ -1,6 +1,6 @@
 //! What the subcommand `load` does.
 ghost use Rattle.std.specs.Prelude.{◌≡◌, IfOk, IfErr};
-ghost use Rattle.ibm1401.specs.Console.{streams};
+ghost use Rattle.terminal_1401.specs.Console.{streams};
 ghost use Rattle.ibm1401.specs.Load.{LoadDid, IsLoadedRoom, IsWhyNotLoaded};
 
 use crate::fault::{Fault, ended};

@@ -30,7 +30,7 @@ use crate::resuming::resume_seats;
 use crate::seating::open_seats;
 use crate::serving::open_room;
 use crate::source_file::assemble_file;
-use crate::subcommands::{console, tell};
+use crate::subcommands::tell;
 use arguments_1401::read_call;
 use calls_1401::Call;
 use running_1401::{ErrorOutput, run_file};
@@ -44,6 +44,7 @@ use std::sync::Wait;
 use std::thread::Threads;
 use std::{env, io};
 use streams_1401::{FromReader, ToWriter};
+use terminal_1401::console;
 
 fn main(rt: HostRuntime) -> ExitCode {
     let error_output = if rt.stderr().is_terminal() {
@@ -104,7 +105,7 @@ fn hold_console<R: Input<Reader = StdinLock<'static>> + Print + AllocGlobal>(
 ) -> Result<(), Fault> {
     let mut reader = FromReader::new(rt.reader());
     let mut writer = ToWriter::new(io::writer(rt));
-    console(rt.alloc(), size, &mut reader, &mut writer)
+    console(rt.alloc(), size, &mut reader, &mut writer).map_err(Fault::Console)
 }
 
 /// Holds a session at standard input and output, with the image of a file loaded.

@@ -28,17 +28,18 @@ use std::rt::{Clock, Files};
 use std::sync::Wait;
 use std::thread::Threads;
 use streams_1401::FromReader;
+use terminal_1401::SessionFault;
 
 /// What became of a room while it was served means this for the program.
 ///
 /// # Errors
 ///
-/// `Unkept` if an entry wasn't kept; else what went wrong first, if something did.
+/// `Session` if an entry wasn't kept; else what went wrong first, if something did.
 fn seats_outcome(failed: bool, fault: Option<SeatsFault>) -> Result<(), Fault>
     ensures { result ≡ seats_outcome failed fault }
 {
     if failed {
-        return Err(Fault::Unkept);
+        return Err(Fault::Session(SessionFault::Unkept));
     }
     match fault {
         None => Ok(()),

@@ -1,4 +1,4 @@
-//! What the program's subcommands do.
+//! What the program tells of a command line that names no subcommand.
 ghost use Rattle.std.specs.Prelude.{◌≡◌, ◌≢◌, ◌↔◌, false, OnErr};
 ghost use Rattle.clap.specs.Values.{kind_of};
 ghost use Rattle.core_1401.specs.Storage.{is_core_size};
@@ -11,30 +11,6 @@ use console_1401::{Sink, Source, session};
 use core_1401::CoreFault;
 use room_1401::Room;
 use std::alloc::Global;
-
-/// One session at the console of a new room.
-///
-/// # Errors
-///
-/// `Size` or `Memory` if there is no such room, or what ended the session but QUIT and the end of the input.
-pub fn console<R: Source, W: Sink>(
-    alloc: Global,
-    size: u16,
-    reader: &mut R,
-    writer: &mut W,
-) -> Result<(), Fault>
-    ensures size { (result ≡ Err Fault.Size) ↔ (is_core_size size ≡ false) }
-    ensures session { ConsoleDid size (streams (R.left reader.old) (W.received writer.old))
-        (streams (R.left reader.new) (W.received writer.new)) result }
-{
-    let mut room = match Room::power_on(alloc, size) {
-        Ok(room) => room,
-        Err(CoreFault::Size) => return Err(Fault::Size),
-        Err(CoreFault::Memory) => return Err(Fault::Memory),
-    };
-    let end = session(alloc, &mut room, reader, writer);
-    ended(end)
-}
 
 /// Tells what a parse of the command line answers if it asks for no subcommand: the text of the help.
 ///
