@@ -11,7 +11,7 @@
 pub mod fault;
 
 // a session on a new machine
-pub mod console;
+pub mod holding;
 
-pub use console::console;
 pub use fault::{ConsoleFault, SessionFault, ended};
+pub use holding::console;
