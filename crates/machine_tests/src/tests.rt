@@ -3,6 +3,7 @@
 mod characters;
 mod commands;
 mod devices;
+mod expecting;
 mod fields;
 mod processor;
 mod storage;

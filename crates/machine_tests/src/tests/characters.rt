@@ -1,6 +1,23 @@
 //! The tables as A24-1403 and the profile print them, by hand.
 
+use super::expecting::{expect_same, expect_same_at};
 use bcd_1401::{CODES, Cell, Char};
+use std::process::Abort;
+
+/// The character with this graphic.
+pub fn char_of(rt: &impl Abort, graphic: u8) -> Char {
+    Char::from_graphic(graphic).expect(rt, "a graphic")
+}
+
+/// Compares a number that was found of the character with this graphic.
+fn expect_number(rt: &impl Abort, found: u8, wanted: u8, graphic: u8) {
+    expect_same_at(rt, found, wanted, graphic);
+}
+
+/// Compares the code of a graphic.
+fn expect_code(rt: &impl Abort, graphic: u8, code: u8) {
+    expect_number(rt, char_of(rt, graphic).code(), code, graphic);
+}
 
 #[test]
 fn each_graphic_has_its_code(rt: HostRuntime) {
@@ -19,16 +36,25 @@ fn each_graphic_has_its_code(rt: HostRuntime) {
         (b')', 60),
         (b'"', 63),
     ] {
-        let found = Char::from_graphic(graphic);
-        assert_eq!(rt; found.map(|char| char.code()), Some(code), "{graphic}");
+        expect_code(&rt, graphic, code);
     }
+}
+
+/// Expects that a byte is no graphic.
+fn expect_no_graphic(rt: &impl Abort, byte: u8) {
+    expect_same_at(rt, Char::from_graphic(byte), None, byte);
 }
 
 #[test]
 fn other_bytes_are_no_graphics(rt: HostRuntime) {
     for graphic in [b'a', b'~', 0, 127, 255] {
-        assert_eq!(rt; Char::from_graphic(graphic), None, "{graphic}");
+        expect_no_graphic(&rt, graphic);
     }
+}
+
+/// Compares what a graphic counts as.
+fn expect_digit(rt: &impl Abort, graphic: u8, digit: u8) {
+    expect_number(rt, char_of(rt, graphic).digit_value(), digit, graphic);
 }
 
 #[test]
@@ -43,9 +69,15 @@ fn eight_two_counts_as_zero(rt: HostRuntime) {
         (b'#', 3),
         (b'"', 7),
     ] {
-        let counts_as = Char::from_graphic(graphic).map(|char| char.digit_value());
-        assert_eq!(rt; counts_as, Some(digit), "{graphic}");
+        expect_digit(&rt, graphic, digit);
     }
+}
+
+/// Compares the graphic of a character under another zone.
+fn expect_with_zone(rt: &impl Abort, graphic: u8, zone: u8, with: u8) {
+    assert!(rt; zone < 4);
+    let zoned = char_of(rt, graphic).with_zone(zone);
+    expect_number(rt, zoned.graphic(), with, graphic);
 }
 
 #[test]
@@ -56,20 +88,32 @@ fn a_zone_goes_over_the_low_bits(rt: HostRuntime) {
         (b'Z', 0, b'9'),
         (b'J', 3, b'A'),
     ] {
-        let zoned = Char::from_graphic(graphic).map(|char| char.with_zone(zone).graphic());
-        assert_eq!(rt; zoned, Some(with), "{graphic}");
+        expect_with_zone(&rt, graphic, zone, with);
     }
 }
 
 #[test]
 fn a_character_has_its_zone(rt: HostRuntime) {
-    assert_eq!(rt; Char::from_graphic(b'S').map(|char| char.zone()), Some(1));
+    expect_number(&rt, char_of(&rt, b'S').zone(), 1, b'S');
+}
+
+/// The graphic of a code, if it is a character's.
+fn graphic_of(code: u8) -> Option<u8> {
+    let char = Char::from_code(code)?;
+    Some(char.graphic())
 }
 
 #[test]
 fn each_code_is_below_their_number(rt: HostRuntime) {
-    assert_eq!(rt; Char::from_code(CODES), None);
-    assert_eq!(rt; Char::from_code(63).map(|char| char.graphic()), Some(b'"'));
+    expect_same(&rt, graphic_of(CODES), None);
+    expect_same(&rt, graphic_of(63), Some(b'"'));
+}
+
+/// Compares the graphic of a digit under a zone.
+fn expect_of_digit(rt: &impl Abort, digit: u8, zone: u8, graphic: u8) {
+    assert!(rt; digit <= 9 && zone < 4);
+    let char = Char::of_digit(digit, zone);
+    expect_same_at(rt, char.graphic(), graphic, (digit, zone));
 }
 
 #[test]
@@ -84,17 +128,21 @@ fn a_digit_stands_under_a_zone(rt: HostRuntime) {
         (0, 2, b'!'),
         (0, 3, b'?'),
     ] {
-        let char = Char::of_digit(digit, zone);
-        assert_eq!(rt; char.graphic(), graphic, "{digit} under {zone}");
+        expect_of_digit(&rt, digit, zone, graphic);
     }
 }
 
 #[test]
 fn a_cell_has_a_character_and_a_mark(rt: HostRuntime) {
-    let Some(char) = Char::from_code(5) else {
-        return;
-    };
-    assert_ne!(rt; Cell { char, mark: true }, Cell { char, mark: false });
+    let char = Char::from_code(5).expect(&rt, "a code");
+    assert!(rt; Cell { char, mark: true } != Cell { char, mark: false });
+}
+
+/// Compares the column that a graphic is punched as, and expects that this column is the same character's.
+fn expect_column(rt: &impl Abort, graphic: u8, column: u16) {
+    let char = char_of(rt, graphic);
+    expect_same_at(rt, char.punch(), column, graphic);
+    expect_same_at(rt, Char::from_punch(column), Some(char), graphic);
 }
 
 #[test]
@@ -122,17 +170,19 @@ fn each_character_has_its_column(rt: HostRuntime) {
         (b')', 2_082),
         (b'"', 2_054),
     ] {
-        let char = Char::from_graphic(graphic);
-        let punched = char.map(|char| char.punch());
-        assert_eq!(rt; punched, Some(column), "{graphic}");
-        assert_eq!(rt; Char::from_punch(column), char, "{graphic}");
+        expect_column(&rt, graphic, column);
     }
+}
+
+/// Expects that a column is no character's.
+fn expect_no_char(rt: &impl Abort, column: u16) {
+    expect_same_at(rt, Char::from_punch(column), None, column);
 }
 
 #[test]
 fn other_columns_are_no_characters(rt: HostRuntime) {
     for column in [3, 3_072, 1_792, 65, 130 + 512 + 1, 4_095, 4_096, 65_535] {
-        assert_eq!(rt; Char::from_punch(column), None, "{column}");
+        expect_no_char(&rt, column);
     }
 }
 
@@ -144,7 +194,12 @@ fn sixty_four_columns_are_characters(rt: HostRuntime) {
             count = count.saturating_add(1);
         }
     }
-    assert_eq!(rt; count, 64);
+    expect_same(&rt, count, 64);
+}
+
+/// Compares the place of a graphic in the collating order.
+fn expect_order(rt: &impl Abort, graphic: u8, place: u8) {
+    expect_number(rt, char_of(rt, graphic).order(), place, graphic);
 }
 
 #[test]
@@ -169,14 +224,13 @@ fn each_character_has_its_place_in_the_collating_order(rt: HostRuntime) {
         (b'0', 54),
         (b'9', 63),
     ] {
-        let found = Char::from_graphic(graphic);
-        assert_eq!(rt; found.map(|char| char.order()), Some(place), "{graphic}");
+        expect_order(&rt, graphic, place);
     }
 }
 
 #[test]
 fn a_blank_has_no_bit_and_no_mark(rt: HostRuntime) {
     let blank = Char::BLANK;
-    assert_eq!(rt; (blank.code(), blank.graphic()), (0, b' '));
-    assert_eq!(rt; (Cell::BLANK.char, Cell::BLANK.mark), (blank, false));
+    expect_same(&rt, (blank.code(), blank.graphic()), (0, b' '));
+    expect_same(&rt, (Cell::BLANK.char, Cell::BLANK.mark), (blank, false));
 }

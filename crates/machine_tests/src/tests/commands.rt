@@ -1,36 +1,36 @@
 //! Commands that a machine refuses, worked out by hand.
 
+use super::expecting::{expect_same_at, expect_text};
+use super::processor::machine_of;
 use bcd_1401::Char;
 use command_1401::{Answer, Command, Refusal, carry_out};
 use cpu_1401::Machine;
 use devices_1401::{Card, MOST_HELD};
-use std::test::Fail;
+use std::alloc::Global;
+use std::process::Abort;
+
+/// Compares the answer to a command.
+fn expect_answer(rt: &impl Abort, machine: &mut Machine, command: Command, answer: Answer) {
+    expect_same_at(rt, carry_out(machine, &command), answer, command);
+}
+
+/// Compares why a command is refused.
+fn expect_refused(rt: &impl Abort, machine: &mut Machine, command: Command, refusal: Refusal) {
+    expect_answer(rt, machine, command, Answer::Refused(refusal));
+}
+
+/// Asks for so many cells from an address on.
+fn examine(address: u16, count: u32) -> Command {
+    Command::Examine { address, count }
+}
 
 #[test]
-fn each_refusal_has_its_reason(rt: HostRuntime) -> Result<(), Fail> {
-    let mut machine = Machine::power_on(rt.alloc(), 4_000)?;
+fn each_refusal_has_its_reason(rt: HostRuntime) {
+    let mut machine = machine_of(&rt, rt.alloc(), 4_000);
     for (command, refusal) in [
-        (
-            Command::Examine {
-                address: 3_999,
-                count: 2,
-            },
-            Refusal::Address,
-        ),
-        (
-            Command::Examine {
-                address: 4_000,
-                count: 41,
-            },
-            Refusal::Count,
-        ),
-        (
-            Command::Examine {
-                address: 65_535,
-                count: 40,
-            },
-            Refusal::Address,
-        ),
+        (examine(3_999, 2), Refusal::Address),
+        (examine(4_000, 41), Refusal::Count),
+        (examine(65_535, 40), Refusal::Address),
         (Command::SetI { address: 4_000 }, Refusal::Address),
         (Command::LoadKey, Refusal::Reader),
         (Command::TakeLine, Refusal::Empty),
@@ -38,45 +38,44 @@ fn each_refusal_has_its_reason(rt: HostRuntime) -> Result<(), Fail> {
         (Command::Run { limit: 0 }, Refusal::Limit),
         (Command::Run { limit: 1_000_001 }, Refusal::Limit),
     ] {
-        let answer = carry_out(&mut machine, &command);
-        assert_eq!(rt; answer, Answer::Refused(refusal), "{refusal:?}");
+        expect_refused(&rt, &mut machine, command, refusal);
     }
-    Ok(())
 }
 
-/// Feeds a blank card.
-fn feed_blank() -> Command {
-    Command::Feed {
-        card: Card([Char::BLANK; 80]),
-    }
+/// Compares the answer to a blank card.
+fn expect_fed(rt: &impl Abort, machine: &mut Machine, answer: Answer) {
+    let card = Card([Char::BLANK; 80]);
+    expect_answer(rt, machine, Command::Feed { card }, answer);
+}
+
+/// Compares how many cards lie in the hopper.
+fn expect_hopper(rt: &impl Abort, machine: &Machine, count: u16) {
+    expect_same_at(rt, machine.regs().hopper, count, "the hopper");
 }
 
 #[test]
-fn the_hopper_takes_five_hundred_cards(rt: HostRuntime) -> Result<(), Fail> {
-    let mut machine = Machine::power_on(rt.alloc(), 1_400)?;
+fn the_hopper_takes_five_hundred_cards(rt: HostRuntime) {
+    let mut machine = machine_of(&rt, rt.alloc(), 1_400);
     for _ in 0..MOST_HELD {
-        assert_eq!(rt; carry_out(&mut machine, &feed_blank()), Answer::Done);
+        expect_fed(&rt, &mut machine, Answer::Done);
     }
-    let refused = Answer::Refused(Refusal::Hopper);
-    assert_eq!(rt; carry_out(&mut machine, &feed_blank()), refused);
-    assert_eq!(rt; carry_out(&mut machine, &Command::LoadKey), Answer::Done);
-    assert_eq!(rt; carry_out(&mut machine, &feed_blank()), Answer::Done);
-    assert_eq!(rt; machine.regs().hopper, 500);
-    Ok(())
+    expect_fed(&rt, &mut machine, Answer::Refused(Refusal::Hopper));
+    expect_answer(&rt, &mut machine, Command::LoadKey, Answer::Done);
+    expect_fed(&rt, &mut machine, Answer::Done);
+    expect_hopper(&rt, &machine, 500);
+}
+
+/// Compares what is written of a refusal.
+fn expect_refusal_text(rt: &impl Abort, alloc: Global, refusal: Refusal, text: &str) {
+    expect_text(rt, alloc, &refusal, text);
 }
 
 #[test]
-fn each_refusal_has_its_text(rt: HostRuntime) -> Result<(), Fail> {
-    for (refusal, text) in [
-        (Refusal::Address, "REFUSED 1 ADDRESS"),
-        (Refusal::Hopper, "REFUSED 2 HOPPER"),
-        (Refusal::Reader, "REFUSED 3 READER"),
-        (Refusal::Empty, "REFUSED 4 EMPTY"),
-        (Refusal::Limit, "REFUSED 5 LIMIT"),
-        (Refusal::Count, "REFUSED 6 COUNT"),
-    ] {
-        let shown = format!(in rt.alloc(); "{refusal}")?;
-        assert_eq!(rt; shown.as_str(), text);
-    }
-    Ok(())
+fn each_refusal_has_its_text(rt: HostRuntime) {
+    expect_refusal_text(&rt, rt.alloc(), Refusal::Address, "REFUSED 1 ADDRESS");
+    expect_refusal_text(&rt, rt.alloc(), Refusal::Hopper, "REFUSED 2 HOPPER");
+    expect_refusal_text(&rt, rt.alloc(), Refusal::Reader, "REFUSED 3 READER");
+    expect_refusal_text(&rt, rt.alloc(), Refusal::Empty, "REFUSED 4 EMPTY");
+    expect_refusal_text(&rt, rt.alloc(), Refusal::Limit, "REFUSED 5 LIMIT");
+    expect_refusal_text(&rt, rt.alloc(), Refusal::Count, "REFUSED 6 COUNT");
 }

@@ -1,160 +1,194 @@
 //! Decks and forms, worked out by hand.
 
+use super::characters::char_of;
+use super::expecting::{expect_same, expect_same_at, expect_text};
 use bcd_1401::Char;
 use devices_1401::{
     Card, ControlFault, Devices, FormsFull, HopperFull, MOST_HELD, PrintLine, ReaderEmpty,
     StackerFull,
 };
 use std::alloc::Global;
-use std::fmt::Display;
 use std::process::Abort;
-use std::test::Fail;
+
+/// The devices as they are at power-on.
+fn devices_of(rt: &impl Abort, alloc: Global) -> Devices {
+    Devices::power_on(alloc).expect(rt, "no memory")
+}
 
 /// A card with this graphic in each column.
-fn card_of(graphic: u8) -> Card {
-    Card([Char::from_graphic(graphic).unwrap_or(Char::BLANK); 80])
+fn card_of(rt: &impl Abort, graphic: u8) -> Card {
+    Card([char_of(rt, graphic); 80])
 }
 
 /// A line with this graphic at each place.
-fn text_of(graphic: u8) -> [Char; 132] {
-    [Char::from_graphic(graphic).unwrap_or(Char::BLANK); 132]
+fn text_of(rt: &impl Abort, graphic: u8) -> [Char; 132] {
+    [char_of(rt, graphic); 132]
 }
 
-/// Asks for what the d-character with this graphic does.
-fn control(devices: &mut Devices, graphic: u8) -> Result<(), ControlFault> {
-    devices.control(Char::from_graphic(graphic).unwrap_or(Char::BLANK))
+/// Compares how many cards are in the hopper and in the stacker.
+fn expect_cards(rt: &impl Abort, devices: &Devices, hopper: u16, stacker: u16) {
+    expect_same(rt, (devices.hopper(), devices.stacker()), (hopper, stacker));
 }
 
-/// The paper, the form and the line.
-fn at_paper(devices: &Devices) -> (u16, u16, u8) {
-    (devices.paper(), devices.form(), devices.line())
+/// Compares the paper, the form and the line.
+fn expect_paper(rt: &impl Abort, devices: &Devices, paper: (u16, u16, u8)) {
+    let found = (devices.paper(), devices.form(), devices.line());
+    expect_same(rt, found, paper);
 }
 
-/// Prints a line of this graphic.
-fn print(rt: &impl Abort, devices: &mut Devices, graphic: u8) {
-    assert!(rt; devices.print(text_of(graphic)).is_ok());
+/// Compares whether a line of this graphic is printed.
+fn expect_print(
+    rt: &impl Abort,
+    devices: &mut Devices,
+    graphic: u8,
+    printed: Result<(), FormsFull>,
+) {
+    expect_same_at(rt, devices.print(text_of(rt, graphic)), printed, graphic);
 }
 
-/// Feeds a card of this graphic.
-fn feed(rt: &impl Abort, devices: &mut Devices, graphic: u8) {
-    assert!(rt; devices.feed(card_of(graphic)).is_ok());
+/// Compares whether a card of this graphic is fed.
+fn expect_feed(rt: &impl Abort, devices: &mut Devices, graphic: u8, fed: Result<(), HopperFull>) {
+    expect_same_at(rt, devices.feed(card_of(rt, graphic)), fed, graphic);
+}
+
+/// Compares whether a card of this graphic is punched.
+fn expect_punch(
+    rt: &impl Abort,
+    devices: &mut Devices,
+    graphic: u8,
+    punched: Result<(), StackerFull>,
+) {
+    expect_same_at(rt, devices.punch(card_of(rt, graphic)), punched, graphic);
 }
 
 /// Reads a card, which is to be of this graphic.
 fn expect_card(rt: &impl Abort, devices: &mut Devices, graphic: u8) {
-    assert_eq!(rt; devices.read(), Ok(card_of(graphic)));
+    expect_same(rt, devices.read(), Ok(card_of(rt, graphic)));
+}
+
+/// Takes a card, which is to be of this graphic.
+fn expect_punched(rt: &impl Abort, devices: &mut Devices, graphic: u8) {
+    expect_same(rt, devices.take_card(), Some(card_of(rt, graphic)));
 }
 
 /// Takes a line, which is to be of this graphic, and to stand there.
 fn expect_line(rt: &impl Abort, devices: &mut Devices, (form, line): (u16, u8), graphic: u8) {
-    let expected = PrintLine {
-        form,
-        line,
-        text: text_of(graphic),
-    };
-    assert_eq!(rt; devices.take_line(), Some(expected));
+    let text = text_of(rt, graphic);
+    let expected = PrintLine { form, line, text };
+    expect_same(rt, devices.take_line(), Some(expected));
+}
+
+/// Expects that there is no line to be taken.
+fn expect_no_line(rt: &impl Abort, devices: &mut Devices) {
+    expect_same(rt, devices.take_line(), None);
+}
+
+/// Expects that there is no card to be read or taken, and no line.
+fn expect_nothing(rt: &impl Abort, devices: &mut Devices) {
+    expect_same(rt, devices.read(), Err(ReaderEmpty));
+    expect_same(rt, devices.take_card(), None);
+    expect_no_line(rt, devices);
 }
 
 #[test]
-fn at_power_on_all_is_empty(rt: HostRuntime) -> Result<(), Fail> {
-    let mut devices = Devices::power_on(rt.alloc())?;
-    assert_eq!(rt; (devices.hopper(), devices.stacker()), (0, 0));
-    assert_eq!(rt; at_paper(&devices), (0, 1, 1));
-    assert_eq!(rt;
-        (devices.read(), devices.take_card(), devices.take_line()),
-        (Err(ReaderEmpty), None, None)
-    );
-    Ok(())
+fn at_power_on_all_is_empty(rt: HostRuntime) {
+    let mut devices = devices_of(&rt, rt.alloc());
+    expect_cards(&rt, &devices, 0, 0);
+    expect_paper(&rt, &devices, (0, 1, 1));
+    expect_nothing(&rt, &mut devices);
 }
 
 #[test]
-fn cards_come_in_the_order_in_which_they_were_fed(rt: HostRuntime) -> Result<(), Fail> {
-    let mut devices = Devices::power_on(rt.alloc())?;
-    feed(&rt, &mut devices, b'A');
+fn cards_come_in_the_order_in_which_they_were_fed(rt: HostRuntime) {
+    let mut devices = devices_of(&rt, rt.alloc());
+    expect_feed(&rt, &mut devices, b'A', Ok(()));
     for _ in 1..MOST_HELD {
-        feed(&rt, &mut devices, b'B');
+        expect_feed(&rt, &mut devices, b'B', Ok(()));
     }
-    assert_eq!(rt;
-        (devices.feed(card_of(b'C')), devices.hopper()),
-        (Err(HopperFull), 500)
-    );
+    expect_feed(&rt, &mut devices, b'C', Err(HopperFull));
+    expect_cards(&rt, &devices, 500, 0);
     expect_card(&rt, &mut devices, b'A');
-    feed(&rt, &mut devices, b'C');
+    expect_feed(&rt, &mut devices, b'C', Ok(()));
     for _ in 1..MOST_HELD {
         expect_card(&rt, &mut devices, b'B');
     }
     expect_card(&rt, &mut devices, b'C');
-    assert_eq!(rt; devices.hopper(), 0);
-    Ok(())
+    expect_cards(&rt, &devices, 0, 0);
 }
 
 #[test]
-fn punched_cards_come_in_their_order(rt: HostRuntime) -> Result<(), Fail> {
-    let mut devices = Devices::power_on(rt.alloc())?;
-    for i in 0..MOST_HELD {
-        let graphic = if i == 0 { b'X' } else { b'Y' };
-        assert!(rt; devices.punch(card_of(graphic)).is_ok());
-    }
-    assert_eq!(rt;
-        (devices.punch(card_of(b'Z')), devices.stacker()),
-        (Err(StackerFull), 500)
-    );
-    assert_eq!(rt;
-        (devices.take_card(), devices.take_card(), devices.stacker()),
-        (Some(card_of(b'X')), Some(card_of(b'Y')), 498)
-    );
-    Ok(())
-}
-
-#[test]
-fn five_hundred_lines_fill_the_paper(rt: HostRuntime) -> Result<(), Fail> {
-    let mut devices = Devices::power_on(rt.alloc())?;
-    for _ in 0..MOST_HELD {
-        print(&rt, &mut devices, b'H');
-    }
-    assert_eq!(rt;
-        (devices.print(text_of(b'I')), at_paper(&devices)),
-        (Err(FormsFull), (500, 8, 39))
-    );
-    expect_line(&rt, &mut devices, (1, 1), b'H');
-    print(&rt, &mut devices, b'I');
-    assert_eq!(rt; at_paper(&devices), (500, 8, 40));
+fn punched_cards_come_in_their_order(rt: HostRuntime) {
+    let mut devices = devices_of(&rt, rt.alloc());
+    expect_punch(&rt, &mut devices, b'X', Ok(()));
     for _ in 1..MOST_HELD {
-        assert!(rt; devices.take_line().is_some());
+        expect_punch(&rt, &mut devices, b'Y', Ok(()));
+    }
+    expect_punch(&rt, &mut devices, b'Z', Err(StackerFull));
+    expect_cards(&rt, &devices, 0, 500);
+    expect_punched(&rt, &mut devices, b'X');
+    expect_punched(&rt, &mut devices, b'Y');
+    expect_cards(&rt, &devices, 0, 498);
+}
+
+/// Takes a line, whichever it is.
+fn take_any(rt: &impl Abort, devices: &mut Devices) {
+    assert!(rt; devices.take_line().is_some());
+}
+
+#[test]
+fn five_hundred_lines_fill_the_paper(rt: HostRuntime) {
+    let mut devices = devices_of(&rt, rt.alloc());
+    for _ in 0..MOST_HELD {
+        expect_print(&rt, &mut devices, b'H', Ok(()));
+    }
+    expect_print(&rt, &mut devices, b'I', Err(FormsFull));
+    expect_paper(&rt, &devices, (500, 8, 39));
+    expect_line(&rt, &mut devices, (1, 1), b'H');
+    expect_print(&rt, &mut devices, b'I', Ok(()));
+    expect_paper(&rt, &devices, (500, 8, 40));
+    for _ in 1..MOST_HELD {
+        take_any(&rt, &mut devices);
     }
     expect_line(&rt, &mut devices, (8, 39), b'I');
-    assert_eq!(rt; devices.take_line(), None);
-    Ok(())
+    expect_no_line(&rt, &mut devices);
 }
 
-/// Asks for what the d-character with this graphic does, which is to be done.
-fn done(rt: &impl Abort, devices: &mut Devices, graphic: u8) {
-    assert!(rt; control(devices, graphic).is_ok());
+/// Compares whether what the d-character with this graphic asks for is done.
+fn expect_control(
+    rt: &impl Abort,
+    devices: &mut Devices,
+    graphic: u8,
+    done: Result<(), ControlFault>,
+) {
+    expect_same_at(rt, devices.control(char_of(rt, graphic)), done, graphic);
+}
+
+/// Compares whether the carriage is at the lines of channel 9 and of channel 12.
+fn expect_channels(rt: &impl Abort, devices: &Devices, at_9: bool, at_12: bool) {
+    let found = (devices.at_channel(9), devices.at_channel(12));
+    expect_same(rt, found, (at_9, at_12));
 }
 
 #[test]
-fn lines_stand_where_the_carriage_was_brought(rt: HostRuntime) -> Result<(), Fail> {
-    let mut devices = Devices::power_on(rt.alloc())?;
-    done(&rt, &mut devices, b'1');
-    done(&rt, &mut devices, b'I');
-    print(&rt, &mut devices, b'H');
-    assert!(rt; devices.at_channel(9) && !devices.at_channel(12));
-    print(&rt, &mut devices, b'H');
-    assert_eq!(rt; devices.line(), 61);
-    assert_eq!(rt;
-        (control(&mut devices, b'2'), control(&mut devices, b'Q')),
-        (Err(ControlFault::Carriage), Err(ControlFault::DChar))
-    );
-    done(&rt, &mut devices, b'@');
-    assert!(rt; devices.at_channel(12) && !devices.at_channel(9));
-    done(&rt, &mut devices, b'T');
-    done(&rt, &mut devices, b'K');
-    print(&rt, &mut devices, b'H');
-    assert_eq!(rt; (devices.form(), devices.line()), (2, 2));
+fn lines_stand_where_the_carriage_was_brought(rt: HostRuntime) {
+    let mut devices = devices_of(&rt, rt.alloc());
+    expect_control(&rt, &mut devices, b'1', Ok(()));
+    expect_control(&rt, &mut devices, b'I', Ok(()));
+    expect_print(&rt, &mut devices, b'H', Ok(()));
+    expect_channels(&rt, &devices, true, false);
+    expect_print(&rt, &mut devices, b'H', Ok(()));
+    expect_paper(&rt, &devices, (2, 1, 61));
+    expect_control(&rt, &mut devices, b'2', Err(ControlFault::Carriage));
+    expect_control(&rt, &mut devices, b'Q', Err(ControlFault::DChar));
+    expect_control(&rt, &mut devices, b'@', Ok(()));
+    expect_channels(&rt, &devices, false, true);
+    expect_control(&rt, &mut devices, b'T', Ok(()));
+    expect_control(&rt, &mut devices, b'K', Ok(()));
+    expect_print(&rt, &mut devices, b'H', Ok(()));
+    expect_paper(&rt, &devices, (3, 2, 2));
     for place in [(1, 4), (1, 60), (1, 65)] {
         expect_line(&rt, &mut devices, place, b'H');
     }
-    Ok(())
 }
 
 #[test]
@@ -176,24 +210,12 @@ fn a_card_has_its_columns(rt: HostRuntime) {
     assert_eq!(rt; Card::from_columns(&columns), None);
 }
 
-/// Compares what is written of a fault.
-fn expect_name(
-    rt: &impl Abort,
-    alloc: Global,
-    fault: &impl Display,
-    name: &str,
-) -> Result<(), Fail> {
-    let written = format!(in alloc; "{fault}")?;
-    assert_eq!(rt; written.as_str(), name);
-    Ok(())
-}
-
 #[test]
-fn each_fault_has_the_name_of_its_stop_or_refusal(rt: HostRuntime) -> Result<(), Fail> {
-    expect_name(&rt, rt.alloc(), &HopperFull, "HOPPER")?;
-    expect_name(&rt, rt.alloc(), &ReaderEmpty, "READER")?;
-    expect_name(&rt, rt.alloc(), &StackerFull, "STACKER")?;
-    expect_name(&rt, rt.alloc(), &FormsFull, "FORMS")?;
-    expect_name(&rt, rt.alloc(), &ControlFault::DChar, "DCHAR")?;
-    expect_name(&rt, rt.alloc(), &ControlFault::Carriage, "CARRIAGE")
+fn each_fault_has_the_name_of_its_stop_or_refusal(rt: HostRuntime) {
+    expect_text(&rt, rt.alloc(), &HopperFull, "HOPPER");
+    expect_text(&rt, rt.alloc(), &ReaderEmpty, "READER");
+    expect_text(&rt, rt.alloc(), &StackerFull, "STACKER");
+    expect_text(&rt, rt.alloc(), &FormsFull, "FORMS");
+    expect_text(&rt, rt.alloc(), &ControlFault::DChar, "DCHAR");
+    expect_text(&rt, rt.alloc(), &ControlFault::Carriage, "CARRIAGE");
 }

@@ -2,22 +2,33 @@
 ghost use Rattle.std.specs.Prelude.{◌<◌, length};
 ghost use Rattle.core_1401.specs.Address.{addresses};
 
-use bcd_1401::{Cell, Char};
+use super::characters::char_of;
+use super::expecting::{expect_same, expect_same_at, expect_text};
+use bcd_1401::Cell;
 use core_1401::{Cells, Core, CoreFault, MOST_CELLS, decode, encode};
 use std::alloc::Global;
 use std::process::Abort;
-use std::test::Fail;
+
+/// Core storage of this size, as it is at power-on.
+pub fn core_of(rt: &impl Abort, alloc: Global, size: u16) -> Core {
+    Core::power_on(alloc, size).expect(rt, "no core storage")
+}
+
+/// Compares how many places core storage has.
+fn expect_size(rt: &impl Abort, core: &Core, size: u16) {
+    expect_same(rt, core.size(), size);
+}
 
 /// Compares the length of the field at a place.
 fn expect_len(rt: &impl Abort, core: &Core, at: u16, len: Option<u16>) {
     assert!(rt; core.in_core(at));
-    assert_eq!(rt; core.field_len(at), len, "{at}");
+    expect_same_at(rt, core.field_len(at), len, at);
 }
 
 /// Compares the length of the shorter of the fields at two places.
 fn expect_pair(rt: &impl Abort, core: &Core, a: u16, b: u16, len: Option<u16>) {
     assert!(rt; core.in_core(a) && core.in_core(b));
-    assert_eq!(rt; core.pair_len(a, b), len, "{a} and {b}");
+    expect_same_at(rt, core.pair_len(a, b), len, (a, b));
 }
 
 /// Sets or clears the word mark of a place.
@@ -26,14 +37,31 @@ fn mark(rt: &impl Abort, core: &mut Core, at: u16, is_set: bool) {
     core.put_mark(at, is_set);
 }
 
+/// Expects a blank cell at a place.
+fn expect_blank(rt: &impl Abort, core: &Core, at: u16) {
+    assert!(rt; core.in_core(at));
+    expect_same(rt, core.get(at), Cell::BLANK);
+}
+
+/// Expects that core storage is made in this size.
+fn expect_made(rt: &impl Abort, alloc: Global, size: u16) {
+    let core = core_of(rt, alloc, size);
+    assert!(rt; core.in_core(size.saturating_sub(1)) && !core.in_core(size));
+    expect_size(rt, &core, size);
+    expect_blank(rt, &core, 0);
+}
+
 #[test]
-fn core_is_made_in_its_sizes(rt: HostRuntime) -> Result<(), Fail> {
+fn core_is_made_in_its_sizes(rt: HostRuntime) {
     for size in [1_400, 2_000, 4_000, 8_000, 12_000, 16_000] {
-        let core = Core::power_on(rt.alloc(), size)?;
-        assert!(rt; core.in_core(size - 1) && !core.in_core(size));
-        assert_eq!(rt; (core.size(), core.get(0)), (size, Cell::BLANK));
+        expect_made(&rt, rt.alloc(), size);
     }
-    Ok(())
+}
+
+/// Expects that core storage isn't made in this size.
+fn expect_not_made(rt: &impl Abort, alloc: Global, size: u16) {
+    let fault = Core::power_on(alloc, size).err();
+    expect_same_at(rt, fault, Some(CoreFault::Size), size);
 }
 
 #[test]
@@ -41,18 +69,14 @@ fn core_is_made_in_no_other_size(rt: HostRuntime) {
     for size in [
         0, 1_399, 1_401, 3_999, 4_001, 10_000, 15_999, 16_001, 65_535,
     ] {
-        assert_eq!(rt;
-            Core::power_on(rt.alloc(), size).err(),
-            Some(CoreFault::Size),
-            "{size}"
-        );
+        expect_not_made(&rt, rt.alloc(), size);
     }
 }
 
 #[test]
-fn a_field_ends_at_its_first_mark(rt: HostRuntime) -> Result<(), Fail> {
-    let mut core = Core::power_on(rt.alloc(), 4_000)?;
-    assert_eq!(rt; core.size(), 4_000);
+fn a_field_ends_at_its_first_mark(rt: HostRuntime) {
+    let mut core = core_of(&rt, rt.alloc(), 4_000);
+    expect_size(&rt, &core, 4_000);
     expect_len(&rt, &core, 3_999, None);
     mark(&rt, &mut core, 0, true);
     mark(&rt, &mut core, 100, true);
@@ -69,33 +93,42 @@ fn a_field_ends_at_its_first_mark(rt: HostRuntime) -> Result<(), Fail> {
     }
     mark(&rt, &mut core, 0, false);
     expect_pair(&rt, &core, 10, 130, None);
-    Ok(())
 }
 
 /// Compares how many places it is from one to the next above it with a word mark, but so many at most.
-fn expect_next_mark(rt: &impl Abort, core: &Core, (at, most): (u16, u16), next: u16) {
+fn expect_next_mark(rt: &impl Abort, core: &Core, at: u16, most: u16, next: u16) {
     assert!(rt; core.in_core(at) && 0 < most && most <= 64);
-    assert_eq!(rt; core.next_mark(at, most), next, "{at}");
+    expect_same_at(rt, core.next_mark(at, most), next, at);
 }
 
 #[test]
-fn a_mark_of_the_last_place_ends_no_lower_field(rt: HostRuntime) -> Result<(), Fail> {
-    let mut core = Core::power_on(rt.alloc(), 16_000)?;
-    assert_eq!(rt; core.size(), 16_000);
+fn a_mark_of_the_last_place_ends_no_lower_field(rt: HostRuntime) {
+    let mut core = core_of(&rt, rt.alloc(), 16_000);
+    expect_size(&rt, &core, 16_000);
     mark(&rt, &mut core, 15_999, true);
     for (at, len) in [(0, None), (63, None), (15_998, None), (15_999, Some(1))] {
         expect_len(&rt, &core, at, len);
     }
     expect_pair(&rt, &core, 0, 15_998, None);
-    expect_next_mark(&rt, &core, (15_935, 64), 64);
-    expect_next_mark(&rt, &core, (15_998, 8), 1);
-    expect_next_mark(&rt, &core, (15_999, 8), 1);
-    Ok(())
+    expect_next_mark(&rt, &core, 15_935, 64, 64);
+    expect_next_mark(&rt, &core, 15_998, 8, 1);
+    expect_next_mark(&rt, &core, 15_999, 8, 1);
+}
+
+/// Clears all of core storage, which has this size.
+fn clear_all(rt: &impl Abort, core: &mut Core, size: u16) {
+    assert!(rt; 0 < size && core.size() == size);
+    core.clear(size - 1, size);
+}
+
+/// Compares how many words hold the word marks.
+fn expect_words(rt: &impl Abort, core: &Core, count: usize) {
+    expect_same(rt, core.mark_words().len(), count);
 }
 
 #[test]
-fn a_field_ends_at_the_bottom_of_the_largest_core(rt: HostRuntime) -> Result<(), Fail> {
-    let mut core = Core::power_on(rt.alloc(), 16_000)?;
+fn a_field_ends_at_the_bottom_of_the_largest_core(rt: HostRuntime) {
+    let mut core = core_of(&rt, rt.alloc(), 16_000);
     mark(&rt, &mut core, 15_999, true);
     mark(&rt, &mut core, 15_999, false);
     mark(&rt, &mut core, 0, true);
@@ -103,38 +136,43 @@ fn a_field_ends_at_the_bottom_of_the_largest_core(rt: HostRuntime) -> Result<(),
         expect_len(&rt, &core, at, Some(len));
     }
     expect_pair(&rt, &core, 15_999, 15_998, Some(15_999));
-    assert!(rt; core.size() == 16_000);
-    core.clear(15_999, 16_000);
+    clear_all(&rt, &mut core, 16_000);
     expect_len(&rt, &core, 15_999, None);
-    assert_eq!(rt; core.mark_words().len(), 250);
-    Ok(())
+    expect_words(&rt, &core, 250);
 }
 
-/// Puts three graphics into core storage from a place on.
-fn put_three(rt: &impl Abort, core: &mut Core, at: u16, graphics: [u8; 3]) {
-    for (i, graphic) in graphics.iter().enumerate() {
-        let place = at.saturating_add(i as u16);
-        assert!(rt; core.in_core(place));
-        core.put_char(place, Char::from_graphic(*graphic).unwrap_or(Char::BLANK));
-    }
+/// Puts a graphic into core storage, without a word mark.
+fn put(rt: &impl Abort, core: &mut Core, at: u16, graphic: u8) {
+    assert!(rt; core.in_core(at));
+    core.put_char(at, char_of(rt, graphic));
 }
 
-/// The address that these graphics name, where the first index register has those.
-fn effective(
+/// Compares the address that the last three places name.
+fn expect_effective(rt: &impl Abort, core: &Core, address: u16) {
+    assert!(rt; core.in_core(15_999));
+    expect_same(rt, core.effective(15_997), address);
+}
+
+/// Compares the address that these graphics name, where the first index register has those.
+fn expect_address(
     rt: &impl Abort,
     alloc: Global,
-    text: [u8; 3],
-    register: [u8; 3],
-) -> Result<u16, Fail> {
-    let mut core = Core::power_on(alloc, 16_000)?;
-    put_three(rt, &mut core, 15_997, text);
-    put_three(rt, &mut core, 87, register);
-    assert!(rt; core.in_core(15_999));
-    Ok(core.effective(15_997))
+    [a, b, c]: [u8; 3],
+    [d, e, f]: [u8; 3],
+    address: u16,
+) {
+    let mut core = core_of(rt, alloc, 16_000);
+    put(rt, &mut core, 15_997, a);
+    put(rt, &mut core, 15_998, b);
+    put(rt, &mut core, 15_999, c);
+    put(rt, &mut core, 87, d);
+    put(rt, &mut core, 88, e);
+    put(rt, &mut core, 89, f);
+    expect_effective(rt, &core, address);
 }
 
 #[test]
-fn an_index_register_is_added_modulo_16_000(rt: HostRuntime) -> Result<(), Fail> {
+fn an_index_register_is_added_modulo_16_000(rt: HostRuntime) {
     for (text, register, address) in [
         (*b"I9I", *b"003", 15_999),
         (*b"I9I", *b"   ", 15_999),
@@ -146,10 +184,14 @@ fn an_index_register_is_added_modulo_16_000(rt: HostRuntime) -> Result<(), Fail>
         // The zone over the register's own tens counts for nothing.
         (*b"0'1", *b"0'2", 3),
     ] {
-        let found = effective(&rt, rt.alloc(), text, register)?;
-        assert_eq!(rt; found, address, "{address}");
+        expect_address(&rt, rt.alloc(), text, register, address);
     }
-    Ok(())
+}
+
+/// Compares the value and the index register of three characters.
+fn expect_decoded(rt: &impl Abort, [h, t, u]: [u8; 3], value: u16, index: u8) {
+    let chars = [char_of(rt, h), char_of(rt, t), char_of(rt, u)];
+    expect_same_at(rt, decode(chars), (value, index), value);
 }
 
 #[test]
@@ -165,9 +207,15 @@ fn three_characters_spell_an_address(rt: HostRuntime) {
         (*b"1#(", 137, 0),
         (*b"0&1", 1, 3),
     ] {
-        let chars = text.map(|graphic| Char::from_graphic(graphic).unwrap_or(Char::BLANK));
-        assert_eq!(rt; decode(chars), (value, index), "{value}");
+        expect_decoded(&rt, text, value, index);
     }
+}
+
+/// Compares the three characters of an address.
+fn expect_encoded(rt: &impl Abort, address: u16, text: [u8; 3]) {
+    assert!(rt; address < 16_000);
+    let [h, t, u] = encode(address);
+    expect_same_at(rt, [h.graphic(), t.graphic(), u.graphic()], text, address);
 }
 
 #[test]
@@ -179,38 +227,39 @@ fn an_address_is_spelled_in_three_characters(rt: HostRuntime) {
         (4_000, *b"00'"),
         (15_999, *b"I9I"),
     ] {
-        assert_eq!(rt;
-            encode(address).map(|char| char.graphic()),
-            text,
-            "{address}"
-        );
+        expect_encoded(&rt, address, text);
     }
 }
 
-/// How many cells are made of these.
-fn count_of(cells: &[Cell]) -> Option<usize> {
-    Cells::from_slice(cells).map(|cells| cells.as_slice().len())
+/// Compares how many cells are made of these.
+fn expect_count(rt: &impl Abort, cells: &[Cell], count: Option<usize>) {
+    let made = Cells::from_slice(cells);
+    expect_same(rt, made.map(|cells| cells.as_slice().len()), count);
 }
 
 #[test]
 fn cells_are_one_to_forty(rt: HostRuntime) {
     let many = [Cell::BLANK; 41];
-    assert_eq!(rt; (count_of(&[]), count_of(&many)), (None, None));
-    assert_eq!(rt;
-        (count_of(&many[..1]), count_of(&many[..40])),
-        (Some(1), Some(MOST_CELLS))
-    );
+    expect_count(&rt, &[], None);
+    expect_count(&rt, &many, None);
+    expect_count(&rt, &many[..1], Some(1));
+    expect_count(&rt, &many[..40], Some(MOST_CELLS));
 }
 
-/// Core storage of 4,000 places with one word mark.
-fn marked(rt: &impl Abort, alloc: Global, at: u16) -> Result<Core, Fail> {
-    let mut core = Core::power_on(alloc, 4_000)?;
+/// Core storage of this size with one word mark.
+fn marked(rt: &impl Abort, alloc: Global, size: u16, at: u16) -> Core {
+    let mut core = core_of(rt, alloc, size);
     mark(rt, &mut core, at, true);
-    Ok(core)
+    core
+}
+
+/// Compares the length of the field at a place, where one place of 4,000 has a word mark.
+fn expect_len_of_marked(rt: &impl Abort, alloc: Global, mark: u16, at: u16, len: Option<u16>) {
+    expect_len(rt, &marked(rt, alloc, 4_000, mark), at, len);
 }
 
 #[test]
-fn a_mark_is_found_across_words(rt: HostRuntime) -> Result<(), Fail> {
+fn a_mark_is_found_across_words(rt: HostRuntime) {
     for (mark, at, len) in [
         (0, 3_999, Some(4_000)),
         (63, 64, Some(2)),
@@ -218,25 +267,30 @@ fn a_mark_is_found_across_words(rt: HostRuntime) -> Result<(), Fail> {
         (64, 127, Some(64)),
         (64, 63, None),
     ] {
-        let core = marked(&rt, rt.alloc(), mark)?;
-        assert!(rt; at < core.size());
-        assert_eq!(rt; core.field_len(at), len, "{mark} and {at}");
+        expect_len_of_marked(&rt, rt.alloc(), mark, at, len);
     }
-    Ok(())
+}
+
+/// Compares the length of the shorter of the fields at two places, where one place of 4,000 has a word mark.
+fn expect_pair_of_marked(
+    rt: &impl Abort,
+    alloc: Global,
+    mark: u16,
+    (a, b): (u16, u16),
+    len: Option<u16>,
+) {
+    expect_pair(rt, &marked(rt, alloc, 4_000, mark), a, b, len);
 }
 
 #[test]
-fn a_mark_is_found_across_words_of_two_fields(rt: HostRuntime) -> Result<(), Fail> {
+fn a_mark_is_found_across_words_of_two_fields(rt: HostRuntime) {
     for (mark, a, b, len) in [
         (63, 64, 127, Some(2)),
         (0, 130, 10, Some(11)),
         (100, 10, 130, None),
     ] {
-        let core = marked(&rt, rt.alloc(), mark)?;
-        assert!(rt; a < core.size() && b < core.size());
-        assert_eq!(rt; core.pair_len(a, b), len, "{mark}, {a} and {b}");
+        expect_pair_of_marked(&rt, rt.alloc(), mark, (a, b), len);
     }
-    Ok(())
 }
 
 /// The length of a field by a walk over its places.
@@ -252,50 +306,50 @@ fn walked_len(core: &Core, at: u16) -> Option<u16>
     None
 }
 
-/// Core storage of 1,400 places with one word mark.
-fn marked_once(rt: &impl Abort, alloc: Global, at: u16) -> Result<Core, Fail> {
-    let mut core = Core::power_on(alloc, 1_400)?;
-    mark(rt, &mut core, at, true);
-    Ok(core)
+/// Compares the length of the field at a place with what a walk finds.
+fn expect_walked_len(rt: &impl Abort, core: &Core, at: u16) {
+    assert!(rt; at < core.size());
+    expect_same_at(rt, core.field_len(at), walked_len(core, at), at);
+}
+
+/// Compares the length of each field with what a walk finds, where one place of 1,400 has a word mark.
+fn expect_walked(rt: &impl Abort, alloc: Global, mark: u16) {
+    let core = marked(rt, alloc, 1_400, mark);
+    for at in 0..core.size() {
+        expect_walked_len(rt, &core, at);
+    }
 }
 
 #[test]
-fn each_field_is_as_long_as_a_walk_finds_it(rt: HostRuntime) -> Result<(), Fail> {
+fn each_field_is_as_long_as_a_walk_finds_it(rt: HostRuntime) {
     for mark in [0, 63, 64, 127, 128, 1_399] {
-        let core = marked_once(&rt, rt.alloc(), mark)?;
-        for at in 0..core.size() {
-            assert!(rt; at < core.size());
-            assert_eq!(rt;
-                core.field_len(at),
-                walked_len(&core, at),
-                "{mark} and {at}"
-            );
-        }
+        expect_walked(&rt, rt.alloc(), mark);
     }
-    Ok(())
+}
+
+/// Expects 22 words, of which only this one has a word mark.
+fn expect_one_word(rt: &impl Abort, words: &[u64], word: usize) {
+    expect_same(rt, words.len(), 22);
+    for (place, bits) in words.iter().enumerate() {
+        expect_same_at(rt, *bits != 0, place == word, place);
+    }
+}
+
+/// Expects that this word alone has a word mark, where one place of 1,400 has one.
+fn expect_word(rt: &impl Abort, alloc: Global, mark: u16, word: usize) {
+    let core = marked(rt, alloc, 1_400, mark);
+    expect_one_word(rt, core.mark_words(), word);
 }
 
 #[test]
-fn each_mark_has_its_word(rt: HostRuntime) -> Result<(), Fail> {
+fn each_mark_has_its_word(rt: HostRuntime) {
     for (mark, word) in [(0, 0), (63, 0), (64, 1), (127, 1), (128, 2), (1_399, 21)] {
-        let core = marked_once(&rt, rt.alloc(), mark)?;
-        let words = core.mark_words();
-        assert_eq!(rt; words.len(), 22);
-        for (place, bits) in words.iter().enumerate() {
-            assert_eq!(rt; *bits != 0, place == word, "{mark} and {place}");
-        }
+        expect_word(&rt, rt.alloc(), mark, word);
     }
-    Ok(())
 }
 
 #[test]
-fn each_fault_has_its_text(rt: HostRuntime) -> Result<(), Fail> {
-    for (fault, text) in [
-        (CoreFault::Memory, "memory refused"),
-        (CoreFault::Size, "size refused"),
-    ] {
-        let shown = format!(in rt.alloc(); "{fault}")?;
-        assert_eq!(rt; shown.as_str(), text);
-    }
-    Ok(())
+fn each_fault_has_its_text(rt: HostRuntime) {
+    expect_text(&rt, rt.alloc(), &CoreFault::Memory, "memory refused");
+    expect_text(&rt, rt.alloc(), &CoreFault::Size, "size refused");
 }

@@ -1,10 +1,14 @@
 //! Fields edited.
 
-use super::{deposit, stands};
+use super::Operation::Edit;
+use super::Step::{Has, Leaves, Put};
+use super::{deposit, expect_refusals, part, stands, take_steps};
+use crate::tests::expecting::{expect_same, expect_same_at};
+use crate::tests::storage::core_of;
 use core_1401::Core;
-use fields_1401::{FieldStop, edit};
+use fields_1401::FieldStop;
 use std::alloc::Global;
-use std::test::Fail;
+use std::process::Abort;
 
 /// The A field, the control word, and what is shown: worked out by hand.
 const EDITS: &str = "\
@@ -23,59 +27,65 @@ const EDITS: &str = "\
 const EDIT_COUNT: u32 = 9;
 
 /// Whether a field, edited by a control word, shows this, and leaves what stands on both sides.
-fn is_shown(alloc: Global, field: &str, word: &str, shown: &str) -> Result<bool, Fail> {
-    let mut core = Core::power_on(alloc, 1_400)?;
-    let a = deposit(&mut core, 700, field);
-    let b = deposit(&mut core, 720, word);
-    let beside = (b + 1) % 1_400;
-    deposit(&mut core, 719, "~Z");
-    deposit(&mut core, beside, "~Z");
-    edit(&mut core, a, b)?;
-    let fields = stands(&core, 700, field) && stands(&core, 720, shown);
-    Ok(fields && stands(&core, 719, "~Z") && stands(&core, beside, "~Z"))
+fn is_shown(rt: &impl Abort, core: &mut Core, field: &str, word: &str, shown: &str) -> bool {
+    let a = deposit(rt, core, 700, field);
+    let b = deposit(rt, core, 720, word);
+    let beside = b.saturating_add(1);
+    deposit(rt, core, 719, "~Z");
+    deposit(rt, core, beside, "~Z");
+    Edit.perform(rt, core, a, b).is_ok()
+        && stands(rt, core, 700, field)
+        && stands(rt, core, 720, shown)
+        && stands(rt, core, 719, "~Z")
+        && stands(rt, core, beside, "~Z")
 }
 
-#[test]
-fn control_words_show_their_fields(rt: HostRuntime) -> Result<(), Fail> {
+/// Expects that the field of a line is shown as it says; false, if the line has no field.
+fn is_edit(rt: &impl Abort, alloc: Global, line: &str) -> bool {
+    let (Some(field), Some(word), Some(shown)) = (part(line, 0), part(line, 1), part(line, 2))
+    else {
+        return false;
+    };
+    let mut core = core_of(rt, alloc, 1_400);
+    let is_shown = is_shown(rt, &mut core, field, word, shown);
+    expect_same_at(rt, is_shown, true, line);
+    true
+}
+
+/// Edits the field of each line, and counts them.
+fn count_edits(rt: &impl Abort, alloc: Global, lines: &str) -> u32 {
     let mut count = 0u32;
-    for line in EDITS.lines() {
-        let mut parts = line.split('|');
-        let (Some(field), Some(word), Some(shown)) = (parts.next(), parts.next(), parts.next())
-        else {
-            continue;
-        };
-        assert!(rt; is_shown(rt.alloc(), field, word, shown)?, "{line}");
-        count = count.saturating_add(1);
+    for line in lines.lines() {
+        if is_edit(rt, alloc, line) {
+            count = count.saturating_add(1);
+        }
     }
-    assert_eq!(rt; count, EDIT_COUNT);
-    Ok(())
+    count
 }
 
 #[test]
-fn the_a_register_steps_below_what_was_taken(rt: HostRuntime) -> Result<(), Fail> {
-    let mut core = Core::power_on(rt.alloc(), 1_400)?;
-    deposit(&mut core, 700, "~12345");
-    deposit(&mut core, 720, "~  .0");
-    let done = edit(&mut core, 704, 723)?;
-    assert_eq!(rt;
-        (done.a, done.b, stands(&core, 720, "34.5")),
-        (701, 719, true)
-    );
-    deposit(&mut core, 720, "~CR");
-    let done = edit(&mut core, 704, 721)?;
-    assert_eq!(rt;
-        (done.a, done.b, stands(&core, 720, "  ")),
-        (704, 719, true),
-        "none is taken"
-    );
-    Ok(())
+fn control_words_show_their_fields(rt: HostRuntime) {
+    expect_same(&rt, count_edits(&rt, rt.alloc(), EDITS), EDIT_COUNT);
 }
 
 #[test]
-fn an_edit_that_cant_be_carried_out_is_refused(rt: HostRuntime) -> Result<(), Fail> {
-    let mut core = Core::power_on(rt.alloc(), 1_400)?;
-    deposit(&mut core, 0, "12~   ~CR");
-    for (a, b, why) in [
+fn the_a_register_steps_below_what_was_taken(rt: HostRuntime) {
+    let steps = [
+        Put(700, "~12345"),
+        Put(720, "~  .0"),
+        Leaves(Edit, (704, 723), (701, 719)),
+        Has(720, "34.5"),
+        Put(720, "~CR"),
+        // none is taken
+        Leaves(Edit, (704, 721), (704, 719)),
+        Has(720, "  "),
+    ];
+    take_steps(&rt, rt.alloc(), 1_400, &steps);
+}
+
+#[test]
+fn an_edit_that_cant_be_carried_out_is_refused(rt: HostRuntime) {
+    let refusals = [
         (1, 1, FieldStop::Address),
         (1, 1_400, FieldStop::Address),
         (1, 4, FieldStop::Address),
@@ -83,12 +93,6 @@ fn an_edit_that_cant_be_carried_out_is_refused(rt: HostRuntime) -> Result<(), Fa
         (4, 4, FieldStop::Overlap),
         (6, 6, FieldStop::Overlap),
         (5, 6, FieldStop::Overlap),
-    ] {
-        assert_eq!(rt;
-            (edit(&mut core, a, b), stands(&core, 0, "12~   ~CR")),
-            (Err(why), true),
-            "{a} by {b}"
-        );
-    }
-    Ok(())
+    ];
+    expect_refusals(&rt, rt.alloc(), Edit, 1_400, (0, "12~   ~CR"), &refusals);
 }

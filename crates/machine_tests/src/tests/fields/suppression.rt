@@ -1,63 +1,52 @@
 //! Fields suppressed.
 
-use super::{deposit, stands};
-use core_1401::Core;
-use fields_1401::{FieldStop, suppress};
+use super::Operation::Suppress;
+use super::Step::{Has, Leaves, Put};
+use super::{deposit, done, expect_cells, expect_outcome, expect_refusals, take_steps};
+use crate::tests::storage::core_of;
+use fields_1401::FieldStop;
 use std::alloc::Global;
-use std::test::Fail;
+use std::process::Abort;
 
-/// The registers after a field is suppressed, and whether that leaves it as it is and this in its place.
-fn suppressed(alloc: Global, field: &str, after: &str) -> Result<(u16, u16, bool), Fail> {
-    let mut core = Core::power_on(alloc, 1_400)?;
-    let units = deposit(&mut core, 700, field);
-    deposit(&mut core, 718, "~Z~Z~Z~Z~Z~Z~Z~Z");
-    let done = suppress(&mut core, units, 724)?;
-    let are_there = stands(&core, 700, field) && stands(&core, 718, after);
-    Ok((done.a, done.b, are_there))
+/// Expects that suppressing a field leaves it as it is and this in its place.
+fn expect_suppressed(rt: &impl Abort, alloc: Global, field: &str, after: &str) {
+    let mut core = core_of(rt, alloc, 1_400);
+    let units = deposit(rt, &mut core, 700, field);
+    deposit(rt, &mut core, 718, "~Z~Z~Z~Z~Z~Z~Z~Z");
+    expect_outcome(rt, &mut core, Suppress, (units, 724), done(699, 725, false));
+    expect_cells(rt, &core, 700, field);
+    expect_cells(rt, &core, 718, after);
 }
 
 #[test]
-fn zeros_and_commas_on_the_left_go(rt: HostRuntime) -> Result<(), Fail> {
-    for (field, after) in [
-        ("~0012P", "~Z~Z  127~Z"),
-        ("~0,0,10", "~Z    10~Z"),
-        ("~00!", "~Z~Z~Z~Z   ~Z"),
-        ("~1,000", "~Z~Z1,000~Z"),
-        ("~00.01", "~Z~Z  .01~Z"),
-        ("~A", "~Z~Z~Z~Z~Z~Z1~Z"),
-    ] {
-        let found = suppressed(rt.alloc(), field, after)?;
-        assert_eq!(rt; found, (699, 725, true), "{field}");
-    }
-    Ok(())
+fn zeros_and_commas_on_the_left_go(rt: HostRuntime) {
+    expect_suppressed(&rt, rt.alloc(), "~0012P", "~Z~Z  127~Z");
+    expect_suppressed(&rt, rt.alloc(), "~0,0,10", "~Z    10~Z");
+    expect_suppressed(&rt, rt.alloc(), "~00!", "~Z~Z~Z~Z   ~Z");
+    expect_suppressed(&rt, rt.alloc(), "~1,000", "~Z~Z1,000~Z");
+    expect_suppressed(&rt, rt.alloc(), "~00.01", "~Z~Z  .01~Z");
+    expect_suppressed(&rt, rt.alloc(), "~A", "~Z~Z~Z~Z~Z~Z1~Z");
 }
 
 #[test]
-fn a_suppress_that_cant_be_carried_out_is_refused(rt: HostRuntime) -> Result<(), Fail> {
-    let mut core = Core::power_on(rt.alloc(), 1_400)?;
-    deposit(&mut core, 1, "~012~3");
-    for (a, b, why) in [
+fn a_suppress_that_cant_be_carried_out_is_refused(rt: HostRuntime) {
+    let refusals = [
         (3, 2, FieldStop::Overlap),
         (3, 5, FieldStop::Overlap),
         (3, 1, FieldStop::Address),
         (3, 1_400, FieldStop::Address),
         (0, 3, FieldStop::Address),
         (1_400, 3, FieldStop::Address),
-    ] {
-        assert_eq!(rt;
-            (suppress(&mut core, a, b), stands(&core, 1, "~012~3")),
-            (Err(why), true),
-            "{a} to {b}"
-        );
-    }
-    Ok(())
+    ];
+    expect_refusals(&rt, rt.alloc(), Suppress, 1_400, (1, "~012~3"), &refusals);
 }
 
 #[test]
-fn a_field_may_be_suppressed_in_its_place(rt: HostRuntime) -> Result<(), Fail> {
-    let mut core = Core::power_on(rt.alloc(), 1_400)?;
-    deposit(&mut core, 1, "~012~3");
-    let done = suppress(&mut core, 3, 3)?;
-    assert_eq!(rt; (done.a, done.b, stands(&core, 1, " 12~3")), (0, 4, true));
-    Ok(())
+fn a_field_may_be_suppressed_in_its_place(rt: HostRuntime) {
+    let steps = [
+        Put(1, "~012~3"),
+        Leaves(Suppress, (3, 3), (0, 4)),
+        Has(1, " 12~3"),
+    ];
+    take_steps(&rt, rt.alloc(), 1_400, &steps);
 }
