@@ -1,5 +1,5 @@
 //! What a source is asked for, and the comparison of what it gives: one function for each, which all tests share. None
-//! has a clause, so that what is proved of the assembler stays out of the proofs of the tests.
+//! has an `ensures`, so that what is proved of the assembler stays out of the proofs of the tests.
 ghost use Rattle.std.specs.Prelude.{◌≡◌, true};
 ghost use Rattle.core_1401.specs.Storage.{is_core_size};
 
