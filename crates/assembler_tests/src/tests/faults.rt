@@ -1,24 +1,8 @@
 //! Sources with more than one fault, and what is told of them.
 
-use autocoder_1401::AsmKind::{self, AfterEnd, NoEnd, Operand, Operation, OutOfCore, Undefined};
-use autocoder_1401::faults;
-use source_1401::Language;
-use std::process::Abort;
+use super::expecting::expect_faults;
+use autocoder_1401::AsmKind::{AfterEnd, NoEnd, Operand, Operation, OutOfCore, Undefined};
 use std::test::Fail;
-
-/// Compares what is told of a source in 4,000 places: lines, and kinds of fault.
-fn expect_faults(
-    rt: &(impl Abort + AllocGlobal),
-    source: &[u8],
-    wanted: &[(u64, AsmKind)],
-) -> Result<(), Fail> {
-    let mut told = Vec::new(rt.alloc());
-    for fault in faults(rt.alloc(), Language::Plain, source, 4_000)? {
-        told.push((fault.line, fault.kind))?;
-    }
-    assert_eq!(rt; told.as_slice(), wanted);
-    Ok(())
-}
 
 #[test]
 fn each_faulty_line_is_told(rt: HostRuntime) -> Result<(), Fail> {

@@ -1,54 +1,18 @@
 //! Sources in the wider language, and what they are in the plain one.
-ghost use Rattle.std.specs.Prelude.{◌≡◌, true};
-ghost use Rattle.core_1401.specs.Storage.{is_core_size};
 
+use super::expecting::{
+    expect_faults_of_images, expect_first_faults, expect_image, expect_image_in, expect_listing,
+    expect_warnings, listing_text, only_fault,
+};
 use autocoder_1401::AsmKind::{
-    self, DoubleLabel, Graphic, Label, Operand, Operation, OutOfCore, Undefined,
+    DoubleLabel, Graphic, Label, Operand, Operation, OutOfCore, Undefined,
 };
+use autocoder_1401::Cause;
 use autocoder_1401::WarningKind::{NotFitted, ReadOn, UnusedLabel};
-use autocoder_1401::{
-    Assembly, Cause, assemble, assemble_image, explained_faults, faults, warnings,
-};
-use image_1401::write_image;
-use source_1401::Language::{self, Ibm, Plain};
+use source_1401::Language::{Ibm, Plain};
 use source_1401::size_asked;
 use std::process::Abort;
 use std::test::Fail;
-
-/// Compares the image of a source in the wider language, in core storage of this size, with a text.
-fn expect_image_in(
-    rt: &(impl Abort + AllocGlobal),
-    size: u16,
-    source: &[u8],
-    wanted: &[u8],
-) -> Result<(), Fail>
-    requires { is_core_size size ≡ true }
-{
-    let image = assemble_image(rt.alloc(), Ibm, source, size)?;
-    let text = write_image(rt.alloc(), &image)?;
-    assert_eq!(rt; text.as_slice(), wanted);
-    Ok(())
-}
-
-/// The same in 4,000 places.
-fn expect_image(rt: &(impl Abort + AllocGlobal), source: &[u8], wanted: &[u8]) -> Result<(), Fail> {
-    expect_image_in(rt, 4_000, source, wanted)
-}
-
-/// The listing of a source in 4,000 places.
-fn listing_of(
-    rt: &(impl Abort + AllocGlobal),
-    language: Language,
-    source: &[u8],
-) -> Result<Vec<u8>, Fail> {
-    let Assembly { listing, .. } = assemble(rt.alloc(), language, source, 4_000)?;
-    let mut text = Vec::new(rt.alloc());
-    for line in listing.as_slice() {
-        text.extend_from_slice(line.as_slice())?;
-        text.push(b'\n')?;
-    }
-    Ok(text)
-}
 
 /// A source in small letters, with `&` for a plus sign.
 const SMALL_LETTERS: &[u8] = b"               org  500
@@ -63,20 +27,16 @@ const SMALL_LETTERS: &[u8] = b"               org  500
 #[test]
 fn small_letters_are_read_as_capitals(rt: HostRuntime) -> Result<(), Fail> {
     let wanted = b"IMAGE2 04000\n00500 21 ~!089~M5/9094~M520090~AB~A\nEND 00500\n";
-    expect_image(&rt, SMALL_LETTERS, wanted)
+    expect_image(&rt, Ibm, SMALL_LETTERS, wanted)
 }
 
 #[test]
 fn the_plain_language_refuses_small_letters(rt: HostRuntime) {
-    match assemble_image(rt.alloc(), Plain, SMALL_LETTERS, 4_000) {
-        Ok(_) => panic!(rt; "taken"),
-        Err(fault) => assert_eq!(rt; (fault.line, fault.kind), (1, Graphic)),
-    }
+    expect_faults_of_images(&rt, &[(SMALL_LETTERS, 4_000, Some((1, Graphic)))]);
 }
 
 #[test]
 fn a_listing_shows_small_letters_as_they_stand(rt: HostRuntime) -> Result<(), Fail> {
-    let text = listing_of(&rt, Ibm, SMALL_LETTERS)?;
     let wanted = b"\
 0001 00500                         org  500
 0002 00500 !089          start     zs   field
@@ -87,8 +47,7 @@ fn a_listing_shows_small_letters_as_they_stand(rt: HostRuntime) -> Result<(), Fa
      00520 A        +1
 0007 00500                         end  start
 ";
-    assert_eq!(rt; text.as_slice(), wanted.as_slice());
-    Ok(())
+    expect_listing(&rt, Ibm, SMALL_LETTERS, wanted)
 }
 
 #[test]
@@ -101,11 +60,9 @@ fn a_plain_source_means_the_same(rt: HostRuntime) -> Result<(), Fail> {
                END  START
 ";
     let wanted = b"IMAGE2 04000\n00400 19 ~?418417~B400417&~   ~E\nEND 00400\n";
-    expect_image(&rt, source, wanted)?;
-    let plain = listing_of(&rt, Plain, source)?;
-    let wider = listing_of(&rt, Ibm, source)?;
-    assert_eq!(rt; wider.as_slice(), plain.as_slice());
-    Ok(())
+    expect_image(&rt, Ibm, source, wanted)?;
+    let plain = listing_text(&rt, Plain, source)?;
+    expect_listing(&rt, Ibm, source, plain.as_slice())
 }
 
 #[test]
@@ -128,7 +85,7 @@ fn mnemonics_have_more_forms(rt: HostRuntime) -> Result<(), Fail> {
 00540 19 4~D500526~D~D~B500558,~X
 END 00500
 ";
-    expect_image(&rt, source, wanted)
+    expect_image(&rt, Ibm, source, wanted)
 }
 
 /// Instructions of which the machine never carries out those on lines 3 to 8, 10, 12 and 13.
@@ -155,18 +112,23 @@ fn what_the_machine_never_carries_out_is_assembled(rt: HostRuntime) -> Result<()
 00540 28 ~N700~.001700~B540700A~B~P700201~E
 END 00500
 ";
-    expect_image(&rt, NOT_FITTED, wanted)
+    expect_image(&rt, Ibm, NOT_FITTED, wanted)
 }
 
 #[test]
 fn what_the_machine_never_carries_out_is_warned_of(rt: HostRuntime) -> Result<(), Fail> {
-    let mut told = Vec::new(rt.alloc());
-    for warning in warnings(rt.alloc(), Ibm, NOT_FITTED, 4_000)? {
-        told.push((warning.line, warning.kind))?;
-    }
-    let wanted = [3, 4, 5, 6, 7, 8, 10, 12, 13].map(|line| (line, NotFitted));
-    assert_eq!(rt; told.as_slice(), wanted.as_slice());
-    Ok(())
+    let wanted = [
+        (3, NotFitted),
+        (4, NotFitted),
+        (5, NotFitted),
+        (6, NotFitted),
+        (7, NotFitted),
+        (8, NotFitted),
+        (10, NotFitted),
+        (12, NotFitted),
+        (13, NotFitted),
+    ];
+    expect_warnings(&rt, Ibm, NOT_FITTED, &wanted)
 }
 
 /// A source with headings.
@@ -179,12 +141,16 @@ const HEADED: &[u8] = b"               job  Wages {March 1962}
 
 #[test]
 fn headings_place_nothing(rt: HostRuntime) -> Result<(), Fail> {
-    expect_image(&rt, HEADED, b"IMAGE2 04000\n00500 04 ~.500\nEND 00500\n")
+    expect_image(
+        &rt,
+        Ibm,
+        HEADED,
+        b"IMAGE2 04000\n00500 04 ~.500\nEND 00500\n",
+    )
 }
 
 #[test]
 fn headings_are_listed_as_comments_are(rt: HostRuntime) -> Result<(), Fail> {
-    let text = listing_of(&rt, Ibm, HEADED)?;
     let wanted = b"\
 0001                               job  Wages {March 1962}
 0002                               ENT  AUTOCODER
@@ -192,8 +158,7 @@ fn headings_are_listed_as_comments_are(rt: HostRuntime) -> Result<(), Fail> {
 0004 00500 .500          A         h    a
 0005 00500                         end  A
 ";
-    assert_eq!(rt; text.as_slice(), wanted.as_slice());
-    Ok(())
+    expect_listing(&rt, Ibm, HEADED, wanted)
 }
 
 #[test]
@@ -206,6 +171,7 @@ fn fields_go_on_below_a_heading(rt: HostRuntime) -> Result<(), Fail> {
 ";
     expect_image(
         &rt,
+        Ibm,
         source,
         b"IMAGE2 04000\n00500 08 ~  ~  ~  ~  \nEND 00503\n",
     )
@@ -226,7 +192,7 @@ fn the_first_ctl_says_the_size(rt: HostRuntime) -> Result<(), Fail> {
     assert_eq!(rt; size_asked(Plain, source), None);
     assert_eq!(rt; size_asked(Ibm, source), Some(16_000));
     let wanted = b"IMAGE2 16000\n00500 21 ~!089~M5/9094~M520090~AB~A\nEND 00500\n";
-    expect_image_in(&rt, 16_000, source, wanted)
+    expect_image_in(&rt, 16_000, Ibm, source, wanted)
 }
 
 #[test]
@@ -242,6 +208,7 @@ fn sections_use_the_same_short_labels(rt: HostRuntime) -> Result<(), Fail> {
 ";
     expect_image(
         &rt,
+        Ibm,
         source,
         b"IMAGE2 04000\n00500 12 ~B500~B500~B504\nEND 00504\n",
     )
@@ -257,7 +224,7 @@ fn x1_is_a_symbol(rt: HostRuntime) -> Result<(), Fail> {
                END  GO
 ";
     let wanted = b"IMAGE2 04000\n00333 14 ~M0940Q9~M402099\n00400 03 ~000\nEND 00333\n";
-    expect_image(&rt, source, wanted)
+    expect_image(&rt, Ibm, source, wanted)
 }
 
 #[test]
@@ -271,10 +238,10 @@ fn xfr_places_nothing(rt: HostRuntime) -> Result<(), Fail> {
 ";
     expect_image(
         &rt,
+        Ibm,
         source,
         b"IMAGE2 04000\n00500 15 ~A507009~A~A507009\nEND 00500\n",
     )?;
-    let text = listing_of(&rt, Ibm, source)?;
     let wanted = b"\
 0001 00500                         ORG  500
 0002 00500 A507009       GO        A    +1,9
@@ -284,8 +251,7 @@ fn xfr_places_nothing(rt: HostRuntime) -> Result<(), Fail> {
 0005 00508 A507009                 A    +1,9
 0006 00500                         END  GO
 ";
-    assert_eq!(rt; text.as_slice(), wanted.as_slice());
-    Ok(())
+    expect_listing(&rt, Ibm, source, wanted)
 }
 
 #[test]
@@ -312,8 +278,7 @@ fn an_asterisk_says_a_value(rt: HostRuntime) -> Result<(), Fail> {
 00348 07 ~M4!5405
 END 00340
 ";
-    expect_image(&rt, source, wanted)?;
-    let text = listing_of(&rt, Ibm, source)?;
+    expect_image(&rt, Ibm, source, wanted)?;
     let wanted = b"\
 0001 00340                         ORG  340
 0002 00340 B404          GO        B    LATER
@@ -331,8 +296,7 @@ END 00340
 0014 00354                         EX   *
 0015 00340                         END
 ";
-    assert_eq!(rt; text.as_slice(), wanted.as_slice());
-    Ok(())
+    expect_listing(&rt, Ibm, source, wanted)
 }
 
 #[test]
@@ -344,30 +308,21 @@ fn an_asterisk_of_an_origin_is_the_next_place(rt: HostRuntime) -> Result<(), Fai
                END  *-2
 ";
     let wanted = b"IMAGE2 04000\n00333 07 ~A367009\n00360 04 ~.333\n00367 01 ~E\nEND 00364\n";
-    expect_image(&rt, source, wanted)
+    expect_image(&rt, Ibm, source, wanted)
 }
 
 #[test]
 fn end_alone_begins_at_the_first_instruction(rt: HostRuntime) -> Result<(), Fail> {
-    let rows: [(&[u8], &[u8]); 2] = [
-        (
-            b"               ORG  400
+    let source = b"               ORG  400
      TAB       DCW  @X@
                H
                NOP
                END
-",
-            b"IMAGE2 04000\n00400 03 ~X~.~N\nEND 00401\n",
-        ),
-        (
-            b"               ORG  400\n     TAB       DCW  @X@\n               END\n",
-            b"IMAGE2 04000\n00400 01 ~X\nEND 00333\n",
-        ),
-    ];
-    for (source, wanted) in rows {
-        expect_image(&rt, source, wanted)?;
-    }
-    Ok(())
+";
+    let wanted = b"IMAGE2 04000\n00400 03 ~X~.~N\nEND 00401\n";
+    expect_image(&rt, Ibm, source, wanted)?;
+    let none = b"               ORG  400\n     TAB       DCW  @X@\n               END\n";
+    expect_image(&rt, Ibm, none, b"IMAGE2 04000\n00400 01 ~X\nEND 00333\n")
 }
 
 #[test]
@@ -382,8 +337,7 @@ fn areas_end_with_a_group_mark(rt: HostRuntime) -> Result<(), Fail> {
                END
 ";
     let wanted = b"IMAGE2 04000\n00700 25 ~    ~ ~    ~ ~\"~A701703~M700701\nEND 00711\n";
-    expect_image(&rt, source, wanted)?;
-    let text = listing_of(&rt, Ibm, source)?;
+    expect_image(&rt, Ibm, source, wanted)?;
     let wanted = b"\
 0001 00700                         ORG  700
 0002 00700               REC       DA   2X5,C,G
@@ -394,8 +348,7 @@ fn areas_end_with_a_group_mark(rt: HostRuntime) -> Result<(), Fail> {
 0007 00718 M700701                 MCW  REC,KEY
 0008 00711                         END
 ";
-    assert_eq!(rt; text.as_slice(), wanted.as_slice());
-    Ok(())
+    expect_listing(&rt, Ibm, source, wanted)
 }
 
 #[test]
@@ -418,125 +371,119 @@ fn a_constant_may_be_an_address(rt: HostRuntime) -> Result<(), Fail> {
 00524 07 ~M608611
 END 00514
 ";
-    expect_image(&rt, source, wanted)
+    expect_image(&rt, Ibm, source, wanted)
 }
 
 #[test]
 fn the_first_fault_of_a_wider_source(rt: HostRuntime) -> Result<(), Fail> {
-    let rows: [(&[u8], u64, AsmKind); 18] = [
-        (
-            b"     X1        DCW  #1\n     X1        EQU  89\n               END  0\n",
-            2,
-            DoubleLabel,
-        ),
-        (
-            b"     TAG       DCW  #3\n               CHAIN2\n               END  0\n",
-            2,
-            Operation,
-        ),
-        (
-            b"               CTL  66\n               CTL  66\n               END  0\n",
-            2,
-            Operation,
-        ),
-        (
-            b"               CTL  37\n               END  0\n",
-            1,
-            Operand,
-        ),
-        (b"     L         XFR  0\n               END  0\n", 1, Label),
-        (
-            b"               XFR  4000\n               END  0\n",
-            1,
-            OutOfCore,
-        ),
-        (
-            b"               ORG  3998\n               NOP\n               CHAIN2\n               END  0\n",
-            3,
-            OutOfCore,
-        ),
-        (
-            b"               A    %U1,5\n               END  0\n",
-            1,
-            Operand,
-        ),
-        (
-            b"               ENT  SPS\n               END  0\n",
-            1,
-            Operand,
-        ),
-        (
-            b"               SFX  A\n     TAG       DCW  #1\n               SFX\n               B    TAG
+    expect_first_faults(
+        &rt,
+        &[
+            (
+                b"     X1        DCW  #1\n     X1        EQU  89\n               END  0\n",
+                2,
+                DoubleLabel,
+            ),
+            (
+                b"     TAG       DCW  #3\n               CHAIN2\n               END  0\n",
+                2,
+                Operation,
+            ),
+            (
+                b"               CTL  66\n               CTL  66\n               END  0\n",
+                2,
+                Operation,
+            ),
+            (
+                b"               CTL  37\n               END  0\n",
+                1,
+                Operand,
+            ),
+            (b"     L         XFR  0\n               END  0\n", 1, Label),
+            (
+                b"               XFR  4000\n               END  0\n",
+                1,
+                OutOfCore,
+            ),
+            (
+                b"               ORG  3998\n               NOP\n               CHAIN2\n               END  0\n",
+                3,
+                OutOfCore,
+            ),
+            (
+                b"               A    %U1,5\n               END  0\n",
+                1,
+                Operand,
+            ),
+            (
+                b"               ENT  SPS\n               END  0\n",
+                1,
+                Operand,
+            ),
+            (
+                b"               SFX  A\n     TAG       DCW  #1\n               SFX\n               B    TAG
                END  0\n",
-            4,
-            Undefined,
-        ),
-        (
-            b"               ORG  *+X1\n               END\n",
-            1,
-            Operand,
-        ),
-        (
-            b"     A         EQU  *+X00\n               END\n",
-            1,
-            Operand,
-        ),
-        (
-            b"               DA   1X5,G,G\n               END\n",
-            1,
-            Operand,
-        ),
-        (
-            b"               DSA  UNDEF,1\n               END\n",
-            1,
-            Undefined,
-        ),
-        (
-            b"               DSA  A\n     A         EQU  4000\n               END\n",
-            1,
-            OutOfCore,
-        ),
-        (
-            b"               ORG  3990\n               DA   1X10,G\n               END\n",
-            2,
-            OutOfCore,
-        ),
-        (
-            b"     BACK      ORG  BACK\n               END\n",
-            1,
-            Undefined,
-        ),
-        (
-            b"               ORG  0\n               END  *\n",
-            2,
-            OutOfCore,
-        ),
-    ];
-    for (source, line, kind) in rows {
-        let found = faults(rt.alloc(), Ibm, source, 4_000)?;
-        let told = found.first().map(|fault| (fault.line, fault.kind));
-        assert_eq!(rt; told, Some((line, kind)));
-    }
-    Ok(())
+                4,
+                Undefined,
+            ),
+            (
+                b"               ORG  *+X1\n               END\n",
+                1,
+                Operand,
+            ),
+            (
+                b"     A         EQU  *+X00\n               END\n",
+                1,
+                Operand,
+            ),
+            (
+                b"               DA   1X5,G,G\n               END\n",
+                1,
+                Operand,
+            ),
+            (
+                b"               DSA  UNDEF,1\n               END\n",
+                1,
+                Undefined,
+            ),
+            (
+                b"               DSA  A\n     A         EQU  4000\n               END\n",
+                1,
+                OutOfCore,
+            ),
+            (
+                b"               ORG  3990\n               DA   1X10,G\n               END\n",
+                2,
+                OutOfCore,
+            ),
+            (
+                b"     BACK      ORG  BACK\n               END\n",
+                1,
+                Undefined,
+            ),
+            (
+                b"               ORG  0\n               END  *\n",
+                2,
+                OutOfCore,
+            ),
+        ],
+    )
 }
 
-/// What is wrong at the only fault of a source in the wider language.
-fn cause_of(rt: &(impl Abort + AllocGlobal), source: &[u8]) -> Result<Cause, Fail> {
-    let found = explained_faults(rt.alloc(), Ibm, source, 4_000)?;
-    let [explanation] = found.as_slice() else {
-        panic!(rt; "not one fault");
-    };
-    Ok(explanation.cause)
+/// Compares what is wrong at the only fault of a source.
+fn expect_cause(rt: &(impl Abort + AllocGlobal), source: &[u8], wanted: Cause) -> Result<(), Fail> {
+    let explanation = only_fault(rt, source)?;
+    assert_eq!(rt; explanation.cause, wanted);
+    Ok(())
 }
 
 #[test]
 fn a_fault_may_lie_in_the_lines_above(rt: HostRuntime) -> Result<(), Fail> {
     let second = b"               CTL  66\n               CTL  66\n               END  0\n";
-    assert_eq!(rt; cause_of(&rt, second)?, Cause::ControlledBefore);
+    expect_cause(&rt, second, Cause::ControlledBefore)?;
     let apart =
         b"     A         A    A,A\n     B         DCW  #3\n               CHAIN2\n               END  B\n";
-    assert_eq!(rt; cause_of(&rt, apart)?, Cause::NothingAbove);
-    Ok(())
+    expect_cause(&rt, apart, Cause::NothingAbove)
 }
 
 #[test]
@@ -546,18 +493,13 @@ fn a_chain_is_warned_of_as_its_instructions_are(rt: HostRuntime) -> Result<(), F
      NUMBER    DC   @X@
                END  GO
 ";
-    let mut told = Vec::new(rt.alloc());
-    for warning in warnings(rt.alloc(), Ibm, source, 4_000)? {
-        told.push((warning.line, warning.kind))?;
-    }
     let wanted = [
         (1, NotFitted),
         (2, NotFitted),
         (2, ReadOn(343)),
         (3, UnusedLabel),
     ];
-    assert_eq!(rt; told.as_slice(), wanted.as_slice());
-    Ok(())
+    expect_warnings(&rt, Ibm, source, &wanted)
 }
 
 #[test]
@@ -567,10 +509,7 @@ fn a_fault_in_small_letters_is_explained(rt: HostRuntime) -> Result<(), Fail> {
      tab       dcw  #3
                end  start
 ";
-    let found = explained_faults(rt.alloc(), Ibm, source, 4_000)?;
-    let [explanation] = found.as_slice() else {
-        panic!(rt; "not one fault");
-    };
+    let explanation = only_fault(&rt, source)?;
     assert_eq!(rt;
         (explanation.fault.line, explanation.fault.kind),
         (1, Undefined)

@@ -1,7 +1,9 @@
 //! Symbol tables and cross-references.
 
-use autocoder_1401::AsmKind::{OutOfCore, Undefined};
-use autocoder_1401::{AssemblyTables, assemble, assemble_with_tables};
+use super::expecting::{image_beside, lines_listed};
+use autocoder_1401::AsmKind::{self, OutOfCore, Undefined};
+use autocoder_1401::{AssemblyTables, assemble_with_tables};
+use image_1401::Image;
 use source_1401::Language;
 use std::process::Abort;
 use std::test::Fail;
@@ -103,44 +105,60 @@ fn a_source_without_labels_has_empty_tables(rt: HostRuntime) -> Result<(), Fail>
     )
 }
 
-#[test]
-fn the_assembly_beside_them_is_that_of_the_source(rt: HostRuntime) -> Result<(), Fail> {
-    let source = b"     A         MLC  +5,A\n               END  A\n";
-    let alone = assemble(rt.alloc(), Language::Plain, source, 4_000)?;
+/// The image of a source and the number of lines of its listing, beside the tables.
+fn beside_tables(rt: &impl AllocGlobal, source: &[u8]) -> Result<(Image, usize), Fail> {
     let AssemblyTables { assembly, .. } = assemble_with_tables(
         rt.alloc(),
         Language::Plain,
         source,
         4_000,
     )?;
-    assert_eq!(rt; assembly.image.start, alone.image.start);
-    assert_eq!(rt; assembly.image.segments.as_slice().len(), 1);
-    assert_eq!(rt;
-        assembly.listing.as_slice().len(),
-        alone.listing.as_slice().len()
-    );
+    let lines = assembly.listing.as_slice().len();
+    Ok((assembly.image, lines))
+}
+
+#[test]
+fn the_assembly_beside_them_is_that_of_the_source(rt: HostRuntime) -> Result<(), Fail> {
+    let source = b"     A         MLC  +5,A\n               END  A\n";
+    let alone = image_beside(&rt, source, 4_000)?;
+    let (image, lines) = beside_tables(&rt, source)?;
+    assert_eq!(rt; image.start, alone.start);
+    assert_eq!(rt; image.segments.as_slice().len(), 1);
+    assert_eq!(rt; lines, lines_listed(&rt, source)?);
     Ok(())
+}
+
+/// The line and the kind of the fault for which a source has no tables.
+fn fault_of(rt: &impl AllocGlobal, source: &[u8]) -> Option<(u64, AsmKind)> {
+    match assemble_with_tables(rt.alloc(), Language::Plain, source, 4_000) {
+        Ok(_) => None,
+        Err(fault) => Some((fault.line, fault.kind)),
+    }
+}
+
+/// Compares the faults for which sources have no tables.
+fn expect_faults(rt: &(impl Abort + AllocGlobal), rows: &[(&[u8], u64, AsmKind)]) {
+    for (source, line, kind) in rows {
+        assert_eq!(rt; fault_of(rt, source), Some((*line, *kind)));
+    }
 }
 
 #[test]
 fn a_source_with_a_fault_has_none(rt: HostRuntime) {
-    for (source, line, kind) in [
-        (
-            b"     A         B    Q\n               END  A\n".as_slice(),
-            1,
-            Undefined,
-        ),
-        (
-            b"               ORG  3999\n     A         B    A\n               END  A\n".as_slice(),
-            2,
-            OutOfCore,
-        ),
-    ] {
-        let told = match assemble_with_tables(rt.alloc(), Language::Plain, source, 4_000) {
-            Ok(_) => None,
-            Err(fault) => Some((fault.line, fault.kind)),
-        };
-        assert_eq!(rt; told, Some((line, kind)));
-    }
-    assert!(rt; assemble_with_tables(rt.alloc(), Language::Plain, b"", 4_000).is_err());
+    expect_faults(
+        &rt,
+        &[
+            (
+                b"     A         B    Q\n               END  A\n".as_slice(),
+                1,
+                Undefined,
+            ),
+            (
+                b"               ORG  3999\n     A         B    A\n               END  A\n".as_slice(),
+                2,
+                OutOfCore,
+            ),
+        ],
+    );
+    assert!(rt; fault_of(&rt, b"").is_some());
 }

@@ -1,24 +1,9 @@
 //! Sources without a fault, and what they are warned of.
 
-use autocoder_1401::WarningKind::{self, ReadOn, UnlikeSigns, UnsetIndicator, UnusedLabel};
-use autocoder_1401::warnings;
-use source_1401::Language;
-use std::process::Abort;
+use super::expecting::expect_warnings;
+use autocoder_1401::WarningKind::{ReadOn, UnlikeSigns, UnsetIndicator, UnusedLabel};
+use source_1401::Language::Plain;
 use std::test::Fail;
-
-/// Compares the warnings of a source in 4,000 places: lines, and what they are about.
-fn expect_warnings(
-    rt: &(impl Abort + AllocGlobal),
-    source: &[u8],
-    wanted: &[(u64, WarningKind)],
-) -> Result<(), Fail> {
-    let mut told = Vec::new(rt.alloc());
-    for warning in warnings(rt.alloc(), Language::Plain, source, 4_000)? {
-        told.push((warning.line, warning.kind))?;
-    }
-    assert_eq!(rt; told.as_slice(), wanted);
-    Ok(())
-}
 
 #[test]
 fn a_label_that_no_operand_names(rt: HostRuntime) -> Result<(), Fail> {
@@ -31,7 +16,7 @@ fn a_label_that_no_operand_names(rt: HostRuntime) -> Result<(), Fail> {
      BEYOND    EQU  SECOND
                END  ENTRY
 ";
-    expect_warnings(&rt, source, &[(3, UnusedLabel), (6, UnusedLabel)])
+    expect_warnings(&rt, Plain, source, &[(3, UnusedLabel), (6, UnusedLabel)])
 }
 
 #[test]
@@ -52,8 +37,16 @@ fn a_branch_that_nothing_sets(rt: HostRuntime) -> Result<(), Fail> {
                DCW  #1
                END  A
 ";
-    let unset = [1, 2, 3, 4, 5, 6, 7].map(|line| (line, UnsetIndicator));
-    expect_warnings(&rt, source, &unset)?;
+    let unset = [
+        (1, UnsetIndicator),
+        (2, UnsetIndicator),
+        (3, UnsetIndicator),
+        (4, UnsetIndicator),
+        (5, UnsetIndicator),
+        (6, UnsetIndicator),
+        (7, UnsetIndicator),
+    ];
+    expect_warnings(&rt, Plain, source, &unset)?;
     let set = b"     A         BE   A
                BAV  A
                C    A,A
@@ -61,7 +54,7 @@ fn a_branch_that_nothing_sets(rt: HostRuntime) -> Result<(), Fail> {
                DCW  #1
                END  A
 ";
-    expect_warnings(&rt, set, &[])
+    expect_warnings(&rt, Plain, set, &[])
 }
 
 #[test]
@@ -87,7 +80,7 @@ fn a_sign_beside_a_number_without_one(rt: HostRuntime) -> Result<(), Fail> {
      OTHER     EQU  ALIAS
                END  OTHER
 ";
-    expect_warnings(&rt, source, &[(1, UnlikeSigns), (2, UnlikeSigns)])
+    expect_warnings(&rt, Plain, source, &[(1, UnlikeSigns), (2, UnlikeSigns)])
 }
 
 #[test]
@@ -102,7 +95,7 @@ fn an_instruction_without_a_mark_after_it(rt: HostRuntime) -> Result<(), Fail> {
                END  A
 ";
     let read_on = [(1, ReadOn(337)), (3, ReadOn(343)), (7, ReadOn(347))];
-    expect_warnings(&rt, before_space, &read_on)?;
+    expect_warnings(&rt, Plain, before_space, &read_on)?;
     let ended = b"     A         SW   A,A
                DS   5
                CS   A,A
@@ -114,12 +107,12 @@ fn an_instruction_without_a_mark_after_it(rt: HostRuntime) -> Result<(), Fail> {
                H    +5
                END  A
 ";
-    expect_warnings(&rt, ended, &[])?;
+    expect_warnings(&rt, Plain, ended, &[])?;
     let not_blank = b"     A         B    A
                DC   @1@
                END  A
 ";
-    expect_warnings(&rt, not_blank, &[(1, ReadOn(337))])
+    expect_warnings(&rt, Plain, not_blank, &[(1, ReadOn(337))])
 }
 
 #[test]
@@ -132,14 +125,14 @@ fn storage_is_as_the_last_cells_leave_it(rt: HostRuntime) -> Result<(), Fail> {
                H    A
                END  A
 ";
-    expect_warnings(&rt, marked_later, &[])?;
+    expect_warnings(&rt, Plain, marked_later, &[])?;
     let unmarked_later = b"     A         H    A
                DCW  #1
                ORG  337
                DC   #1
                END  A
 ";
-    expect_warnings(&rt, unmarked_later, &[(1, ReadOn(337))])
+    expect_warnings(&rt, Plain, unmarked_later, &[(1, ReadOn(337))])
 }
 
 #[test]
@@ -159,5 +152,5 @@ fn warnings_of_a_line_are_in_the_order_of_their_kinds(rt: HostRuntime) -> Result
         (5, UnusedLabel),
         (5, UnlikeSigns),
     ];
-    expect_warnings(&rt, source, &told)
+    expect_warnings(&rt, Plain, source, &told)
 }
