@@ -1,8 +1,10 @@
 //! Decks that load themselves: what they are, and what a machine holds once one is loaded.
 
+use super::{machine_of, put_cell};
 use bcd_1401::{Cell, Char};
 use cpu_1401::Machine;
 use deck_1401::{DeckFault, write_deck};
+use devices_1401::Card;
 use image_1401::{Image, read_image};
 use job_1401::read_deck;
 use std::process::Abort;
@@ -24,34 +26,66 @@ const CHARACTERS: &[u8] = b"IMAGE2 01400
 END 00100
 ";
 
-/// Compares the deck of an image with what is wanted.
-fn expect_deck(rt: &(impl Abort + AllocGlobal), image: &[u8], wanted: &[u8]) -> Result<(), Fail> {
-    let image = read_image(rt.alloc(), image)?;
-    let deck = write_deck(rt.alloc(), &image)?;
-    assert_eq!(rt; deck.as_slice(), wanted);
-    Ok(())
+/// The image of a text.
+fn image_of(rt: &(impl Abort + AllocGlobal), text: &[u8]) -> Image {
+    read_image(rt.alloc(), text).expect(rt, "an image")
 }
 
-/// Loads the deck of an image in a machine, up to the step that begins the program.
-fn load(
-    rt: &(impl Abort + AllocGlobal),
-    machine: &mut Machine,
-    image: &[u8],
-) -> Result<Image, Fail> {
-    let image = read_image(rt.alloc(), image)?;
-    let deck = write_deck(rt.alloc(), &image)?;
-    for card in read_deck(rt.alloc(), deck.as_slice())?.cards.as_slice() {
-        assert!(rt; machine.feed(*card).is_ok());
+/// The deck of the image that has a text.
+fn deck_of(rt: &(impl Abort + AllocGlobal), text: &[u8]) -> Vec<u8> {
+    let image = read_image(rt.alloc(), text).expect(rt, "an image");
+    write_deck(rt.alloc(), &image).expect(rt, "a deck")
+}
+
+/// Compares the deck of an image with what is wanted.
+fn expect_deck(rt: &(impl Abort + AllocGlobal), image: &[u8], wanted: &[u8]) {
+    let deck = deck_of(rt, image);
+    assert_eq!(rt; deck.as_slice(), wanted);
+}
+
+/// The first two cards of a deck for 4,000 places, and the others.
+fn behind_front(rt: &(impl Abort + AllocGlobal), others: &[u8]) -> Vec<u8> {
+    let mut deck = Vec::from_slice(rt.alloc(), FRONT).expect(rt, "room");
+    deck.extend_from_slice(others).expect(rt, "room");
+    deck
+}
+
+/// Puts a card in the hopper.
+fn feed(rt: &impl Abort, machine: &mut Machine, card: Card) {
+    assert!(rt; machine.feed(card).is_ok());
+}
+
+/// Puts the cards of a deck in the hopper.
+fn feed_deck(rt: &(impl Abort + AllocGlobal), machine: &mut Machine, deck: &[u8]) {
+    let read = read_deck(rt.alloc(), deck).expect(rt, "a deck");
+    for card in read.cards.as_slice() {
+        feed(rt, machine, *card);
     }
+}
+
+/// Whether a machine has read all cards and is at the step that begins the program.
+fn is_at_start(machine: &Machine, start: u16) -> bool {
+    let regs = machine.regs();
+    regs.hopper == 0 && regs.i == start
+}
+
+/// Carries out a step that isn't to stop.
+fn expect_step(rt: &impl Abort, machine: &mut Machine) {
+    let at = machine.regs().i;
+    assert_eq!(rt; machine.step(), None, "at {at}");
+}
+
+/// Lets a machine load its cards, up to the step that begins the program.
+fn expect_started(rt: &impl Abort, machine: &mut Machine, start: u16) {
     assert!(rt; machine.load_key().is_ok());
     for _ in 0..STEPS {
-        if machine.regs().hopper == 0 && machine.regs().i == image.start {
+        if is_at_start(machine, start) {
             break;
         }
-        assert_eq!(rt; machine.step(), None, "at {}", machine.regs().i);
+        expect_step(rt, machine);
     }
-    assert_eq!(rt; (machine.regs().hopper, machine.regs().i), (0, image.start));
-    Ok(image)
+    let regs = machine.regs();
+    assert_eq!(rt; (regs.hopper, regs.i), (0, start));
 }
 
 /// What an image has at an address: a later segment counts before an earlier one.
@@ -69,42 +103,62 @@ fn cell_of(image: &Image, address: u16) -> Cell {
     found
 }
 
+/// Compares a place of a machine with an image.
+fn expect_cell(rt: &impl Abort, machine: &Machine, image: &Image, address: u16) {
+    let wanted = cell_of(image, address);
+    assert!(rt; machine.core().in_core(address));
+    assert_eq!(rt; machine.core().get(address), wanted, "{address}");
+}
+
 /// Compares each place of a machine with an image.
-fn expect_cells(rt: &(impl Abort + AllocGlobal), machine: &Machine, image: &Image) {
+fn expect_cells(rt: &impl Abort, machine: &Machine, image: &Image) {
     for address in 0..image.size {
-        assert!(rt; machine.core().in_core(address));
-        assert_eq!(rt;
-            machine.core().get(address),
-            cell_of(image, address),
-            "{address}"
-        );
+        expect_cell(rt, machine, image, address);
     }
 }
 
+/// Loads the deck of an image in a machine, and compares each place.
+fn expect_loaded_in(rt: &(impl Abort + AllocGlobal), machine: &mut Machine, text: &[u8]) {
+    let image = image_of(rt, text);
+    let deck = deck_of(rt, text);
+    feed_deck(rt, machine, deck.as_slice());
+    expect_started(rt, machine, image.start);
+    expect_cells(rt, machine, &image);
+}
+
 /// Loads the deck of an image in a machine at power-on, and compares each place.
-fn expect_loaded(rt: &(impl Abort + AllocGlobal), text: &[u8]) -> Result<(), Fail> {
-    let size = read_image(rt.alloc(), text)?.size;
-    let mut machine = Machine::power_on(rt.alloc(), size).expect(rt, "a machine");
-    let image = load(rt, &mut machine, text)?;
-    expect_cells(rt, &machine, &image);
-    Ok(())
+fn expect_loaded(rt: &(impl Abort + AllocGlobal), text: &[u8]) {
+    let mut machine = machine_of(rt, image_of(rt, text).size);
+    expect_loaded_in(rt, &mut machine, text);
+}
+
+/// Compares the place for which no deck of an image is written, if there is one.
+fn expect_refused(rt: &(impl Abort + AllocGlobal), text: &[u8], place: Option<u16>) {
+    let image = read_image(rt.alloc(), text).expect(rt, "an image");
+    let fault = write_deck(rt.alloc(), &image).err();
+    let wanted = match place {
+        Some(at) => Some(DeckFault::Place(at)),
+        None => None,
+    };
+    assert_eq!(rt; fault, wanted);
 }
 
 #[test]
-fn a_deck_is_its_cards(rt: HostRuntime) -> Result<(), Fail> {
-    let mut wanted = Vec::from_slice(rt.alloc(), FRONT)?;
-    wanted.extend_from_slice(b"\
+fn a_deck_is_its_cards(rt: HostRuntime) {
+    let wanted = behind_front(
+        &rt,
+        b"\
 ?423420A423420.414   HIE               L039438,407,414,418,421,423,040,0401040
                                        /400080
-"
-        .as_slice())?;
+",
+    );
     let image = b"IMAGE2 04000\n00400 24 ~?423420~A423420~.414~   ~HI~E\nEND 00400\n";
-    expect_deck(&rt, image, wanted.as_slice())?;
-    expect_loaded(&rt, image)
+    expect_deck(&rt, image, wanted.as_slice());
+    expect_loaded(&rt, image);
 }
 
 #[test]
-fn cells_without_a_word_mark_are_moved(rt: HostRuntime) -> Result<(), Fail> {
+fn cells_without_a_word_mark_are_moved(rt: HostRuntime) {
     let image = b"IMAGE2 01400\n01399 01 A\n00081 01 Q\nEND 00000\n";
     expect_deck(
         &rt,
@@ -116,26 +170,25 @@ Q                                      M039119,040,040,040,040,040,040,0401040
 A                                      M001T99,040,040,040,040,040,040,0401040
                                        /000080
 ",
-    )?;
-    expect_loaded(&rt, image)
+    );
+    expect_loaded(&rt, image);
 }
 
 #[test]
-fn all_characters_are_loaded(rt: HostRuntime) -> Result<(), Fail> {
-    expect_loaded(&rt, CHARACTERS)
+fn all_characters_are_loaded(rt: HostRuntime) {
+    expect_loaded(&rt, CHARACTERS);
 }
 
 #[test]
-fn an_image_without_cells_has_three_cards(rt: HostRuntime) -> Result<(), Fail> {
-    let mut wanted = Vec::from_slice(rt.alloc(), FRONT)?;
-    wanted.extend_from_slice(b"                                       /?99080\n".as_slice())?;
+fn an_image_without_cells_has_three_cards(rt: HostRuntime) {
+    let wanted = behind_front(&rt, b"                                       /?99080\n");
     let image = b"IMAGE2 04000\nEND 03099\n";
-    expect_deck(&rt, image, wanted.as_slice())?;
-    expect_loaded(&rt, image)
+    expect_deck(&rt, image, wanted.as_slice());
+    expect_loaded(&rt, image);
 }
 
 #[test]
-fn word_marks_in_every_place_are_loaded(rt: HostRuntime) -> Result<(), Fail> {
+fn word_marks_in_every_place_are_loaded(rt: HostRuntime) {
     expect_loaded(
         &rt,
         b"IMAGE2 02000
@@ -146,66 +199,61 @@ fn word_marks_in_every_place_are_loaded(rt: HostRuntime) -> Result<(), Fail> {
 01992 08 ~1~2~3~4~5~6~7~8
 END 01999
 ",
-    )
+    );
 }
 
 #[test]
-fn each_size_is_loaded(rt: HostRuntime) -> Result<(), Fail> {
-    for image in [
+fn each_size_is_loaded(rt: HostRuntime) {
+    expect_loaded(
+        &rt,
         b"IMAGE2 01400\n01396 04 ~1AB~C\n00081 03 A~BC\nEND 01396\n",
+    );
+    expect_loaded(
+        &rt,
         b"IMAGE2 02000\n01996 04 ~1AB~C\n00081 03 A~BC\nEND 01996\n",
+    );
+    expect_loaded(
+        &rt,
         b"IMAGE2 04000\n03996 04 ~1AB~C\n00081 03 A~BC\nEND 03996\n",
+    );
+    expect_loaded(
+        &rt,
         b"IMAGE2 08000\n07996 04 ~1AB~C\n00081 03 A~BC\nEND 07996\n",
+    );
+    expect_loaded(
+        &rt,
         b"IMAGE2 12000\n11996 04 ~1AB~C\n00081 03 A~BC\nEND 11996\n",
+    );
+    expect_loaded(
+        &rt,
         b"IMAGE2 16000\n15996 04 ~1AB~C\n00081 03 A~BC\nEND 15996\n",
-    ] {
-        expect_loaded(&rt, image.as_slice())?;
-    }
-    Ok(())
+    );
 }
 
 #[test]
-fn what_was_in_storage_is_cleared(rt: HostRuntime) -> Result<(), Fail> {
-    let mut machine = Machine::power_on(rt.alloc(), 1_400).expect(&rt, "a machine");
+fn what_was_in_storage_is_cleared(rt: HostRuntime) {
+    let mut machine = machine_of(&rt, 1_400);
     for address in 0..1_400 {
-        assert!(rt; machine.core().in_core(address));
-        machine.put(
-            address,
-            Cell {
-                char: Char::of_digit((address % 10) as u8, 3),
-                mark: true,
-            },
-        );
+        let char = Char::of_digit((address % 10) as u8, 3);
+        put_cell(&rt, &mut machine, address, Cell { char, mark: true });
     }
-    let image = load(&rt, &mut machine, CHARACTERS)?;
-    expect_cells(&rt, &machine, &image);
-    Ok(())
+    expect_loaded_in(&rt, &mut machine, CHARACTERS);
 }
 
 #[test]
 fn the_places_of_a_card_are_refused(rt: HostRuntime) -> Result<(), Fail> {
-    for (text, place) in [
-        (
-            b"IMAGE2 01400\n00080 01 A\nEND 00400\n".as_slice(),
-            Some(80),
-        ),
-        (
-            b"IMAGE2 01400\n00000 01 ~ \nEND 00400\n".as_slice(),
-            Some(0),
-        ),
-        (
-            b"IMAGE2 01400\n00001 03    \n00078 04  12 \nEND 00400\n".as_slice(),
-            Some(79),
-        ),
-        (
-            b"IMAGE2 01400\n00040 01 A\n00038 04     \nEND 00400\n".as_slice(),
-            None,
-        ),
-    ] {
-        let image = read_image(rt.alloc(), text)?;
-        let fault = write_deck(rt.alloc(), &image).err();
-        assert_eq!(rt; fault, place.map(DeckFault::Place));
-    }
+    expect_refused(&rt, b"IMAGE2 01400\n00080 01 A\nEND 00400\n", Some(80));
+    expect_refused(&rt, b"IMAGE2 01400\n00000 01 ~ \nEND 00400\n", Some(0));
+    expect_refused(
+        &rt,
+        b"IMAGE2 01400\n00001 03    \n00078 04  12 \nEND 00400\n",
+        Some(79),
+    );
+    expect_refused(
+        &rt,
+        b"IMAGE2 01400\n00040 01 A\n00038 04     \nEND 00400\n",
+        None,
+    );
     let text = format!(in rt.alloc(); "{}", DeckFault::Place(7))?;
     let told = "place 007 isn't blank: the deck's cards are read into 001 to 080";
     assert_eq!(rt; text.as_str(), told);
