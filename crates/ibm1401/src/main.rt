@@ -10,7 +10,6 @@ mod source_file;
 // sessions at a console, of an image or with a journal
 mod journals;
 mod loading;
-mod subcommands;
 
 // rooms that operators share: how one begins, where they come in, who has which seat
 mod beginning;
@@ -19,18 +18,19 @@ mod resuming;
 mod seating;
 mod serving;
 
-// what a run fails by, and its status
+// what a command line without a subcommand is told, what a run fails by, and its status
 mod fault;
+mod help;
 
 use crate::disassembling::write_disassembly;
 use crate::fault::{Fault, report};
+use crate::help::tell;
 use crate::journals::{journal_file, keep_console, keep_loaded, resume_file};
 use crate::loading::{load, read_file, read_named_file};
 use crate::resuming::resume_seats;
 use crate::seating::open_seats;
 use crate::serving::open_room;
 use crate::source_file::assemble_file;
-use crate::subcommands::tell;
 use arguments_1401::read_call;
 use calls_1401::Call;
 use running_1401::{ErrorOutput, run_file};

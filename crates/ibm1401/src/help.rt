@@ -1,16 +1,10 @@
 //! What the program tells of a command line that names no subcommand.
-ghost use Rattle.std.specs.Prelude.{◌≡◌, ◌≢◌, ◌↔◌, false, OnErr};
+ghost use Rattle.std.specs.Prelude.{◌≡◌, ◌≢◌, OnErr};
 ghost use Rattle.clap.specs.Values.{kind_of};
-ghost use Rattle.core_1401.specs.Storage.{is_core_size};
-ghost use Rattle.ibm1401.specs.Console.{ConsoleDid, streams};
 
-use crate::fault::{Fault, ended};
+use crate::fault::Fault;
 use clap::Error;
 use clap::error::ErrorKind;
-use console_1401::{Sink, Source, session};
-use core_1401::CoreFault;
-use room_1401::Room;
-use std::alloc::Global;
 
 /// Tells what a parse of the command line answers if it asks for no subcommand: the text of the help.
 ///
