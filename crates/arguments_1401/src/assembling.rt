@@ -1,70 +1,55 @@
 //! The words of the subcommand `assemble`.
 
 use crate::languages::{language_arg, language_in};
+use crate::options::{file, flag, option};
 use crate::reading::{name_in, named_size_in, refusal, size_arg};
 use crate::sizes::SizeTexts;
 use calls_1401::{Assembling, Call, Product, Tables, Told};
-use clap::{Arg, ArgAction, ArgMatches, Command, Error};
+use clap::{Arg, ArgMatches, Command, Error};
 use std::alloc::{AllocError, Global};
 
-/// Whether the listing is written, as an option.
-fn list_arg<'a>(alloc: Global) -> Arg<'a> {
-    Arg::new(alloc, "list")
-        .long("list")
-        .help("Writes the listing in place of the image")
-        .action(ArgAction::SetTrue)
+/// The options that name what is written.
+fn product_args<'a>(alloc: Global) -> Result<Vec<Arg<'a>>, AllocError> {
+    let output = option(
+        alloc,
+        "output",
+        "OUT",
+        "The file to write to, in place of standard output; it is written whole or not at all",
+    );
+    Ok(vec![in alloc;
+        output.short('o'),
+        flag(alloc, "list", "Writes the listing in place of the image"),
+        flag(
+            alloc,
+            "symbols",
+            "Writes the symbol table in place of the image, or after the listing",
+        ),
+        flag(
+            alloc,
+            "xref",
+            "Writes the lines that name each label in place of the image, or after the listing",
+        ),
+        option(
+            alloc,
+            "deck",
+            "OUT",
+            "The file for a deck that loads itself; the image is then written only where -o names a file",
+        ),
+    ]?)
 }
 
-/// Whether the symbol table is written, as an option.
-fn symbols_arg<'a>(alloc: Global) -> Arg<'a> {
-    Arg::new(alloc, "symbols")
-        .long("symbols")
-        .help("Writes the symbol table in place of the image, or after the listing")
-        .action(ArgAction::SetTrue)
-}
-
-/// Whether the cross-reference is written, as an option.
-fn xref_arg<'a>(alloc: Global) -> Arg<'a> {
-    Arg::new(alloc, "xref")
-        .long("xref")
-        .help("Writes the lines that name each label in place of the image, or after the listing")
-        .action(ArgAction::SetTrue)
-}
-
-/// Whether all faults are told, as an option.
-fn all_arg<'a>(alloc: Global) -> Arg<'a> {
-    Arg::new(alloc, "all")
-        .long("all")
-        .help(
+/// The other arguments of `assemble`.
+fn source_args<'a>(alloc: Global, sizes: &'a SizeTexts) -> Result<Vec<Arg<'a>>, AllocError> {
+    Ok(vec![in alloc;
+        flag(
+            alloc,
+            "all",
             "Tells every fault of the source, or its warnings, a line each, as FILE:LINE:COLUMN: FAULT",
-        )
-        .action(ArgAction::SetTrue)
-}
-
-/// The file that is written to, as an option.
-fn output_arg<'a>(alloc: Global) -> Arg<'a> {
-    Arg::new(alloc, "output")
-        .short('o')
-        .long("output")
-        .value_name("OUT")
-        .help(
-            "The file to write to, in place of standard output; it is written whole or not at all",
-        )
-}
-
-/// The file of the deck that loads itself, as an option.
-fn deck_arg<'a>(alloc: Global) -> Arg<'a> {
-    Arg::new(alloc, "deck").long("deck").value_name("OUT").help(
-        "The file for a deck that loads itself; the image is then written only where -o names a file",
-    )
-}
-
-/// The file of the source, as an argument.
-fn source_arg<'a>(alloc: Global) -> Arg<'a> {
-    Arg::new(alloc, "file")
-        .value_name("FILE")
-        .help("The file of the source; - is a name like any other")
-        .required(true)
+        ),
+        language_arg(alloc),
+        size_arg(alloc, sizes),
+        file(alloc, "The file of the source; - is a name like any other"),
+    ]?)
 }
 
 /// The subcommand `assemble`.
@@ -72,20 +57,12 @@ pub(crate) fn assemble_command<'a>(
     alloc: Global,
     sizes: &'a SizeTexts,
 ) -> Result<Command<'a>, AllocError> {
-    let args = vec![in alloc;
-        output_arg(alloc),
-        list_arg(alloc),
-        symbols_arg(alloc),
-        xref_arg(alloc),
-        deck_arg(alloc),
-        all_arg(alloc),
-        language_arg(alloc),
-        size_arg(alloc, sizes),
-        source_arg(alloc),
-    ]?;
+    let product = product_args(alloc)?;
+    let source = source_args(alloc, sizes)?;
     Command::new(alloc, "assemble")
         .about("Assembles a source, and writes its core image")
-        .args(args)
+        .args(product)?
+        .args(source)
 }
 
 /// What the options of `assemble` name to be written.

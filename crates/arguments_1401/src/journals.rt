@@ -1,25 +1,29 @@
 //! The options of journals, read by `clap`.
 
+use crate::options::{file, flag, option};
 use crate::reading::{LINES, name_in, refusal};
 use crate::serving::{operators_in, page_arg, pages_refused, port_arg, ports_group, seats_arg};
 use calls_1401::{Call, NewJournal, Resuming, Showing};
-use clap::{Arg, ArgAction, ArgMatches, Command, Error, value_parser};
+use clap::{Arg, ArgMatches, Command, Error, value_parser};
 use std::alloc::{AllocError, Global};
 
 /// The file in which a session's journal is kept, as an option.
 pub(crate) fn journal_arg<'a>(alloc: Global) -> Arg<'a> {
-    Arg::new(alloc, "journal")
-        .long("journal")
-        .value_name("NEW")
-        .help("A new file for the journal: each command is in it before its reply is written")
+    option(
+        alloc,
+        "journal",
+        "NEW",
+        "A new file for the journal: each command is in it before its reply is written",
+    )
 }
 
 /// Whether entries are forced onto the disk, as an option.
 fn sync_arg<'a>(alloc: Global) -> Arg<'a> {
-    Arg::new(alloc, "sync")
-        .long("sync")
-        .help("Forces each entry of the journal onto the disk before its reply is written")
-        .action(ArgAction::SetTrue)
+    flag(
+        alloc,
+        "sync",
+        "Forces each entry of the journal onto the disk before its reply is written",
+    )
 }
 
 /// The same where a journal is kept in a new file or not at all.
@@ -28,84 +32,61 @@ pub(crate) fn new_sync_arg<'a>(alloc: Global) -> Result<Arg<'a>, AllocError> {
 }
 
 /// The file of a journal, as an argument.
-fn file_arg<'a>(alloc: Global) -> Arg<'a> {
-    Arg::new(alloc, "file")
-        .value_name("FILE")
-        .help("The file of the journal; - is a name like any other")
-        .required(true)
+fn journal_file_arg<'a>(alloc: Global) -> Arg<'a> {
+    file(alloc, "The file of the journal; - is a name like any other")
 }
 
-/// The seat whose entries are shown, as an option.
-fn seat_arg<'a>(alloc: Global) -> Arg<'a> {
-    Arg::new(alloc, "seat")
-        .long("seat")
-        .value_name("K")
-        .help("Shows the entries of this seat alone; 0 is a console with a machine of its own")
-        .value_parser(value_parser!(u8))
-}
-
-/// The first entry that may be shown, as an option.
-fn from_arg<'a>(alloc: Global) -> Arg<'a> {
-    Arg::new(alloc, "from")
-        .long("from")
-        .value_name("N")
-        .help("Shows entry N and those after it")
-        .default_value("1")
-        .value_parser(value_parser!(u32))
-}
-
-/// Whether the journal is only checked, as an option.
-fn check_arg<'a>(alloc: Global) -> Arg<'a> {
-    Arg::new(alloc, "check")
-        .long("check")
-        .help("Shows only how many entries there are, each answered as the machine answers it")
-        .action(ArgAction::SetTrue)
+/// The entries that are shown, as options.
+fn entries_args<'a>(alloc: Global) -> Result<Vec<Arg<'a>>, AllocError> {
+    let seat = option(
+        alloc,
+        "seat",
+        "K",
+        "Shows the entries of this seat alone; 0 is a console with a machine of its own",
+    );
+    let from = option(alloc, "from", "N", "Shows entry N and those after it");
+    Ok(vec![in alloc;
+        seat.value_parser(value_parser!(u8)),
+        from.default_value("1").value_parser(value_parser!(u32)),
+        flag(
+            alloc,
+            "check",
+            "Shows only how many entries there are, each answered as the machine answers it",
+        ),
+    ]?)
 }
 
 /// The subcommand `journal`.
 pub(crate) fn journal_command<'a>(alloc: Global) -> Result<Command<'a>, AllocError> {
-    let args = vec![in alloc;
-        seat_arg(alloc),
-        from_arg(alloc),
-        check_arg(alloc),
-        file_arg(alloc),
-    ]?;
+    let entries = entries_args(alloc)?;
     Command::new(alloc, "journal")
         .about("Shows a journal: who gave which command, and what it was answered")
-        .args(args)
-}
-
-/// The file of the journal that is kept from there on, as an option.
-fn next_journal_arg<'a>(alloc: Global) -> Arg<'a> {
-    Arg::new(alloc, "journal")
-        .long("journal")
-        .value_name("NEW")
-        .help("A new file to go on in; FILE stays as it is")
-}
-
-/// The last command that is carried out again, as an option.
-fn until_arg<'a>(alloc: Global) -> Arg<'a> {
-    Arg::new(alloc, "until")
-        .long("until")
-        .value_name("N")
-        .help("Goes on after command N; without --journal nothing more is kept")
-        .value_parser(value_parser!(u32))
-}
-
-/// The commands that aren't carried out again, as an option.
-fn without_arg<'a>(alloc: Global) -> Arg<'a> {
-    Arg::new(alloc, "without")
-        .long("without")
-        .value_name("N,..")
-        .help("Leaves these commands out; --journal names the file of what is left")
+        .args(entries)?
+        .arg(journal_file_arg(alloc))
 }
 
 /// The arguments of `resume` that tell how the journal is taken up.
 fn resuming_args<'a>(alloc: Global) -> Result<Vec<Arg<'a>>, AllocError> {
+    let until = option(
+        alloc,
+        "until",
+        "N",
+        "Goes on after command N; without --journal nothing more is kept",
+    );
     Ok(vec![in alloc;
-        next_journal_arg(alloc),
-        until_arg(alloc),
-        without_arg(alloc),
+        option(
+            alloc,
+            "journal",
+            "NEW",
+            "A new file to go on in; FILE stays as it is",
+        ),
+        until.value_parser(value_parser!(u32)),
+        option(
+            alloc,
+            "without",
+            "N,..",
+            "Leaves these commands out; --journal names the file of what is left",
+        ),
         sync_arg(alloc),
     ]?)
 }
@@ -131,7 +112,7 @@ pub(crate) fn resume_command<'a>(alloc: Global) -> Result<Command<'a>, AllocErro
         .args(resuming)?
         .group(group)?
         .args(operators)?
-        .arg(file_arg(alloc))
+        .arg(journal_file_arg(alloc))
 }
 
 /// The new journal that the options name, if they name one.

@@ -1,5 +1,6 @@
 //! The language of a source, as an option.
 
+use crate::options::option;
 use clap::{Arg, ArgMatches};
 use source_1401::Language;
 use std::alloc::Global;
@@ -12,12 +13,14 @@ const NAMES: &[&str] = &["plain", WIDER];
 
 /// The language of the source.
 pub(crate) fn language_arg<'a>(alloc: Global) -> Arg<'a> {
-    Arg::new(alloc, "language")
-        .long("language")
-        .value_name("LANGUAGE")
-        .help("The language of the source: plain Autocoder, or the wider one of old decks")
-        .default_value("plain")
-        .value_parser(NAMES)
+    option(
+        alloc,
+        "language",
+        "LANGUAGE",
+        "The language of the source: plain Autocoder, or the wider one of old decks",
+    )
+    .default_value("plain")
+    .value_parser(NAMES)
 }
 
 /// The language that the options of a subcommand name.

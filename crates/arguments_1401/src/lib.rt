@@ -5,6 +5,9 @@
 //! ```
 #![tactic(auto)]
 
+// the kinds of options
+mod options;
+
 // the words of each subcommand, and the options that several have
 mod assembling;
 mod journals;

@@ -6,12 +6,13 @@ use crate::journals::{
     resume_command,
 };
 use crate::languages::{language_arg, language_in};
+use crate::options::{file, flag, option};
 use crate::serving::{operators_in, serve_call, serve_command};
 use crate::sizes::SizeTexts;
 use calls_1401::{Call, DEFAULT_SIZE, Job, Start};
 use clap::error::ErrorKind;
 use clap::parser::ValueSource;
-use clap::{Arg, ArgAction, ArgMatches, Command, Error, value_parser};
+use clap::{Arg, ArgMatches, Command, Error, value_parser};
 use std::alloc::{AllocError, Global};
 use std::convert::AsStr;
 
@@ -36,20 +37,14 @@ Lines, each with one reply:
 
 /// The size of core storage, as an option.
 pub(crate) fn size_arg<'a>(alloc: Global, sizes: &'a SizeTexts) -> Arg<'a> {
-    Arg::new(alloc, "size")
-        .long("size")
-        .value_name("N")
-        .help(sizes.help.as_str())
+    option(alloc, "size", "N", sizes.help.as_str())
         .default_value(sizes.default.as_str())
         .value_parser(value_parser!(u16))
 }
 
 /// The file of an image, as an argument.
 fn image_arg<'a>(alloc: Global) -> Arg<'a> {
-    Arg::new(alloc, "file")
-        .value_name("FILE")
-        .help("The file of the image; - is a name like any other")
-        .required(true)
+    file(alloc, "The file of the image; - is a name like any other")
 }
 
 /// The subcommand `load`.
@@ -79,89 +74,76 @@ fn console_command<'a>(alloc: Global, sizes: &'a SizeTexts) -> Result<Command<'a
         .args(args)
 }
 
-/// The file that `run` runs, as an argument.
-fn program_arg<'a>(alloc: Global) -> Arg<'a> {
-    Arg::new(alloc, "file")
-        .value_name("FILE")
-        .help("The file of the source or the image, or of a deck; - is a name like any other")
-        .required(true)
+/// The options of `run` that name its cards, and the files that are written.
+fn files_args<'a>(alloc: Global) -> Result<Vec<Arg<'a>>, AllocError> {
+    Ok(vec![in alloc;
+        flag(
+            alloc,
+            "load",
+            "FILE is a deck: presses the load key, which reads its first card and starts there",
+        ),
+        option(
+            alloc,
+            "cards",
+            "DECK",
+            "The file of the deck, a card a line; it follows the cards of FILE if FILE is a deck",
+        ),
+        option(
+            alloc,
+            "punch",
+            "OUT",
+            "The file for the punched cards, which are else only counted",
+        ),
+        option(
+            alloc,
+            "paper",
+            "OUT",
+            "The file for the paper, in place of standard output",
+        ),
+        option(
+            alloc,
+            "trace",
+            "OUT",
+            "The file for a trace: a line for each step, with what it changed",
+        ),
+    ]?)
 }
 
-/// Whether the load key is pressed, as an option.
-fn load_arg<'a>(alloc: Global) -> Arg<'a> {
-    Arg::new(alloc, "load")
-        .long("load")
-        .help("FILE is a deck: presses the load key, which reads its first card and starts there")
-        .action(ArgAction::SetTrue)
-}
-
-/// The file of a job's deck, as an option.
-fn cards_arg<'a>(alloc: Global) -> Arg<'a> {
-    Arg::new(alloc, "cards")
-        .long("cards")
-        .value_name("DECK")
-        .help("The file of the deck, a card a line; it follows the cards of FILE if FILE is a deck")
-}
-
-/// The file of the punched cards, as an option.
-fn punch_arg<'a>(alloc: Global) -> Arg<'a> {
-    Arg::new(alloc, "punch")
-        .long("punch")
-        .value_name("OUT")
-        .help("The file for the punched cards, which are else only counted")
-}
-
-/// The file of the paper, as an option.
-fn paper_arg<'a>(alloc: Global) -> Arg<'a> {
-    Arg::new(alloc, "paper")
-        .long("paper")
-        .value_name("OUT")
-        .help("The file for the paper, in place of standard output")
-}
-
-/// The file of the trace, as an option.
-fn trace_arg<'a>(alloc: Global) -> Arg<'a> {
-    Arg::new(alloc, "trace")
-        .long("trace")
-        .value_name("OUT")
-        .help("The file for a trace: a line for each step, with what it changed")
-}
-
-/// The most instructions that are carried out, as an option.
-fn limit_arg<'a>(alloc: Global) -> Arg<'a> {
-    Arg::new(alloc, "limit")
-        .long("limit")
-        .value_name("STEPS")
-        .help("How many instructions are carried out at most, up to 4294967295")
-        .default_value("1000000000")
-        .value_parser(value_parser!(u32))
-}
-
-/// The sense switches that are on, as an option.
-fn switches_arg<'a>(alloc: Global) -> Arg<'a> {
-    Arg::new(alloc, "switches")
-        .long("switches")
-        .value_name("LETTERS")
-        .help("The sense switches that are on, as in BCG")
+/// The other arguments of `run`.
+fn program_args<'a>(alloc: Global, sizes: &'a SizeTexts) -> Result<Vec<Arg<'a>>, AllocError> {
+    let limit = option(
+        alloc,
+        "limit",
+        "STEPS",
+        "How many instructions are carried out at most, up to 4294967295",
+    );
+    Ok(vec![in alloc;
+        language_arg(alloc),
+        size_arg(alloc, sizes),
+        limit
+            .default_value("1000000000")
+            .value_parser(value_parser!(u32)),
+        option(
+            alloc,
+            "switches",
+            "LETTERS",
+            "The sense switches that are on, as in BCG",
+        ),
+        file(
+            alloc,
+            "The file of the source or the image, or of a deck; - is a name like any other",
+        ),
+    ]?)
 }
 
 /// The subcommand `run`.
 fn run_command<'a>(alloc: Global, sizes: &'a SizeTexts) -> Result<Command<'a>, AllocError> {
-    let args = vec![in alloc;
-        load_arg(alloc),
-        cards_arg(alloc),
-        punch_arg(alloc),
-        paper_arg(alloc),
-        trace_arg(alloc),
-        language_arg(alloc),
-        size_arg(alloc, sizes),
-        limit_arg(alloc),
-        switches_arg(alloc),
-        program_arg(alloc),
-    ]?;
+    let files = files_args(alloc)?;
+    let program = program_args(alloc, sizes)?;
     Command::new(alloc, "run")
         .about("Runs a source or an image with a deck, from cards to paper")
-        .args(args)
+        .args(files)?
+        .args(program)
 }
 
 /// A refusal of what this subcommand is asked for.

@@ -1,10 +1,11 @@
 //! The options of a room that operators share, read by `clap`.
 
 use crate::journals::{journal_arg, new_journal_in, new_sync_arg};
+use crate::options::{flag, option};
 use crate::reading::{LINES, name_in, refusal, size_arg, size_in};
 use crate::sizes::SizeTexts;
 use calls_1401::{Call, Opening, Operators, Seating, Service};
-use clap::{Arg, ArgAction, ArgGroup, ArgMatches, Command, Error, value_parser};
+use clap::{Arg, ArgGroup, ArgMatches, Command, Error, value_parser};
 use std::alloc::{AllocError, Global};
 
 /// The port that a browser leaves out of an address, so that a page there couldn't tell whether it was asked for.
@@ -12,20 +13,20 @@ const UNNAMED_PORT: u16 = 80;
 
 /// The port at which operators come, as an option.
 pub(crate) fn port_arg<'a>(alloc: Global) -> Arg<'a> {
-    Arg::new(alloc, "port")
-        .long("port")
-        .value_name("P")
-        .help("The port on 127.0.0.1, 1 to 65535")
-        .value_parser(value_parser!(u16).range(1..))
+    option(alloc, "port", "P", "The port on 127.0.0.1, 1 to 65535").value_parser(value_parser!(
+        u16
+    ).range(1..))
 }
 
 /// The port of the first page, as an option.
 pub(crate) fn page_arg<'a>(alloc: Global) -> Arg<'a> {
-    Arg::new(alloc, "page")
-        .long("page")
-        .value_name("PORT")
-        .help("The port on 127.0.0.1 of seat 1's page in a browser; each next seat's is one more")
-        .value_parser(value_parser!(u16).range(1..))
+    option(
+        alloc,
+        "page",
+        "PORT",
+        "The port on 127.0.0.1 of seat 1's page in a browser; each next seat's is one more",
+    )
+    .value_parser(value_parser!(u16).range(1..))
 }
 
 /// The ports at which operators come, one or both of them.
@@ -40,54 +41,45 @@ pub(crate) fn ports_group<'a>(alloc: Global) -> Result<ArgGroup<'a>, AllocError>
 
 /// How many operators there are, as an option.
 pub(crate) fn seats_arg<'a>(alloc: Global) -> Arg<'a> {
-    Arg::new(alloc, "seats")
-        .long("seats")
-        .value_name("K")
-        .help("How many operators there are, 1 to 8")
-        .value_parser(value_parser!(u8).range(1..=8))
+    option(alloc, "seats", "K", "How many operators there are, 1 to 8").value_parser(value_parser!(
+        u8
+    ).range(1..=8))
 }
 
-/// The file of the image that is loaded before operators come, as an option.
-fn image_arg<'a>(alloc: Global) -> Result<Arg<'a>, AllocError> {
-    Arg::new(alloc, "image")
-        .long("image")
-        .value_name("FILE")
-        .help("The file of a core image, which is loaded before operators come")
-        .conflicts_with("size")
-}
-
-/// Whether seats are taken again, as an option.
-fn keep_seats_arg<'a>(alloc: Global) -> Arg<'a> {
-    Arg::new(alloc, "keep-seats")
-        .long("keep-seats")
-        .help(
-            "Gives the seat of a console that has ended to the next operator, as the next four options do",
-        )
-        .action(ArgAction::SetTrue)
-}
-
-/// The file of the deck that is in the hopper when operators come, as an option.
-fn cards_arg<'a>(alloc: Global) -> Arg<'a> {
-    Arg::new(alloc, "cards")
-        .long("cards")
-        .value_name("DECK")
-        .help("The file of a deck, a card a line, which is in the hopper when operators come")
-}
-
-/// The arguments of `serve`.
-fn serve_args<'a>(alloc: Global, sizes: &'a SizeTexts) -> Result<Vec<Arg<'a>>, AllocError> {
-    let image = image_arg(alloc)?;
+/// The options that tell what is there before operators come, but for the size.
+fn opening_args<'a>(alloc: Global) -> Result<Vec<Arg<'a>>, AllocError> {
+    let image = option(
+        alloc,
+        "image",
+        "FILE",
+        "The file of a core image, which is loaded before operators come",
+    )
+    .conflicts_with("size")?;
     let sync = new_sync_arg(alloc)?;
+    Ok(vec![in alloc;
+        image,
+        option(
+            alloc,
+            "cards",
+            "DECK",
+            "The file of a deck, a card a line, which is in the hopper when operators come",
+        ),
+        journal_arg(alloc),
+        sync,
+    ]?)
+}
+
+/// The arguments of `serve` that tell who comes.
+fn operators_args<'a>(alloc: Global) -> Result<Vec<Arg<'a>>, AllocError> {
     Ok(vec![in alloc;
         port_arg(alloc),
         seats_arg(alloc).required(true),
-        keep_seats_arg(alloc),
+        flag(
+            alloc,
+            "keep-seats",
+            "Gives the seat of a console that has ended to the next operator, as the next four options do",
+        ),
         page_arg(alloc),
-        image,
-        cards_arg(alloc),
-        journal_arg(alloc),
-        sync,
-        size_arg(alloc, sizes),
     ]?)
 }
 
@@ -97,12 +89,15 @@ pub(crate) fn serve_command<'a>(
     sizes: &'a SizeTexts,
 ) -> Result<Command<'a>, AllocError> {
     let group = ports_group(alloc)?.required(true);
-    let args = serve_args(alloc, sizes)?;
+    let operators = operators_args(alloc)?;
+    let opening = opening_args(alloc)?;
     Command::new(alloc, "serve")
         .about("Opens a machine to operators, each with a connection or a page of his own")
         .after_help(LINES)
         .group(group)?
-        .args(args)
+        .args(operators)?
+        .args(opening)?
+        .arg(size_arg(alloc, sizes))
 }
 
 /// The operators that the options name, if they name any.
