@@ -10,13 +10,20 @@ use std::time::{Clock, Duration};
 /// a look at core storage doesn't.
 const LONG: u64 = 1_000_000;
 
-/// How long a console waits after such a command, in milliseconds. It is enough for another one, which has waited for
-/// the machine, to wake up and take it.
-const PAUSE: u64 = 1;
+/// How long a console sleeps before it looks again whether the others have had their turn, in microseconds.
+const NAP: u64 = 100;
+
+/// How many times it sleeps at most: for ten milliseconds, or for longer where the system wakes it late.
+const NAPS: usize = 100;
+
+/// A line that was begun longer ago, in nanoseconds, isn't waited for: what keeps it isn't the machine, but an operator
+/// who doesn't take the reply.
+const STUCK: u64 = 1_000_000_000;
 
 /// A door at which a console whose command took more than a millisecond lets those go first that wait for the machine:
-/// it waits for a millisecond once its reply is written, if another seat has a line that isn't answered. Without it, an
-/// operator who has sent many runs ahead has the machine again before another one has woken up.
+/// once its reply is written, it waits until the line of each other seat that was begun before is answered, but for no
+/// more than some ten milliseconds, nor for a line that was begun a second ago. Without it, an operator who has sent
+/// many runs ahead has the machine again before another one has woken up.
 #[derive(Drop)]
 pub struct TakingTurns<'r, R: Clock> {
     clock: &'r R,
@@ -53,16 +60,27 @@ impl<'r, R: Clock> TakingTurns<'r, R> {
         Some(nanos.max(1))
     }
 
-    /// Whether any seat has a line that isn't answered.
-    fn is_asked(&self) -> bool {
-        self.begun.iter().any(|begun| begun.load(SeqCst) > 0)
+    /// Whether a line that was begun by then isn't answered yet, and may be waiting for the machine.
+    fn is_asked(&self, then: u64) -> bool {
+        self.begun
+            .iter()
+            .any(|begun| waits(begun.load(SeqCst), then))
     }
 
-    /// Whether a line that was begun then has taken long.
-    fn took_long(&self, begun: u64) -> bool {
-        let took = self.now().and_then(|now| now.checked_sub(begun));
-        took.is_some_and(|took| LONG < took)
+    /// Sleeps until those have had their turn who wait for the machine since then.
+    fn let_others_go(&self, then: u64) {
+        for _ in 0..NAPS {
+            if !self.is_asked(then) {
+                return;
+            }
+            thread::sleep(self.clock, Duration::from_micros(NAP));
+        }
     }
+}
+
+/// Whether a line that was begun at this time, 0 for none, waits for the machine at that time.
+fn waits(begun: u64, then: u64) -> bool {
+    begun > 0 && then.checked_sub(begun).is_some_and(|time| time < STUCK)
 }
 
 impl<R: Clock> Door for TakingTurns<'_, R> {
@@ -77,8 +95,11 @@ impl<R: Clock> Door for TakingTurns<'_, R> {
             return;
         };
         let began = begun.swap(0, SeqCst);
-        if began > 0 && self.is_asked() && self.took_long(began) {
-            thread::sleep(self.clock, Duration::from_millis(PAUSE));
+        let (true, Some(now)) = (began > 0, self.now()) else {
+            return;
+        };
+        if now.checked_sub(began).is_some_and(|took| LONG < took) {
+            self.let_others_go(now);
         }
     }
 }
