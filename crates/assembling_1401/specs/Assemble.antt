@@ -1,7 +1,7 @@
 -- What a call that assembles a source has written and told, once the file is read (own).
 use Rattle.std.specs.Prelude.{◌≡◌, ◌⊎◌, ℕ, ⊤, Bool, IsTrue, if◌then◌else◌, List, [], ◌∷◌, ◌++◌, Option, Some, Result}
 use Rattle.std.specs.Prelude.{Ok, Err, IsOk, codes}
-use Rattle.std.specs.Io.KnownBytes.{Appends, Keeps}
+use Rattle.std.specs.Io.KnownBytes.{Appends}
 use Rattle.std.specs.List.{flat_map}
 use Rattle.autocoder_1401.specs.Assembly.{assembly_in}
 use Rattle.symbols_1401.specs.Reading.{lines_in}
@@ -18,8 +18,8 @@ use Rattle.image_1401.specs.ImageText.{IsTextOf, written_text}
 use Rattle.calls_1401.specs.declared.call.Product.{Product}
 use Rattle.calls_1401.specs.declared.call.Product.TheVariants as product
 use Rattle.calls_1401.specs.declared.call.Tables.{Tables}
-use Rattle.ibm1401.specs.declared.fault.Fault.{Fault}
-use Rattle.ibm1401.specs.declared.fault.Fault.TheVariants as fault
+use Rattle.assembling_1401.specs.declared.fault.AssembleFault.{AssembleFault}
+use Rattle.assembling_1401.specs.declared.fault.AssembleFault.TheVariants as fault
 
 -- a line of a listing with its line feed
 abbrev pub line_text : List ℕ → List ℕ
@@ -56,31 +56,17 @@ IsProduct language (product.Tables asked) source assembly text =
     (references_text (lines_in language source))
 
 -- why nothing was written: the source's own fault, or want of memory for it; or want of memory for the text
-abbrev pub IsWhyNotAssembled : Language → ℕ → List ℕ → Fault → Type 0
-IsWhyNotAssembled language size source fault.Text = ⊥
-IsWhyNotAssembled language size source (fault.Usage refusal) = ⊥
-IsWhyNotAssembled language size source fault.Output = ⊥
+abbrev pub IsWhyNotAssembled : Language → ℕ → List ℕ → AssembleFault → Type 0
 IsWhyNotAssembled language size source fault.Size = ⊥
 IsWhyNotAssembled language size source (fault.Unread name) = ⊥
-IsWhyNotAssembled language size source (fault.File name why) = ⊥
-IsWhyNotAssembled language size source (fault.Image why) = ⊥
+IsWhyNotAssembled language size source (fault.Source why) = IsMemory why ⊎ (assembly_in language size source ≡ Err why)
 IsWhyNotAssembled language size source (fault.Faulty told) = ⊥
 IsWhyNotAssembled language size source (fault.Deck why) = ⊥
-IsWhyNotAssembled language size source (fault.Source why) = IsMemory why ⊎ (assembly_in language size source ≡ Err why)
-IsWhyNotAssembled language size source (fault.Unwritten name) = ⊥
-IsWhyNotAssembled language size source (fault.Run why) = ⊥
-IsWhyNotAssembled language size source (fault.Hopper name count) = ⊥
-IsWhyNotAssembled language size source fault.JournalFull = ⊥
+IsWhyNotAssembled language size source (fault.File name why) = ⊥
+IsWhyNotAssembled language size source (fault.Image why) = ⊥
 IsWhyNotAssembled language size source fault.Memory = IsOk (assembly_in language size source)
-IsWhyNotAssembled language size source (fault.Console why) = ⊥
-IsWhyNotAssembled language size source (fault.Session why) = ⊥
-IsWhyNotAssembled language size source (fault.Kept why) = ⊥
-IsWhyNotAssembled language size source fault.NoReader = ⊥
-IsWhyNotAssembled language size source (fault.NoSeat seat) = ⊥
-IsWhyNotAssembled language size source fault.Port = ⊥
-IsWhyNotAssembled language size source fault.Accept = ⊥
-IsWhyNotAssembled language size source fault.Thread = ⊥
-IsWhyNotAssembled language size source (fault.Seats why) = ⊥
+IsWhyNotAssembled language size source fault.Output = ⊥
+IsWhyNotAssembled language size source (fault.Unwritten name) = ⊥
 
 -- the text is that of the deck of what the source stands for
 pub record IsDeckOf (language : Language) (size : ℕ) (source text : List ℕ) : Type 0 where
@@ -89,7 +75,7 @@ pub record IsDeckOf (language : Language) (size : ℕ) (source text : List ℕ) 
   pub text_is : text ≡ deck_text assembly.image
 
 -- the source is assembled, and its image has something in the places where the cards of a deck are read
-pub record HasNoDeck (language : Language) (size : ℕ) (source : List ℕ) (told : Fault) : Type 0 where
+pub record HasNoDeck (language : Language) (size : ℕ) (source : List ℕ) (told : AssembleFault) : Type 0 where
   pub assembly : Assembly
   pub stands_for : assembly_in language size source ≡ Ok assembly
   pub place : ℕ
@@ -97,12 +83,12 @@ pub record HasNoDeck (language : Language) (size : ℕ) (source : List ℕ) (tol
   pub taken : first_taken (storage_of assembly.image) ≡ Some place
 
 -- why no deck was made: as for an image, or its own reason
-abbrev pub IsWhyNoDeckOf : Language → ℕ → List ℕ → Fault → Type 0
+abbrev pub IsWhyNoDeckOf : Language → ℕ → List ℕ → AssembleFault → Type 0
 IsWhyNoDeckOf language size source told =
     IsWhyNotAssembled language size source told ⊎ HasNoDeck language size source told
 
 -- what an output received of a text: all of it, or a beginning where a write to it has failed
-abbrev pub Wrote : List ℕ → Option (List ℕ) → Option (List ℕ) → Bool → Result ⊤ Fault → Type 0
+abbrev pub Wrote : List ℕ → Option (List ℕ) → Option (List ℕ) → Bool → Result ⊤ AssembleFault → Type 0
 Wrote text old new failed outcome =
     ((outcome ≡ Ok tt) × Appends old new text)
     ⊎ ((outcome ≡ Err fault.Output) × AppendsPart old new text × IsTrue failed)
@@ -116,21 +102,21 @@ pub record IsProductOf (language : Language) (size : ℕ) (source : List ℕ) (p
 
 -- Nothing was written.
 pub record NotAssembled (language : Language) (size : ℕ) (source : List ℕ) (old new : Option (List ℕ))
-    (outcome : Result ⊤ Fault) : Type 0 where
-  pub why : Fault
+    (outcome : Result ⊤ AssembleFault) : Type 0 where
+  pub why : AssembleFault
   pub told : outcome ≡ Err why
   pub reason : IsWhyNotAssembled language size source why
   pub unwritten : new ≡ old
 
 -- What the source stands for was written, and nothing else.
 pub record WroteAssembly (language : Language) (size : ℕ) (source : List ℕ) (product : Product)
-    (old new : Option (List ℕ)) (failed : Bool) (outcome : Result ⊤ Fault) : Type 0 where
+    (old new : Option (List ℕ)) (failed : Bool) (outcome : Result ⊤ AssembleFault) : Type 0 where
   pub text : List ℕ
   pub text_is : IsProductOf language size source product text
   pub written : Wrote text old new failed outcome
 
 -- what a call did
-abbrev pub AssembleDid : Language → ℕ → List ℕ → Product → Option (List ℕ) → Option (List ℕ) → Bool → Result ⊤ Fault
+abbrev pub AssembleDid : Language → ℕ → List ℕ → Product → Option (List ℕ) → Option (List ℕ) → Bool → Result ⊤ AssembleFault
     → Type 0
 AssembleDid language size source product old new failed outcome =
     NotAssembled language size source old new outcome

@@ -4,18 +4,18 @@ ghost use Rattle.core_1401.specs.Storage.{is_core_size};
 ghost use Rattle.image_1401.specs.Image.{IsInCore};
 ghost use Rattle.autocoder_1401.specs.Assembly.{assembly_in, with_listing};
 ghost use Rattle.calls_1401.specs.declared.call.Product.TheVariants.{Image as InImage, Listing, Tables as InTables};
-ghost use Rattle.ibm1401.specs.Assemble.{listing_text, with_part, tables_text, IsProductOf, IsWhyNotAssembled};
-ghost use Rattle.ibm1401.specs.Assemble.{IsDeckOf, IsWhyNoDeckOf, Wrote, AssembleDid};
+ghost use Rattle.assembling_1401.specs.Assemble.{listing_text, with_part, tables_text, IsProductOf, IsWhyNotAssembled};
+ghost use Rattle.assembling_1401.specs.Assemble.{IsDeckOf, IsWhyNoDeckOf, Wrote, AssembleDid};
 
-use crate::fault::Fault;
+use crate::fault::AssembleFault;
 use autocoder_1401::{AssemblyTables, ListingLine, assemble, assemble_image, assemble_with_tables};
 use calls_1401::{Product, Tables};
-use console_1401::{Sink, put_all};
 use core_1401::Core;
 use deck_1401::{DeckFault, write_deck};
 use image_1401::{Image, write_image};
 use source_1401::Language;
 use std::alloc::{AllocError, Global};
+use streams_1401::{Sink, put_all};
 
 /// What parts the listing and the tables.
 const EMPTY_LINE: &[u8] = b"\n";
@@ -25,14 +25,14 @@ const EMPTY_LINE: &[u8] = b"\n";
 /// # Errors
 ///
 /// `Size` if none of that size is made.
-pub fn check_size(size: u16) -> Result<(), Fault>
+pub fn check_size(size: u16) -> Result<(), AssembleFault>
     ensures ok { OnOk result (is_core_size size ≡ true) }
-    ensures err { OnErr result ((result ≡ Err Fault.Size) × (is_core_size size ≡ false)) }
+    ensures err { OnErr result ((result ≡ Err AssembleFault.Size) × (is_core_size size ≡ false)) }
 {
     if Core::is_size(size) {
         Ok(())
     } else {
-        Err(Fault::Size)
+        Err(AssembleFault::Size)
     }
 }
 
@@ -49,7 +49,7 @@ pub fn write_assembly<W: Sink>(
     size: u16,
     product: Product,
     writer: &mut W,
-) -> Result<(), Fault>
+) -> Result<(), AssembleFault>
     requires { is_core_size size ≡ true }
     ensures { AssembleDid language size source.now product (W.received writer.old) (W.received writer.new)
         (W.has_failed writer.new) result }
@@ -69,7 +69,7 @@ pub(crate) fn assembly_text(
     source: &[u8],
     size: u16,
     product: Product,
-) -> Result<Vec<u8>, Fault>
+) -> Result<Vec<u8>, AssembleFault>
     requires { is_core_size size ≡ true }
     ensures ok { IfOk result (λ text. IsProductOf language size source.now product text.items) }
     ensures err { IfErr result (IsWhyNotAssembled language size source.now) }
@@ -82,7 +82,12 @@ pub(crate) fn assembly_text(
 }
 
 /// The image of a source.
-fn image_of(alloc: Global, language: Language, source: &[u8], size: u16) -> Result<Image, Fault>
+fn image_of(
+    alloc: Global,
+    language: Language,
+    source: &[u8],
+    size: u16,
+) -> Result<Image, AssembleFault>
     ensures ok { IfOk result (λ image.
         assembly_in language size source.now ≡ Ok (with_listing language source.now image)) }
     ensures in_core { is_core_size size ≡ true → IfOk result IsInCore }
@@ -90,12 +95,17 @@ fn image_of(alloc: Global, language: Language, source: &[u8], size: u16) -> Resu
 {
     match assemble_image(alloc, language, source, size) {
         Ok(image) => Ok(image),
-        Err(fault) => Err(Fault::Source(fault)),
+        Err(fault) => Err(AssembleFault::Source(fault)),
     }
 }
 
 /// The text of a source's image.
-fn image_text(alloc: Global, language: Language, source: &[u8], size: u16) -> Result<Vec<u8>, Fault>
+fn image_text(
+    alloc: Global,
+    language: Language,
+    source: &[u8],
+    size: u16,
+) -> Result<Vec<u8>, AssembleFault>
     requires { is_core_size size ≡ true }
     ensures ok { IfOk result (λ text. IsProductOf language size source.now InImage text.items) }
     ensures err { IfErr result (IsWhyNotAssembled language size source.now) }
@@ -103,7 +113,7 @@ fn image_text(alloc: Global, language: Language, source: &[u8], size: u16) -> Re
     let image = image_of(alloc, language, source, size)?;
     match write_image(alloc, &image) {
         Ok(text) => Ok(text),
-        Err(_) => Err(Fault::Memory),
+        Err(_) => Err(AssembleFault::Memory),
     }
 }
 
@@ -118,7 +128,7 @@ pub(crate) fn source_deck(
     language: Language,
     source: &[u8],
     size: u16,
-) -> Result<Vec<u8>, Fault>
+) -> Result<Vec<u8>, AssembleFault>
     requires { is_core_size size ≡ true }
     ensures ok { IfOk result (λ text. IsDeckOf language size source.now text.items) }
     ensures err { IfErr result (IsWhyNoDeckOf language size source.now) }
@@ -126,8 +136,8 @@ pub(crate) fn source_deck(
     let image = image_of(alloc, language, source, size)?;
     match write_deck(alloc, &image) {
         Ok(text) => Ok(text),
-        Err(DeckFault::Memory) => Err(Fault::Memory),
-        Err(DeckFault::Place(place)) => Err(Fault::Deck(DeckFault::Place(place))),
+        Err(DeckFault::Memory) => Err(AssembleFault::Memory),
+        Err(DeckFault::Place(place)) => Err(AssembleFault::Deck(DeckFault::Place(place))),
     }
 }
 
@@ -137,17 +147,17 @@ fn source_listing(
     language: Language,
     source: &[u8],
     size: u16,
-) -> Result<Vec<u8>, Fault>
+) -> Result<Vec<u8>, AssembleFault>
     ensures ok { IfOk result (λ text. IsProductOf language size source.now Listing text.items) }
     ensures err { IfErr result (IsWhyNotAssembled language size source.now) }
 {
     let assembly = match assemble(alloc, language, source, size) {
         Ok(assembly) => assembly,
-        Err(why) => return Err(Fault::Source(why)),
+        Err(why) => return Err(AssembleFault::Source(why)),
     };
     match listing_text(alloc, assembly.listing.as_slice()) {
         Ok(text) => Ok(text),
-        Err(_) => Err(Fault::Memory),
+        Err(_) => Err(AssembleFault::Memory),
     }
 }
 
@@ -158,17 +168,17 @@ fn source_tables(
     source: &[u8],
     size: u16,
     asked: Tables,
-) -> Result<Vec<u8>, Fault>
+) -> Result<Vec<u8>, AssembleFault>
     ensures ok { IfOk result (λ text. IsProductOf language size source.now (InTables asked) text.items) }
     ensures err { IfErr result (IsWhyNotAssembled language size source.now) }
 {
     let made = match assemble_with_tables(alloc, language, source, size) {
         Ok(made) => made,
-        Err(why) => return Err(Fault::Source(why)),
+        Err(why) => return Err(AssembleFault::Source(why)),
     };
     match tables_text(alloc, &made, asked) {
         Ok(text) => Ok(text),
-        Err(_) => Err(Fault::Memory),
+        Err(_) => Err(AssembleFault::Memory),
     }
 }
 
@@ -220,11 +230,11 @@ fn listing_text(alloc: Global, lines: &[ListingLine]) -> Result<Vec<u8>, AllocEr
 /// # Errors
 ///
 /// `Output` if it isn't written, or a part of it alone.
-pub(crate) fn write_text<W: Sink>(text: &[u8], writer: &mut W) -> Result<(), Fault>
+pub(crate) fn write_text<W: Sink>(text: &[u8], writer: &mut W) -> Result<(), AssembleFault>
     ensures { Wrote text.now (W.received writer.old) (W.received writer.new) (W.has_failed writer.new) result }
 {
     match put_all(writer, text) {
         Ok(()) => Ok(()),
-        Err(_) => Err(Fault::Output),
+        Err(_) => Err(AssembleFault::Output),
     }
 }

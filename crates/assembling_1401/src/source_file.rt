@@ -1,25 +1,40 @@
 //! The subcommand `assemble`, from the source's file to what is written.
 
 use crate::assembling::{assembly_text, check_size, source_deck, write_assembly};
-use crate::fault::Fault;
-use crate::loading::read_file;
+use crate::fault::AssembleFault;
 use crate::source_faults::{fault_lines, warning_lines};
 use autocoder_1401::{AsmKind, explained_faults, warnings};
-use calls_1401::{Assembling, Product, Told};
-use files_1401::{WriteFault, hold_closed_streams, write_whole};
-use running_1401::{is_refused, size_for};
+use calls_1401::{Assembling, Product, Told, is_refused, size_for};
+use files_1401::{FileFault, WriteFault, hold_closed_streams, read_whole, write_whole};
 use source_1401::Language;
 use std::alloc::Global;
 use std::io;
 use std::rt::Files;
 use streams_1401::ToWriter;
 
+/// The bytes of a source's file.
+///
+/// # Errors
+///
+/// `Unread`, with the name as it was given; else `Memory`.
+fn read_source(rt: &(impl Files + AllocGlobal), name: String) -> Result<Vec<u8>, AssembleFault> {
+    match read_whole(rt, name.as_str()) {
+        Ok(bytes) => Ok(bytes),
+        Err(FileFault::Memory) => Err(AssembleFault::Memory),
+        Err(_) => Err(AssembleFault::Unread(name)),
+    }
+}
+
 /// Writes a text to the file of this name, whole or not at all.
-fn put_file(rt: &(impl Files + AllocGlobal), name: String, text: &[u8]) -> Result<(), Fault> {
+fn put_file(
+    rt: &(impl Files + AllocGlobal),
+    name: String,
+    text: &[u8],
+) -> Result<(), AssembleFault> {
     match write_whole(rt, name.as_str(), text) {
         Ok(()) => Ok(()),
-        Err(WriteFault::Memory) => Err(Fault::Memory),
-        Err(WriteFault::Unwritten) => Err(Fault::Unwritten(name)),
+        Err(WriteFault::Memory) => Err(AssembleFault::Memory),
+        Err(WriteFault::Unwritten) => Err(AssembleFault::Unwritten(name)),
     }
 }
 
@@ -30,7 +45,7 @@ fn put_deck(
     source: &[u8],
     size: u16,
     name: String,
-) -> Result<(), Fault> {
+) -> Result<(), AssembleFault> {
     check_size(size)?;
     let text = source_deck(rt.alloc(), language, source, size)?;
     put_file(rt, name, text.as_slice())
@@ -44,7 +59,7 @@ fn write_product<R: Files + Print + AllocGlobal>(
     size: u16,
     product: Product,
     out: Option<String>,
-) -> Result<(), Fault> {
+) -> Result<(), AssembleFault> {
     check_size(size)?;
     match out {
         Some(name) => {
@@ -68,7 +83,7 @@ fn write_asked<R: Files + Print + AllocGlobal>(
     product: Product,
     out: Option<String>,
     deck: Option<String>,
-) -> Result<(), Fault> {
+) -> Result<(), AssembleFault> {
     let Some(name) = deck else {
         return write_product(rt, language, source, size, product, out);
     };
@@ -86,15 +101,15 @@ fn all_told(
     language: Language,
     source: &[u8],
     size: u16,
-    first: Fault,
-) -> Fault {
+    first: AssembleFault,
+) -> AssembleFault {
     match explained_faults(alloc, language, source, size) {
         Ok(found) if !found.is_empty() => match fault_lines(alloc, name, source, found.as_slice()) {
-            Ok(lines) => Fault::Faulty(lines),
-            Err(_) => Fault::Memory,
+            Ok(lines) => AssembleFault::Faulty(lines),
+            Err(_) => AssembleFault::Memory,
         },
         Ok(_) => first,
-        Err(_) => Fault::Memory,
+        Err(_) => AssembleFault::Memory,
     }
 }
 
@@ -109,12 +124,12 @@ fn tell_warnings(
     language: Language,
     source: &[u8],
     size: u16,
-) -> Result<(), Fault> {
+) -> Result<(), AssembleFault> {
     let Ok(found) = warnings(rt.alloc(), language, source, size) else {
-        return Err(Fault::Memory);
+        return Err(AssembleFault::Memory);
     };
     let Ok(lines) = warning_lines(rt.alloc(), name, found.as_slice()) else {
-        return Err(Fault::Memory);
+        return Err(AssembleFault::Memory);
     };
     let _ = rt.eprint(lines);
     Ok(())
@@ -131,7 +146,7 @@ fn tell_warnings(
 pub fn assemble_file<R: Files + Print + Eprint + AllocGlobal>(
     rt: &R,
     asked: Assembling,
-) -> Result<(), Fault> {
+) -> Result<(), AssembleFault> {
     let Assembling {
         file,
         language,
@@ -142,27 +157,29 @@ pub fn assemble_file<R: Files + Print + Eprint + AllocGlobal>(
         told,
     } = asked;
     if is_refused(size) {
-        return Err(Fault::Size);
+        return Err(AssembleFault::Size);
     }
     // Standard streams that are closed stay so: no file that is made takes the place of one.
     let _held = hold_closed_streams(rt);
     let Ok(name) = file.clone() else {
-        return Err(Fault::Memory);
+        return Err(AssembleFault::Memory);
     };
-    let source = read_file(rt, file)?;
+    let source = read_source(rt, file)?;
     let size = size_for(size, language, source.as_slice());
     match (
         write_asked(rt, language, source.as_slice(), size, product, out, deck),
         told,
     ) {
-        (Err(Fault::Source(first)), Told::All) if first.kind != AsmKind::Memory => Err(all_told(
-            rt.alloc(),
-            name.as_str(),
-            language,
-            source.as_slice(),
-            size,
-            Fault::Source(first),
-        )),
+        (Err(AssembleFault::Source(first)), Told::All) if first.kind != AsmKind::Memory => Err(
+            all_told(
+                rt.alloc(),
+                name.as_str(),
+                language,
+                source.as_slice(),
+                size,
+                AssembleFault::Source(first),
+            ),
+        ),
         (Ok(()), Told::All) => tell_warnings(rt, name.as_str(), language, source.as_slice(), size),
         (outcome, Told::First | Told::All) => outcome,
     }

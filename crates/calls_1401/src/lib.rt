@@ -8,7 +8,11 @@
 
 pub mod call;
 
+// how many places core storage has for what is asked
+pub mod sizes;
+
 pub use call::{
     Assembling, Call, DEFAULT_SIZE, Job, NewJournal, Opening, Operators, Product, Resuming,
     Seating, Service, Showing, Start, Tables, Told,
 };
+pub use sizes::{is_refused, size_for};

@@ -1,9 +1,9 @@
 //! How many places core storage has for a source.
 ghost use Rattle.std.specs.Prelude.{◌≡◌, true, false};
 ghost use Rattle.core_1401.specs.Storage.{is_core_size};
-ghost use Rattle.running_1401.specs.Sizes.{is_refused, size_for};
+ghost use Rattle.calls_1401.specs.Sizes.{is_refused, size_for};
 
-use calls_1401::DEFAULT_SIZE;
+use crate::call::DEFAULT_SIZE;
 use core_1401::Core;
 use source_1401::{Language, size_asked};
 

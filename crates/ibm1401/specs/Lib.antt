@@ -1,4 +1,2 @@
-pub mod Assemble
-pub mod Disassemble
 pub mod Load
 pub mod Status

@@ -3,11 +3,9 @@ ghost use Rattle.std.specs.Prelude.{◌≡◌};
 ghost use Rattle.terminal_1401.specs.Console.{outcome_of};
 ghost use Rattle.ibm1401.specs.Status.{run_status, session_outcome, status_of};
 
-use autocoder_1401::AsmFault;
+use assembling_1401::AssembleFault;
 use clap::Error as Refusal;
 use console_1401::SessionEnd;
-use deck_1401::DeckFault;
-use files_1401::FileFault;
 use image_1401::ImageFault;
 use keeping_1401::KeepFault;
 use running_1401::RunFault;
@@ -21,8 +19,8 @@ const MISUSED: u8 = 2;
 /// The status of a run that failed.
 const FAILED: u8 = 1;
 
-/// What a run of the program may fail by. Each but `Usage` and `Faulty`, which have texts of their own, is one line on
-/// standard error.
+/// What a run of the program may fail by. Each but `Usage` and the faults of a source, which have texts of their own, is
+/// one line on standard error.
 #[derive(Debug, Drop, Error)]
 pub enum Fault {
     /// A word of the command line isn't UTF-8.
@@ -31,36 +29,24 @@ pub enum Fault {
     /// The command line asks for nothing that the program does.
     #[error("{0}")]
     Usage(Refusal),
-    /// Standard output didn't take what was asked for: the help, an image or a listing.
+    /// Standard output didn't take what was asked for: the help, or what a room or a journal tells.
     #[error("cannot write")]
     Output,
     /// No core storage of the size named is made.
     #[error("size refused")]
     Size,
-    /// The image or the source of this name can't be read, or is longer than any image.
+    /// The file of this name can't be read, or is longer than any image.
     #[error("cannot read {0}")]
     Unread(String),
-    /// The image to be listed can't be read from the file of this name.
-    #[error("{0}: {1}")]
-    File(String, FileFault),
-    /// The file of this name can't be made or written.
-    #[error("cannot write {0}")]
-    Unwritten(String),
+    /// A source isn't assembled, or an image isn't listed, or what is made of it isn't written.
+    #[error("{0}")]
+    Assemble(AssembleFault),
     /// A run of a program with its deck was refused, broke off, or ended otherwise than by a halt.
     #[error("{0}")]
     Run(RunFault),
     /// The deck of this file has this many cards.
     #[error("{0}: {1} cards are more than the hopper holds")]
     Hopper(String, u64),
-    /// The file has no source that can be assembled.
-    #[error("{0}")]
-    Source(AsmFault),
-    /// The file has no source that can be assembled: a line for each of its faults.
-    #[error("{0}")]
-    Faulty(String),
-    /// The image of the source has no deck that loads itself.
-    #[error("{0}")]
-    Deck(DeckFault),
     /// The file has no image's text.
     #[error("image refused: {0}")]
     Image(ImageFault),
@@ -70,7 +56,7 @@ pub enum Fault {
     /// There is no place for a seat's reader.
     #[error("no reader")]
     NoReader,
-    /// Memory was refused before the session, or for the text of an image or a listing.
+    /// Memory was refused before the session.
     #[error("memory refused")]
     Memory,
     /// No session was held on a new machine, or it ended so.
@@ -107,9 +93,8 @@ impl Fault {
         match self {
             Fault::Text | Fault::Usage(_) => MISUSED,
             Fault::Output | Fault::Size | Fault::Memory => FAILED,
-            Fault::Unread(_) | Fault::File(..) | Fault::Image(_) | Fault::JournalFull => FAILED,
-            Fault::Source(_) | Fault::Faulty(_) | Fault::Deck(_) => FAILED,
-            Fault::Unwritten(_) | Fault::Run(_) | Fault::Hopper(..) => FAILED,
+            Fault::Unread(_) | Fault::Image(_) | Fault::JournalFull => FAILED,
+            Fault::Assemble(_) | Fault::Run(_) | Fault::Hopper(..) => FAILED,
             Fault::Console(_) | Fault::Session(_) | Fault::Kept(_) => FAILED,
             Fault::NoReader | Fault::Port | Fault::Accept | Fault::Thread => FAILED,
             Fault::NoSeat(_) | Fault::Seats(_) => FAILED,
@@ -139,7 +124,7 @@ pub fn report(rt: &impl Eprint, outcome: Result<(), Fault>) -> u8
     let status = fault.status();
     let _ = match &fault {
         Fault::Usage(refusal) => rt.eprint(refusal),
-        Fault::Faulty(lines) => rt.eprint(lines),
+        Fault::Assemble(AssembleFault::Faulty(lines)) => rt.eprint(lines),
         fault => eprintln!(rt; "ibm1401: {fault}"),
     };
     status

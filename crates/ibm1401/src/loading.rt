@@ -26,19 +26,6 @@ pub fn read_file(rt: &(impl Files + AllocGlobal), name: String) -> Result<Vec<u8
     }
 }
 
-/// The bytes of a file, of which it is told why it can't be read.
-///
-/// # Errors
-///
-/// `File`, with the name as it was given; else `Memory`.
-pub fn read_named_file(rt: &(impl Files + AllocGlobal), name: String) -> Result<Vec<u8>, Fault> {
-    match read_whole(rt, name.as_str()) {
-        Ok(bytes) => Ok(bytes),
-        Err(FileFault::Memory) => Err(Fault::Memory),
-        Err(fault) => Err(Fault::File(name, fault)),
-    }
-}
-
 /// One session at the console of a new room that has the image of this text loaded.
 ///
 /// # Errors

@@ -1,12 +1,6 @@
 //! The IBM 1401 at a terminal: reads the command line, and runs what it asks for.
 #![tactic(auto)]
 
-// sources and images
-mod assembling;
-mod disassembling;
-mod source_faults;
-mod source_file;
-
 // sessions at a console, of an image or with a journal
 mod journals;
 mod loading;
@@ -22,16 +16,15 @@ mod serving;
 mod fault;
 mod help;
 
-use crate::disassembling::write_disassembly;
 use crate::fault::{Fault, report};
 use crate::help::tell;
 use crate::journals::{journal_file, keep_console, keep_loaded, resume_file};
-use crate::loading::{load, read_file, read_named_file};
+use crate::loading::{load, read_file};
 use crate::resuming::resume_seats;
 use crate::seating::open_seats;
 use crate::serving::open_room;
-use crate::source_file::assemble_file;
 use arguments_1401::read_call;
+use assembling_1401::{assemble_file, disassemble_file};
 use calls_1401::Call;
 use running_1401::{ErrorOutput, run_file};
 use std::fs::File;
@@ -78,9 +71,9 @@ fn run<
     let words = command_line(rt)?;
     match read_call(rt.alloc(), words.as_slice()) {
         Ok(Call::Console { size }) => hold_console(rt, size),
-        Ok(Call::Assemble(asked)) => assemble_file(rt, asked),
+        Ok(Call::Assemble(asked)) => assemble_file(rt, asked).map_err(Fault::Assemble),
         Ok(Call::Load { file }) => hold_loaded(rt, file),
-        Ok(Call::Disassemble { file }) => disassemble_file(rt, file),
+        Ok(Call::Disassemble { file }) => disassemble_file(rt, file).map_err(Fault::Assemble),
         Ok(Call::Run(job)) => run_file(rt, error_output, job).map_err(Fault::Run),
         Ok(Call::Serve(service)) => open_room(rt, service),
         Ok(Call::ServeSeats(asked)) => open_seats(rt, asked),
@@ -117,13 +110,6 @@ fn hold_loaded<R: Files + Input<Reader = StdinLock<'static>> + Print + AllocGlob
     let mut reader = FromReader::new(rt.reader());
     let mut writer = ToWriter::new(io::writer(rt));
     load(rt.alloc(), text.as_slice(), &mut reader, &mut writer)
-}
-
-/// Writes the listing of the image of a file.
-fn disassemble_file<R: Files + Print + AllocGlobal>(rt: &R, file: String) -> Result<(), Fault> {
-    let text = read_named_file(rt, file)?;
-    let mut writer = ToWriter::new(io::writer(rt));
-    write_disassembly(rt.alloc(), text.as_slice(), &mut writer)
 }
 
 /// The words of the command line, the program's own name in front.

@@ -1,4 +1,3 @@
-pub mod Sizes
 pub mod Program
 pub mod Run
 pub mod RunDeck

@@ -5,7 +5,7 @@ use Rattle.cpu_1401.specs.declared.stop.Stop.TheVariants as stop
 use Rattle.calls_1401.specs.declared.call.Job.{Job}
 use Rattle.calls_1401.specs.declared.call.Start.{Start}
 use Rattle.calls_1401.specs.declared.call.Start.TheVariants as start
-use Rattle.running_1401.specs.Sizes.{is_refused}
+use Rattle.calls_1401.specs.Sizes.{is_refused}
 use Rattle.running_1401.specs.declared.fault.RunFault.{RunFault}
 use Rattle.running_1401.specs.declared.fault.RunFault.TheVariants as fault
 

@@ -1,13 +1,12 @@
 //! The files that a run reads: its program, and its deck.
 ghost use Rattle.std.specs.Prelude.{◌≡◌, true, false, None, Err, IfErr, option_map, string_bytes};
-ghost use Rattle.running_1401.specs.Sizes.{is_refused};
+ghost use Rattle.calls_1401.specs.Sizes.{is_refused};
 ghost use Rattle.running_1401.specs.RunFile.{IsOfFile, IsUnread, IsUnreadFile, input_names};
 
 use crate::fault::RunFault;
 use crate::programs::{Program, loaded_machine, program_of};
-use crate::sizes::is_refused;
 use autocoder_1401::Listing;
-use calls_1401::{DEFAULT_SIZE, Start};
+use calls_1401::{DEFAULT_SIZE, Start, is_refused};
 use core_1401::CoreFault;
 use cpu_1401::Machine;
 use devices_1401::Card;

@@ -10,7 +10,6 @@
 // what a run begins with
 mod inputs;
 pub mod programs;
-pub mod sizes;
 
 // a machine run with a deck; where what comes goes, and who is told
 pub mod deck_running;
@@ -26,6 +25,7 @@ mod instruction_text;
 pub mod job_report;
 pub mod running;
 
+pub use calls_1401::{is_refused, size_for};
 pub use deck_running::{Broken, run_started};
 pub use ending::Ending;
 pub use fault::{RunFault, job_outcome};
@@ -34,6 +34,5 @@ pub use job_report::JobReport;
 pub use programs::{Program, loaded_machine, program_of};
 pub use punch_file::PunchFile;
 pub use running::{ErrorOutput, run_file, tell_ending};
-pub use sizes::{is_refused, size_for};
 pub use tracing::Trace;
 pub use watching::{HowFar, Shown, Unwatched, Watch};

@@ -4,11 +4,11 @@ ghost use Rattle.std.specs.List.{list_all};
 ghost use Rattle.image_1401.specs.Image.{IsInCore, is_inside};
 ghost use Rattle.running_1401.specs.Program.{IsAssembled, IsImageOf, is_meant_as_image, with_image, with_segment};
 ghost use Rattle.running_1401.specs.Program.{with_segments};
-ghost use Rattle.running_1401.specs.Sizes.{is_refused, size_for};
+ghost use Rattle.calls_1401.specs.Sizes.{is_refused, size_for};
 
 use crate::fault::RunFault;
-use crate::sizes::size_for;
 use autocoder_1401::{Assembly, Listing, assemble};
+use calls_1401::size_for;
 use command_1401::{Command, carry_out};
 use core_1401::CoreFault;
 use cpu_1401::Machine;

@@ -2,7 +2,7 @@
 ghost use Rattle.std.specs.Prelude.{◌≡◌, true, Err, IfErr, option_map, string_bytes};
 ghost use Rattle.running_1401.specs.Run.{job_outcome};
 ghost use Rattle.running_1401.specs.RunFile.{IsFaultOf, IsOfRun, IsUnwritten, written_names};
-ghost use Rattle.running_1401.specs.Sizes.{is_refused};
+ghost use Rattle.calls_1401.specs.Sizes.{is_refused};
 
 use crate::deck_running::{Broken, run_started};
 use crate::ending::Ending;
