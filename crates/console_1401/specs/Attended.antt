@@ -4,17 +4,17 @@ use Rattle.std.specs.List.{flat_map, zip}
 use mathlib.Core.List.{IsPrefix}
 use Rattle.command_1401.specs.declared.answer.Answer.{Answer}
 use Rattle.command_1401.specs.declared.command.Command.{Command}
-use Rattle.room_1401.specs.declared.entry.SeatedCommand.{SeatedCommand}
-use Rattle.room_1401.specs.declared.fault.RoomFault.{RoomFault}
-use Rattle.room_1401.specs.declared.fault.RoomFault.TheVariants.{Memory, JournalFull, NoReading, Unkept}
-use Rattle.room_1401.specs.Journal.{most_entries}
-use Rattle.room_1401.specs.Replay.{pair, reply_to, cell_after}
+use Rattle.lone_room_1401.specs.declared.entry.SeatedCommand.{SeatedCommand}
+use Rattle.lone_room_1401.specs.declared.fault.RoomFault.{RoomFault}
+use Rattle.lone_room_1401.specs.declared.fault.RoomFault.TheVariants.{Memory, JournalFull, NoReading, Unkept}
+use Rattle.lone_room_1401.specs.Journal.{most_entries}
+use Rattle.lone_room_1401.specs.Replay.{pair, reply_to, cell_after}
 use Rattle.room_1401.specs.Seen.{SeatView}
 use Rattle.text_1401.specs.declared.line.Line.TheVariants as line
-use Rattle.console_1401.specs.declared.reply.Reply.{Reply}
-use Rattle.console_1401.specs.declared.reply.Reply.TheVariants as reply
+use Rattle.answering_1401.specs.declared.reply.Reply.{Reply}
+use Rattle.answering_1401.specs.declared.reply.Reply.TheVariants as reply
 use Rattle.text_1401.specs.ConsoleLine.{Said}
-use Rattle.console_1401.specs.ReplyText.{bytes_of}
+use Rattle.answering_1401.specs.ReplyText.{bytes_of}
 use Rattle.console_1401.specs.SeatTurns.{GlanceRefused}
 
 -- a line with its reply, which an empty one hasn't

@@ -4,8 +4,8 @@ use Rattle.image_1401.specs.declared.image.Image.{Image}
 use Rattle.image_1401.specs.declared.image.Segment.{Segment}
 use Rattle.command_1401.specs.declared.answer.Answer.TheVariants.{Done}
 use Rattle.command_1401.specs.declared.command.Command.TheVariants.{Deposit, SetI}
-use Rattle.room_1401.specs.declared.entry.Entry.{Entry}
-use Rattle.room_1401.specs.Journal.{entry}
+use Rattle.lone_room_1401.specs.declared.entry.Entry.{Entry}
+use Rattle.lone_room_1401.specs.Journal.{entry}
 
 -- a segment that the console has deposited
 abbrev pub segment_entry : Segment → Entry

@@ -1,11 +1,4 @@
-pub mod Answering
 pub mod Attended
-pub mod Bytes
 pub mod ImageLoading
-pub mod Limits
-pub mod ReplyText
 pub mod SeatTurns
 pub mod Served
-pub mod Session
-pub mod Text
-pub mod Turns

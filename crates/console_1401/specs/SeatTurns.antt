@@ -2,17 +2,17 @@
 use Rattle.std.specs.Prelude.{◌≡◌, ℕ, ◌+◌, ◌<◌, ◌≤◌, List, length, Option, None, Some, Ok, Err}
 use mathlib.Core.List.{IsPrefix}
 use Rattle.command_1401.specs.declared.command.Command.{Command}
-use Rattle.room_1401.specs.declared.fault.GlanceFault.{GlanceFault}
-use Rattle.room_1401.specs.declared.fault.GlanceFault.TheVariants.{Range, Gone}
-use Rattle.room_1401.specs.declared.fault.RoomFault.TheVariants.{Memory, JournalFull}
-use Rattle.room_1401.specs.Journal.{most_entries}
-use Rattle.room_1401.specs.Replay.{cell_after}
+use Rattle.lone_room_1401.specs.declared.fault.GlanceFault.{GlanceFault}
+use Rattle.lone_room_1401.specs.declared.fault.GlanceFault.TheVariants.{Range, Gone}
+use Rattle.lone_room_1401.specs.declared.fault.RoomFault.TheVariants.{Memory, JournalFull}
+use Rattle.lone_room_1401.specs.Journal.{most_entries}
+use Rattle.lone_room_1401.specs.Replay.{cell_after}
 use Rattle.room_1401.specs.Seen.{SeatView, Carries}
 use Rattle.text_1401.specs.declared.line.Line.TheVariants as line
-use Rattle.console_1401.specs.declared.reply.Reply.{Reply}
-use Rattle.console_1401.specs.declared.reply.Reply.TheVariants as reply
+use Rattle.answering_1401.specs.declared.reply.Reply.{Reply}
+use Rattle.answering_1401.specs.declared.reply.Reply.TheVariants as reply
 use Rattle.text_1401.specs.ConsoleLine.{Said}
-use Rattle.console_1401.specs.ReplyText.{bytes_of}
+use Rattle.answering_1401.specs.ReplyText.{bytes_of}
 
 -- a command is carried out for the seat, and answered as the sequential machine answers it; or the room takes none, and
 -- the seat has seen no less: a full journal, or one that isn't full if memory is the reason

@@ -2,16 +2,13 @@
 ghost use Rattle.std.specs.Prelude.{◌≡◌, ◌≢◌, true, false, IsTrue, IfOk, OnErr, None};
 ghost use mathlib.Core.List.{IsPrefix};
 ghost use Rattle.text_1401.specs.ConsoleLine.{said_by};
-ghost use Rattle.console_1401.specs.Answering.{AnsweredAll};
+ghost use Rattle.answering_1401.specs.Answering.{AnsweredAll};
 ghost use Rattle.console_1401.specs.Attended.{Attended};
 ghost use Rattle.console_1401.specs.SeatTurns.{AnswersAtSeat, IsUnanswered, SeatResponds};
-ghost use Rattle.console_1401.specs.Session.{SessionDid};
+ghost use Rattle.answering_1401.specs.Session.{SessionDid};
 
-use crate::answering::answer_lines;
 use crate::door::Door;
-use crate::reply::{Reply, reply_bytes};
-use crate::responder::Responder;
-use crate::session_end::SessionEnd;
+use answering_1401::{Reply, Responder, SessionEnd, answer_lines, reply_bytes};
 use room_1401::{Keeper, RoomId, Seat, SharedRoom};
 use std::alloc::Global;
 use std::marker::Model;

@@ -2,10 +2,10 @@
 ghost use Rattle.std.specs.Prelude.{◌≡◌, ◌++◌, ◌↔◌, ◌∷◌, [], true, nat_lt, IfErr, OnOk, OnErr};
 ghost use Rattle.std.specs.List.{list_all};
 ghost use Rattle.image_1401.specs.Image.{is_inside};
-ghost use Rattle.room_1401.specs.Journal.{answer_to, entry, is_full, refusal_of};
+ghost use Rattle.lone_room_1401.specs.Journal.{answer_to, entry, is_full, refusal_of};
 ghost use Rattle.console_1401.specs.ImageLoading.{segment_entry, start_entry, load_entries, WentOnByFewer};
 
-use crate::sessions::OWN_SEAT;
+use answering_1401::OWN_SEAT;
 use image_1401::{Image, Segment};
 use room_1401::{Answer, Command, Room, RoomFault};
 

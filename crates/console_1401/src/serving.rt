@@ -1,6 +1,6 @@
 //! A shared room that listens for its consoles.
 ghost use Rattle.std.specs.Prelude.{◌≡◌, ◌<◌, ◌≤◌, ◌+◌, ◌^◌, length, vec_capacity, vec_len};
-ghost use Rattle.room_1401.specs.Journal.{IsLegal};
+ghost use Rattle.lone_room_1401.specs.Journal.{IsLegal};
 ghost use Rattle.console_1401.specs.Served.{AreAllSeats, CountsConsoles};
 
 use crate::attending::attend;

@@ -1,14 +1,14 @@
 -- What a call that loads an image has read, written and told, once the file is read (own).
 use Rattle.std.specs.Prelude.{◌≡◌, ◌<◌, ◌⊎◌, ℕ, ⊤, List, length, Result, Err}
-use Rattle.console_1401.specs.declared.session_end.SessionEnd.{SessionEnd}
+use Rattle.answering_1401.specs.declared.session_end.SessionEnd.{SessionEnd}
 use Rattle.console_1401.specs.ImageLoading.{load_entries}
-use Rattle.console_1401.specs.Session.{SessionDid}
-use Rattle.console_1401.specs.Turns.{Answered}
+use Rattle.answering_1401.specs.Session.{SessionDid}
+use Rattle.answering_1401.specs.Turns.{Answered}
 use Rattle.image_1401.specs.declared.image.Image.{Image}
 use Rattle.image_1401.specs.ImageText.{IsTextOf}
 use Rattle.image_1401.specs.Refusal.{IsRefused}
-use Rattle.room_1401.specs.Account.{Account}
-use Rattle.room_1401.specs.Journal.{most_entries}
+use Rattle.lone_room_1401.specs.Account.{Account}
+use Rattle.lone_room_1401.specs.Journal.{most_entries}
 use Rattle.ibm1401.specs.declared.fault.Fault.{Fault}
 use Rattle.ibm1401.specs.declared.fault.Fault.TheVariants as fault
 use Rattle.terminal_1401.specs.Console.{outcome_of, Streams}

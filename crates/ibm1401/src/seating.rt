@@ -1,7 +1,7 @@
 //! What the subcommand `serve` does if seats are taken again, and what such rooms have in common.
 ghost use Rattle.std.specs.Prelude.{◌≡◌, ◌≤◌, [], false, vec_len};
 ghost use Rattle.std.specs.Io.KnownBytes.{Appends};
-ghost use Rattle.room_1401.specs.Kept.{kept_text};
+ghost use Rattle.lone_room_1401.specs.Kept.{kept_text};
 ghost use Rattle.ibm1401.specs.Status.{seats_outcome};
 
 use crate::beginning::{Before, begin};

@@ -38,8 +38,8 @@ use Rattle.text_1401.specs.Words.{letter_of}
 use Rattle.text_1401.proofs.CommandTextLemmas.{line_of_command}
 use Rattle.text_1401.proofs.LineTextLemmas.{in_words}
 use Rattle.text_1401.proofs.SayableLemmas.{words_can}
-use Rattle.room_1401.specs.declared.entry.Entry.{Entry}
-use Rattle.room_1401.specs.Journal.{answer_to, entry, is_full}
+use Rattle.lone_room_1401.specs.declared.entry.Entry.{Entry}
+use Rattle.lone_room_1401.specs.Journal.{answer_to, entry, is_full}
 use Rattle.journal_1401.specs.declared.fault.Wrong.{Wrong}
 use Rattle.journal_1401.specs.declared.fault.Wrong.TheVariants as wrong
 use Rattle.journal_1401.specs.JournalText.{CanBeKept, entry_text, tab, with_feed, with_tab}

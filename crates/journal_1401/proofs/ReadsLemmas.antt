@@ -19,9 +19,9 @@ use Rattle.notation_1401.proofs.PrefixLemmas.{after_prefix_again, after_prefix_t
 use Rattle.command_1401.specs.CarryOut.{carry_out}
 use Rattle.text_1401.specs.AnswerText.{answer_text}
 use Rattle.text_1401.specs.CommandText.{command_text}
-use Rattle.room_1401.specs.declared.entry.Entry.{Entry}
-use Rattle.room_1401.specs.Journal.{IsLegal, answer_in, answer_to, is_full, most_entries, pair_of}
-use Rattle.room_1401.specs.Replay.{answers_after, state_after}
+use Rattle.lone_room_1401.specs.declared.entry.Entry.{Entry}
+use Rattle.lone_room_1401.specs.Journal.{IsLegal, answer_in, answer_to, is_full, most_entries, pair_of}
+use Rattle.lone_room_1401.specs.Replay.{answers_after, state_after}
 use Rattle.journal_1401.specs.declared.fault.Wrong.{Wrong}
 use Rattle.journal_1401.specs.declared.fault.Wrong.TheVariants as wrong
 use Rattle.journal_1401.specs.JournalText.{CanBeKept, IsJournal, entries_text, entry_text, header_text, journal_text}

@@ -1,9 +1,9 @@
 -- The text of a journal, by its parts.
 use Rattle.std.proofs.Common.{◌≡◌, ℕ, ◌+◌, ◌<◌, List, [], ◌∷◌, ◌++◌, length, get_or, take, ap, sym, ◌∙◌, arith}
 use Rattle.std.proofs.lemmas.List.{append_assoc, append-nil, length-take, take_more}
-use Rattle.room_1401.specs.declared.entry.Entry.{Entry}
+use Rattle.lone_room_1401.specs.declared.entry.Entry.{Entry}
 use Rattle.journal_1401.specs.JournalText.{entries_text, entry_text, header_text, journal_text}
-use Rattle.room_1401.specs.Kept.{lines_by}
+use Rattle.lone_room_1401.specs.Kept.{lines_by}
 
 -- entries, and more after them
 lines_by-append : {A : Type 0} (line : ℕ → Entry → List A) (number : ℕ) (front back : List Entry)

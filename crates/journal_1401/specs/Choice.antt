@@ -1,10 +1,10 @@
 -- Which commands of a journal are carried out again (own): those up to a number, without some of them.
 use Rattle.std.specs.Prelude.{ℕ, nat_le, ◌==◌, Bool, not, ◌&&◌, if◌then◌else◌, List, [], ◌∷◌}
 use Rattle.std.specs.List.{list_any}
-use Rattle.room_1401.specs.declared.entry.Entry.{Entry}
-use Rattle.room_1401.specs.declared.entry.SeatedCommand.{SeatedCommand}
-use Rattle.room_1401.specs.Journal.{pair_of}
-use Rattle.room_1401.specs.Kept.{lines_by}
+use Rattle.lone_room_1401.specs.declared.entry.Entry.{Entry}
+use Rattle.lone_room_1401.specs.declared.entry.SeatedCommand.{SeatedCommand}
+use Rattle.lone_room_1401.specs.Journal.{pair_of}
+use Rattle.lone_room_1401.specs.Kept.{lines_by}
 
 -- whether the command of this number is chosen
 unfoldable pub is_chosen : ℕ → List ℕ → ℕ → Bool

@@ -7,9 +7,9 @@ use Rattle.text_1401.specs.declared.line.Line.TheVariants as line
 use Rattle.text_1401.specs.AnswerText.{answer_text}
 use Rattle.text_1401.specs.CommandText.{command_text}
 use Rattle.text_1401.specs.LineText.{CanBeSaid}
-use Rattle.room_1401.specs.declared.entry.Entry.{Entry}
-use Rattle.room_1401.specs.Journal.{IsLegal, most_entries}
-use Rattle.room_1401.specs.Kept.{Form, kept_text, lines_by}
+use Rattle.lone_room_1401.specs.declared.entry.Entry.{Entry}
+use Rattle.lone_room_1401.specs.Journal.{IsLegal, most_entries}
+use Rattle.lone_room_1401.specs.Kept.{Form, kept_text, lines_by}
 
 -- it parts the fields of a line
 abbrev pub tab : ℕ

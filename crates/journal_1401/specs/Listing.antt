@@ -4,10 +4,10 @@ use Rattle.std.specs.Prelude.{replicate, Option, None, Some, codes}
 use Rattle.notation_1401.specs.Digits.{digits_in}
 use Rattle.text_1401.specs.AnswerText.{answer_text}
 use Rattle.text_1401.specs.CommandText.{command_text}
-use Rattle.room_1401.specs.declared.entry.Entry.{Entry}
+use Rattle.lone_room_1401.specs.declared.entry.Entry.{Entry}
 use Rattle.journal_1401.specs.declared.listing.View.{View}
 use Rattle.journal_1401.specs.JournalText.{with_feed}
-use Rattle.room_1401.specs.Kept.{lines_by}
+use Rattle.lone_room_1401.specs.Kept.{lines_by}
 
 -- the least number of columns that a command has
 abbrev pub command_columns : ℕ

@@ -17,8 +17,8 @@ use Rattle.text_1401.specs.declared.line.LineFault.{LineFault}
 use Rattle.text_1401.specs.AnswerText.{answer_text}
 use Rattle.text_1401.specs.CommandText.{command_text}
 use Rattle.text_1401.specs.ConsoleLine.{said_by}
-use Rattle.room_1401.specs.declared.entry.Entry.{Entry}
-use Rattle.room_1401.specs.Journal.{answer_to, entry, is_full}
+use Rattle.lone_room_1401.specs.declared.entry.Entry.{Entry}
+use Rattle.lone_room_1401.specs.Journal.{answer_to, entry, is_full}
 use Rattle.journal_1401.specs.declared.fault.JournalFault.{JournalFault}
 use Rattle.journal_1401.specs.declared.fault.Wrong.{Wrong}
 use Rattle.journal_1401.specs.declared.fault.Wrong.TheVariants as wrong

@@ -1,11 +1,11 @@
 //! A room that has carried out some of a journal's commands.
 ghost use Rattle.std.specs.Prelude.{◌≡◌, ◌++◌, true, IfOk, OnOk};
 ghost use Rattle.core_1401.specs.Storage.{is_core_size};
-ghost use Rattle.room_1401.specs.Journal.{pairs_of};
+ghost use Rattle.lone_room_1401.specs.Journal.{pairs_of};
 ghost use Rattle.journal_1401.specs.Choice.{chosen, chosen_of, is_chosen};
 
 use core_1401::CoreFault;
-use room_1401::{Entry, Room, RoomFault};
+use lone_room_1401::{Entry, Room, RoomFault};
 use std::alloc::Global;
 
 /// A new room in which each seat has given its commands of a journal again, in their order: those up to a number,

@@ -4,8 +4,8 @@ ghost use Rattle.text_1401.specs.CommandText.{command_text};
 ghost use Rattle.journal_1401.specs.Listing.{front_columns, is_seat, listed, listed_line, listing_text};
 ghost use Rattle.journal_1401.specs.Listing.{to_command_columns};
 
+use lone_room_1401::{Command, Entry};
 use notation_1401::put_digits;
-use room_1401::{Command, Entry};
 use std::alloc::{AllocError, Global};
 use text_1401::{put_command, reply_text};
 

@@ -2,8 +2,8 @@
 ghost use Rattle.std.specs.Prelude.{◌≡◌, ◌++◌, IfOk, OnOk};
 ghost use Rattle.journal_1401.specs.JournalText.{entry_text, entries_text, header_text, journal_text};
 
+use lone_room_1401::Entry;
 use notation_1401::put_digits;
-use room_1401::Entry;
 use std::alloc::{AllocError, Global};
 use text_1401::{put_command, reply_text};
 

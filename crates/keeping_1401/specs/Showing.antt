@@ -1,7 +1,7 @@
 -- What a call that shows a journal has written and told, once the file is read (own).
 use Rattle.std.specs.Prelude.{◌≡◌, ℕ, List, [], length, Option}
 use Rattle.std.specs.Io.KnownBytes.{Appends}
-use Rattle.room_1401.specs.declared.entry.Entry.{Entry}
+use Rattle.lone_room_1401.specs.declared.entry.Entry.{Entry}
 use Rattle.journal_1401.specs.declared.listing.View.{View}
 use Rattle.journal_1401.specs.Listing.{listing_text}
 use Rattle.journal_1401.specs.Reading.{IsRefused, IsTextOf}

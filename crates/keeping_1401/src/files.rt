@@ -5,15 +5,15 @@ ghost use Rattle.journal_1401.specs.JournalText.{journal_text};
 use crate::fault::{FileFault, KeepFault};
 use crate::journal_file::{Durability, JournalFile};
 use crate::keeping::begin_text;
-use console_1401::Sink;
 use journal_1401::{JournalFault, Wrong, recover_journal};
-use room_1401::{Entry, Room};
+use lone_room_1401::{Entry, Room};
 use std::alloc::Global;
 use std::fs;
 use std::fs::{File, OpenFile, OpenOptions};
 use std::io::{ErrorKind, Read};
 use std::path::Path;
 use std::rt::Files;
+use streams_1401::Sink;
 
 /// How many bytes of a file are read at most, which is more than the text of a full journal has.
 const MOST_BYTES: u64 = 67_108_864;

@@ -1,9 +1,8 @@
 //! The file of a journal, as a sink of its lines.
 ghost use Rattle.std.specs.Prelude.{◌≡◌, ◌<◌, ◌≤◌, false, length, IfOk, None};
 
-use console_1401::{Sink, ToWriter};
 use std::fs::File;
-use streams_1401::Failed;
+use streams_1401::{Failed, Sink, ToWriter};
 
 /// What a line of a journal outlasts, once it counts as written.
 #[derive(Clone, Copy, Debug, PartialEq, Eq)]

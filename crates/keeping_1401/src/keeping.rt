@@ -3,15 +3,15 @@ ghost use Rattle.std.specs.Prelude.{◌≡◌, [], false, length, IfOk, OnOk};
 ghost use Rattle.std.specs.Io.KnownBytes.{Appends};
 ghost use Rattle.std.specs.Option.{ForSome};
 ghost use Rattle.journal_1401.specs.JournalText.{journal_text};
-ghost use Rattle.room_1401.specs.Kept.{BeginsWith};
+ghost use Rattle.lone_room_1401.specs.Kept.{BeginsWith};
 ghost use Rattle.keeping_1401.specs.Verifying.{emptied, verified};
 
 use crate::text_keeper::{Beginning, TextKeeper};
 use crate::verifier::Verifier;
-use console_1401::{Sink, put_all};
 use journal_1401::write_journal;
-use room_1401::{Entry, Keeper, KeptRoom, Room, Unkept};
+use lone_room_1401::{Entry, Keeper, KeptRoom, Room, Unkept};
 use std::alloc::{AllocError, Global};
+use streams_1401::{Sink, put_all};
 
 /// Writes the first line of the journal of a machine of this size.
 ///

@@ -5,9 +5,10 @@ ghost use Rattle.journal_1401.specs.JournalText.{journal_text};
 
 use crate::keeping::{keep_room, take_up_room};
 use crate::text_keeper::Beginning;
-use console_1401::{SessionEnd, Sink, Source, session_kept};
-use room_1401::{Room, Unkept};
+use answering_1401::{SessionEnd, session_kept};
+use lone_room_1401::{Room, Unkept};
 use std::alloc::Global;
+use streams_1401::{Sink, Source};
 
 /// Keeps a room by a sink from here on, and holds a session at its console.
 ///

@@ -3,9 +3,9 @@ ghost use Rattle.std.specs.Prelude.{◌≡◌, IfOk, IfErr, OnOk};
 ghost use Rattle.journal_1401.specs.Reading.{IsRefused};
 ghost use Rattle.keeping_1401.specs.Showing.{IsOfEntries, IsShown, IsWhyNotShown};
 
-use console_1401::{Sink, put_all};
 use journal_1401::{JournalFault, View, Wrong, list_journal, read_journal, recover_journal};
 use std::alloc::Global;
+use streams_1401::{Sink, put_all};
 use thiserror::Error;
 
 /// Why a journal isn't shown.

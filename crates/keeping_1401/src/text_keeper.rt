@@ -2,11 +2,11 @@
 ghost use Rattle.std.specs.Prelude.{◌≡◌, List, Option, ℕ, IfOk};
 ghost use Rattle.journal_1401.specs.JournalText.{entry_text};
 
-use console_1401::{Sink, put_all};
 use journal_1401::put_entry;
-use room_1401::{Entry, Keeper, Unkept};
+use lone_room_1401::{Entry, Keeper, Unkept};
 use std::alloc::{AllocError, Global};
 use std::marker::{Brand, PhantomData};
+use streams_1401::{Sink, put_all};
 
 /// What a journal's sink had received before the journal. A function that keeps a journal is generic in it, and its
 /// caller picks it.

@@ -3,8 +3,7 @@ ghost use Rattle.std.specs.Prelude.{◌≡◌, ◌≢◌, ◌≤◌, ◌<◌, mi
 ghost use Rattle.std.specs.Option.{ForSome};
 ghost use Rattle.keeping_1401.specs.Verifying.{verified};
 
-use console_1401::Sink;
-use streams_1401::Failed;
+use streams_1401::{Failed, Sink};
 
 /// Takes a text that the sink beneath has already once more, as the verifier of punched cards does: it compares each
 /// byte and writes none. Behind the text, bytes go to that sink. At a byte that differs it has failed, and the sink

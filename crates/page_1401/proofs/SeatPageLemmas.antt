@@ -9,7 +9,7 @@ use Rattle.http.specs.declared.request.Parts.{Parts}
 use Rattle.http.specs.Request.{body_of, head_of}
 use Rattle.http_server.specs.declared.response.Response.{Response}
 use Rattle.http_server.specs.Exchange.{Call, Chain}
-use Rattle.room_1401.specs.declared.entry.SeatedCommand.{SeatedCommand}
+use Rattle.lone_room_1401.specs.declared.entry.SeatedCommand.{SeatedCommand}
 use Rattle.room_1401.specs.Seen.{SeatView}
 use Rattle.page_1401.specs.declared.asked.Asked.{Asked}
 use Rattle.page_1401.specs.declared.route.Route.{Route}

@@ -5,13 +5,13 @@ use Rattle.core_1401.specs.Storage.{blank}
 use Rattle.command_1401.specs.declared.answer.Answer.TheVariants.{Done, Cells, Refused}
 use Rattle.command_1401.specs.declared.answer.Refusal.TheVariants.{Address}
 use Rattle.command_1401.specs.declared.command.Command.TheVariants.{Deposit, Examine, SetI}
-use Rattle.room_1401.specs.declared.entry.Entry.{Entry}
-use Rattle.room_1401.specs.declared.entry.SeatedCommand.{SeatedCommand}
+use Rattle.lone_room_1401.specs.declared.entry.Entry.{Entry}
+use Rattle.lone_room_1401.specs.declared.entry.SeatedCommand.{SeatedCommand}
 use Rattle.room_1401.specs.declared.fault.CloseFault.TheVariants.{Unreturned}
 use Rattle.command_1401.specs.CarryOut.{carry_out}
 use Rattle.room_1401.specs.Closing.{ClosesBy, IsSettled, back_of}
-use Rattle.room_1401.specs.Journal.{entry}
-use Rattle.room_1401.specs.Replay.{cell_after, pair}
+use Rattle.lone_room_1401.specs.Journal.{entry}
+use Rattle.lone_room_1401.specs.Replay.{cell_after, pair}
 use Rattle.room_1401.specs.Seen.{Carries, SeatView, newcomer, newcomers, own}
 
 -- K with a word mark

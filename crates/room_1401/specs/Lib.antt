@@ -1,12 +1,7 @@
-pub mod Account
 pub mod Closing
-pub mod FaultText
 pub mod History
-pub mod Journal
-pub mod Kept
 pub mod Opening
 pub mod Paper
 pub mod Picture
-pub mod Replay
 pub mod Rule
 pub mod Seen

@@ -5,11 +5,11 @@ use Rattle.cpu_1401.specs.CardsAndPrinter.{card_at, read_area}
 use Rattle.cpu_1401.specs.Fetched.{next_instruction}
 use Rattle.cpu_1401.specs.State.{State, regs_of}
 use Rattle.command_1401.specs.CarryOut.{examined}
-use Rattle.room_1401.specs.declared.entry.SeatedCommand.{SeatedCommand}
+use Rattle.lone_room_1401.specs.declared.entry.SeatedCommand.{SeatedCommand}
 use Rattle.room_1401.specs.declared.picture.Picture.{Picture}
 use Rattle.room_1401.specs.declared.picture.Window.{Window}
 use Rattle.room_1401.specs.Paper.{lines_from}
-use Rattle.room_1401.specs.Replay.{replay}
+use Rattle.lone_room_1401.specs.Replay.{replay}
 
 -- how many places of core storage a picture shows
 abbrev pub window_cells : ℕ

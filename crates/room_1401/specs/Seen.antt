@@ -3,8 +3,8 @@ use Rattle.std.specs.Prelude.{◌≡◌, ℕ, zero, suc, ◌+◌, ◌==◌, cond
 use mathlib.Core.List.{IsPrefix}
 use Rattle.command_1401.specs.declared.answer.Answer.{Answer}
 use Rattle.command_1401.specs.declared.command.Command.{Command}
-use Rattle.room_1401.specs.declared.entry.SeatedCommand.{SeatedCommand}
-use Rattle.room_1401.specs.Replay.{pair, reply_to}
+use Rattle.lone_room_1401.specs.declared.entry.SeatedCommand.{SeatedCommand}
+use Rattle.lone_room_1401.specs.Replay.{pair, reply_to}
 
 -- its number, how many of its commands were carried out, and the commands that it has seen, oldest first
 pub record SeatView : Type 0 where

@@ -1,12 +1,5 @@
-//! The room of the IBM 1401: the machine, the commands that its operators give, and the journal that records them.
-//!
-//! ```text
-//! let mut room = Room::power_on(alloc, 4000)?;
-//! room.carry(0, Command::Run { limit: 1 })?   // Answer::Ran { steps: 0, stop: Stop::NoMark, i: 0 }
-//! room.journal()                              // one entry: the command and its answer
-//! ```
-//!
-//! Operators share a room by its seats, each from a thread of its own. Glances and pictures wait for nobody.
+//! The room that operators share: one machine, the journal that explains it, and the seats from which commands are given,
+//! each in a thread of its own. Glances and pictures wait for nobody.
 //!
 //! ```text
 //! let (room, mut seats) = SharedRoom::<J, &R>::power_on(rt, alloc, 4000, 2, opened)?;
@@ -17,14 +10,8 @@
 //! ```
 #![tactic(auto)]
 
-// the journal, and the room that one console has
-pub mod entry;
+// why a room isn't made, or isn't closed
 pub mod fault;
-pub mod room;
-
-// what keeps a journal outside of its room, and a room that is kept
-pub mod keeper;
-pub mod kept_room;
 
 // a shared room's history of commands, as far as somebody has reached it, and what names the room
 pub mod history;
@@ -44,14 +31,14 @@ pub mod seat;
 pub mod shared_room;
 
 pub use command_1401::{Answer, Command, Refusal, carry_out};
-pub use entry::{Entry, SeatedCommand};
-pub use fault::{CloseFault, GlanceFault, RoomFault, StartFault};
+pub use fault::{CloseFault, StartFault};
 pub use history::Opened;
-pub use keeper::{Carried, Keeper, NoKeeper, Unkept};
-pub use kept_room::KeptRoom;
+pub use lone_room_1401::{
+    Carried, Entry, Glance, GlanceFault, Keeper, KeptRoom, NoKeeper, Room, RoomFault,
+    SeatedCommand, Unkept,
+};
 pub use naming::RoomId;
 pub use paper::{PaperLines, WINDOW_LINES};
 pub use picture::{Picture, WINDOW_CELLS, Window};
-pub use room::Room;
-pub use seat::{Glance, Seat, Told};
+pub use seat::{Seat, Told};
 pub use shared_room::SharedRoom;

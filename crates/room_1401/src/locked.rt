@@ -3,23 +3,20 @@ ghost use Rattle.std.specs.Prelude.{◌≡◌, ◌+◌, ◌<◌, ◌≤◌, [], 
 ghost use Rattle.std.specs.Prelude.{IfOk, OnOk, OnErr, MatchBool};
 ghost use mathlib.Core.List.{IsPrefix};
 ghost use Rattle.room_1401.specs.Closing.{AllFit, IsSettled, back_of};
-ghost use Rattle.room_1401.specs.Journal.{IsLegal, entry, most_entries, pairs_of};
+ghost use Rattle.lone_room_1401.specs.Journal.{IsLegal, entry, most_entries, pairs_of};
 ghost use Rattle.std.specs.Io.KnownBytes.{Appends};
-ghost use Rattle.room_1401.specs.Kept.{IsKeptAs, kept_text};
+ghost use Rattle.lone_room_1401.specs.Kept.{IsKeptAs, kept_text};
 ghost use Rattle.room_1401.specs.Rule.{Publishes};
 ghost use Rattle.room_1401.specs.Seen.{Carries, own};
 
 use crate::closing::{all_fit, merge_all};
-use crate::entry::{Entry, SeatedCommand};
-use crate::fault::RoomFault;
 use crate::history::{Head, SeenPrefix};
-use crate::keeper::{Carried, Keeper};
 use crate::naming::RoomId;
 use crate::published::Change;
 use crate::publisher::Publisher;
-use crate::room::Room;
 use crate::seat::{Seat, Told};
 use command_1401::Command;
+use lone_room_1401::{Carried, Entry, Keeper, Room, RoomFault, SeatedCommand};
 use std::marker::Model;
 use std::sync::Wait;
 use std::sync::ledger::{Book, Share};
@@ -42,9 +39,9 @@ pub struct LockedRoom<J: RoomId, R: Wait + Drop, K: Keeper + Drop> {
 
 impl<J: RoomId, R: Wait + Drop, K: Keeper + Drop> Model for LockedRoom<J, R, K> {
     ghost use Rattle.std.specs.Prelude.{◌≡◌, length, drop};
-    ghost use Rattle.room_1401.specs.Account.{Account};
-    ghost use Rattle.room_1401.specs.Journal.{pairs_of};
-    ghost use Rattle.room_1401.specs.Kept.{IsKeptAs};
+    ghost use Rattle.lone_room_1401.specs.Account.{Account};
+    ghost use Rattle.lone_room_1401.specs.Journal.{pairs_of};
+    ghost use Rattle.lone_room_1401.specs.Kept.{IsKeptAs};
     ghost use Rattle.room_1401.specs.Rule.{Publishes};
 
     ghost Value = { Account };

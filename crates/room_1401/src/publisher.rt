@@ -1,6 +1,6 @@
 //! The writer of what a shared room shows.
 ghost use Rattle.std.specs.Prelude.{◌≡◌, ◌<◌, [], ◌∷◌, ◌++◌, List, drop, fold, IfOk, OnOk, OnErr};
-ghost use Rattle.room_1401.specs.declared.entry.SeatedCommand.{SeatedCommand};
+ghost use Rattle.lone_room_1401.specs.declared.entry.SeatedCommand.{SeatedCommand};
 ghost use Rattle.room_1401.specs.Rule.{Follows, Keeps, Publishes, changed};
 
 use crate::naming::RoomId;

@@ -1,6 +1,5 @@
 //! The rule that each step of the writer and the readers of a shared room keeps.
 
-use crate::entry::SeatedCommand;
 use crate::naming::RoomId;
 use crate::published::{Change, Shown};
 use command_1401::carry_out;
@@ -8,6 +7,7 @@ use crossbeam_utils::rule::{Outcome, Protocol};
 use left_right::Absorb;
 use left_right::reader::Reader;
 use left_right::writer::Writer;
+use lone_room_1401::SeatedCommand;
 use std::alloc::AllocError;
 use std::collections::LinkedList;
 use std::marker::PhantomData;

@@ -2,29 +2,20 @@
 ghost use Rattle.std.specs.Prelude.{◌≡◌, ◌+◌, ◌<◌, ◌≤◌, ◌↔◌, true, ltb, length, IfOk, IfSome, OnOk, OnErr};
 ghost use Rattle.std.specs.Prelude.{if◌then◌else◌};
 ghost use mathlib.Core.List.{IsPrefix};
-ghost use Rattle.room_1401.specs.Journal.{most_entries};
+ghost use Rattle.lone_room_1401.specs.Journal.{most_entries};
 ghost use Rattle.room_1401.specs.Picture.{picture_after, window_cells};
-ghost use Rattle.room_1401.specs.Replay.{cell_after};
+ghost use Rattle.lone_room_1401.specs.Replay.{cell_after};
 ghost use Rattle.room_1401.specs.Seen.{own};
 
-use crate::fault::GlanceFault;
 use crate::history::{Reached, SeenPrefix};
 use crate::naming::RoomId;
 use crate::picture::{Picture, WINDOW_CELLS, Window, picture_of};
 use crate::rule::{RoomReader, Sees};
 use bcd_1401::Cell;
 use core::mem::replace_with;
+use lone_room_1401::{Glance, GlanceFault};
 use std::marker::Model;
 use std::sync::ledger::{Book, Share};
-
-/// The cell at a place after some of the room's commands.
-#[derive(Clone, Copy, Debug, PartialEq, Eq)]
-pub struct Glance {
-    /// After how many commands.
-    pub after: u64,
-    /// The cell there then.
-    pub cell: Cell,
-}
 
 /// A cell as it is published.
 #[derive(Drop)]
@@ -102,7 +93,7 @@ pub struct Told<J: RoomId> {
 
 impl<J: RoomId> Model for Told<J> {
     ghost use Rattle.std.specs.Prelude.{List};
-    ghost use Rattle.room_1401.specs.declared.entry.SeatedCommand.{SeatedCommand};
+    ghost use Rattle.lone_room_1401.specs.declared.entry.SeatedCommand.{SeatedCommand};
 
     ghost Value = { List SeatedCommand };
 

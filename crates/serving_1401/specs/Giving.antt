@@ -2,7 +2,7 @@
 use Rattle.std.specs.Prelude.{◌≡◌, ℕ, ◌+◌, ◌≤◌, nat_lt, ◌||◌, max, if◌then◌else◌, List, [], ◌∷◌, ◌++◌, Option, None}
 use Rattle.std.specs.Prelude.{Some}
 use Rattle.command_1401.specs.declared.answer.Answer.{Answer}
-use Rattle.room_1401.specs.declared.entry.Entry.{Entry}
+use Rattle.lone_room_1401.specs.declared.entry.Entry.{Entry}
 use Rattle.room_1401.specs.Seen.{SeatView, Carries}
 use Rattle.serving_1401.specs.declared.giving.GiveFault.{GiveFault}
 use Rattle.serving_1401.specs.declared.giving.GiveFault.TheVariants as fault

@@ -1,6 +1,6 @@
 -- The places of a served room's seats, and that it is closed with all of them (own).
 use Rattle.std.specs.Prelude.{ℕ, suc, ◌-◌, ◌<◌, ◌≤◌, Bool, cond, false, List, [], ◌∷◌, get_or, map}
-use Rattle.room_1401.specs.declared.entry.Entry.{Entry}
+use Rattle.lone_room_1401.specs.declared.entry.Entry.{Entry}
 use Rattle.room_1401.specs.Closing.{IsSettled}
 use Rattle.room_1401.specs.Seen.{SeatView}
 use Rattle.console_1401.specs.Served.{AreAllSeats}

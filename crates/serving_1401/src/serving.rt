@@ -1,7 +1,7 @@
 //! A shared room whose seats are taken again.
 ghost use Rattle.std.specs.Prelude.{◌≡◌, ◌≢◌, ◌<◌, ◌≤◌, ◌^◌, Some, IfSome, length};
-ghost use Rattle.room_1401.specs.Journal.{IsLegal};
-ghost use Rattle.room_1401.specs.Kept.{IsKeptAs};
+ghost use Rattle.lone_room_1401.specs.Journal.{IsLegal};
+ghost use Rattle.lone_room_1401.specs.Kept.{IsKeptAs};
 ghost use Rattle.console_1401.specs.Served.{AreAllSeats};
 ghost use Rattle.serving_1401.specs.Places.{IsAccounted};
 

@@ -10,8 +10,8 @@ mod programs;
 mod refusals;
 mod storage;
 
-use console_1401::{FromReader, SessionEnd, ToWriter, session};
-use room_1401::Room;
+use answering_1401::{FromReader, SessionEnd, ToWriter, session};
+use lone_room_1401::Room;
 use std::alloc::Global;
 use std::process::Abort;
 

@@ -1,10 +1,10 @@
 -- What a session at a terminal has read, written and told (own).
 use Rattle.std.specs.Prelude.{◌≡◌, ◌⊎◌, ℕ, ⊤, List, [], Option, Result, Ok, Err}
-use Rattle.room_1401.specs.Account.{Account}
-use Rattle.console_1401.specs.declared.session_end.SessionEnd.{SessionEnd}
-use Rattle.console_1401.specs.declared.session_end.SessionEnd.TheVariants as end
-use Rattle.console_1401.specs.Turns.{Answered}
-use Rattle.console_1401.specs.Session.{SessionDid}
+use Rattle.lone_room_1401.specs.Account.{Account}
+use Rattle.answering_1401.specs.declared.session_end.SessionEnd.{SessionEnd}
+use Rattle.answering_1401.specs.declared.session_end.SessionEnd.TheVariants as end
+use Rattle.answering_1401.specs.Turns.{Answered}
+use Rattle.answering_1401.specs.Session.{SessionDid}
 use Rattle.terminal_1401.specs.declared.fault.ConsoleFault.{ConsoleFault}
 use Rattle.terminal_1401.specs.declared.fault.ConsoleFault.TheVariants as console
 use Rattle.terminal_1401.specs.declared.fault.SessionFault.{SessionFault}

@@ -2,7 +2,7 @@
 ghost use Rattle.std.specs.Prelude.{◌≡◌};
 ghost use Rattle.terminal_1401.specs.Console.{outcome_of};
 
-use console_1401::SessionEnd;
+use answering_1401::SessionEnd;
 use thiserror::Error;
 
 /// How a session ended, if neither by QUIT nor by the end of its input.

@@ -1,7 +1,7 @@
 //! Halts and runs.
 
 use super::{expect_replies, expect_session};
-use console_1401::SessionEnd;
+use answering_1401::SessionEnd;
 
 #[test]
 fn a_halt_is_carried_out(rt: HostRuntime) {

@@ -1,7 +1,7 @@
 //! Lines that say nothing, commands refused, and instructions that stop.
 
 use super::{expect_replies, expect_session};
-use console_1401::SessionEnd;
+use answering_1401::SessionEnd;
 
 #[test]
 fn each_fault_has_its_reply(rt: HostRuntime) {

@@ -1,7 +1,7 @@
 //! Word marks, storage cleared, index registers, and the ends of core.
 
 use super::{expect_replies, expect_session_in};
-use console_1401::SessionEnd;
+use answering_1401::SessionEnd;
 
 #[test]
 fn storage_is_cleared_down_to_its_hundred(rt: HostRuntime) {

@@ -1,13 +1,13 @@
 -- Line by line the seat's commands stand in its list.
 use Rattle.std.proofs.Common.{◌≡◌, ℕ, List, Option, sym, subst}
 use Rattle.room_1401.specs.Seen.{SeatView}
-use Rattle.console_1401.specs.declared.session_end.SessionEnd.{SessionEnd}
-use Rattle.console_1401.specs.Answering.{AnsweredAll}
+use Rattle.answering_1401.specs.declared.session_end.SessionEnd.{SessionEnd}
+use Rattle.answering_1401.specs.Answering.{AnsweredAll}
 use Rattle.console_1401.specs.Attended.{Attended}
 use Rattle.console_1401.specs.SeatTurns.{SeatResponds}
-use Rattle.console_1401.specs.Session.{SessionDid}
+use Rattle.answering_1401.specs.Session.{SessionDid}
 use Rattle.console_1401.proofs.AttendedLemmas.{attended_at_seat, number_stays}
-use Rattle.console_1401.proofs.SessionLemmas.{session_as}
+use Rattle.answering_1401.proofs.SessionLemmas.{session_as}
 use Rattle.console_1401.proofs.attending.attend.Goals as goal
 
 at_seat : (size : ℕ) (last : SessionEnd) (l0 l1 t0 t1 : Option (List ℕ)) (before after back : SeatView) → back ≡ after

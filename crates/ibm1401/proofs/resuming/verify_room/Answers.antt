@@ -1,6 +1,6 @@
 -- A journal's text begins with its first line.
 use Rattle.std.proofs.Common.{◌≡◌, ℕ, List, ◌++◌, append-nil, sym, ap, ◌∙◌, rules}
-use Rattle.room_1401.specs.Kept.{lines_by}
+use Rattle.lone_room_1401.specs.Kept.{lines_by}
 use Rattle.journal_1401.specs.JournalText.{entry_text, header_text}
 use Rattle.ibm1401.proofs.resuming.verify_room.Goals as goal
 

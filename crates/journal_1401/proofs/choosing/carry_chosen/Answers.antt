@@ -1,6 +1,6 @@
 -- One entry more, which is chosen or isn't.
 use Rattle.std.proofs.Common.{◌+◌, List, ◌++◌, ap, sym, ◌∙◌, arith}
-use Rattle.room_1401.specs.declared.entry.SeatedCommand.{SeatedCommand}
+use Rattle.lone_room_1401.specs.declared.entry.SeatedCommand.{SeatedCommand}
 use Rattle.journal_1401.specs.Choice.{chosen_of}
 use Rattle.journal_1401.proofs.TextLemmas.{lines_by-take}
 use Rattle.journal_1401.proofs.choosing.carry_chosen.Goals as goal

@@ -1,6 +1,6 @@
 -- The commands so far are those that are chosen of the entries so far.
 use Rattle.std.proofs.Common.{◌≡◌, take}
-use Rattle.room_1401.specs.Journal.{pairs_of}
+use Rattle.lone_room_1401.specs.Journal.{pairs_of}
 use Rattle.journal_1401.specs.Choice.{chosen}
 use Rattle.journal_1401.proofs.choosing.carry_chosen.Given as goal
 

@@ -1,8 +1,8 @@
 -- One line more, and the end of the lines.
 use Rattle.std.proofs.Common.{◌≡◌, ℕ, true, List, subst, sym, ◌∙◌}
 use Rattle.core_1401.specs.Storage.{is_core_size}
-use Rattle.room_1401.specs.declared.entry.Entry.{Entry}
-use Rattle.room_1401.specs.Journal.{IsLegal}
+use Rattle.lone_room_1401.specs.declared.entry.Entry.{Entry}
+use Rattle.lone_room_1401.specs.Journal.{IsLegal}
 use Rattle.journal_1401.proofs.ReadsLemmas.{Reads, memory_alone, memory_first, next_line, refused_line, shorter, start}
 use Rattle.journal_1401.proofs.ReadsLemmas.{that_journal}
 use Rattle.journal_1401.proofs.reading.recover_journal.Goals as goal

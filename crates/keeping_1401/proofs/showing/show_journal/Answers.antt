@@ -1,7 +1,7 @@
 -- What is left is an unfinished line.
 use Rattle.std.proofs.Common.{◌+◌, ◌<◌, List, arith, length, rules, subst, sym}
 use Rattle.std.proofs.lemmas.Bool.Decides.{nat_tests}
-use Rattle.room_1401.specs.declared.entry.Entry.{Entry}
+use Rattle.lone_room_1401.specs.declared.entry.Entry.{Entry}
 use Rattle.journal_1401.specs.Reading.{IsCut}
 use Rattle.journal_1401.specs.Reading.IsCut.{in_entry}
 use Rattle.keeping_1401.proofs.showing.show_journal.Goals as goal

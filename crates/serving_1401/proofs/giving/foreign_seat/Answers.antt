@@ -1,7 +1,7 @@
 -- What is left begins with an entry of one of these seats, or of another.
 use Rattle.std.proofs.Common.{◌≡◌, ◌+◌, ◌∷◌, ◌∙◌, drop, Some, None, refl, sym, ap}
 use Rattle.std.proofs.lemmas.List.{drop_all, drop_more}
-use Rattle.room_1401.specs.declared.entry.Entry.{Entry}
+use Rattle.lone_room_1401.specs.declared.entry.Entry.{Entry}
 use Rattle.serving_1401.specs.Giving.{foreign_in}
 use Rattle.serving_1401.proofs.GivingLemmas.{above_first, below_first, foreign_none, own_first}
 use Rattle.serving_1401.proofs.giving.foreign_seat.Goals.{then-entry-least-via-then-entry-least}

@@ -4,7 +4,7 @@ use Rattle.std.proofs.Common.{None, refl, sym, ap}
 use Rattle.std.proofs.Common.{subst, arith}
 use Rattle.std.proofs.lemmas.Option.{none-some}
 use Rattle.std.proofs.lemmas.List.{take_all, take_more}
-use Rattle.room_1401.specs.declared.entry.Entry.{Entry}
+use Rattle.lone_room_1401.specs.declared.entry.Entry.{Entry}
 use Rattle.serving_1401.specs.Giving.{GiveAll, foreign_in, giver}
 use Rattle.serving_1401.proofs.GivingLemmas.{give_more, gives_at, seated, seats_stay}
 use Rattle.serving_1401.proofs.PlacesLemmas.{length_seats}

@@ -1,18 +1,18 @@
 -- One command more: what is shown, what the seat has seen, and what the lock keeps.
 use Rattle.std.proofs.Common.{◌≡◌, ◌+◌, ◌≤◌, ap, sym, ◌∙◌, subst, arith, List, [], ◌∷◌, ◌++◌}
 use Rattle.std.proofs.Common.{length, drop, length-append}
-use Rattle.room_1401.specs.Account.{Account}
-use Rattle.room_1401.specs.Journal.{entry, pairs_of}
-use Rattle.room_1401.specs.Kept.{IsKeptAs}
-use Rattle.room_1401.specs.Replay.{pair}
+use Rattle.lone_room_1401.specs.Account.{Account}
+use Rattle.lone_room_1401.specs.Journal.{entry, pairs_of}
+use Rattle.lone_room_1401.specs.Kept.{IsKeptAs}
+use Rattle.lone_room_1401.specs.Replay.{pair}
 use Rattle.room_1401.specs.Rule.{Publishes}
 use Rattle.room_1401.specs.Seen.{own}
-use Rattle.room_1401.specs.declared.entry.Entry.{Entry}
-use Rattle.room_1401.specs.declared.entry.SeatedCommand.{SeatedCommand}
+use Rattle.lone_room_1401.specs.declared.entry.Entry.{Entry}
+use Rattle.lone_room_1401.specs.declared.entry.SeatedCommand.{SeatedCommand}
 use Rattle.room_1401.specs.declared.published.Change.{Change}
-use Rattle.room_1401.proofs.KeptLemmas.{OneMore, kept_before, kept_or_broken}
+use Rattle.lone_room_1401.proofs.KeptLemmas.{OneMore, kept_before, kept_or_broken}
 use Rattle.room_1401.proofs.PublishLemmas.{IsNext, follows, seat_follows, storage_of}
-use Rattle.room_1401.proofs.ReplayLemmas.{length-pairs_of, pairs_of-append}
+use Rattle.lone_room_1401.proofs.ReplayLemmas.{length-pairs_of, pairs_of-append}
 use Rattle.room_1401.proofs.SeenLemmas.{own_pushed}
 use Rattle.room_1401.proofs.locked.LockedRoom.carry.Goals as goal
 

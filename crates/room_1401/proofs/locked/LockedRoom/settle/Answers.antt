@@ -1,6 +1,6 @@
 -- All parts of the ledger are back, so what the seats made together is the total, which is the journal's length.
 use Rattle.std.proofs.Common.{◌≡◌, ◌≤◌, ap, sym, ◌∙◌, arith, length}
-use Rattle.room_1401.specs.Account.{Account}
+use Rattle.lone_room_1401.specs.Account.{Account}
 use Rattle.room_1401.specs.Closing.{made_of}
 use Rattle.room_1401.proofs.ClosingLemmas.{all_once, settled}
 use Rattle.room_1401.proofs.locked.LockedRoom.settle.Goals as goal

@@ -1,0 +1,7 @@
+pub mod Answering
+pub mod Bytes
+pub mod Limits
+pub mod ReplyText
+pub mod Session
+pub mod Text
+pub mod Turns

@@ -1,0 +1,4 @@
+mod JournalExamples
+pub mod KeptLemmas
+mod ReplayExamples
+pub mod ReplayLemmas
