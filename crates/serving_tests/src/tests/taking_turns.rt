@@ -2,14 +2,13 @@
 
 use console_1401::Door;
 use serving_1401::TakingTurns;
-use std::io;
 use std::sync::atomic::AtomicU64;
 use std::sync::atomic::Ordering::SeqCst;
 use std::sync::{Barrier, Wait};
 use std::test::Fail;
-use std::thread;
 use std::thread::Threads;
 use std::time::{Clock, Duration};
+use std::{io, thread};
 
 /// All that a console sleeps while the line of another one isn't answered, in nanoseconds.
 const ALL: u64 = 10_000_000;
@@ -88,7 +87,11 @@ fn a_line_is_waited_for_that_was_begun_within_a_second(rt: HostRuntime) {
         (1_000_001_000, ALL),
         (1_000_001_001, 0),
     ] {
-        assert_eq!(rt; slept(1, 900_000_000, 1_000_001_000, other), pause, "{other}");
+        assert_eq!(rt;
+            slept(1, 900_000_000, 1_000_001_000, other),
+            pause,
+            "{other}"
+        );
     }
     assert_eq!(rt; slept(1, 0, u64::MAX, 0), 0);
 }
