@@ -62,8 +62,8 @@ def taken_again(_):
         answer("the second seat", say(second, b"EXAMINE 0700\n"), b"A\n")
         with room.console() as third:
             answer("a console beyond the seats", hear(third), b"FULL\n")
-        answer("an operator leaves", say(first, b"QUIT\n"), b"BYE\n")
-        answer("the connection ends", hear(first), b"")
+        first.sendall(b"QUIT\nDEPOSIT 0700 C\n")
+        answer("an operator leaves, and nothing is carried out after QUIT", hear(first), b"BYE\n")
         time.sleep(0.2)
         with room.console() as again:
             answer("the seat is taken again, and has seen what it had seen", say(again, b"GLANCE 0700\n"), b"AFTER 2 A\n")

@@ -12,10 +12,12 @@
 pub mod image_loading;
 
 // consoles at the seats of a shared room
+pub mod ahead;
 pub mod attending;
 pub mod door;
 pub mod serving;
 
+pub use ahead::ahead_of;
 pub use answering_1401::{
     Failed, FromReader, LINE_LIMIT, Line, LineFault, SessionEnd, Sink, Source, ToWriter,
     parse_line, put_all, reply_text, session, session_kept,

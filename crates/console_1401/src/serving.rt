@@ -3,6 +3,7 @@ ghost use Rattle.std.specs.Prelude.{◌≡◌, ◌<◌, ◌≤◌, ◌+◌, ◌^
 ghost use Rattle.lone_room_1401.specs.Journal.{IsLegal};
 ghost use Rattle.console_1401.specs.Served.{AreAllSeats, CountsConsoles};
 
+use crate::ahead::ahead_of;
 use crate::attending::attend;
 use crate::door::Door;
 use room_1401::{Room, RoomId, Seat, SharedRoom};
@@ -226,7 +227,7 @@ fn attend_stream<J: RoomId, H: Wait + Drop, R: Wait, D: Door>(
 ) -> Seat<J> {
     // Replies are sent at once. If the system refuses this, they only come later.
     let _sent_at_once = stream.set_nodelay(true);
-    let mut reader = FromReader::new(&stream);
+    let mut reader = FromReader::new(ahead_of(alloc, &stream));
     let mut writer = ToWriter::new(&stream);
     let (seat, _) = attend(alloc, wait, room, seat, &mut reader, &mut writer, door);
     seat

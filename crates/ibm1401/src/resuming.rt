@@ -52,6 +52,25 @@ pub fn resume_seats<
         + Files<File = File>
         + Net<Listener = TcpListener, Stream = TcpStream>,
 >(rt: &R, asked: Resuming, operators: Operators) -> Result<(), Fault> {
+    let entrances = open_entrances(rt, operators)?;
+    resume_at(rt, asked, operators.seats, &entrances)
+}
+
+/// The same once the ports are had.
+fn resume_at<
+    R: Threads
+        + Wait
+        + Sync
+        + Clock
+        + RandomSource
+        + Input<Reader = StdinLock<'static>>
+        + Print
+        + Eprint
+        + AllocGlobal
+        + Files<File = File>,
+>(rt: &R, asked: Resuming, seats: u8, entrances: &Entrances) -> Result<(), Fault>
+    requires { vec_len entrances.now.pages ≤ seats }
+{
     let Resuming {
         file,
         journal,
@@ -59,20 +78,35 @@ pub fn resume_seats<
         without,
         sync,
     } = asked;
-    let seats = operators.seats;
-    let entrances = open_entrances(rt, operators)?;
     if journal.is_none() && until.is_none() {
-        return go_on(rt, file, durability_of(sync), seats, &entrances);
+        return go_on(rt, file, durability_of(sync), seats, entrances);
     }
-    let room = read_room(rt, file).map_err(Fault::Kept)?;
-    let room = chosen_room(rt.alloc(), &room, until, without.as_slice())?;
-    expect_seats(room.journal(), 0, seats)?;
+    let room = room_of(rt, file, until, without.as_slice(), seats)?;
     let size = room.machine().core().size();
-    let journal = match journal {
+    let journal = new_journal(journal, sync);
+    open_new(rt, size, seats, Before::Journal(room), journal, entrances)
+}
+
+/// The room after those commands of a file's journal that are asked for.
+fn room_of(
+    rt: &(impl Files<File = File> + AllocGlobal),
+    file: String,
+    until: Option<u64>,
+    without: &[u64],
+    seats: u8,
+) -> Result<Room, Fault> {
+    let room = read_room(rt, file).map_err(Fault::Kept)?;
+    let room = chosen_room(rt.alloc(), &room, until, without)?;
+    expect_seats(room.journal(), 0, seats)?;
+    Ok(room)
+}
+
+/// The journal that is kept from there on, if there is a file for it.
+fn new_journal(file: Option<String>, sync: bool) -> Option<NewJournal> {
+    match file {
         Some(file) => Some(NewJournal { file, sync }),
         None => None,
-    };
-    open_new(rt, size, seats, Before::Journal(room), journal, &entrances)
+    }
 }
 
 /// Goes on in the file of a journal.

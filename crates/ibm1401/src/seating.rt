@@ -1,6 +1,7 @@
 //! What the subcommand `serve` does if seats are taken again, and what such rooms have in common.
-ghost use Rattle.std.specs.Prelude.{◌≡◌, ◌≤◌, [], false, vec_len};
+ghost use Rattle.std.specs.Prelude.{◌≡◌, ◌<◌, ◌≤◌, ◌^◌, [], false, vec_len};
 ghost use Rattle.std.specs.Io.KnownBytes.{Appends};
+ghost use Rattle.console_1401.specs.Served.{AreAllSeats};
 ghost use Rattle.lone_room_1401.specs.Kept.{kept_text};
 ghost use Rattle.ibm1401.specs.Status.{seats_outcome};
 
@@ -15,7 +16,7 @@ use core_1401::Core;
 use devices_1401::{Card, MOST_HELD};
 use image_1401::{Image, read_image};
 use keeping_1401::{JournalFile, TextKeeper, begin_journal};
-use room_1401::{Keeper, NoKeeper, Opened, RoomId, SharedRoom};
+use room_1401::{Keeper, NoKeeper, Opened, RoomId, Seat, SharedRoom};
 use running_1401::read_cards;
 use serving_1401::{SeatsFault, SeatsServed, TakingTurns, serve_pages};
 use std::fs;
@@ -185,31 +186,84 @@ pub(crate) fn serve_room<
     requires kept { Appends K.first (K.kept keeper) (kept_text K.form size []) }
 {
     let alloc = rt.alloc();
-    let begun = SharedRoom::<J, &R, K>::power_on_kept(rt, alloc, size, seats, opened, keeper);
-    let (room, mut seats) = match begun {
-        Ok(begun) => begun,
+    match SharedRoom::<J, &R, K>::power_on_kept(rt, alloc, size, seats, opened, keeper) {
+        Ok((room, seats)) => serve_begun(rt, room, seats, before, entrances, made),
         Err(fault) => {
             remove(rt, made);
-            return Err(start_fault(fault));
+            Err(start_fault(fault))
         }
-    };
+    }
+}
+
+/// The same once the room is opened: what comes before its operators, and then they.
+fn serve_begun<
+    J: RoomId + Send + Sync,
+    R: Threads
+        + Wait
+        + Sync
+        + Clock
+        + RandomSource
+        + Input<Reader = StdinLock<'static>>
+        + Print
+        + AllocGlobal
+        + Files,
+    K: Keeper + Drop + Send + Sync,
+>(
+    rt: &R,
+    room: SharedRoom<J, &R, K>,
+    mut seats: Vec<Seat<J>>,
+    before: Before,
+    entrances: &Entrances,
+    made: Option<String>,
+) -> Result<(), Fault>
+    requires ledger { J.parts ≡ J.seats }
+    requires seats { AreAllSeats J.seats seats.items }
+    requires count { (0 < J.seats) × (J.seats < 2 ^ 8) }
+    requires pages { vec_len entrances.now.pages ≤ J.seats }
+{
     if let Err(fault) = begin(rt, &room, &mut seats, before) {
         remove(rt, made);
         return Err(fault);
     }
+    serve_operators(rt, room, seats, entrances)
+}
+
+/// Tells that the room listens, serves it, and tells how many commands its journal has at the end.
+fn serve_operators<
+    J: RoomId + Send + Sync,
+    R: Threads
+        + Wait
+        + Sync
+        + Clock
+        + RandomSource
+        + Input<Reader = StdinLock<'static>>
+        + Print
+        + AllocGlobal,
+    K: Keeper + Drop + Send + Sync,
+>(
+    rt: &R,
+    room: SharedRoom<J, &R, K>,
+    seats: Vec<Seat<J>>,
+    entrances: &Entrances,
+) -> Result<(), Fault>
+    requires ledger { J.parts ≡ J.seats }
+    requires seats { AreAllSeats J.seats seats.items }
+    requires count { (0 < J.seats) × (J.seats < 2 ^ 8) }
+    requires pages { vec_len entrances.now.pages ≤ J.seats }
+{
     let pages = entrances.pages.as_slice();
     tell_ready(rt, pages)?;
     let input = FromReader::new(rt.reader());
     let consoles = entrances.consoles.as_ref();
     let door = TakingTurns::new(rt);
-    let served = serve_pages(alloc, rt, room, seats, consoles, pages, input, &door);
-    let SeatsServed {
-        room,
-        keeper,
-        fault,
-    } = served;
-    let told = println!(rt; "JOURNAL {}", room.journal().len());
-    seats_outcome(keeper.has_failed(), fault)?;
+    let served = serve_pages(rt.alloc(), rt, room, seats, consoles, pages, input, &door);
+    tell_end(rt, served)
+}
+
+/// Tells how many commands the journal of a room has that was served.
+fn tell_end<K: Keeper + Drop>(rt: &impl Print, served: SeatsServed<K>) -> Result<(), Fault> {
+    let told = println!(rt; "JOURNAL {}", served.room.journal().len());
+    seats_outcome(served.keeper.has_failed(), served.fault)?;
     told.map_err(|_| Fault::Output)
 }
 

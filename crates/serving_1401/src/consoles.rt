@@ -5,7 +5,7 @@ ghost use Rattle.serving_1401.specs.Places.{IsAdmission};
 use crate::fault::SeatsFault;
 use crate::service::Service;
 use crate::until_closing::UntilClosing;
-use console_1401::{Door, attend};
+use console_1401::{Door, ahead_of, attend};
 use room_1401::{Keeper, RoomId, Seat, SharedRoom};
 use std::alloc::Global;
 use std::net::{TcpListener, TcpStream};
@@ -81,7 +81,7 @@ fn attend_stream<'a, J: RoomId, H: Wait + Drop, K: Keeper + Drop, R: Wait, D: Do
 {
     // Replies are sent at once. If the system refuses this, they only come later.
     let _sent_at_once = stream.set_nodelay(true);
-    let mut reader = UntilClosing::new(FromReader::new(stream), is_closing);
+    let mut reader = UntilClosing::new(FromReader::new(ahead_of(alloc, stream)), is_closing);
     let mut writer = ToWriter::new(stream);
     let (seat, _) = attend(alloc, rt, room, seat, &mut reader, &mut writer, door);
     seat

@@ -15,14 +15,26 @@ use std::test::Fail;
 use std::thread::Threads;
 use std::{mem, thread};
 
-/// A deposit of one character, with a word mark, at an address.
-fn deposit(address: u16, graphic: u8) -> Option<Command> {
+/// One character, with a word mark.
+fn marked(graphic: u8) -> Option<Cells> {
     let cell = Cell {
         char: Char::from_graphic(graphic)?,
         mark: true,
     };
-    let cells = Cells::from_slice(&[cell])?;
-    Some(Command::Deposit { address, cells })
+    Cells::from_slice(&[cell])
+}
+
+/// A deposit of one character, with a word mark, at an address.
+fn deposit(address: u16, graphic: u8) -> Option<Command> {
+    match marked(graphic) {
+        Some(cells) => Some(Command::Deposit { address, cells }),
+        None => None,
+    }
+}
+
+/// The command that asks for one cell.
+fn examine(address: u16) -> Command {
+    Command::Examine { address, count: 1 }
 }
 
 /// What a glance shows: after how many commands, and the graphic that stands there.
@@ -58,6 +70,17 @@ fn the_size_is_looked_at_before_the_seats(rt: HostRuntime) {
     }
 }
 
+/// Glances at the K at 500.
+fn sees_it<J: RoomId>(rt: &impl Abort, seat: &mut Seat<J>) -> Result<(), GlanceFault> {
+    assert_eq!(rt; shown(seat.glance(500)?), (1, b'K'));
+    Ok(())
+}
+
+/// There is no place 4,000.
+fn sees_nothing_past_the_end<J: RoomId>(rt: &impl Abort, seat: &mut Seat<J>) {
+    assert_eq!(rt; seat.glance(4_000).err(), Some(GlanceFault::Range));
+}
+
 /// Glances until a seat that was told nothing sees the K at 500, which comes in time by itself.
 fn sees_it_in_time<J: RoomId>(rt: &impl Abort, seat: &mut Seat<J>) -> Result<(), GlanceFault> {
     for _ in 0..1_000_000 {
@@ -71,6 +94,17 @@ fn sees_it_in_time<J: RoomId>(rt: &impl Abort, seat: &mut Seat<J>) -> Result<(),
     Ok(())
 }
 
+/// Deposits a K at 500.
+fn deposits_a_k<J: RoomId, R: Wait + Abort>(
+    rt: &R,
+    room: &SharedRoom<J, &R>,
+    seat: &mut Seat<J>,
+) -> Result<(), Fail> {
+    let command = deposit(500, b'K').ok_or("K")?;
+    assert_eq!(rt; room.command(rt, seat, command).ok(), Some(Answer::Done));
+    Ok(())
+}
+
 /// Seat 1 deposits a K at 500, and leaves a note of it for seat 2.
 fn deposit_and_tell<J: RoomId, R: Wait + Abort>(
     rt: &R,
@@ -78,15 +112,36 @@ fn deposit_and_tell<J: RoomId, R: Wait + Abort>(
     one: &mut Seat<J>,
     two: &mut Seat<J>,
 ) -> Result<(), Fail> {
-    let done = room.command(rt, one, deposit(500, b'K').ok_or("K")?)?;
-    assert_eq!(rt; done, Answer::Done);
-    assert_eq!(rt; shown(one.glance(500)?), (1, b'K'));
+    deposits_a_k(rt, room, one)?;
+    sees_it(rt, one)?;
     sees_it_in_time(rt, two)?;
     let note = room.tell(rt, one)?;
     two.learn(note);
-    assert_eq!(rt; shown(two.glance(500)?), (1, b'K'));
-    assert_eq!(rt; two.glance(4_000).err(), Some(GlanceFault::Range));
+    sees_it(rt, two)?;
+    sees_nothing_past_the_end(rt, two);
     assert_eq!(rt; two.made(), 0);
+    Ok(())
+}
+
+/// Asks for the cell at 500, and is answered with cells.
+fn examines<J: RoomId, R: Wait + Abort>(
+    rt: &R,
+    room: &SharedRoom<J, &R>,
+    seat: &mut Seat<J>,
+) -> Result<(), RoomFault> {
+    let answer = room.command(rt, seat, examine(500))?;
+    assert!(rt; matches!(answer, Answer::Cells(_)));
+    Ok(())
+}
+
+/// Asks for the registers, and is answered with them.
+fn asks_for_the_registers<J: RoomId, R: Wait + Abort>(
+    rt: &R,
+    room: &SharedRoom<J, &R>,
+    seat: &mut Seat<J>,
+) -> Result<(), RoomFault> {
+    let answer = room.command(rt, seat, Command::Registers)?;
+    assert!(rt; matches!(answer, Answer::Regs(_)));
     Ok(())
 }
 
@@ -97,19 +152,32 @@ fn ask_and_tell_back<J: RoomId, R: Wait + Abort>(
     one: &mut Seat<J>,
     two: &mut Seat<J>,
 ) -> Result<(), Fail> {
-    let examine = Command::Examine {
-        address: 500,
-        count: 1,
-    };
-    assert!(rt; matches!(room.command(rt, two, examine)?, Answer::Cells(_)));
+    examines(rt, room, two)?;
     assert!(rt; two.glance(500)?.after >= 2);
-    assert!(rt; matches!(room.command(rt, one, Command::Registers)?, Answer::Regs(_)));
+    asks_for_the_registers(rt, room, one)?;
     assert_eq!(rt; (one.made(), two.made()), (2, 1));
     let note = room.tell(rt, two)?;
-    assert_eq!(rt; two.len(), 3);
     one.learn(note);
-    assert_eq!(rt; one.len(), 3);
+    assert_eq!(rt; (one.len(), two.len()), (3, 3));
     Ok(())
+}
+
+/// The seats of one number of two are back.
+fn lacks_one_of_two(rt: &impl Abort, fault: &CloseFault) {
+    assert_eq!(rt; *fault, CloseFault::Unreturned { back: 1, total: 2 });
+}
+
+/// The room once it is closed with these seats.
+fn closed<J: RoomId, R: Wait + Drop>(
+    room: SharedRoom<J, R>,
+    seats: Vec<Seat<J>>,
+) -> Result<Room, Fail>
+    requires { J.parts ≡ J.seats }
+{
+    match room.close(seats) {
+        Ok(room) => Ok(room),
+        Err(_) => Err(Fail::from("not closed")),
+    }
 }
 
 /// The room closes with both of its seats, and not with one of them.
@@ -117,22 +185,47 @@ fn close_in_vain_first<J: RoomId, R: Wait + Drop>(
     rt: &impl Abort,
     room: SharedRoom<J, R>,
     mut seats: Vec<Seat<J>>,
-    one: Seat<J>,
-    two: Seat<J>,
 ) -> Result<(), Fail>
     requires { J.parts ≡ J.seats }
 {
-    seats.push(one)?;
-    let (room, mut seats, fault) = match room.close(seats) {
-        Ok(_) => return Err(Fail::from("closed without seat 2")),
-        Err(back) => back,
+    let two = seats.pop();
+    let Err((room, mut seats, fault)) = room.close(seats) else {
+        return Err(Fail::from("closed without seat 2"));
     };
-    assert_eq!(rt; fault, CloseFault::Unreturned { back: 1, total: 2 });
-    seats.push(two)?;
-    let Ok(room) = room.close(seats) else {
-        return Err(Fail::from("not closed"));
+    lacks_one_of_two(rt, &fault);
+    seats.extend(two)?;
+    assert_eq!(rt; closed(room, seats)?.journal().len(), 3);
+    Ok(())
+}
+
+/// What both operators do, at seats 1 and 2.
+fn use_both_seats<J: RoomId, R: Wait + Abort>(
+    rt: &R,
+    room: &SharedRoom<J, &R>,
+    seats: &mut [Seat<J>],
+) -> Result<(), Fail> {
+    let [one, two] = seats else {
+        return Err(Fail::from("not two seats"));
     };
-    assert_eq!(rt; room.journal().len(), 3);
+    assert_eq!(rt; (one.number(), two.number()), (1, 2));
+    assert_eq!(rt; (one.made(), two.made()), (0, 0));
+    deposit_and_tell(rt, room, one, two)?;
+    ask_and_tell_back(rt, room, one, two)
+}
+
+/// The room ends with both of its seats, or without them, and has recorded three commands.
+fn end<J: RoomId, R: Wait + Drop>(
+    rt: &impl Abort,
+    room: SharedRoom<J, R>,
+    seats: Vec<Seat<J>>,
+    closes: bool,
+) -> Result<(), Fail>
+    requires { J.parts ≡ J.seats }
+{
+    if closes {
+        return close_in_vain_first(rt, room, seats);
+    }
+    assert_eq!(rt; room.abandon().journal().len(), 3);
     Ok(())
 }
 
@@ -147,17 +240,8 @@ fn two_operators<J: RoomId, R: Wait + Abort>(
     requires named { (4000 ≡ J.size) × (2 ≡ J.seats) }
 {
     let (room, mut seats) = SharedRoom::<J, &R>::power_on(rt, alloc, 4_000, 2, opened)?;
-    let mut two = seats.pop().ok_or("seat 2")?;
-    let mut one = seats.pop().ok_or("seat 1")?;
-    assert_eq!(rt; (one.number(), two.number()), (1, 2));
-    assert_eq!(rt; (one.made(), two.made()), (0, 0));
-    deposit_and_tell(rt, &room, &mut one, &mut two)?;
-    ask_and_tell_back(rt, &room, &mut one, &mut two)?;
-    if closes {
-        return close_in_vain_first(rt, room, seats, one, two);
-    }
-    assert_eq!(rt; room.abandon().journal().len(), 3);
-    Ok(())
+    use_both_seats(rt, &room, seats.as_mut_slice())?;
+    end(rt, room, seats, closes)
 }
 
 #[test]
@@ -170,28 +254,75 @@ fn an_abandoned_room_has_all_three_commands(rt: HostRuntime) -> Result<(), Fail>
     two_operators::<Brand, _>(&rt, rt.alloc(), Opened::new(2), false)
 }
 
+/// Glances once the room is gone: there is the K at 500, or nothing is shown any more.
+fn sees_it_or_nothing<J: RoomId>(rt: &impl Abort, seat: &mut Seat<J>) {
+    sees_nothing_past_the_end(rt, seat);
+    match seat.glance(500) {
+        Ok(glance) => assert_eq!(rt; shown(glance), (1, b'K')),
+        Err(fault) => assert_eq!(rt; fault, GlanceFault::Gone),
+    }
+}
+
 fn kept_back<J: RoomId, R: Wait + Abort>(rt: &R, alloc: Global, opened: Opened) -> Result<(), Fail>
     requires history { opened.book ≡ J.book }
     requires ledger { (opened.ledger ≡ J.name) × (opened.parts ≡ J.parts) × (J.parts ≡ J.seats) }
     requires named { (4000 ≡ J.size) × (1 ≡ J.seats) }
 {
     let (room, mut seats) = SharedRoom::<J, &R>::power_on(rt, alloc, 4_000, 1, opened)?;
-    let mut one = seats.pop().ok_or("seat 1")?;
-    room.command(rt, &mut one, deposit(500, b'K').ok_or("K")?)?;
-    let room = room.abandon();
-    assert_eq!(rt; room.journal().len(), 1);
-    assert_eq!(rt; one.glance(4_000).err(), Some(GlanceFault::Range));
-    match one.glance(500) {
-        Ok(glance) => assert_eq!(rt; shown(glance), (1, b'K')),
-        Err(fault) => assert_eq!(rt; fault, GlanceFault::Gone),
+    for seat in seats.as_mut_slice() {
+        deposits_a_k(rt, &room, seat)?;
     }
-    assert_eq!(rt; one.made(), 1);
+    assert_eq!(rt; room.abandon().journal().len(), 1);
+    for seat in seats.as_mut_slice() {
+        sees_it_or_nothing(rt, seat);
+        assert_eq!(rt; seat.made(), 1);
+    }
     Ok(())
 }
 
 #[test]
 fn a_seat_outlives_its_room(rt: HostRuntime) -> Result<(), Fail> {
     kept_back::<Brand, _>(&rt, rt.alloc(), Opened::new(1))
+}
+
+/// Gives as many commands as the journal has place for.
+fn fill_the_journal<J: RoomId, R: Wait + Abort>(
+    rt: &R,
+    room: &SharedRoom<J, &R>,
+    seat: &mut Seat<J>,
+) {
+    for _ in 0..100_000 {
+        assert!(rt; room.command(rt, seat, Command::Registers).is_ok());
+    }
+}
+
+/// A command is refused, and the seat sees what all commands before it did.
+fn finds_it_full<J: RoomId, R: Wait + Abort>(
+    rt: &R,
+    room: &SharedRoom<J, &R>,
+    seat: &mut Seat<J>,
+    command: Command,
+) -> Result<(), GlanceFault> {
+    let refused = room.command(rt, seat, command).err();
+    assert_eq!(rt; refused, Some(RoomFault::JournalFull));
+    assert_eq!(rt; seat.glance(0)?.after, 100_000);
+    Ok(())
+}
+
+/// Seat 1 fills the journal, and both seats find it full.
+fn fill_for_both<J: RoomId, R: Wait + Abort>(
+    rt: &R,
+    room: &SharedRoom<J, &R>,
+    seats: &mut [Seat<J>],
+) -> Result<(), Fail> {
+    let [one, two] = seats else {
+        return Err(Fail::from("not two seats"));
+    };
+    fill_the_journal(rt, room, one);
+    finds_it_full(rt, room, one, Command::Registers)?;
+    finds_it_full(rt, room, two, examine(0))?;
+    assert_eq!(rt; (one.made(), two.made()), (100_000, 0));
+    Ok(())
 }
 
 fn full_journal<J: RoomId, R: Wait + Abort>(
@@ -204,22 +335,7 @@ fn full_journal<J: RoomId, R: Wait + Abort>(
     requires named { (1400 ≡ J.size) × (2 ≡ J.seats) }
 {
     let (room, mut seats) = SharedRoom::<J, &R>::power_on(rt, alloc, 1_400, 2, opened)?;
-    let mut two = seats.pop().ok_or("seat 2")?;
-    let mut one = seats.pop().ok_or("seat 1")?;
-    for _ in 0..100_000 {
-        assert!(rt; room.command(rt, &mut one, Command::Registers).is_ok());
-    }
-    let full = Some(RoomFault::JournalFull);
-    assert_eq!(rt; room.command(rt, &mut one, Command::Registers).err(), full);
-    assert_eq!(rt; one.glance(0)?.after, 100_000);
-    let examine = Command::Examine {
-        address: 0,
-        count: 1,
-    };
-    assert_eq!(rt; room.command(rt, &mut two, examine).err(), full);
-    assert_eq!(rt; two.glance(0)?.after, 100_000);
-    assert_eq!(rt; (one.made(), two.made()), (100_000, 0));
-    Ok(())
+    fill_for_both(rt, &room, seats.as_mut_slice())
 }
 
 #[test]
@@ -281,15 +397,44 @@ fn operate<J: RoomId, R: Wait>(
     seat
 }
 
+/// Whether a room gives this entry's answer.
+fn gives_the_answer(room: &mut Room, entry: &Entry) -> bool {
+    match room.carry(entry.seat, entry.command) {
+        Ok(answer) => answer == entry.answer,
+        Err(_) => false,
+    }
+}
+
+/// Whether a room gives each of these answers in turn.
+fn gives_answers(room: &mut Room, journal: &[Entry]) -> bool {
+    for entry in journal {
+        if !gives_the_answer(room, entry) {
+            return false;
+        }
+    }
+    true
+}
+
 /// Whether a fresh room of this size gives each recorded answer again.
 fn gives_each_answer(alloc: Global, size: u16, journal: &[Entry]) -> Result<bool, CoreFault> {
     let mut fresh = Room::power_on(alloc, size)?;
-    for entry in journal {
-        if fresh.carry(entry.seat, entry.command).ok() != Some(entry.answer) {
-            return Ok(false);
-        }
+    Ok(gives_answers(&mut fresh, journal))
+}
+
+/// Ten thousand entries are this seat's.
+fn expect_entries(rt: &impl Abort, journal: &[Entry], number: u8) {
+    let own = journal.iter().filter(|entry| entry.seat == number).count();
+    assert_eq!(rt; own, 10_000, "{number}");
+}
+
+/// Each of eight seats has as many entries, and a fresh room gives each answer again.
+fn expect_journal(rt: &impl Abort, alloc: Global, journal: &[Entry]) -> Result<(), CoreFault> {
+    assert_eq!(rt; journal.len(), 80_000);
+    for number in 1..=8 {
+        expect_entries(rt, journal, number);
     }
-    Ok(true)
+    assert!(rt; gives_each_answer(alloc, 4_000, journal)?);
+    Ok(())
 }
 
 fn eight_operators<J: RoomId + Send + Sync, R: Threads + Wait + Abort + Sync>(
@@ -307,16 +452,7 @@ fn eight_operators<J: RoomId + Send + Sync, R: Threads + Wait + Abort + Sync>(
     let slot = &notes;
     let seats = thread::map_vec(rt, seats, &|seat| operate(rt, shared, slot, seat))?;
     assert!(rt; seats.iter().all(|seat| seat.made() == 10_000));
-    let Ok(room) = room.close(seats) else {
-        return Err(Fail::from("not closed"));
-    };
-    let journal = room.journal();
-    assert_eq!(rt; journal.len(), 80_000);
-    for number in 1..=8 {
-        let own = journal.iter().filter(|entry| entry.seat == number).count();
-        assert_eq!(rt; own, 10_000, "{number}");
-    }
-    assert!(rt; gives_each_answer(alloc, 4_000, journal)?);
+    expect_journal(rt, alloc, closed(room, seats)?.journal())?;
     Ok(())
 }
 
