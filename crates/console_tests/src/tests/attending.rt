@@ -93,21 +93,38 @@ fn expect_made<J: RoomId>(rt: &impl Abort, seat: &Seat<J>, number_and_made: (u8,
     assert_eq!(rt; (seat.number(), seat.made()), number_and_made);
 }
 
-/// Closes the room with this seat too, and compares how many commands it leaves.
+/// Closes the room with its seats, and compares how many commands it leaves.
 fn expect_closed<J: RoomId, R: Wait + Abort>(
     rt: &R,
     room: SharedRoom<J, &R>,
-    mut seats: Vec<Seat<J>>,
-    seat: Seat<J>,
+    seats: Vec<Seat<J>>,
     commands: usize,
 ) -> Result<(), Fail>
     requires { J.parts ≡ J.seats }
 {
-    seats.push(seat)?;
     let Ok(room) = room.close(seats) else {
         return Err(Fail::from("not closed"));
     };
     expect_commands(rt, "closed", room.journal().len(), commands);
+    Ok(())
+}
+
+/// Has lines of the only seat answered, and puts it back.
+fn attend_alone<J: RoomId, R: Wait + Abort>(
+    rt: &R,
+    alloc: Global,
+    room: &SharedRoom<J, &R>,
+    seats: &mut Vec<Seat<J>>,
+) -> Result<(), Fail> {
+    let seat = take_seat(seats, "seat 1")?;
+    let console = (
+        "DEPOSIT 0500 ~K\nGLANCE 0500\nQUIT\nREGS\n",
+        "OK\nAFTER 1 ~K\nBYE\n",
+        SessionEnd::Quit,
+    );
+    let seat = expect_replies(rt, alloc, room, seat, &OpenDoor, console);
+    expect_made(rt, &seat, (1, 1));
+    seats.push(seat)?;
     Ok(())
 }
 
@@ -121,20 +138,30 @@ fn one_operator<J: RoomId, R: Wait + Abort>(
     requires named { (4000 ≡ J.size) × (1 ≡ J.seats) }
 {
     let (room, mut seats) = open_room::<J, R>(rt, alloc, 4_000, 1, opened)?;
-    let seat = take_seat(&mut seats, "seat 1")?;
-    let console = (
-        "DEPOSIT 0500 ~K\nGLANCE 0500\nQUIT\nREGS\n",
-        "OK\nAFTER 1 ~K\nBYE\n",
-        SessionEnd::Quit,
-    );
-    let seat = expect_replies(rt, alloc, &room, seat, &OpenDoor, console);
-    expect_made(rt, &seat, (1, 1));
-    expect_closed(rt, room, seats, seat, 1)
+    attend_alone(rt, alloc, &room, &mut seats)?;
+    expect_closed(rt, room, seats, 1)
 }
 
 #[test]
 fn an_operator_sees_what_he_deposits(rt: HostRuntime) -> Result<(), Fail> {
     one_operator::<Brand, _>(&rt, rt.alloc(), Opened::new(1))
+}
+
+/// Has some lines of seat 1 answered, with this door.
+fn attend_one<J: RoomId, R: Wait + Abort, D: Door>(
+    rt: &R,
+    alloc: Global,
+    room: &SharedRoom<J, &R>,
+    one: Seat<J>,
+    door: &D,
+) {
+    let console = (
+        "EXAMINE 1399\nGLANCE 1399\nGLANCE 1400\nGLANCE\nQUIT",
+        "~K\nAFTER 3 ~K\nGLANCE FAULT 1 RANGE\nERROR 2 NUMBER\nBYE\n",
+        SessionEnd::Quit,
+    );
+    let one = expect_replies(rt, alloc, room, one, door, console);
+    expect_made(rt, &one, (1, 1));
 }
 
 /// Has some lines of seat 2 and then some of seat 1 answered, with this door.
@@ -152,14 +179,34 @@ fn attend_both<J: RoomId, R: Wait + Abort, D: Door>(
         SessionEnd::EndOfInput,
     );
     let two = expect_replies(rt, alloc, room, two, door, console);
-    let console = (
-        "EXAMINE 1399\nGLANCE 1399\nGLANCE 1400\nGLANCE\nQUIT",
-        "~K\nAFTER 3 ~K\nGLANCE FAULT 1 RANGE\nERROR 2 NUMBER\nBYE\n",
-        SessionEnd::Quit,
-    );
-    let one = expect_replies(rt, alloc, room, one, door, console);
-    expect_made(rt, &one, (1, 1));
+    attend_one(rt, alloc, room, one, door);
     expect_made(rt, &two, (2, 2));
+}
+
+/// Has lines of both seats answered, and compares what the door was told of them.
+fn watch_both<J: RoomId, R: Wait + Abort>(
+    rt: &R,
+    alloc: Global,
+    room: &SharedRoom<J, &R>,
+    one: Seat<J>,
+    two: Seat<J>,
+) {
+    let calls = RefCell::new(Vec::new(alloc));
+    attend_both(rt, alloc, room, one, two, &Watch { calls: &calls });
+    let expected = "2<12>12<22>22<32>32<42>41<11>11<21>21<31>31<41>41<51>5";
+    expect_output(rt, "calls", calls.into_inner().as_slice(), expected);
+}
+
+/// Takes seats 1 and 2, the last of these.
+fn take_both<J: RoomId>(seats: &mut Vec<Seat<J>>) -> Result<(Seat<J>, Seat<J>), Fail> {
+    let two = take_seat(seats, "seat 2")?;
+    let one = take_seat(seats, "seat 1")?;
+    Ok((one, two))
+}
+
+/// Ends the room without its seats, and compares how many commands it leaves.
+fn expect_abandoned<J: RoomId, R: Wait + Abort>(rt: &R, room: SharedRoom<J, &R>, commands: usize) {
+    expect_commands(rt, "abandoned", room.abandon().journal().len(), commands);
 }
 
 fn two_operators<J: RoomId, R: Wait + Abort>(
@@ -172,13 +219,9 @@ fn two_operators<J: RoomId, R: Wait + Abort>(
     requires named { (1400 ≡ J.size) × (2 ≡ J.seats) }
 {
     let (room, mut seats) = open_room::<J, R>(rt, alloc, 1_400, 2, opened)?;
-    let two = take_seat(&mut seats, "seat 2")?;
-    let one = take_seat(&mut seats, "seat 1")?;
-    let calls = RefCell::new(Vec::new(alloc));
-    attend_both(rt, alloc, &room, one, two, &Watch { calls: &calls });
-    let expected = "2<12>12<22>22<32>32<42>41<11>11<21>21<31>31<41>41<51>5";
-    expect_output(rt, "calls", calls.into_inner().as_slice(), expected);
-    expect_commands(rt, "abandoned", room.abandon().journal().len(), 3);
+    let (one, two) = take_both(&mut seats)?;
+    watch_both(rt, alloc, &room, one, two);
+    expect_abandoned(rt, room, 3);
     Ok(())
 }
 
@@ -249,6 +292,20 @@ fn expect_kind(rt: &impl Abort, entry: &Entry, kind: u8) {
     assert_eq!(rt; (entry.seat, kind), found);
 }
 
+/// Compares entries with their kinds.
+fn expect_kinds(rt: &impl Abort, journal: &[Entry], kinds: &[u8]) {
+    for (entry, kind) in journal.iter().zip(kinds) {
+        expect_kind(rt, entry, *kind);
+    }
+}
+
+/// Ends the room without its seats, and compares how many commands it leaves, and their kinds.
+fn expect_interrupted<J: RoomId, R: Wait + Abort>(rt: &R, room: SharedRoom<J, &R>) {
+    let room = room.abandon();
+    expect_commands(rt, "abandoned", room.journal().len(), 6);
+    expect_kinds(rt, room.journal(), b"?S!?S!");
+}
+
 fn interrupted<J: RoomId, R: Wait + Abort>(
     rt: &R,
     alloc: Global,
@@ -259,14 +316,9 @@ fn interrupted<J: RoomId, R: Wait + Abort>(
     requires named { (1400 ≡ J.size) × (2 ≡ J.seats) }
 {
     let (room, mut seats) = open_room::<J, R>(rt, alloc, 1_400, 2, opened)?;
-    let two = take_seat(&mut seats, "seat 2")?;
-    let one = take_seat(&mut seats, "seat 1")?;
+    let (one, two) = take_both(&mut seats)?;
     start_twice(rt, alloc, &room, one, two);
-    let room = room.abandon();
-    expect_commands(rt, "abandoned", room.journal().len(), 6);
-    for (entry, kind) in room.journal().iter().zip(b"?S!?S!") {
-        expect_kind(rt, entry, *kind);
-    }
+    expect_interrupted(rt, room);
     Ok(())
 }
 

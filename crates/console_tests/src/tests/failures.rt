@@ -97,22 +97,34 @@ fn a_failed_read_leaves_the_unfinished_line(rt: HostRuntime) -> Result<(), Fail>
     expect_answers(&rt, rt.alloc(), "unfinished", &mut reader, expected)
 }
 
+/// Compares how these lines are answered at a sink: the end, the output, and the commands.
+fn expect_answers_in(
+    rt: &impl Abort,
+    alloc: Global,
+    row: &str,
+    lines: &str,
+    mut writer: Narrow,
+    (end, output, commands): (SessionEnd, &str, usize),
+) -> Result<(), Fail> {
+    let mut reader = FromReader::new(lines.as_bytes());
+    let (ended, recorded) = hold(alloc, &mut reader, &mut writer)?;
+    expect_end(rt, row, ended, end);
+    expect_output(rt, row, writer.received.as_slice(), output);
+    expect_commands(rt, row, recorded, commands);
+    Ok(())
+}
+
 /// Compares how these lines are answered at a sink of this width and limit: the end, the output, and the commands.
 fn expect_answers_at(
     rt: &impl Abort,
     alloc: Global,
     lines: &str,
     (width, limit): (usize, usize),
-    (end, output, commands): (SessionEnd, &str, usize),
+    expected: (SessionEnd, &str, usize),
 ) -> Result<(), Fail> {
     let row = format!(in alloc; "{width} {limit}")?;
-    let mut reader = FromReader::new(lines.as_bytes());
-    let mut writer = Narrow::new(alloc, width, limit);
-    let (ended, recorded) = hold(alloc, &mut reader, &mut writer)?;
-    expect_end(rt, row.as_str(), ended, end);
-    expect_output(rt, row.as_str(), writer.received.as_slice(), output);
-    expect_commands(rt, row.as_str(), recorded, commands);
-    Ok(())
+    let writer = Narrow::new(alloc, width, limit);
+    expect_answers_in(rt, alloc, row.as_str(), lines, writer, expected)
 }
 
 /// Compares how these lines are answered at sinks of these widths and limits: the end, the output, and the commands.
@@ -163,26 +175,37 @@ fn a_writer_that_takes_nothing_has_failed(rt: HostRuntime) -> Result<(), Fail> {
     Ok(())
 }
 
+/// Compares how much of these bytes a writer takes at once, and how many it has then.
+fn expect_taken(rt: &impl Abort, alloc: Global, bytes: &[u8]) {
+    let len = bytes.len();
+    let mut writer = ToWriter::new(Vec::new(alloc));
+    assert_eq!(rt; writer.put(bytes), Ok(len), "{len}");
+    assert!(rt; !writer.has_failed(), "{len}");
+    expect_commands(rt, "taken", writer.into_inner().len(), len);
+}
+
 #[test]
 fn a_write_of_each_length_is_good(rt: HostRuntime) -> Result<(), Fail> {
     let bytes = [b'A'; 300];
     for len in 0..=300 {
-        let mut writer = ToWriter::new(Vec::new(rt.alloc()));
-        assert_eq!(rt; writer.put(&bytes[..len]), Ok(len), "{len}");
-        assert!(rt; !writer.has_failed(), "{len}");
-        assert_eq!(rt; writer.into_inner().len(), len, "{len}");
+        expect_taken(&rt, rt.alloc(), &bytes[..len]);
     }
     Ok(())
+}
+
+/// Compares what a reader of this byte gives.
+fn expect_read(rt: &impl Abort, byte: u8) {
+    let bytes = [byte];
+    let mut reader = FromReader::new(bytes.as_slice());
+    assert_eq!(rt; reader.next_byte(), Ok(Some(byte)), "{byte}");
+    assert_eq!(rt; reader.next_byte(), Ok(None), "{byte}");
+    assert!(rt; !reader.has_failed(), "{byte}");
 }
 
 #[test]
 fn each_byte_is_read(rt: HostRuntime) -> Result<(), Fail> {
     for byte in 0..=255 {
-        let bytes = [byte];
-        let mut reader = FromReader::new(bytes.as_slice());
-        assert_eq!(rt; reader.next_byte(), Ok(Some(byte)), "{byte}");
-        assert_eq!(rt; reader.next_byte(), Ok(None), "{byte}");
-        assert!(rt; !reader.has_failed(), "{byte}");
+        expect_read(&rt, byte);
     }
     Ok(())
 }

@@ -2,7 +2,13 @@
 
 use crate::tests::expect_answers;
 use console_1401::{FromReader, Line, LineFault, SessionEnd, parse_line};
+use std::process::Abort;
 use std::test::Fail;
+
+/// Compares what a line says.
+fn expect_said(rt: &impl Abort, line: &str, said: Result<Line, LineFault>) {
+    assert_eq!(rt; parse_line(line.as_bytes()), said, "{line}");
+}
 
 #[test]
 fn a_glance_has_an_address(rt: HostRuntime) {
@@ -14,7 +20,7 @@ fn a_glance_has_an_address(rt: HostRuntime) {
         ("GLANCE 500 1", Err(LineFault::Extra)),
         ("glance 500", Err(LineFault::Word)),
     ] {
-        assert_eq!(rt; parse_line(line.as_bytes()), said, "{line}");
+        expect_said(&rt, line, said);
     }
 }
 

@@ -1,7 +1,7 @@
 //! Lines that end nowhere, writers that break off, and input without an end.
 
 use crate::tests::failures::{BreaksOff, expect_narrow};
-use crate::tests::{answers, expect_answers, expect_commands, expect_end, expect_output, hold};
+use crate::tests::{expect_answers, expect_commands, expect_end, expect_output, hold};
 use console_1401::{FromReader, SessionEnd, ToWriter};
 use std::alloc::Global;
 use std::io;
@@ -50,29 +50,24 @@ fn a_carriage_return_counts_where_no_line_feed_follows(rt: HostRuntime) -> Resul
     let mut line = [b' '; 202];
     line[..9].copy_from_slice(b"EXAMINE 0");
     line[200..].copy_from_slice(b"\r\n");
-    for (input, output, commands) in [
-        (line.as_slice(), " \n", 1),
-        (&line[..201], "ERROR 4 LENGTH\n", 0),
-    ] {
-        let mut reader = FromReader::new(input);
-        let expected = (SessionEnd::EndOfInput, output, commands);
-        expect_answers(&rt, rt.alloc(), output, &mut reader, expected)?;
-    }
-    Ok(())
+    let mut reader = FromReader::new(line.as_slice());
+    let answered = (SessionEnd::EndOfInput, " \n", 1);
+    expect_answers(&rt, rt.alloc(), "line feed", &mut reader, answered)?;
+
+    let mut reader = FromReader::new(&line[..201]);
+    let refused = (SessionEnd::EndOfInput, "ERROR 4 LENGTH\n", 0);
+    expect_answers(&rt, rt.alloc(), "none", &mut reader, refused)
 }
 
-/// Compares how a session ends on this byte without an end.
-fn expect_bound(rt: &impl Abort, alloc: Global, byte: u8) -> Result<(), Fail> {
+/// Compares how a session on this byte without an end is answered.
+fn expect_bound(rt: &impl Abort, alloc: Global, row: &str, byte: u8) -> Result<(), Fail> {
     let mut reader = FromReader::new(io::repeat(byte));
-    let (ended, written, recorded) = answers(alloc, &mut reader)?;
-    assert_eq!(rt; ended, SessionEnd::Bound, "{byte}");
-    assert!(rt; written.is_empty(), "{byte}");
-    assert_eq!(rt; recorded, 0, "{byte}");
-    Ok(())
+    let unanswered = (SessionEnd::Bound, "", 0);
+    expect_answers(rt, alloc, row, &mut reader, unanswered)
 }
 
 #[test]
 fn endless_input_ends_at_the_bound(rt: HostRuntime) -> Result<(), Fail> {
-    expect_bound(&rt, rt.alloc(), b' ')?;
-    expect_bound(&rt, rt.alloc(), b'\n')
+    expect_bound(&rt, rt.alloc(), "blanks", b' ')?;
+    expect_bound(&rt, rt.alloc(), "line feeds", b'\n')
 }

@@ -1,11 +1,13 @@
 //! The order of reads and writes.
 
-use console_1401::{FromReader, SessionEnd, ToWriter, session};
+use crate::tests::{expect_commands, expect_end};
+use console_1401::{FromReader, SessionEnd, Sink, Source, ToWriter, session};
 use room_1401::Room;
 use std::alloc::Global;
 use std::cell::RefCell;
 use std::io;
 use std::io::{ErrorKind, Read, Write};
+use std::process::Abort;
 use std::test::Fail;
 
 /// What a reader and a writer were asked, in order: each byte that was read as it is, the end of input as `.`,
@@ -107,104 +109,152 @@ fn load_paper(record: &Record, width: usize, fails_at: usize) -> Paper<'_> {
     }
 }
 
-#[test]
-fn a_line_is_answered_before_the_next_byte_is_read(rt: HostRuntime) -> Result<(), Fail> {
-    for (width, expected) in [
-        (
-            99,
-            "DEPOSIT 0500 K\n[OK\n]\nEXAMINE 0500\n[K\n]QUIT\n[BYE\n]",
-        ),
-        (
-            2,
-            "DEPOSIT 0500 K\n[OK][\n]\nEXAMINE 0500\n[K\n]QUIT\n[BY][E\n]",
-        ),
-    ] {
-        let record = RefCell::new(Vec::new(rt.alloc()));
-        let mut room = Room::power_on(rt.alloc(), 4000)?;
-        let lines = "DEPOSIT 0500 K\n\nEXAMINE 0500\nQUIT\nEXAMINE 0";
-        let mut reader = FromReader::new(type_lines(&record, lines, NEVER));
-        let mut writer = ToWriter::new(load_paper(&record, width, NEVER));
-        let first = session(rt.alloc(), &mut room, &mut reader, &mut writer);
-        assert_eq!(rt; first, SessionEnd::Quit);
-        assert!(rt; is_record(&record, expected), "{width}");
-    }
-    Ok(())
+/// Has a session at the room, and compares how it ends, and the record.
+fn expect_session<R: Source, W: Sink>(
+    rt: &impl Abort,
+    alloc: Global,
+    room: &mut Room,
+    reader: &mut R,
+    writer: &mut W,
+    record: &Record,
+    (end, expected): (SessionEnd, &str),
+) {
+    let ended = session(alloc, room, reader, writer);
+    expect_end(rt, expected, ended, end);
+    assert!(rt; is_record(record, expected), "{expected}");
 }
 
-#[test]
-fn a_second_session_reads_on_behind_quit(rt: HostRuntime) -> Result<(), Fail> {
-    let record = RefCell::new(Vec::new(rt.alloc()));
-    let mut room = Room::power_on(rt.alloc(), 4000)?;
-    let mut reader = FromReader::new(type_lines(&record, "QUIT\nEXAMINE 0\nEXAMINE 0", NEVER));
-    let mut writer = ToWriter::new(load_paper(&record, 99, NEVER));
-    let first = session(rt.alloc(), &mut room, &mut reader, &mut writer);
-    assert_eq!(rt; first, SessionEnd::Quit);
-    assert!(rt; is_record(&record, "QUIT\n[BYE\n]"));
-    let second = session(rt.alloc(), &mut room, &mut reader, &mut writer);
-    assert_eq!(rt; second, SessionEnd::EndOfInput);
-    assert!(rt; is_record(&record, "QUIT\n[BYE\n]EXAMINE 0\n[ \n]EXAMINE 0.[ \n]"));
-    Ok(())
-}
-
-#[test]
-fn after_a_failed_read_nothing_is_read_or_written(rt: HostRuntime) -> Result<(), Fail> {
-    let record = RefCell::new(Vec::new(rt.alloc()));
-    let mut room = Room::power_on(rt.alloc(), 4000)?;
-    let mut reader = FromReader::new(type_lines(&record, "EXAMINE 0\nEXAMINE 0\nQUIT\n", 7));
-    let mut writer = ToWriter::new(load_paper(&record, 99, NEVER));
-    for _ in 0..2 {
-        let ended = session(rt.alloc(), &mut room, &mut reader, &mut writer);
-        assert_eq!(rt; ended, SessionEnd::Read);
-        assert!(rt; is_record(&record, "EXAMINE 0\n[ \n]EXAMINE !"));
-        assert_eq!(rt; room.journal().len(), 1);
-    }
-
-    // The reader itself would go on.
-    let mut reader = FromReader::new(reader.into_inner());
-    let ended = session(rt.alloc(), &mut room, &mut reader, &mut writer);
-    assert_eq!(rt; ended, SessionEnd::Quit);
-    assert!(rt;
-        is_record(
-            &record,
-            "EXAMINE 0\n[ \n]EXAMINE !0\n[ERROR 1 WORD\n]QUIT\n[BYE\n]"
-        )
+/// Has lines answered on paper that takes `width` bytes at once, and compares the record.
+fn expect_answered_in_turn(
+    rt: &impl Abort,
+    alloc: Global,
+    width: usize,
+    expected: &str,
+) -> Result<(), Fail> {
+    let mut room = Room::power_on(alloc, 4000)?;
+    let record = RefCell::new(Vec::new(alloc));
+    let lines = "DEPOSIT 0500 K\n\nEXAMINE 0500\nQUIT\nEXAMINE 0";
+    let mut reader = FromReader::new(type_lines(&record, lines, NEVER));
+    let mut writer = ToWriter::new(load_paper(&record, width, NEVER));
+    let expected = (SessionEnd::Quit, expected);
+    expect_session(
+        rt,
+        alloc,
+        &mut room,
+        &mut reader,
+        &mut writer,
+        &record,
+        expected,
     );
     Ok(())
 }
 
 #[test]
-fn after_a_failed_write_nothing_is_read_or_written(rt: HostRuntime) -> Result<(), Fail> {
-    for (width, fails_at, expected, after) in [
-        (
-            99,
-            2,
-            "EXAMINE 0\n[ \n]EXAMINE 0\n[!]",
-            "EXAMINE 0\n[ \n]EXAMINE 0\n[!]REGS\n",
-        ),
-        (
-            1,
-            3,
-            "EXAMINE 0\n[ ][\n]EXAMINE 0\n[ ][!]",
-            "EXAMINE 0\n[ ][\n]EXAMINE 0\n[ ][!]REGS\n",
-        ),
-    ] {
-        let record = RefCell::new(Vec::new(rt.alloc()));
-        let mut room = Room::power_on(rt.alloc(), 4000)?;
-        let mut reader = FromReader::new(type_lines(
-            &record,
-            "EXAMINE 0\nEXAMINE 0\nQUIT\n",
-            NEVER,
-        ));
-        let mut writer = ToWriter::new(load_paper(&record, width, fails_at));
-        let first = session(rt.alloc(), &mut room, &mut reader, &mut writer);
-        assert_eq!(rt; first, SessionEnd::Write);
-        assert!(rt; is_record(&record, expected), "{width}");
-        assert_eq!(rt; room.journal().len(), 2);
-        let mut more = FromReader::new(type_lines(&record, "REGS\n", NEVER));
-        let second = session(rt.alloc(), &mut room, &mut more, &mut writer);
-        assert_eq!(rt; second, SessionEnd::Write);
-        assert!(rt; is_record(&record, after), "{width}");
-        assert_eq!(rt; room.journal().len(), 3);
-    }
+fn a_line_is_answered_before_the_next_byte_is_read(rt: HostRuntime) -> Result<(), Fail> {
+    let whole = "DEPOSIT 0500 K\n[OK\n]\nEXAMINE 0500\n[K\n]QUIT\n[BYE\n]";
+    expect_answered_in_turn(&rt, rt.alloc(), 99, whole)?;
+    let halves = "DEPOSIT 0500 K\n[OK][\n]\nEXAMINE 0500\n[K\n]QUIT\n[BY][E\n]";
+    expect_answered_in_turn(&rt, rt.alloc(), 2, halves)
+}
+
+/// Has two sessions on the same reader and writer, the first of which quits, and compares the record after each.
+fn expect_reads_on(rt: &impl Abort, alloc: Global, room: &mut Room, record: &Record) {
+    let mut reader = FromReader::new(type_lines(record, "QUIT\nEXAMINE 0\nEXAMINE 0", NEVER));
+    let mut writer = ToWriter::new(load_paper(record, 99, NEVER));
+    let first = (SessionEnd::Quit, "QUIT\n[BYE\n]");
+    expect_session(rt, alloc, room, &mut reader, &mut writer, record, first);
+    let second = (
+        SessionEnd::EndOfInput,
+        "QUIT\n[BYE\n]EXAMINE 0\n[ \n]EXAMINE 0.[ \n]",
+    );
+    expect_session(rt, alloc, room, &mut reader, &mut writer, record, second);
+}
+
+#[test]
+fn a_second_session_reads_on_behind_quit(rt: HostRuntime) -> Result<(), Fail> {
+    let mut room = Room::power_on(rt.alloc(), 4000)?;
+    let record = RefCell::new(Vec::new(rt.alloc()));
+    expect_reads_on(&rt, rt.alloc(), &mut room, &record);
     Ok(())
+}
+
+/// Has two sessions on a reader that fails in the first of them and a third that reads on, and compares the record
+/// after each.
+fn expect_failed_read(rt: &impl Abort, alloc: Global, room: &mut Room, record: &Record) {
+    let mut reader = FromReader::new(type_lines(record, "EXAMINE 0\nEXAMINE 0\nQUIT\n", 7));
+    let mut writer = ToWriter::new(load_paper(record, 99, NEVER));
+    for _ in 0..2 {
+        let failed = (SessionEnd::Read, "EXAMINE 0\n[ \n]EXAMINE !");
+        expect_session(rt, alloc, room, &mut reader, &mut writer, record, failed);
+        expect_commands(rt, "read", room.journal().len(), 1);
+    }
+
+    // The reader itself would go on.
+    let mut reader = FromReader::new(reader.into_inner());
+    let read_on = (
+        SessionEnd::Quit,
+        "EXAMINE 0\n[ \n]EXAMINE !0\n[ERROR 1 WORD\n]QUIT\n[BYE\n]",
+    );
+    expect_session(rt, alloc, room, &mut reader, &mut writer, record, read_on);
+}
+
+#[test]
+fn after_a_failed_read_nothing_is_read_or_written(rt: HostRuntime) -> Result<(), Fail> {
+    let mut room = Room::power_on(rt.alloc(), 4000)?;
+    let record = RefCell::new(Vec::new(rt.alloc()));
+    expect_failed_read(&rt, rt.alloc(), &mut room, &record);
+    Ok(())
+}
+
+/// Has a session on these lines, and compares how it ends, the record, and how many commands the journal has.
+fn expect_typed<W: Sink>(
+    rt: &impl Abort,
+    alloc: Global,
+    room: &mut Room,
+    lines: &str,
+    writer: &mut W,
+    record: &Record,
+    (end, expected, commands): (SessionEnd, &str, usize),
+) {
+    let mut reader = FromReader::new(type_lines(record, lines, NEVER));
+    expect_session(
+        rt,
+        alloc,
+        room,
+        &mut reader,
+        writer,
+        record,
+        (end, expected),
+    );
+    expect_commands(rt, expected, room.journal().len(), commands);
+}
+
+/// Has sessions on paper that takes `width` bytes at once and fails after `fails_at`, and compares the record after
+/// each of them.
+fn expect_failed_write(
+    rt: &impl Abort,
+    alloc: Global,
+    (width, fails_at): (usize, usize),
+    expected: &str,
+    after: &str,
+) -> Result<(), Fail> {
+    let mut room = Room::power_on(alloc, 4000)?;
+    let record = RefCell::new(Vec::new(alloc));
+    let mut writer = ToWriter::new(load_paper(&record, width, fails_at));
+    let lines = "EXAMINE 0\nEXAMINE 0\nQUIT\n";
+    let failed = (SessionEnd::Write, expected, 2);
+    expect_typed(rt, alloc, &mut room, lines, &mut writer, &record, failed);
+    let failed = (SessionEnd::Write, after, 3);
+    expect_typed(rt, alloc, &mut room, "REGS\n", &mut writer, &record, failed);
+    Ok(())
+}
+
+#[test]
+fn after_a_failed_write_nothing_is_read_or_written(rt: HostRuntime) -> Result<(), Fail> {
+    let expected = "EXAMINE 0\n[ \n]EXAMINE 0\n[!]";
+    let after = "EXAMINE 0\n[ \n]EXAMINE 0\n[!]REGS\n";
+    expect_failed_write(&rt, rt.alloc(), (99, 2), expected, after)?;
+    let expected = "EXAMINE 0\n[ ][\n]EXAMINE 0\n[ ][!]";
+    let after = "EXAMINE 0\n[ ][\n]EXAMINE 0\n[ ][!]REGS\n";
+    expect_failed_write(&rt, rt.alloc(), (1, 3), expected, after)
 }

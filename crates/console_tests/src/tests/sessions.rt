@@ -17,9 +17,21 @@ fn expect_session(
     expect_answers(rt, alloc, row, &mut FromReader::new(input), expected)
 }
 
+/// Compares how sessions on these inputs end, what they write, and how many commands they leave.
+fn expect_sessions(
+    rt: &impl Abort,
+    alloc: Global,
+    rows: &[(&str, (SessionEnd, &str, usize))],
+) -> Result<(), Fail> {
+    for (input, expected) in rows {
+        expect_session(rt, alloc, input, input.as_bytes(), *expected)?;
+    }
+    Ok(())
+}
+
 #[test]
 fn each_line_has_its_reply(rt: HostRuntime) -> Result<(), Fail> {
-    for (input, expected) in [
+    let rows = [
         ("", (SessionEnd::EndOfInput, "", 0)),
         (
             "DEPOSIT 0500 ~0K\nEXAMINE 0500 2\nQUIT\n",
@@ -54,10 +66,8 @@ fn each_line_has_its_reply(rt: HostRuntime) -> Result<(), Fail> {
             "QUIT X\n QUIT \n",
             (SessionEnd::Quit, "ERROR 5 EXTRA\nBYE\n", 0),
         ),
-    ] {
-        expect_session(&rt, rt.alloc(), input, input.as_bytes(), expected)?;
-    }
-    Ok(())
+    ];
+    expect_sessions(&rt, rt.alloc(), rows.as_slice())
 }
 
 #[test]
