@@ -1,10 +1,11 @@
 //! A room that listens for two consoles.
 ghost use Rattle.std.specs.Prelude.{◌≡◌};
+ghost use Rattle.room_1401.specs.Seen.{newcomers};
 
 use crate::shared::open_room;
 use crate::shown::{show_bytes, show_room};
-use console_1401::Door;
-use room_1401::{Opened, RoomId};
+use console_1401::{Door, Served};
+use room_1401::{Opened, RoomId, Seat, SharedRoom};
 use std::alloc::Global;
 use std::io;
 use std::io::{Read, Write};
@@ -44,15 +45,31 @@ impl Door for SecondFirst {
 /// What each console sends before the room listens.
 const LINES: &str = "EXAMINE 0\nQUIT\n";
 
+/// Sends a console's lines, and nothing more.
+fn send(stream: &mut TcpStream) -> io::Result<()> {
+    stream.write_all(LINES.as_bytes())?;
+    stream.shutdown(Shutdown::Write)
+}
+
 /// A connection to the listener that has sent its lines, and sends nothing more.
 fn send_lines<R: Net<Listener = TcpListener, Stream = TcpStream>>(
     rt: &R,
     listener: &TcpListener,
 ) -> io::Result<TcpStream> {
     let mut stream = TcpStream::connect(rt, listener.local_addr()?)?;
-    stream.write_all(LINES.as_bytes())?;
-    stream.shutdown(Shutdown::Write)?;
+    send(&mut stream)?;
     Ok(stream)
+}
+
+/// A listener and two connections to it that have sent their lines, which is told.
+fn listen<R: Print + Net<Listener = TcpListener, Stream = TcpStream>>(
+    rt: &R,
+) -> io::Result<(TcpListener, TcpStream, TcpStream)> {
+    let listener = TcpListener::bind(rt, (Ipv4Addr::LOCALHOST, 0))?;
+    let one = send_lines(rt, &listener)?;
+    let two = send_lines(rt, &listener)?;
+    println!(rt; "BEGIN")?;
+    Ok((listener, one, two))
 }
 
 /// Prints all that was sent back on a connection, or that it was reset.
@@ -68,6 +85,37 @@ fn show_replies(rt: &impl Print, stream: &mut TcpStream) -> io::Result<()> {
     println!(rt; "END")
 }
 
+/// Prints how a service ended, its consoles' replies, the journal and the machine.
+fn show_served(
+    rt: &impl Print,
+    served: &Served,
+    one: &mut TcpStream,
+    two: &mut TcpStream,
+) -> io::Result<()> {
+    println!(rt; "CONSOLES {} {:?}", served.consoles, served.fault)?;
+    show_replies(rt, one)?;
+    show_replies(rt, two)?;
+    show_room(rt, &served.room)
+}
+
+/// Serves the two at the seats of a room, and prints their replies, how the service ended, the journal and the machine.
+fn serve_room<
+    J: RoomId + Send + Sync,
+    R: Threads + Wait + Print + Sync + Net<Listener = TcpListener, Stream = TcpStream>,
+>(rt: &R, alloc: Global, room: SharedRoom<J, &R>, seats: Vec<Seat<J>>) -> io::Result<()>
+    requires ledger { J.parts ≡ J.seats }
+    requires named { 2 ≡ J.seats }
+    requires seats { seats.items ≡ newcomers 2 }
+{
+    let (listener, mut one, mut two) = listen(rt)?;
+    let door = SecondFirst {
+        is_answered: AtomicBool::new(false),
+    };
+    let served = console_1401::serve(alloc, rt, room, seats, &listener, &door);
+    drop(listener);
+    show_served(rt, &served, &mut one, &mut two)
+}
+
 /// Serves the two, and prints their replies, how the service ended, the journal and the machine.
 fn operate<
     J: RoomId + Send + Sync,
@@ -77,22 +125,10 @@ fn operate<
     requires ledger { (opened.ledger ≡ J.name) × (opened.parts ≡ J.parts) × (J.parts ≡ J.seats) }
     requires named { (4000 ≡ J.size) × (2 ≡ J.seats) }
 {
-    let Some((room, seats)) = open_room::<J, R>(rt, alloc, opened)? else {
-        return Ok(());
-    };
-    let listener = TcpListener::bind(rt, (Ipv4Addr::LOCALHOST, 0))?;
-    let mut one = send_lines(rt, &listener)?;
-    let mut two = send_lines(rt, &listener)?;
-    println!(rt; "BEGIN")?;
-    let door = SecondFirst {
-        is_answered: AtomicBool::new(false),
-    };
-    let served = console_1401::serve(alloc, rt, room, seats, &listener, &door);
-    drop(listener);
-    println!(rt; "CONSOLES {} {:?}", served.consoles, served.fault)?;
-    show_replies(rt, &mut one)?;
-    show_replies(rt, &mut two)?;
-    show_room(rt, &served.room)
+    match open_room::<J, R>(rt, alloc, opened)? {
+        Some((room, seats)) => serve_room(rt, alloc, room, seats),
+        None => Ok(()),
+    }
 }
 
 /// Two consoles that have sent their lines before the room listens. The second one's is carried out first.

@@ -4,7 +4,7 @@ ghost use Rattle.room_1401.specs.Seen.{newcomers};
 
 use crate::recorded::COMMANDS;
 use crate::shown::show_room;
-use room_1401::{Command, Opened, RoomFault, RoomId, Seat, SharedRoom, StartFault};
+use room_1401::{Answer, Command, Opened, RoomFault, RoomId, Seat, SharedRoom, StartFault};
 use std::alloc::Global;
 use std::io;
 use std::marker::Brand;
@@ -26,6 +26,11 @@ fn fault_of<J: RoomId, R: Wait>(
     SharedRoom::<J, &R>::power_on(rt, alloc, size, seats, opened).err()
 }
 
+/// Tells why a room was refused.
+fn tell_refused(rt: &impl Print, fault: StartFault) -> io::Result<()> {
+    println!(rt; "refused {fault:?} at power-on")
+}
+
 /// A room of 4,000 places with two seats. None if it was refused, which is told.
 pub fn open_room<J: RoomId, R: Wait + Print>(
     rt: &R,
@@ -40,7 +45,7 @@ pub fn open_room<J: RoomId, R: Wait + Print>(
     match SharedRoom::<J, &R>::power_on(rt, alloc, 4_000, 2, opened) {
         Ok(made) => Ok(Some(made)),
         Err(fault) => {
-            println!(rt; "refused {fault:?} at power-on")?;
+            tell_refused(rt, fault)?;
             Ok(None)
         }
     }
@@ -61,21 +66,39 @@ const ASKED: [(u16, u8); 11] = [
     (4_000, 8),
 ];
 
-/// Rooms of all these, each asked for a second time if it was refused.
-pub fn power_on(rt: &(impl Print + Wait), alloc: Global) -> io::Result<()> {
-    for (size, seats) in ASKED {
-        for _ in 0..2 {
-            match fault_of::<Brand, _>(rt, alloc, size, seats, Opened::new(seats)) {
-                Some(StartFault::Memory) => println!(rt; "refused Memory")?,
-                Some(StartFault::NoReader) => println!(rt; "refused NoReader")?,
-                fault => {
-                    println!(rt; "{size} {seats} {fault:?}")?;
-                    break;
-                }
-            }
+/// Tells what came of asking for a room of this size with these seats.
+fn tell_asked(rt: &impl Print, size: u16, seats: u8, fault: Option<StartFault>) -> io::Result<()> {
+    println!(rt; "{size} {seats} {fault:?}")
+}
+
+/// Asks for a room of this size with these seats, and a second time if it was refused.
+fn ask(rt: &(impl Print + Wait), alloc: Global, size: u16, seats: u8) -> io::Result<()> {
+    for _ in 0..2 {
+        match fault_of::<Brand, _>(rt, alloc, size, seats, Opened::new(seats)) {
+            Some(StartFault::Memory) => println!(rt; "refused Memory")?,
+            Some(StartFault::NoReader) => println!(rt; "refused NoReader")?,
+            fault => return tell_asked(rt, size, seats, fault),
         }
     }
     Ok(())
+}
+
+/// Rooms of all these, each asked for a second time if it was refused.
+pub fn power_on(rt: &(impl Print + Wait), alloc: Global) -> io::Result<()> {
+    for (size, seats) in ASKED {
+        ask(rt, alloc, size, seats)?;
+    }
+    Ok(())
+}
+
+/// Prints what a seat's command answered.
+fn show_answer<J: RoomId>(rt: &impl Print, seat: &Seat<J>, answer: &Answer) -> io::Result<()> {
+    println!(rt; "seat {} made {}: {answer:?}", seat.number(), seat.made())
+}
+
+/// Tells that a seat's command was refused for memory.
+fn tell_uncarried<J: RoomId>(rt: &impl Print, seat: &Seat<J>) -> io::Result<()> {
+    println!(rt; "refused Memory {} {}", seat.number(), seat.made())
 }
 
 /// Has a seat's command carried out, and asks for it a second time if it was refused.
@@ -87,12 +110,8 @@ fn give<J: RoomId, R: Wait + Print>(
 ) -> io::Result<()> {
     for _ in 0..2 {
         match room.command(rt, seat, *command) {
-            Ok(answer) => {
-                return println!(rt; "seat {} made {}: {answer:?}", seat.number(), seat.made());
-            }
-            Err(RoomFault::Memory) => {
-                println!(rt; "refused Memory {} {}", seat.number(), seat.made())?;
-            }
+            Ok(answer) => return show_answer(rt, seat, &answer),
+            Err(RoomFault::Memory) => tell_uncarried(rt, seat)?,
             Err(fault) => return println!(rt; "{fault:?}"),
         }
     }
@@ -121,6 +140,36 @@ pub fn give_line<J: RoomId, R: Wait + Print>(
     show_glance(rt, seat)
 }
 
+/// Operators give commands in turn.
+fn give_lines<J: RoomId, R: Wait + Print>(
+    rt: &R,
+    room: &SharedRoom<J, &R>,
+    seats: &mut [Seat<J>],
+) -> io::Result<()> {
+    for _ in 0..5 {
+        for line in COMMANDS {
+            for seat in seats.iter_mut() {
+                give_line(rt, room, seat, line)?;
+            }
+        }
+    }
+    Ok(())
+}
+
+/// Closes a room, and shows it.
+pub fn close_room<J: RoomId, R: Wait + Print>(
+    rt: &R,
+    room: SharedRoom<J, &R>,
+    seats: Vec<Seat<J>>,
+) -> io::Result<()>
+    requires { J.parts ≡ J.seats }
+{
+    match room.close(seats) {
+        Ok(room) => show_room(rt, &room),
+        Err(_) => println!(rt; "not closed"),
+    }
+}
+
 /// Two operators give commands in turn. False if the room was refused.
 fn operate<J: RoomId, R: Wait + Print>(rt: &R, alloc: Global, opened: Opened) -> io::Result<bool>
     requires history { opened.book ≡ J.book }
@@ -130,17 +179,8 @@ fn operate<J: RoomId, R: Wait + Print>(rt: &R, alloc: Global, opened: Opened) ->
     let Some((room, mut seats)) = open_room::<J, R>(rt, alloc, opened)? else {
         return Ok(false);
     };
-    for _ in 0..5 {
-        for line in COMMANDS {
-            for seat in seats.as_mut_slice().iter_mut() {
-                give_line(rt, &room, seat, line)?;
-            }
-        }
-    }
-    match room.close(seats) {
-        Ok(room) => show_room(rt, &room)?,
-        Err(_) => println!(rt; "not closed")?,
-    }
+    give_lines(rt, &room, seats.as_mut_slice())?;
+    close_room(rt, room, seats)?;
     Ok(true)
 }
 

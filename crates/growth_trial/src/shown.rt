@@ -1,6 +1,6 @@
 //! What a trial shows.
 
-use bcd_1401::Char;
+use bcd_1401::{Cell, Char};
 use cpu_1401::Machine;
 use room_1401::Room;
 use std::io;
@@ -14,15 +14,20 @@ pub fn show_room(rt: &impl Print, room: &Room) -> io::Result<()> {
     show_machine(rt, room.machine())
 }
 
+/// Prints a place of core storage that isn't blank.
+fn show_place(rt: &impl Print, at: u16, cell: Cell) -> io::Result<()> {
+    if cell.mark || cell.char != Char::BLANK {
+        return println!(rt; "{at} {cell:?}");
+    }
+    Ok(())
+}
+
 /// Prints all of a machine: its registers, and each place of core storage that isn't blank.
 pub fn show_machine(rt: &impl Print, machine: &Machine) -> io::Result<()> {
     println!(rt; "{:?}", machine.regs())?;
     let core = machine.core();
     for at in 0..core.size() {
-        let cell = core.get(at);
-        if cell.mark || cell.char != Char::BLANK {
-            println!(rt; "{at} {cell:?}")?;
-        }
+        show_place(rt, at, core.get(at))?;
     }
     Ok(())
 }

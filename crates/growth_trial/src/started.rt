@@ -8,31 +8,40 @@ use room_1401::Room;
 use std::alloc::Global;
 use std::io;
 
+/// Prints why there is no core storage of 1,401 places.
+fn show_no_core(rt: &impl Print, alloc: Global) -> io::Result<()> {
+    println!(rt; "{:?}", Core::power_on(alloc, 1_401).err())
+}
+
+/// Prints how many places core storage has.
+fn show_size(rt: &impl Print, core: &Core) -> io::Result<()> {
+    println!(rt; "{} places", core.size())
+}
+
 /// Core storage of 1,400 places, and of a size that there is none of.
 pub fn core(rt: &impl Print, alloc: Global) -> io::Result<()> {
-    println!(rt; "{:?}", Core::power_on(alloc, 1_401).err())?;
+    show_no_core(rt, alloc)?;
     for _ in 0..2 {
         match Core::power_on(alloc, 1_400) {
-            Ok(core) => return println!(rt; "{} places", core.size()),
+            Ok(core) => return show_size(rt, &core),
             Err(fault) => println!(rt; "refused {fault:?}")?,
         }
     }
     Ok(())
 }
 
+/// Prints what is in the devices, and where the carriage is.
+fn show_devices(rt: &impl Print, devices: &Devices) -> io::Result<()> {
+    let (hopper, stacker, paper) = (devices.hopper(), devices.stacker(), devices.paper());
+    println!(rt; "hopper {hopper} stacker {stacker} paper {paper}")?;
+    println!(rt; "form {} line {}", devices.form(), devices.line())
+}
+
 /// The devices, with nothing in them and the carriage at the first line.
 pub fn devices(rt: &impl Print, alloc: Global) -> io::Result<()> {
     for _ in 0..2 {
         match Devices::power_on(alloc) {
-            Ok(devices) => {
-                let (hopper, stacker, paper) = (
-                    devices.hopper(),
-                    devices.stacker(),
-                    devices.paper(),
-                );
-                println!(rt; "hopper {hopper} stacker {stacker} paper {paper}")?;
-                return println!(rt; "form {} line {}", devices.form(), devices.line());
-            }
+            Ok(devices) => return show_devices(rt, &devices),
             Err(_) => println!(rt; "refused Memory")?,
         }
     }
@@ -50,9 +59,14 @@ pub fn machine(rt: &impl Print, alloc: Global) -> io::Result<()> {
     Ok(())
 }
 
+/// Prints why there is no room of 100 places.
+fn show_no_room(rt: &impl Print, alloc: Global) -> io::Result<()> {
+    println!(rt; "{:?}", Room::power_on(alloc, 100).err())
+}
+
 /// A room of 4,000 places, and of a size that there is none of.
 pub fn room(rt: &impl Print, alloc: Global) -> io::Result<()> {
-    println!(rt; "{:?}", Room::power_on(alloc, 100).err())?;
+    show_no_room(rt, alloc)?;
     for _ in 0..2 {
         match Room::power_on(alloc, 4_000) {
             Ok(room) => return show_room(rt, &room),

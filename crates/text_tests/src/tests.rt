@@ -8,6 +8,21 @@ mod notation;
 
 use bcd_1401::{Cell, Char};
 use core_1401::Cells;
+use std::alloc::{AllocError, Global};
+use std::fmt::Display;
+use std::process::Abort;
+
+/// Tells a fault, which must be this text.
+fn is_told(
+    rt: &impl Abort,
+    alloc: Global,
+    fault: impl Display + Drop,
+    text: &str,
+) -> Result<(), AllocError> {
+    let told = format!(in alloc; "{fault}")?;
+    assert_eq!(rt; told.as_str(), text);
+    Ok(())
+}
 
 /// Zero with a word mark, and K.
 fn marked_zero_and_k() -> Option<Cells> {

@@ -1,7 +1,7 @@
 //! The texts of pictures.
 
 use crate::tests::room::{Work, expect_at_the_page};
-use std::alloc::Global;
+use std::alloc::{AllocError, Global};
 use std::ops::RangeInclusive;
 use std::test::Fail;
 
@@ -135,15 +135,30 @@ fn long_paper(
     paper: &str,
     first: RangeInclusive<u8>,
     second: RangeInclusive<u8>,
-) -> Result<String, Fail> {
+) -> Result<String, AllocError> {
     let mut text = format!(in alloc; "{LONG_PAPER_MACHINE}PAPER {paper}\n")?;
-    for line in first {
-        text.push_str(format!(in alloc; "LINE 0001 {line:02} X\n")?.as_str())?;
-    }
-    for line in second {
-        text.push_str(format!(in alloc; "LINE 0002 {line:02} X\n")?.as_str())?;
-    }
+    push_lines(alloc, &mut text, "0001", first)?;
+    push_lines(alloc, &mut text, "0002", second)?;
     Ok(text)
+}
+
+/// Adds printed lines on a form to a text.
+fn push_lines(
+    alloc: Global,
+    text: &mut String,
+    form: &str,
+    lines: RangeInclusive<u8>,
+) -> Result<(), AllocError> {
+    for line in lines {
+        push_line(alloc, text, form, line)?;
+    }
+    Ok(())
+}
+
+/// Adds a printed line on a form to a text.
+fn push_line(alloc: Global, text: &mut String, form: &str, line: u8) -> Result<(), AllocError> {
+    let row = format!(in alloc; "LINE {form} {line:02} X\n")?;
+    text.push_str(row.as_str())
 }
 
 #[test]

@@ -3,7 +3,7 @@ ghost use Rattle.std.specs.Prelude.{◌≡◌};
 
 use http_server::Service;
 use page_1401::{SeatPage, answer, page_config};
-use room_1401::{Command, NoKeeper, Opened, RoomId, Seat, SharedRoom};
+use room_1401::{Command, NoKeeper, Opened, RoomFault, RoomId, Seat, SharedRoom};
 use std::alloc::{AllocError, AllocGlobal, Global};
 use std::hash::RandomState;
 use std::marker::Brand;
@@ -51,8 +51,8 @@ pub fn ask<R: AllocGlobal + RandomSource, S: Service>(
     request: &[u8],
 ) -> Result<Vec<u8>, Fail> {
     let mut reader = request;
-    let mut written = Vec::new(alloc);
     let keys = RandomState::new(rt)?;
+    let mut written = Vec::new(alloc);
     answer(
         alloc,
         keys,
@@ -84,14 +84,30 @@ fn expect_page<R: Abort + AllocGlobal + RandomSource, S: Service>(
 /// Closes the room, and gives how many commands its journal has.
 fn close<J: RoomId, R: Wait + Drop>(
     room: SharedRoom<J, R, NoKeeper>,
-    mut seats: Vec<Seat<J>>,
+    seats: Vec<Seat<J>>,
     second: Seat<J>,
     third: Seat<J>,
 ) -> Result<u64, Fail>
     requires { J.parts ≡ J.seats }
 {
-    seats.push(second)?;
-    seats.push(third)?;
+    let seats = with_seat(with_seat(seats, second)?, third)?;
+    close_with(room, seats)
+}
+
+/// These seats and one more.
+fn with_seat<J: RoomId>(seats: Vec<Seat<J>>, seat: Seat<J>) -> Result<Vec<Seat<J>>, AllocError> {
+    let mut seats = seats;
+    seats.push(seat)?;
+    Ok(seats)
+}
+
+/// Closes the room with these seats, and gives how many commands its journal has.
+fn close_with<J: RoomId, R: Wait + Drop>(
+    room: SharedRoom<J, R, NoKeeper>,
+    seats: Vec<Seat<J>>,
+) -> Result<u64, Fail>
+    requires { J.parts ≡ J.seats }
+{
     let Ok(room) = room.close(seats) else {
         return Err(Fail::from("not closed"));
     };
@@ -121,12 +137,76 @@ fn give_lines<R: Abort + AllocGlobal + RandomSource, S: Service>(
 ) -> Result<(), Fail> {
     let mut made: u64 = 0;
     for line in lines.lines() {
-        let request = line_request(alloc, made, line)?;
-        let written = ask(rt, alloc, service, request.as_bytes())?;
-        assert!(rt; written.as_slice().starts_with(b"HTTP/1.1 200 "), "{line}");
+        give_line(rt, alloc, service, made, line)?;
         made = made.saturating_add(1);
     }
     Ok(())
+}
+
+/// Gives a line, which is a command, after so many commands of the seat.
+fn give_line<R: Abort + AllocGlobal + RandomSource, S: Service>(
+    rt: &R,
+    alloc: Global,
+    service: &mut S,
+    made: u64,
+    line: &str,
+) -> Result<(), Fail> {
+    let request = line_request(alloc, made, line)?;
+    let written = ask(rt, alloc, service, request.as_bytes())?;
+    expect_ok(rt, written.as_slice(), line);
+    Ok(())
+}
+
+/// Expects that what is written for this says that it is well.
+fn expect_ok(rt: &impl Abort, written: &[u8], asked: &str) {
+    assert!(rt; written.starts_with(b"HTTP/1.1 200 "), "{asked}");
+}
+
+/// Expects these first bytes of what is written for this.
+fn expect_first(rt: &impl Abort, written: &[u8], asked: &str, first: &str) {
+    assert!(rt; written.starts_with(first.as_bytes()), "{asked} {first}");
+}
+
+/// Expects these last bytes of what is written for this.
+fn expect_last(rt: &impl Abort, written: &[u8], asked: &str, last: &str) {
+    assert!(rt; written.ends_with(last.as_bytes()), "{asked} {last}");
+}
+
+/// What is written for a picture with this query.
+fn ask_picture<R: AllocGlobal + RandomSource, S: Service>(
+    rt: &R,
+    alloc: Global,
+    service: &mut S,
+    query: &str,
+) -> Result<Vec<u8>, Fail> {
+    let request = picture_request(alloc, query)?;
+    ask(rt, alloc, service, request.as_bytes())
+}
+
+/// Expects that what is written for a query ends with this text as its body.
+fn expect_body(
+    rt: &impl Abort,
+    alloc: Global,
+    written: &[u8],
+    query: &str,
+    text: &str,
+) -> Result<(), AllocError> {
+    let body = format!(in alloc; "\r\n\r\n{text}")?;
+    assert!(rt; written.ends_with(body.as_bytes()), "{query}");
+    Ok(())
+}
+
+/// Asks for a picture by a query, and expects this text.
+fn expect_text<R: Abort + AllocGlobal + RandomSource, S: Service>(
+    rt: &R,
+    alloc: Global,
+    service: &mut S,
+    query: &str,
+    text: &str,
+) -> Result<(), Fail> {
+    let written = ask_picture(rt, alloc, service, query)?;
+    expect_ok(rt, written.as_slice(), query);
+    Ok(expect_body(rt, alloc, written.as_slice(), query, text)?)
 }
 
 /// Asks for pictures, each by a query, and expects these texts.
@@ -137,11 +217,7 @@ fn expect_texts<R: Abort + AllocGlobal + RandomSource, S: Service>(
     pictures: &[Shown],
 ) -> Result<(), Fail> {
     for (query, text) in pictures {
-        let request = picture_request(alloc, query)?;
-        let written = ask(rt, alloc, service, request.as_bytes())?;
-        assert!(rt; written.as_slice().starts_with(b"HTTP/1.1 200 "), "{query}");
-        let body = format!(in alloc; "\r\n\r\n{text}")?;
-        assert!(rt; written.as_slice().ends_with(body.as_bytes()), "{query}");
+        expect_text(rt, alloc, service, query, text.as_str())?;
     }
     Ok(())
 }
@@ -154,12 +230,8 @@ fn expect_statuses<R: Abort + AllocGlobal + RandomSource, S: Service>(
     queries: &[(&str, &str)],
 ) -> Result<(), Fail> {
     for (query, first) in queries {
-        let request = picture_request(alloc, query)?;
-        let written = ask(rt, alloc, service, request.as_bytes())?;
-        assert!(rt;
-            written.as_slice().starts_with(first.as_bytes()),
-            "{query} {first}"
-        );
+        let written = ask_picture(rt, alloc, service, query)?;
+        expect_first(rt, written.as_slice(), query, first);
     }
     Ok(())
 }
@@ -173,14 +245,8 @@ fn expect_answers<R: Abort + AllocGlobal + RandomSource, S: Service>(
 ) -> Result<(), Fail> {
     for (request, first, last) in exchanges {
         let written = ask(rt, alloc, service, request.as_bytes())?;
-        assert!(rt;
-            written.as_slice().starts_with(first.as_bytes()),
-            "{request} {first}"
-        );
-        assert!(rt;
-            written.as_slice().ends_with(last.as_bytes()),
-            "{request} {last}"
-        );
+        expect_first(rt, written.as_slice(), request, first);
+        expect_last(rt, written.as_slice(), request, last);
     }
     Ok(())
 }
@@ -194,15 +260,40 @@ fn ask_damaged<R: Abort + AllocGlobal + RandomSource, S: Service>(
     request: &[u8],
 ) -> Result<(), Fail> {
     for place in 0..request.len() {
-        let written = ask(rt, alloc, service, &request[..place])?;
-        assert!(rt; is_http(written.as_slice()), "cut off at {place}");
+        ask_cut_off(rt, alloc, service, &request[..place])?;
         for byte in DAMAGES {
             let mut damaged = Vec::from_slice(alloc, request)?;
             damaged[place] = byte;
-            let written = ask(rt, alloc, service, damaged.as_slice())?;
-            assert!(rt; is_http(written.as_slice()), "{byte} at {place}");
+            ask_changed(rt, alloc, service, damaged.as_slice(), byte, place)?;
         }
     }
+    Ok(())
+}
+
+/// Asks with the beginning of a request, which is answered as HTTP or not at all.
+fn ask_cut_off<R: Abort + AllocGlobal + RandomSource, S: Service>(
+    rt: &R,
+    alloc: Global,
+    service: &mut S,
+    begun: &[u8],
+) -> Result<(), Fail> {
+    let place = begun.len();
+    let written = ask(rt, alloc, service, begun)?;
+    assert!(rt; is_http(written.as_slice()), "cut off at {place}");
+    Ok(())
+}
+
+/// Asks with a request that has this byte at a place, which is answered as HTTP or not at all.
+fn ask_changed<R: Abort + AllocGlobal + RandomSource, S: Service>(
+    rt: &R,
+    alloc: Global,
+    service: &mut S,
+    damaged: &[u8],
+    byte: u8,
+    place: usize,
+) -> Result<(), Fail> {
+    let written = ask(rt, alloc, service, damaged)?;
+    assert!(rt; is_http(written.as_slice()), "{byte} at {place}");
     Ok(())
 }
 
@@ -234,13 +325,54 @@ fn give_before<J: RoomId, R: Wait + Drop, W: Wait>(
     third: &mut Seat<J>,
     work: Work,
 ) -> Result<u64, Fail> {
-    match work {
-        Work::Pictures(_, _) => {
-            room.command(wait, third, Command::Registers)?;
-            Ok(1)
-        }
-        _ => Ok(0),
+    if has_command_before(work) {
+        give_registers(wait, room, third)?;
+        return Ok(1);
     }
+    Ok(0)
+}
+
+/// Whether the third seat gives a command before this work.
+fn has_command_before(work: Work) -> bool {
+    matches!(work, Work::Pictures(_, _))
+}
+
+/// Has a seat ask for the registers.
+fn give_registers<J: RoomId, R: Wait + Drop, W: Wait>(
+    wait: &W,
+    room: &SharedRoom<J, R, NoKeeper>,
+    seat: &mut Seat<J>,
+) -> Result<(), RoomFault> {
+    room.command(wait, seat, Command::Registers)?;
+    Ok(())
+}
+
+/// Does the work at the page of a seat, expects that the seat makes so many commands, and gives it back.
+fn work_at_seat<J: RoomId, R: Wait + Abort + AllocGlobal + RandomSource>(
+    rt: &R,
+    alloc: Global,
+    room: &SharedRoom<J, &R, NoKeeper>,
+    seat: Seat<J>,
+    work: Work,
+    made: u64,
+) -> Result<Seat<J>, Fail> {
+    let Ok(mut page) = SeatPage::new(alloc, rt, room, seat, 3, 8_080, PAGE, POLICY) else {
+        return Err(Fail::from("no page"));
+    };
+    work_at(rt, alloc, &mut page, work)?;
+    let seat = page.into_seat();
+    expect_made(rt, &seat, made);
+    Ok(seat)
+}
+
+/// Expects that a seat made so many commands.
+fn expect_made<J: RoomId>(rt: &impl Abort, seat: &Seat<J>, made: u64) {
+    assert_eq!(rt; seat.made(), made);
+}
+
+/// Expects that a journal has as many commands as were made and came before the work.
+fn expect_recorded(rt: &impl Abort, recorded: u64, made: u64, before: u64) {
+    assert_eq!(rt; Some(recorded), made.checked_add(before));
 }
 
 /// Does the work at the page of a room of this name, and expects that its seat makes so many commands.
@@ -259,14 +391,9 @@ fn expect_in_room<J: RoomId, R: Wait + Abort + AllocGlobal + RandomSource>(
     let mut third = seats.pop().ok_or("seat 3")?;
     let second = seats.pop().ok_or("seat 2")?;
     let before = give_before(rt, &room, &mut third, work)?;
-    let Ok(mut page) = SeatPage::new(alloc, rt, &room, second, 3, 8_080, PAGE, POLICY) else {
-        return Err(Fail::from("no page"));
-    };
-    work_at(rt, alloc, &mut page, work)?;
-    let second = page.into_seat();
-    assert_eq!(rt; second.made(), made);
+    let second = work_at_seat(rt, alloc, &room, second, work, made)?;
     let recorded = close(room, seats, second, third)?;
-    assert_eq!(rt; Some(recorded), made.checked_add(before));
+    expect_recorded(rt, recorded, made, before);
     Ok(())
 }
 

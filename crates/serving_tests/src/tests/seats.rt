@@ -1,9 +1,8 @@
 //! Seats that are given, and given again.
 
-use crate::tests::button::{Button, Pressed};
-use crate::tests::operators::{Operators, hear_end, hear_line, send, visit};
-use crate::tests::service::{hold, listen};
-use console_1401::OpenDoor;
+use crate::tests::button::Button;
+use crate::tests::operators::{Operators, hear_end, send_and_hear_end, send_and_hear_line, visit};
+use crate::tests::service::hold_until;
 use std::alloc::Global;
 use std::io;
 use std::net::{Net, SocketAddr, TcpStream};
@@ -16,40 +15,37 @@ impl Operators for ThirdForFirst {
     fn operate<R: Net<Stream = TcpStream>>(
         &self,
         rt: &R,
-        alloc: Global,
+        _alloc: Global,
         address: SocketAddr,
         _button: &Button,
-    ) -> io::Result<Vec<u8>> {
-        let mut told = Vec::new(alloc);
+        told: &mut Vec<u8>,
+    ) -> io::Result<()> {
         let first = TcpStream::connect(rt, address)?;
-        send(&first, "DEPOSIT 1 A\n")?;
-        hear_line(&first, &mut told)?;
+        send_and_hear_line(&first, "DEPOSIT 1 A\n", told)?;
         let second = TcpStream::connect(rt, address)?;
-        send(&second, "EXAMINE 1\n")?;
-        hear_line(&second, &mut told)?;
-        send(&first, "QUIT\n")?;
-        hear_end(&first, &mut told)?;
-        visit(rt, address, "GLANCE 1\nDEPOSIT 1 C\nQUIT\n", &mut told)?;
-        send(&second, "EXAMINE 1\nQUIT\n")?;
-        hear_end(&second, &mut told)?;
-        Ok(told)
+        ThirdForFirst::go_on(rt, address, &first, &second, told)
+    }
+}
+
+impl ThirdForFirst {
+    /// The first one goes, the third one comes and goes, and then the second one goes.
+    fn go_on<R: Net<Stream = TcpStream>>(
+        rt: &R,
+        address: SocketAddr,
+        first: &TcpStream,
+        second: &TcpStream,
+        told: &mut Vec<u8>,
+    ) -> io::Result<()> {
+        send_and_hear_line(second, "EXAMINE 1\n", told)?;
+        send_and_hear_end(first, "QUIT\n", told)?;
+        visit(rt, address, "GLANCE 1\nDEPOSIT 1 C\nQUIT\n", told)?;
+        send_and_hear_end(second, "EXAMINE 1\nQUIT\n", told)
     }
 }
 
 #[test]
 fn the_lowest_free_seat_is_given(rt: HostRuntime) -> Result<(), Fail> {
-    let button = Button::new();
-    let evening = hold(
-        &rt,
-        rt.alloc(),
-        3,
-        99,
-        &listen(&rt)?,
-        Pressed::new(&button, b"QUIT\n", false),
-        &button,
-        &ThirdForFirst,
-        &OpenDoor,
-    )?;
+    let evening = hold_until(&rt, rt.alloc(), 3, 99, b"QUIT\n", &ThirdForFirst)?;
     evening.expect(
         &rt,
         "OK\nA\nBYE\n/AFTER 2 A\nOK\nBYE\n/C\nBYE\n/",
@@ -66,39 +62,48 @@ impl Operators for MoreThanSeats {
     fn operate<R: Net<Stream = TcpStream>>(
         &self,
         rt: &R,
-        alloc: Global,
+        _alloc: Global,
         address: SocketAddr,
         _button: &Button,
-    ) -> io::Result<Vec<u8>> {
-        let mut told = Vec::new(alloc);
+        told: &mut Vec<u8>,
+    ) -> io::Result<()> {
         let seated = TcpStream::connect(rt, address)?;
-        send(&seated, "EXAMINE 1\n")?;
-        hear_line(&seated, &mut told)?;
+        send_and_hear_line(&seated, "EXAMINE 1\n", told)?;
         let silent = TcpStream::connect(rt, address)?;
+        MoreThanSeats::go_on(rt, address, &seated, &silent, told)
+    }
+}
+
+impl MoreThanSeats {
+    /// Another one comes without a seat, the one with the seat goes, and then the last one comes and goes.
+    fn go_on<R: Net<Stream = TcpStream>>(
+        rt: &R,
+        address: SocketAddr,
+        seated: &TcpStream,
+        silent: &TcpStream,
+        told: &mut Vec<u8>,
+    ) -> io::Result<()> {
         let full = TcpStream::connect(rt, address)?;
-        hear_end(&full, &mut told)?;
-        hear_end(&silent, &mut told)?;
-        send(&seated, "EXAMINE 2\nQUIT\n")?;
-        hear_end(&seated, &mut told)?;
-        visit(rt, address, "EXAMINE 3", &mut told)?;
-        Ok(told)
+        MoreThanSeats::leave(seated, silent, &full, told)?;
+        visit(rt, address, "EXAMINE 3", told)
+    }
+
+    /// Those without a seat hear all that is sent to them, and the one with the seat goes.
+    fn leave(
+        seated: &TcpStream,
+        silent: &TcpStream,
+        full: &TcpStream,
+        told: &mut Vec<u8>,
+    ) -> io::Result<()> {
+        hear_end(full, told)?;
+        hear_end(silent, told)?;
+        send_and_hear_end(seated, "EXAMINE 2\nQUIT\n", told)
     }
 }
 
 #[test]
 fn a_connection_without_a_seat_is_told_full(rt: HostRuntime) -> Result<(), Fail> {
-    let button = Button::new();
-    let evening = hold(
-        &rt,
-        rt.alloc(),
-        1,
-        99,
-        &listen(&rt)?,
-        Pressed::new(&button, b"", false),
-        &button,
-        &MoreThanSeats,
-        &OpenDoor,
-    )?;
+    let evening = hold_until(&rt, rt.alloc(), 1, 99, b"", &MoreThanSeats)?;
     evening.expect(
         &rt,
         " \nFULL\n/FULL\n/ \nBYE\n/ \n/",
@@ -115,33 +120,21 @@ impl Operators for Probes {
     fn operate<R: Net<Stream = TcpStream>>(
         &self,
         rt: &R,
-        alloc: Global,
+        _alloc: Global,
         address: SocketAddr,
         _button: &Button,
-    ) -> io::Result<Vec<u8>> {
-        let mut told = Vec::new(alloc);
+        told: &mut Vec<u8>,
+    ) -> io::Result<()> {
         for _ in 0..20u32 {
-            visit(rt, address, "", &mut told)?;
+            visit(rt, address, "", told)?;
         }
-        visit(rt, address, "EXAMINE 1\n", &mut told)?;
-        Ok(told)
+        visit(rt, address, "EXAMINE 1\n", told)
     }
 }
 
 #[test]
 fn a_probe_of_the_port_costs_no_seat(rt: HostRuntime) -> Result<(), Fail> {
-    let button = Button::new();
-    let evening = hold(
-        &rt,
-        rt.alloc(),
-        1,
-        99,
-        &listen(&rt)?,
-        Pressed::new(&button, b"QUIT", false),
-        &button,
-        &Probes,
-        &OpenDoor,
-    )?;
+    let evening = hold_until(&rt, rt.alloc(), 1, 99, b"QUIT", &Probes)?;
     evening.expect(
         &rt,
         "//////////////////// \n/",

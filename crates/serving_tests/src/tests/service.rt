@@ -5,7 +5,7 @@ ghost use Rattle.console_1401.specs.Served.{AreAllSeats};
 use crate::tests::button::{Button, Pressed};
 use crate::tests::lines::Lines;
 use crate::tests::operators::Operators;
-use console_1401::Door;
+use console_1401::{Door, OpenDoor};
 use room_1401::{Opened, RoomId, Seat, SharedRoom};
 use serving_1401::{PagePort, SeatsFault, SeatsServed, serve_pages, serve_seats};
 use std::alloc::{AllocGlobal, Global};
@@ -30,10 +30,25 @@ pub struct Evening {
 impl Evening {
     /// Compares what the operators were told, what was kept, and what went wrong.
     pub fn expect(&self, rt: &impl Abort, told: &str, kept: &str, fault: Option<SeatsFault>) {
+        self.expect_told(rt, told);
+        self.served.keeper.expect(rt, kept);
+        self.expect_fault(rt, fault);
+    }
+
+    /// Compares what the operators were told.
+    fn expect_told(&self, rt: &impl Abort, told: &str) {
         let heard = self.told.as_ref().map(|text| text.as_slice());
         assert_eq!(rt; heard, Some(told.as_bytes()));
-        assert_eq!(rt; self.served.keeper.text.as_slice(), kept.as_bytes());
+    }
+
+    /// Compares what went wrong.
+    fn expect_fault(&self, rt: &impl Abort, fault: Option<SeatsFault>) {
         assert_eq!(rt; self.served.fault, fault);
+    }
+
+    /// Compares how many commands the room's journal has.
+    pub fn expect_commands(&self, rt: &impl Abort, count: usize) {
+        assert_eq!(rt; self.served.room.journal().len(), count);
     }
 }
 
@@ -42,6 +57,41 @@ pub fn listen<R: Net<Listener = TcpListener, Stream = TcpStream>>(
     rt: &R,
 ) -> Result<TcpListener, Fail> {
     Ok(TcpListener::bind(rt, (Ipv4Addr::LOCALHOST, 0))?)
+}
+
+/// Serves the operators of a new room at a free port, until they have gone and this input has closed it.
+pub fn hold_until<
+    R: Threads
+        + Wait
+        + Sync
+        + Clock
+        + AllocGlobal
+        + RandomSource
+        + Net<Listener = TcpListener, Stream = TcpStream>,
+    O: Operators + Sync,
+>(
+    rt: &R,
+    alloc: Global,
+    seats: u8,
+    room_for: u64,
+    input: &[u8],
+    operators: &O,
+) -> Result<Evening, Fail>
+    requires { (0 < seats) × (seats ≤ 8) }
+{
+    let listener = listen(rt)?;
+    let button = Button::new();
+    hold(
+        rt,
+        alloc,
+        seats,
+        room_for,
+        &listener,
+        Pressed::new(&button, input, false),
+        &button,
+        operators,
+        &OpenDoor,
+    )
 }
 
 /// Serves the operators of a new room, until they have gone and the input has closed it.
@@ -144,11 +194,11 @@ fn open<
     requires count { (0 < seats) × (seats ≤ 8) }
     requires pages { length pages.now ≤ seats }
 {
+    let address = listener.local_addr()?;
     let keeper = Lines::new(alloc, room_for);
     let (room, seats) = SharedRoom::<J, &R, Lines>::power_on_kept(
         rt, alloc, 4_000, seats, opened, keeper,
     )?;
-    let address = listener.local_addr()?;
     Ok(spend(
         rt, alloc, room, seats, listener, pages, address, input, button, operators, door,
     ))
@@ -235,16 +285,45 @@ where
     requires pages { length pages.now ≤ J.seats }
 {
     let operating = scope.spawn(move || operate(rt, alloc, address, button, operators));
-    let served = if pages.is_empty() {
-        serve_seats(alloc, rt, room, seats, listener, input, door)
-    } else {
-        serve_pages(alloc, rt, room, seats, Some(listener), pages, input, door)
-    };
+    let served = serve(rt, alloc, room, seats, listener, pages, input, door);
     let told = match operating {
         Ok(thread) => thread.join(rt),
         Err(_) => None,
     };
     Evening { served, told }
+}
+
+/// Serves consoles, and the pages if there are any.
+fn serve<J, R, D>(
+    rt: &R,
+    alloc: Global,
+    room: SharedRoom<J, &R, Lines>,
+    seats: Vec<Seat<J>>,
+    listener: &TcpListener,
+    pages: &[PagePort],
+    input: Pressed<'_>,
+    door: &D,
+) -> SeatsServed<Lines>
+where
+    J: RoomId + Send + Sync,
+    R: Threads
+        + Wait
+        + Sync
+        + Clock
+        + AllocGlobal
+        + RandomSource
+        + Net<Listener = TcpListener, Stream = TcpStream>,
+    D: Door + Sync,
+    requires ledger { J.parts ≡ J.seats }
+    requires seats { AreAllSeats J.seats seats.items }
+    requires count { (0 < J.seats) × (J.seats < 2 ^ 8) }
+    requires pages { length pages.now ≤ J.seats }
+{
+    if pages.is_empty() {
+        serve_seats(alloc, rt, room, seats, listener, input, door)
+    } else {
+        serve_pages(alloc, rt, room, seats, Some(listener), pages, input, door)
+    }
 }
 
 /// Operates, and presses the button.
@@ -255,7 +334,8 @@ fn operate<R: Net<Stream = TcpStream>, O: Operators>(
     button: &Button,
     operators: &O,
 ) -> Option<Vec<u8>> {
-    let told = operators.operate(rt, alloc, address, button);
+    let mut told = Vec::new(alloc);
+    let ended = operators.operate(rt, alloc, address, button, &mut told);
     button.pressed.store(true, SeqCst);
-    told.ok()
+    if ended.is_ok() { Some(told) } else { None }
 }

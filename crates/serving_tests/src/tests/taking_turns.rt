@@ -2,6 +2,7 @@
 
 use console_1401::Door;
 use serving_1401::TakingTurns;
+use std::process::Abort;
 use std::sync::atomic::AtomicU64;
 use std::sync::atomic::Ordering::SeqCst;
 use std::sync::{Barrier, Wait};
@@ -27,6 +28,11 @@ impl SetClock {
             now: AtomicU64::new(now),
             slept: AtomicU64::new(0),
         }
+    }
+
+    /// Compares how long was slept by it, in nanoseconds.
+    fn expect_slept(&self, rt: &impl Abort, nanos: u64) {
+        assert_eq!(rt; self.slept.load(SeqCst), nanos);
     }
 }
 
@@ -103,14 +109,14 @@ fn without_another_line_there_is_no_pause(rt: HostRuntime) {
     door.before(1, 1);
     clock.now.store(9_000_000, SeqCst);
     door.after(1, 1);
-    assert_eq!(rt; clock.slept.load(SeqCst), 0);
+    clock.expect_slept(&rt, 0);
     // one that was answered counts no more
     door.before(3, 1);
     door.before(1, 2);
     door.after(3, 1);
     clock.now.store(19_000_000, SeqCst);
     door.after(1, 2);
-    assert_eq!(rt; clock.slept.load(SeqCst), 0);
+    clock.expect_slept(&rt, 0);
 }
 
 #[test]
@@ -122,10 +128,10 @@ fn each_seat_has_its_own_time(rt: HostRuntime) {
     door.before(2, 1);
     clock.now.store(1_800_000, SeqCst);
     door.after(2, 1);
-    assert_eq!(rt; clock.slept.load(SeqCst), 0);
+    clock.expect_slept(&rt, 0);
     door.before(2, 2);
     door.after(1, 1);
-    assert_eq!(rt; clock.slept.load(SeqCst), ALL);
+    clock.expect_slept(&rt, ALL);
 }
 
 /// A clock whose third sleep ends when another operator has had a turn.

@@ -5,6 +5,8 @@ use bcd_1401::Char;
 use command_1401::{Answer, Refusal};
 use cpu_1401::{Regs, Stop};
 use devices_1401::{Card, PrintLine};
+use std::alloc::Global;
+use std::process::Abort;
 use text_1401::reply_text;
 
 /// The registers at power-on.
@@ -23,6 +25,12 @@ const POWER_ON: Regs = Regs {
     form: 1,
     line: 1,
 };
+
+/// Writes the reply to an answer, which must be this text.
+fn is_replied(rt: &impl Abort, alloc: Global, answer: &Answer, text: &str) {
+    let reply = reply_text(alloc, answer).expect(rt, text);
+    assert_eq!(rt; reply.as_slice(), text.as_bytes(), "{text}");
+}
 
 #[test]
 fn an_answer_has_its_text(rt: HostRuntime) {
@@ -75,8 +83,7 @@ fn an_answer_has_its_text(rt: HostRuntime) {
         (Answer::Refused(Refusal::Limit), "REFUSED 5 LIMIT"),
         (Answer::Refused(Refusal::Count), "REFUSED 6 COUNT"),
     ] {
-        let reply = reply_text(rt.alloc(), &answer).expect(&rt, text);
-        assert_eq!(rt; reply.as_slice(), text.as_bytes(), "{text}");
+        is_replied(&rt, rt.alloc(), &answer, text);
     }
 }
 
@@ -89,9 +96,7 @@ fn a_line_and_a_card_have_their_texts(rt: HostRuntime) {
         line: 4,
         text,
     });
-    let reply = reply_text(rt.alloc(), &line).expect(&rt, "a line");
-    assert_eq!(rt; reply.as_slice(), b"LINE 0001 04  G".as_slice());
+    is_replied(&rt, rt.alloc(), &line, "LINE 0001 04  G");
     let card = Answer::Card(Card([Char::BLANK; 80]));
-    let reply = reply_text(rt.alloc(), &card).expect(&rt, "a card");
-    assert_eq!(rt; reply.as_slice(), b"CARD ".as_slice());
+    is_replied(&rt, rt.alloc(), &card, "CARD ");
 }

@@ -5,6 +5,8 @@ use bcd_1401::Char;
 use command_1401::Command;
 use cpu_1401::SwitchName;
 use devices_1401::Card;
+use std::alloc::Global;
+use std::process::Abort;
 use text_1401::{Line, parse_line, put_command};
 
 /// A card with a zero in its second column.
@@ -12,6 +14,27 @@ fn zero_in_column_two() -> Option<Card> {
     let mut columns = [Char::BLANK; 80];
     columns[1] = Char::from_code(10)?;
     Some(Card(columns))
+}
+
+/// Writes a command, which must have this text.
+fn is_written(rt: &impl Abort, alloc: Global, command: &Command, text: &str) {
+    let mut written = Vec::new(alloc);
+    assert!(rt; put_command(&mut written, command).is_ok());
+    assert!(rt; written.as_slice() == text.as_bytes(), "{text}");
+}
+
+/// Reads a line, which must say this command.
+fn is_read(rt: &impl Abort, command: Command, text: &str) {
+    assert_eq!(rt;
+        parse_line(text.as_bytes()),
+        Ok(Line::Command(command)),
+        "{text}"
+    );
+}
+
+/// Reads a line, which must say nothing.
+fn is_not_read(rt: &impl Abort, text: &str) {
+    assert!(rt; parse_line(text.as_bytes()).is_err(), "{text}");
 }
 
 #[test]
@@ -55,14 +78,8 @@ fn a_command_has_its_text_and_is_read_from_it(rt: HostRuntime) {
         (Command::TakeLine, "LINE"),
         (Command::TakeCard, "CARD"),
     ] {
-        let mut written = Vec::new(rt.alloc());
-        assert!(rt; put_command(&mut written, &command).is_ok());
-        assert!(rt; written.as_slice() == text.as_bytes(), "{text}");
-        assert_eq!(rt;
-            parse_line(text.as_bytes()),
-            Ok(Line::Command(command)),
-            "{text}"
-        );
+        is_written(&rt, rt.alloc(), &command, text);
+        is_read(&rt, command, text);
     }
 }
 
@@ -72,9 +89,7 @@ fn what_no_line_says_is_written_and_not_read(rt: HostRuntime) {
         (Command::SetI { address: 16_000 }, "START 16000"),
         (Command::Run { limit: 10_000_000 }, "RUN 10000000"),
     ] {
-        let mut written = Vec::new(rt.alloc());
-        assert!(rt; put_command(&mut written, &command).is_ok());
-        assert!(rt; written.as_slice() == text.as_bytes(), "{text}");
-        assert!(rt; parse_line(text.as_bytes()).is_err(), "{text}");
+        is_written(&rt, rt.alloc(), &command, text);
+        is_not_read(&rt, text);
     }
 }

@@ -1,8 +1,12 @@
 //! A small journal, written down by hand, and texts that are none.
 
+use super::is_told;
 use journal_1401::{
     JournalFault, View, Wrong, list_journal, read_journal, recover_journal, write_journal,
 };
+use lone_room_1401::Room;
+use std::alloc::{AllocError, Global};
+use std::process::Abort;
 use std::test::Fail;
 
 /// Two operators: an address past core, cells deposited and shown, the registers, a switch, and a card.
@@ -16,14 +20,44 @@ const SESSION: &str = "JOURNAL1 1400\n\
     7\t0\tREGS\tI=00005 A=00000 B=00000 UNEQUAL=0 LOW=0 HIGH=0 OVERFLOW=0 SWITCHES=------G HOPPER=001 \
     STACKER=000 PAPER=000 FORM=0001 LINE=01\n";
 
+/// Writes the journal of a room of this size, which must be this text.
+fn is_written(
+    rt: &impl Abort,
+    alloc: Global,
+    size: u16,
+    room: &Room,
+    text: &str,
+) -> Result<(), AllocError> {
+    let written = write_journal(alloc, size, room.journal())?;
+    assert!(rt; written.as_slice() == text.as_bytes(), "{text}");
+    Ok(())
+}
+
+/// Counts a room's entries.
+fn has_entries(rt: &impl Abort, room: &Room, count: usize, text: &str) {
+    assert_eq!(rt; room.journal().len(), count, "{text}");
+}
+
+/// Compares two registers after the session.
+fn has_the_registers(rt: &impl Abort, room: &Room) {
+    assert_eq!(rt; room.machine().regs().i, 5);
+    assert_eq!(rt; room.machine().regs().hopper, 1);
+}
+
 #[test]
 fn a_journal_is_read_and_written_again(rt: HostRuntime) -> Result<(), Fail> {
     let room = read_journal(rt.alloc(), SESSION.as_bytes())?;
-    assert_eq!(rt; room.journal().len(), 7);
-    assert_eq!(rt; room.machine().regs().i, 5);
-    assert_eq!(rt; room.machine().regs().hopper, 1);
-    let text = write_journal(rt.alloc(), 1_400, room.journal())?;
-    assert!(rt; text.as_slice() == SESSION.as_bytes());
+    has_entries(&rt, &room, 7, SESSION);
+    has_the_registers(&rt, &room);
+    is_written(&rt, rt.alloc(), 1_400, &room, SESSION)?;
+    Ok(())
+}
+
+/// Reads a journal without an entry, and writes it again.
+fn has_no_entry(rt: &impl Abort, alloc: Global, text: &str) -> Result<(), Fail> {
+    let room = read_journal(alloc, text.as_bytes())?;
+    has_entries(rt, &room, 0, text);
+    is_written(rt, alloc, room.machine().core().size(), &room, text)?;
     Ok(())
 }
 
@@ -37,12 +71,23 @@ fn a_journal_without_an_entry_is_its_first_line(rt: HostRuntime) -> Result<(), F
         "JOURNAL1 12000\n",
         "JOURNAL1 16000\n",
     ] {
-        let room = read_journal(rt.alloc(), text.as_bytes())?;
-        assert_eq!(rt; room.journal().len(), 0, "{text}");
-        let again = write_journal(rt.alloc(), room.machine().core().size(), room.journal())?;
-        assert!(rt; again.as_slice() == text.as_bytes(), "{text}");
+        has_no_entry(&rt, rt.alloc(), text)?;
     }
     Ok(())
+}
+
+/// Compares a fault's line and what is wrong with it.
+fn is_fault(rt: &impl Abort, fault: &JournalFault, line: u32, why: Wrong, text: &str) {
+    assert_eq!(rt; fault.line, line, "{text}");
+    assert_eq!(rt; fault.why, why, "{text}");
+}
+
+/// Reads a text, of which this line must be wrong in this way.
+fn is_wrong(rt: &impl Abort, alloc: Global, text: &str, line: u32, why: Wrong) {
+    match read_journal(alloc, text.as_bytes()) {
+        Ok(_) => panic!(rt; "read: {text}"),
+        Err(fault) => is_fault(rt, &fault, line, why, text),
+    }
 }
 
 #[test]
@@ -86,14 +131,22 @@ fn the_first_wrong_line_is_told(rt: HostRuntime) {
             Wrong::Unfinished,
         ),
     ] {
-        match read_journal(rt.alloc(), text.as_bytes()) {
-            Ok(_) => panic!(rt; "read: {text}"),
-            Err(fault) => {
-                assert_eq!(rt; fault.line, line, "{text}");
-                assert_eq!(rt; fault.why, why, "{text}");
-            }
-        }
+        is_wrong(&rt, rt.alloc(), text, line, why);
     }
+}
+
+/// Reads as much of a text as is a journal's, which must leave this as its last line.
+fn leaves(
+    rt: &impl Abort,
+    alloc: Global,
+    text: &str,
+    count: usize,
+    last: &str,
+) -> Result<(), JournalFault> {
+    let (room, rest) = recover_journal(alloc, text.as_bytes())?;
+    has_entries(rt, &room, count, text);
+    assert!(rt; rest == last.as_bytes(), "{text}");
+    Ok(())
 }
 
 #[test]
@@ -109,9 +162,7 @@ fn an_unfinished_last_line_is_handed_out(rt: HostRuntime) -> Result<(), Fail> {
         ("JOURNAL1 1400\n1\t0\tLOAD\tREFUSED 3 READER\n", 1, ""),
         ("JOURNAL1 1400\n1\t0\tLOAD\tREFUSED 3 READER\n2", 1, "2"),
     ] {
-        let (room, rest) = recover_journal(rt.alloc(), text.as_bytes())?;
-        assert_eq!(rt; room.journal().len(), count, "{text}");
-        assert!(rt; rest == last.as_bytes(), "{text}");
+        leaves(&rt, rt.alloc(), text, count, last)?;
     }
     Ok(())
 }
@@ -129,9 +180,21 @@ fn a_fault_has_its_text(rt: HostRuntime) -> Result<(), Fail> {
         (Wrong::Unfinished, "line 12: 8 UNFINISHED"),
     ] {
         let fault = JournalFault { line: 12, why };
-        let told = format!(in rt.alloc(); "{fault}")?;
-        assert_eq!(rt; told.as_str(), text);
+        is_told(&rt, rt.alloc(), fault, text)?;
     }
+    Ok(())
+}
+
+/// Lists a room's journal, which must be these lines.
+fn is_listed(
+    rt: &impl Abort,
+    alloc: Global,
+    room: &Room,
+    view: View,
+    lines: &str,
+) -> Result<(), AllocError> {
+    let list = list_journal(alloc, room.journal(), view)?;
+    assert!(rt; list.as_slice() == lines.as_bytes(), "{lines}");
     Ok(())
 }
 
@@ -155,8 +218,7 @@ fn a_list_has_columns(rt: HostRuntime) -> Result<(), Fail> {
         (None, 8, ""),
         (Some(7), 0, ""),
     ] {
-        let list = list_journal(rt.alloc(), room.journal(), View { seat, from })?;
-        assert!(rt; list.as_slice() == lines.as_bytes(), "{lines}");
+        is_listed(&rt, rt.alloc(), &room, View { seat, from }, lines)?;
     }
     Ok(())
 }

@@ -1,10 +1,26 @@
 //! Lines and what they say.
 
-use super::marked_zero_and_k;
+use super::{is_told, marked_zero_and_k};
 use command_1401::Command;
 use cpu_1401::SwitchName;
+use std::process::Abort;
 use std::test::Fail;
 use text_1401::{LINE_LIMIT, Line, LineFault, fault_text, parse_line};
+
+/// Parses a line, which must say this.
+fn is_parsed(rt: &impl Abort, line: &str, parsed: Result<Line, LineFault>) {
+    assert_eq!(rt; parse_line(line.as_bytes()), parsed, "{line}");
+}
+
+/// Parses a line, which must say this command.
+fn is_command(rt: &impl Abort, line: &str, command: Command) {
+    is_parsed(rt, line, Ok(Line::Command(command)));
+}
+
+/// Compares the bytes of a fault's text.
+fn has_text(rt: &impl Abort, fault: LineFault, text: &str) {
+    assert_eq!(rt; fault_text(fault), text.as_bytes(), "{text}");
+}
 
 #[test]
 fn a_deposit_has_its_cells(rt: HostRuntime) {
@@ -57,15 +73,11 @@ fn a_line_says_a_command(rt: HostRuntime) {
         ("LINE", Command::TakeLine),
         ("  CARD", Command::TakeCard),
     ] {
-        assert_eq!(rt;
-            parse_line(line.as_bytes()),
-            Ok(Line::Command(command)),
-            "{line}"
-        );
+        is_command(&rt, line, command);
     }
-    assert_eq!(rt; parse_line(b"  QUIT "), Ok(Line::Quit));
-    assert_eq!(rt; parse_line(b"    "), Ok(Line::Empty));
-    assert_eq!(rt; parse_line(b""), Ok(Line::Empty));
+    is_parsed(&rt, "  QUIT ", Ok(Line::Quit));
+    is_parsed(&rt, "    ", Ok(Line::Empty));
+    is_parsed(&rt, "", Ok(Line::Empty));
 }
 
 #[test]
@@ -104,7 +116,7 @@ fn a_line_has_its_first_fault(rt: HostRuntime) {
         ("CARD X", LineFault::Extra),
         ("QUIT X", LineFault::Extra),
     ] {
-        assert_eq!(rt; parse_line(line.as_bytes()), Err(fault), "{line}");
+        is_parsed(&rt, line, Err(fault));
     }
 }
 
@@ -137,9 +149,8 @@ fn each_fault_has_its_text(rt: HostRuntime) -> Result<(), Fail> {
         (LineFault::Length, "ERROR 4 LENGTH"),
         (LineFault::Extra, "ERROR 5 EXTRA"),
     ] {
-        let shown = format!(in rt.alloc(); "{fault}")?;
-        assert_eq!(rt; shown.as_str(), text);
-        assert_eq!(rt; fault_text(fault), text.as_bytes(), "{text}");
+        is_told(&rt, rt.alloc(), fault, text)?;
+        has_text(&rt, fault, text);
     }
     Ok(())
 }

@@ -1,5 +1,6 @@
 //! Numbers of several widths, with ample memory, and the texts of faults.
 
+use super::is_told;
 use notation_1401::{CellsFault, put_digits};
 use std::test::Fail;
 
@@ -26,8 +27,7 @@ fn each_fault_has_its_text(rt: HostRuntime) -> Result<(), Fail> {
         (CellsFault::Graphic, "a byte is no graphic"),
         (CellsFault::Length, "no cell, or more than 40"),
     ] {
-        let shown = format!(in rt.alloc(); "{fault}")?;
-        assert_eq!(rt; shown.as_str(), text);
+        is_told(&rt, rt.alloc(), fault, text)?;
     }
     Ok(())
 }
