@@ -1,4 +1,6 @@
 //! What a console reads of a connection.
+ghost use Rattle.std.specs.Prelude.{◌≡◌, []};
+ghost use Rattle.std.specs.Io.Buffered.{reader_buffer, reader_inner};
 
 use std::alloc::Global;
 use std::io::BufReader;
@@ -9,7 +11,12 @@ const READ_AHEAD: usize = 4096;
 
 /// The bytes of a connection, of which as many are read at a time as are there; one by one if there is no memory to hold
 /// them. Those after QUIT are nobody else's, since the connection ends with it, so that none is lost. (own)
-pub fn ahead_of(alloc: Global, stream: &TcpStream) -> BufReader<&TcpStream> {
+pub fn ahead_of(alloc: Global, stream: &TcpStream) -> BufReader<&TcpStream>
+    ensures connection { reader_inner result ≡ stream.entry }
+
+    // Nothing of it is read yet.
+    ensures empty { reader_buffer result ≡ [] }
+{
     if let Ok(reader) = BufReader::with_capacity(alloc, READ_AHEAD, stream) {
         return reader;
     }
