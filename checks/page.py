@@ -351,8 +351,10 @@ def damaged(chance, request):
 
 
 def damaged_requests(room):
-    """Requests damaged by chance, and the machine, the server and its memory after them."""
+    """Requests damaged by chance, and the machine, the server and its memory after them. One that names the seat's count
+    is left out: the port's last digits can come to stand there, and then it is as good as the page's own."""
     chance = random.Random(SEED)
+    good = re.compile(rb"\r\nX-1401-Line:[ \t]*0*%d[ \t]*\r\n" % made(room, 1), re.IGNORECASE)
     port, before, memory = room.port, after(room), room.memory()
     own = f"Host: 127.0.0.1:{port}\r\nOrigin: http://127.0.0.1:{port}\r\nX-1401-Line: 777777\r\n"
     whole = [f"GET / HTTP/1.1\r\n{own}\r\n", f"GET /picture?core=0400&paper=0&after=7 HTTP/1.1\r\n{own}\r\n",
@@ -360,12 +362,15 @@ def damaged_requests(room):
              f"POST /line HTTP/1.1\r\n{own}Transfer-Encoding: chunked\r\n\r\n5\r\nSTART\r\n5\r\n 0400\r\n0\r\n\r\n"]
     found = {}
     for turn in range(DAMAGED):
-        reply = exchange(port, damaged(chance, whole[turn % len(whole)].encode()))
+        request = damaged(chance, whole[turn % len(whole)].encode())
+        if good.search(request):
+            continue
+        reply = exchange(port, request)
         kind = status(reply) if reply else 0
         found[kind] = found.get(kind, 0) + 1
     known = {0, 200, 204, 400, 403, 404, 405, 409, 413, 414, 431, 501, 505}
     wrong = sorted(str(kind) for kind in found if kind not in known)
-    tell(f"{DAMAGED} damaged requests get {len(found)} kinds of answers", ", ".join(wrong))
+    tell(f"{sum(found.values())} damaged requests get {len(found)} kinds of answers", ", ".join(wrong))
     expect_unchanged("they leave the machine as it was", room, before)
     more = room.memory() - memory
     tell("and the program's memory", "" if more <= MORE_KILOBYTES else f"{more} kilobytes more")
