@@ -9,8 +9,8 @@ use std::net::TcpStream;
 /// How many bytes of a connection are read at a time at most.
 const READ_AHEAD: usize = 4096;
 
-/// The bytes of a connection, of which as many are read at a time as are there; one by one if there is no memory to hold
-/// them. Those after QUIT are nobody else's, since the connection ends with it, so that none is lost. (own)
+/// The bytes of a connection, of which as many are read at a time as are there; one by one if there is no memory to
+/// hold them. Those after QUIT are nobody else's, since the connection ends with it, so that none is lost. (own)
 pub fn ahead_of(alloc: Global, stream: &TcpStream) -> BufReader<&TcpStream>
     ensures connection { reader_inner result ≡ stream.entry }
 

@@ -1,5 +1,5 @@
-//! The room that operators share: one machine, the journal that explains it, and the seats from which commands are given,
-//! each in a thread of its own. Glances and pictures wait for nobody.
+//! The room that operators share: one machine, the journal that explains it, and the seats from which commands are
+//! given, each in a thread of its own. Glances and pictures wait for nobody.
 //!
 //! ```text
 //! let (room, mut seats) = SharedRoom::<J, &R>::power_on(rt, alloc, 4000, 2, opened)?;
