@@ -22,6 +22,9 @@ mod published;
 mod publisher;
 mod rule;
 
+// the room with what follows its journal
+mod recording;
+
 // what a seat has and sees, what the lock keeps, and how a room is opened, shared and closed
 mod closing;
 mod locked;

@@ -1,5 +1,5 @@
 //! A room that operators share.
-ghost use Rattle.std.specs.Prelude.{◌≡◌, ◌+◌, ◌<◌, ◌≤◌, ◌↔◌, ◌⊎◌, [], ◌∷◌, ◌++◌, true, false};
+ghost use Rattle.std.specs.Prelude.{◌≡◌, ◌≢◌, ◌+◌, ◌<◌, ◌≤◌, ◌↔◌, ◌⊎◌, [], ◌∷◌, ◌++◌, true, false};
 ghost use Rattle.std.specs.Prelude.{length, drop, vec_capacity, IfOk, IfErr, OnOk, OnErr};
 ghost use Rattle.std.specs.Io.KnownBytes.{Appends};
 ghost use mathlib.Core.List.{IsPrefix};
@@ -18,6 +18,7 @@ use crate::locked::LockedRoom;
 use crate::naming::RoomId;
 use crate::published::{Change, Shown};
 use crate::publisher::Publisher;
+use crate::recording::Recorder;
 use crate::seat::{Seat, Told};
 use command_1401::{Answer, Command};
 use core_1401::CoreFault;
@@ -122,26 +123,11 @@ impl<J: RoomId, R: Wait + Drop, K: Keeper + Drop> SharedRoom<J, R, K> {
         ensures count { (result ≡ Err StartFault.Seats)
             ↔ ((is_core_size size ≡ true) × ((seats ≡ 0) ⊎ (most_seats < seats))) }
     {
-        let room = match Room::power_on(alloc, size) {
-            Ok(room) => Some(room),
-            Err(CoreFault::Size) => return Err(StartFault::Size),
-            Err(CoreFault::Memory) => None,
-        };
-        if seats < 1 || MOST_SEATS < seats {
-            return Err(StartFault::Seats);
-        }
-        let Some(room) = room else {
-            return Err(StartFault::Memory);
-        };
+        let room = open_room(alloc, size, seats)?;
         let (head, front, total, mut whole) = opened.named::<J>();
-        let publisher = open_publisher::<J, R>(rt, alloc, size, front.token(), seats)?;
-        let Ok(mut made) = Vec::with_capacity(alloc, usize::from(seats)) else {
-            return Err(StartFault::Memory);
-        };
-        if !fill_seats(&mut made, &publisher, &front, &mut whole, size, seats) {
-            return Err(StartFault::NoReader);
-        }
-        let locked = LockedRoom::new(room, total, head, front, publisher, keeper, whole, seats);
+        let (publisher, made) = open_seats(rt, alloc, &front, &mut whole, size, seats)?;
+        let recorder = Recorder::new(room, head, front, publisher, keeper);
+        let locked = LockedRoom::new(recorder, total, whole, seats);
         let locked = Mutex::new(locked);
         Ok((SharedRoom { locked }, made))
     }
@@ -285,6 +271,28 @@ impl<J: RoomId, R: Wait + Drop, K: Keeper + Drop> SharedRoom<J, R, K> {
     }
 }
 
+/// A room at power-on, if there are to be from 1 to 8 seats.
+fn open_room(alloc: Global, size: u16, seats: u8) -> Result<Room, StartFault>
+    ensures room { IfOk result (λ room. (room.size ≡ size) × (room.journal ≡ [])) }
+    ensures seats { OnOk result (0 < seats) }
+    ensures size { (result ≡ Err StartFault.Size) ↔ (is_core_size size ≡ false) }
+    ensures count { (result ≡ Err StartFault.Seats)
+        ↔ ((is_core_size size ≡ true) × ((seats ≡ 0) ⊎ (most_seats < seats))) }
+{
+    let room = match Room::power_on(alloc, size) {
+        Ok(room) => Some(room),
+        Err(CoreFault::Size) => return Err(StartFault::Size),
+        Err(CoreFault::Memory) => None,
+    };
+    if seats < 1 || MOST_SEATS < seats {
+        return Err(StartFault::Seats);
+    }
+    let Some(room) = room else {
+        return Err(StartFault::Memory);
+    };
+    Ok(room)
+}
+
 /// The writer over two machines at power-on, with a change that does nothing pending. So its list of changes has grown,
 /// and no command grows it again.
 fn open_publisher<J: RoomId, R: Wait + Drop>(
@@ -332,6 +340,35 @@ fn at_power_on(alloc: Global, size: u16, token: &Reached) -> Result<Shown, CoreF
         count: 0,
         front: token.again(),
     })
+}
+
+/// The writer of a new room and its seats, each with a part of the ledger and a reader.
+fn open_seats<J: RoomId, R: Wait + Drop>(
+    rt: R,
+    alloc: Global,
+    front: &SeenPrefix<J>,
+    whole: &mut Share<J>,
+    size: u16,
+    total: u8,
+) -> Result<(Publisher<J, R>, Vec<Seat<J>>), StartFault>
+    requires front { front.now ≡ [] }
+    requires whole { (whole.old.parts ≡ total) × (whole.old.amount ≡ 0) }
+    requires size { size ≡ J.size }
+    requires seats { 0 < total }
+    ensures published { IfOk result (λ made. Publishes J.book J.size made.0.writer.desk.shown.value
+        (drop made.0.writer.behind made.0.writer.log.items) []) }
+    ensures seats { IfOk result (λ made. made.1.items ≡ newcomers total) }
+    ensures whole { OnOk result ((whole.new.parts ≡ 0) × (whole.new.amount ≡ 0)) }
+    ensures err { OnErr result ((result ≢ Err StartFault.Size) × (result ≢ Err StartFault.Seats)) }
+{
+    let publisher = open_publisher::<J, R>(rt, alloc, size, front.token(), total)?;
+    let Ok(mut seats) = Vec::with_capacity(alloc, usize::from(total)) else {
+        return Err(StartFault::Memory);
+    };
+    if !fill_seats(&mut seats, &publisher, front, whole, size, total) {
+        return Err(StartFault::NoReader);
+    }
+    Ok((publisher, seats))
 }
 
 /// Fills in the seats of a new room, each with a part of the ledger and a reader. False if there is no place for a

@@ -14,5 +14,5 @@ returns-clause-settled g c =
     let parts = merged.parts.0 ∙ (all_once n seats c.requires.back few ∙ sym c.requires.parts) in
     let len = ap (λ (account : Account). length account.journal) c.self.view_is in
     let made : made_of seats ≡ length c.args.self.journal =
-    sym merged.amount ∙ (c.audit.ensures.whole parts ∙ (c.self.invariant.2 ∙ len)) in
+    sym merged.amount ∙ (c.audit.ensures.whole parts ∙ (c.self.invariant.0 ∙ len)) in
     settled n c.args.self.journal seats c.requires.back few c.requires.fit made

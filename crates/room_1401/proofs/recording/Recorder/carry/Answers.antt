@@ -1,0 +1,50 @@
+-- One command more: what is published, and what is kept.
+use Rattle.std.proofs.Common.{◌≡◌, ap, sym, ◌∙◌, subst, false, List, [], ◌∷◌, ◌++◌, drop}
+use Rattle.std.specs.Io.KnownBytes.{Appends}
+use Rattle.lone_room_1401.specs.Journal.{is_full, pairs_of}
+use Rattle.lone_room_1401.specs.Kept.{kept_text}
+use Rattle.lone_room_1401.specs.declared.entry.Entry.{Entry}
+use Rattle.lone_room_1401.specs.declared.entry.SeatedCommand.{SeatedCommand}
+use Rattle.room_1401.specs.Rule.{Publishes}
+use Rattle.lone_room_1401.proofs.KeptLemmas.{kept_before}
+use Rattle.room_1401.proofs.recording.Recorder.carry.Goals as goal
+
+pub record-requires : goal.record-requires
+record-requires g c =
+    let room = c.self.inside.room in
+    let now = c.reserve.new.room in
+    let journal : now.journal ≡ room.journal = c.reserve.ensures.room.0 in
+    let size : now.size ≡ room.size = c.reserve.ensures.room.1 in
+    let writer = c.self.inside.publisher.writer in
+    let pending = drop writer.behind writer.log.items in
+    let form = g.K.Keeper.form in
+    let first = g.K.Keeper.first in
+    let kept = g.K.Keeper.kept c.self.inside.keeper in
+    let failed = g.K.Keeper.has_failed c.self.inside.keeper in
+    let good : failed ≡ false = sym c.has_failed.ensures ∙ c.if-has_failed.false in
+    let text : Appends first kept (kept_text form room.size room.journal) =
+    kept_before form room.size room.journal failed first kept c.self.invariant.3 good in
+    record {
+      size = size ∙ c.self.invariant.0;
+      spare = c.in_ok-front.ensures.spare;
+      not_full = ap is_full journal ∙ c.in_ok-front.ensures.not_full;
+      front = c.in_ok-front.ensures.front
+          ∙ ap (λ (list : List SeatedCommand). list ++ c.new-next.result ∷ [])
+          (c.self.invariant.1 ∙ ap pairs_of (sym journal));
+      published = subst (λ (entries : List Entry). Publishes g.J.RoomId.book g.J.RoomId.size writer.desk.shown.value
+          pending (pairs_of entries)) (sym journal) c.self.invariant.2;
+      good = good;
+      kept = subst (λ n. Appends first kept (kept_text form n now.journal)) (sym size)
+          (subst (λ (entries : List Entry). Appends first kept (kept_text form room.size entries)) (sym journal) text);
+    }
+
+pub show_kept-requires : goal.show_kept-requires
+show_kept-requires g c = c.record.ensures.published.follows
+
+pub invariant_of-self-2 : goal.invariant_of-self-2
+invariant_of-self-2 g c = (
+  c.record.ensures.size,
+  c.in_ok-carried.ensures.front,
+  c.show_kept.ensures (pairs_of c.record.new.room.journal) c.record.ensures.published,
+  c.record.ensures.kept,
+)

@@ -1,0 +1,27 @@
+-- The text that is kept has the entry's line, or breaks off in it.
+use Rattle.std.proofs.Common.{◌≡◌, ap, sym, ◌∙◌, subst, arith, List, [], ◌∷◌, ◌++◌, length, length-append}
+use Rattle.lone_room_1401.specs.Kept.{IsKeptAs}
+use Rattle.lone_room_1401.specs.declared.entry.Entry.{Entry}
+use Rattle.lone_room_1401.proofs.KeptLemmas.{OneMore, kept_or_broken}
+use Rattle.room_1401.proofs.recording.carry_kept.Goals as goal
+
+pub returns-clause-kept : goal.returns-clause-kept
+returns-clause-kept g c =
+    let form = g.K.Keeper.form in
+    let first = g.K.Keeper.first in
+    let room = c.args.room.now in
+    let kept = g.K.Keeper.kept c.args.keeper.now in
+    let keeps = g.K.Keeper.kept c.keep.new.self in
+    let failed = g.K.Keeper.has_failed c.keep.new.self in
+    let now : List Entry = c.carry.new.self.journal in
+    let last : Entry = c.new-entry.result in
+    let journal : now ≡ room.journal ++ last ∷ [] =
+    c.in-Ok.ensures.recorded ∙ ap (λ (e : Entry). room.journal ++ e ∷ []) (sym c.new-entry.ensures) in
+    let more : OneMore form room.size c.args.number room.journal now last first kept = record {
+      before = c.requires.kept;
+      journal_is = journal;
+      number_is = omega (arith, c.requires.number, ap length journal, length-append room.journal (last ∷ []));
+    } in
+    subst (λ n. IsKeptAs form n now failed first keeps) (sym c.in-Ok.ensures.size)
+    (kept_or_broken form room.size c.args.number room.journal now last first kept keeps failed c.keep.result more
+    c.keep.ensures.line c.keep.ensures.part c.keep.ensures.good c.keep.ensures.failed)

@@ -1,0 +1,225 @@
+//! A room with all that follows its journal: the history of its commands, what is published, and what is kept.
+ghost use Rattle.std.specs.Prelude.{◌≡◌, ◌+◌, ◌<◌, ◌≤◌, [], ◌∷◌, ◌++◌, true, false, length, drop, Some};
+ghost use Rattle.std.specs.Prelude.{IfOk, OnOk, OnErr};
+ghost use Rattle.std.specs.Io.KnownBytes.{Appends};
+ghost use Rattle.lone_room_1401.specs.Journal.{IsLegal, answer_to, entry, is_full, most_entries, pairs_of};
+ghost use Rattle.lone_room_1401.specs.Kept.{IsKeptAs, kept_text};
+ghost use Rattle.room_1401.specs.Rule.{Publishes};
+
+use crate::history::{Head, SeenPrefix};
+use crate::naming::RoomId;
+use crate::published::Change;
+use crate::publisher::Publisher;
+use command_1401::Command;
+use lone_room_1401::{Carried, Entry, Keeper, Room, RoomFault, SeatedCommand};
+use std::marker::Model;
+use std::sync::Wait;
+
+/// A room with the history, the writer and the keeper. The history and what is published are the journal's, and what is
+/// kept is its text, or breaks off in the last line after a failed write. Contracts see the room.
+#[derive(Drop)]
+pub struct Recorder<J: RoomId, R: Wait + Drop, K: Keeper + Drop> {
+    room: Room,
+    head: Head<J>,
+    front: SeenPrefix<J>,
+    publisher: Publisher<J, R>,
+    keeper: K,
+}
+
+impl<J: RoomId, R: Wait + Drop, K: Keeper + Drop> Model for Recorder<J, R, K> {
+    ghost use Rattle.std.specs.Prelude.{◌≡◌, drop};
+    ghost use Rattle.lone_room_1401.specs.Account.{Account};
+    ghost use Rattle.lone_room_1401.specs.Journal.{pairs_of};
+    ghost use Rattle.lone_room_1401.specs.Kept.{IsKeptAs};
+    ghost use Rattle.room_1401.specs.Rule.{Publishes};
+
+    ghost Value = { Account };
+
+    ghost view = { λ it. it.room };
+
+    ghost invariant = { λ it.
+        (it.room.size ≡ J.size)
+        × (it.front ≡ pairs_of it.room.journal)
+        × Publishes J.book J.size it.publisher.writer.desk.shown.value
+        (drop it.publisher.writer.behind it.publisher.writer.log.items) (pairs_of it.room.journal)
+        × IsKeptAs K.form it.room.size it.room.journal (K.has_failed it.keeper) K.first (K.kept it.keeper) };
+}
+
+impl<J: RoomId, R: Wait + Drop, K: Keeper + Drop> Recorder<J, R, K> {
+    /// Of a new room.
+    pub(crate) fn new(
+        room: Room,
+        head: Head<J>,
+        front: SeenPrefix<J>,
+        publisher: Publisher<J, R>,
+        keeper: K,
+    ) -> Recorder<J, R, K>
+        requires room { (room.size ≡ J.size) × (room.journal ≡ []) }
+        requires front { front ≡ [] }
+        requires published { Publishes J.book J.size publisher.writer.desk.shown.value
+            (drop publisher.writer.behind publisher.writer.log.items) [] }
+        requires good { K.has_failed keeper ≡ false }
+        requires kept { Appends K.first (K.kept keeper) (kept_text K.form room.size []) }
+        ensures { result.journal ≡ [] }
+    {
+        Recorder {
+            room,
+            head,
+            front,
+            publisher,
+            keeper,
+        }
+    }
+
+    /// All commands of the journal.
+    pub(crate) fn front(&self) -> &SeenPrefix<J>
+        ensures { result.now ≡ pairs_of self.now.journal }
+    {
+        &self.front
+    }
+
+    /// Carries a command out for a seat, records it with its answer, keeps the entry, and shows what the command did if
+    /// the entry is kept. All that can be refused is asked for before the machine moves.
+    pub(crate) fn carry(&mut self, seat: u8, command: Command) -> Result<Carried, RoomFault>
+        ensures answer { IfOk result (λ carried. carried.answer ≡ answer_to J.size self.old.journal command) }
+        ensures recorded { IfOk result (λ carried.
+            self.new.journal ≡ self.old.journal ++ entry seat command carried.answer ∷ []) }
+        ensures err { OnErr result (self.new.journal ≡ self.old.journal) }
+        ensures full { result ≡ Err RoomFault.JournalFull → length self.old.journal ≡ most_entries }
+        ensures memory { result ≡ Err RoomFault.Memory → length self.old.journal < most_entries }
+    {
+        if self.keeper.has_failed() {
+            return Err(RoomFault::Unkept);
+        }
+        let next = SeatedCommand::new(seat, &command);
+        let front = reserve(&mut self.room, &self.head, &self.front, &next)?;
+        let carried = record(
+            &mut self.room,
+            &mut self.publisher,
+            &mut self.keeper,
+            &front,
+            &next,
+        )?;
+        self.publisher.show_kept(carried.kept);
+        self.front = front;
+        Ok(carried)
+    }
+
+    /// Ends the writer, and gives the room and its keeper.
+    pub(crate) fn into_room(self) -> (Room, K)
+        ensures room { (result.0.journal ≡ self.journal) × (result.0.size ≡ J.size) }
+        ensures legal { IsLegal J.size result.0.journal }
+        ensures kept { IsKeptAs K.form J.size result.0.journal (K.has_failed result.1) K.first (K.kept result.1) }
+    {
+        let Recorder {
+            room,
+            head: _head,
+            front: _front,
+            publisher: _publisher,
+            keeper,
+        } = self;
+        let _journal = room.journal();
+        (room, keeper)
+    }
+}
+
+/// Makes room in the journal for one command more, and adds it to the history. Gives what the history has then reached.
+fn reserve<J: RoomId>(
+    room: &mut Room,
+    head: &Head<J>,
+    front: &SeenPrefix<J>,
+    next: &SeatedCommand,
+) -> Result<SeenPrefix<J>, RoomFault>
+    requires { front.now ≡ pairs_of room.old.journal }
+    ensures front { IfOk result (λ more. more ≡ front.now ++ next.now ∷ []) }
+    ensures spare { OnOk result (0 < room.new.spare) }
+    ensures not_full { OnOk result (is_full room.old.journal ≡ false) }
+    ensures room { (room.new.journal ≡ room.old.journal) × (room.new.size ≡ room.old.size) }
+    ensures full { result ≡ Err RoomFault.JournalFull → length room.old.journal ≡ most_entries }
+    ensures memory { result ≡ Err RoomFault.Memory → length room.old.journal < most_entries }
+{
+    room.reserve()?;
+    let mut more = front.again();
+    if !more.extend(head, *next) {
+        return Err(RoomFault::NoReading);
+    }
+    Ok(more)
+}
+
+/// Carries the command out that leads to this front, records it with its answer, keeps the entry, and leaves the change
+/// to be shown. If it is refused, the machine has not moved.
+fn record<J: RoomId, R: Wait + Drop, K: Keeper>(
+    room: &mut Room,
+    publisher: &mut Publisher<J, R>,
+    keeper: &mut K,
+    front: &SeenPrefix<J>,
+    next: &SeatedCommand,
+) -> Result<Carried, RoomFault>
+    requires size { room.old.size ≡ J.size }
+    requires spare { 0 < room.old.spare }
+    requires not_full { is_full room.old.journal ≡ false }
+    requires front { front.now ≡ pairs_of room.old.journal ++ next.now ∷ [] }
+    requires published { Publishes J.book J.size publisher.old.writer.desk.shown.value
+        (drop publisher.old.writer.behind publisher.old.writer.log.items) (pairs_of room.old.journal) }
+    requires good { K.has_failed keeper.old ≡ false }
+    requires kept { Appends K.first (K.kept keeper.old) (kept_text K.form room.old.size room.old.journal) }
+    ensures answer { IfOk result (λ carried. carried.answer ≡ answer_to J.size room.old.journal next.now.command) }
+    ensures recorded { IfOk result (λ carried.
+        room.new.journal ≡ room.old.journal ++ entry next.now.seat next.now.command carried.answer ∷ []) }
+    ensures front { OnOk result (front.now ≡ pairs_of room.new.journal) }
+    ensures size { room.new.size ≡ J.size }
+    ensures published { Publishes J.book J.size publisher.new.writer.desk.shown.value
+        (drop publisher.new.writer.behind publisher.new.writer.log.items) (pairs_of room.new.journal) }
+    ensures kept { IsKeptAs K.form room.new.size room.new.journal (K.has_failed keeper.new) K.first
+        (K.kept keeper.new) }
+    ensures err { OnErr result (room.new.journal ≡ room.old.journal) }
+    ensures memory { OnErr result (result ≡ Err RoomFault.Memory) }
+{
+    let Ok(()) = publisher.append(change_to(&next.command, front)) else {
+        return Err(RoomFault::Memory);
+    };
+    let carried = carry_kept(room, keeper, front.len(), next);
+    let _replayed = room.machine();
+    Ok(carried)
+}
+
+/// Carries a command out, records it with its answer, and keeps the entry, which has this number.
+fn carry_kept<K: Keeper>(
+    room: &mut Room,
+    keeper: &mut K,
+    number: u64,
+    next: &SeatedCommand,
+) -> Carried
+    requires spare { 0 < room.old.spare }
+    requires not_full { is_full room.old.journal ≡ false }
+    requires number { number ≡ length room.old.journal + 1 }
+    requires good { K.has_failed keeper.old ≡ false }
+    requires kept { Appends K.first (K.kept keeper.old) (kept_text K.form room.old.size room.old.journal) }
+    ensures answer { result.answer ≡ answer_to room.old.size room.old.journal next.now.command }
+    ensures recorded { room.new.journal ≡ room.old.journal ++ entry next.now.seat next.now.command result.answer ∷ [] }
+    ensures size { room.new.size ≡ room.old.size }
+    ensures kept { IsKeptAs K.form room.new.size room.new.journal (K.has_failed keeper.new) K.first
+        (K.kept keeper.new) }
+{
+    let Ok(answer) = room.carry(next.seat, next.command) else {
+        unreachable!();
+    };
+    let entry = Entry::new(next.seat, &next.command, &answer);
+    let kept = keeper.keep(number, &entry).is_ok();
+    Carried { answer, kept }
+}
+
+/// The change by a command that leads to the commands of this front.
+fn change_to<J: RoomId>(command: &Command, front: &SeenPrefix<J>) -> Change
+    ensures command { result.command ≡ Some command.now }
+    ensures count { result.count ≡ length front.now }
+    ensures bound { result.count ≤ most_entries }
+    ensures list { result.front.log ≡ front.now }
+    ensures book { result.front.book ≡ J.book }
+{
+    Change {
+        command: Some(*command),
+        count: front.len(),
+        front: front.token(),
+    }
+}
