@@ -8,20 +8,29 @@ mod notation;
 
 use bcd_1401::{Cell, Char};
 use core_1401::Cells;
-use std::alloc::{AllocError, Global};
-use std::fmt::Display;
+use std::alloc::Global;
+use std::fmt::{Debug, Display};
 use std::process::Abort;
 
+/// Compares what a row gives with what it should. If they differ, the row is told.
+fn expect_same<T: PartialEq + Debug>(rt: &impl Abort, found: &T, wanted: &T, row: &str) {
+    assert_eq!(rt; *found, *wanted, "{row}");
+}
+
+/// Compares bytes with the text that they should be. If they differ, both are told.
+fn expect_text(rt: &impl Abort, found: &[u8], wanted: &str) {
+    let is_same = found == wanted.as_bytes();
+    assert!(rt;
+        is_same,
+        "{} is told in place of {wanted}",
+        found.escape_ascii()
+    );
+}
+
 /// Tells a fault, which must be this text.
-fn is_told(
-    rt: &impl Abort,
-    alloc: Global,
-    fault: impl Display + Drop,
-    text: &str,
-) -> Result<(), AllocError> {
-    let told = format!(in alloc; "{fault}")?;
-    assert_eq!(rt; told.as_str(), text);
-    Ok(())
+fn is_told(rt: &impl Abort, alloc: Global, fault: impl Display + Drop, text: &str) {
+    let told = format!(in alloc; "{fault}").expect(rt, text);
+    expect_text(rt, told.as_bytes(), text);
 }
 
 /// Zero with a word mark, and K.

@@ -1,6 +1,6 @@
 //! Commands and their texts, which are read again.
 
-use super::marked_zero_and_k;
+use super::{expect_same, expect_text, marked_zero_and_k};
 use bcd_1401::Char;
 use command_1401::Command;
 use cpu_1401::SwitchName;
@@ -19,17 +19,14 @@ fn zero_in_column_two() -> Option<Card> {
 /// Writes a command, which must have this text.
 fn is_written(rt: &impl Abort, alloc: Global, command: &Command, text: &str) {
     let mut written = Vec::new(alloc);
-    assert!(rt; put_command(&mut written, command).is_ok());
-    assert!(rt; written.as_slice() == text.as_bytes(), "{text}");
+    put_command(&mut written, command).expect(rt, text);
+    expect_text(rt, written.as_slice(), text);
 }
 
 /// Reads a line, which must say this command.
-fn is_read(rt: &impl Abort, command: Command, text: &str) {
-    assert_eq!(rt;
-        parse_line(text.as_bytes()),
-        Ok(Line::Command(command)),
-        "{text}"
-    );
+fn is_read(rt: &impl Abort, command: &Command, text: &str) {
+    let line = Ok(Line::Command(*command));
+    expect_same(rt, &parse_line(text.as_bytes()), &line, text);
 }
 
 /// Reads a line, which must say nothing.
@@ -37,59 +34,79 @@ fn is_not_read(rt: &impl Abort, text: &str) {
     assert!(rt; parse_line(text.as_bytes()).is_err(), "{text}");
 }
 
+/// Writes a command, which must have this text and be read from it.
+fn is_both(rt: &impl Abort, alloc: Global, command: &Command, text: &str) {
+    is_written(rt, alloc, command, text);
+    is_read(rt, command, text);
+}
+
+/// Commands, and their texts.
+const COMMANDS: [(Command, &str); 9] = [
+    (
+        Command::Examine {
+            address: 15_999,
+            count: 40,
+        },
+        "EXAMINE 15999 40",
+    ),
+    (Command::Registers, "REGS"),
+    (Command::SetI { address: 5 }, "START 0005"),
+    (
+        Command::Switch {
+            n: SwitchName::G,
+            on: true,
+        },
+        "SWITCH G ON",
+    ),
+    (
+        Command::Switch {
+            n: SwitchName::A,
+            on: false,
+        },
+        "SWITCH A OFF",
+    ),
+    (Command::LoadKey, "LOAD"),
+    (Command::Run { limit: 9_999_999 }, "RUN 9999999"),
+    (Command::TakeLine, "LINE"),
+    (Command::TakeCard, "CARD"),
+];
+
+/// Writes commands, which must have these texts and be read from them.
+fn are_both(rt: &impl Abort, alloc: Global, rows: &[(Command, &str)]) {
+    for (command, text) in rows {
+        is_both(rt, alloc, command, text);
+    }
+}
+
 #[test]
 fn a_command_has_its_text_and_is_read_from_it(rt: HostRuntime) {
     let cells = marked_zero_and_k().expect(&rt, "two cells");
+    let deposit = Command::Deposit {
+        address: 700,
+        cells,
+    };
+    is_both(&rt, rt.alloc(), &deposit, "DEPOSIT 0700 ~0K");
     let card = zero_in_column_two().expect(&rt, "a card");
-    for (command, text) in [
-        (
-            Command::Deposit {
-                address: 700,
-                cells,
-            },
-            "DEPOSIT 0700 ~0K",
-        ),
-        (
-            Command::Examine {
-                address: 15_999,
-                count: 40,
-            },
-            "EXAMINE 15999 40",
-        ),
-        (Command::Registers, "REGS"),
-        (Command::SetI { address: 5 }, "START 0005"),
-        (
-            Command::Switch {
-                n: SwitchName::G,
-                on: true,
-            },
-            "SWITCH G ON",
-        ),
-        (
-            Command::Switch {
-                n: SwitchName::A,
-                on: false,
-            },
-            "SWITCH A OFF",
-        ),
-        (Command::Feed { card }, "FEED  0"),
-        (Command::LoadKey, "LOAD"),
-        (Command::Run { limit: 9_999_999 }, "RUN 9999999"),
-        (Command::TakeLine, "LINE"),
-        (Command::TakeCard, "CARD"),
-    ] {
-        is_written(&rt, rt.alloc(), &command, text);
-        is_read(&rt, command, text);
+    is_both(&rt, rt.alloc(), &Command::Feed { card }, "FEED  0");
+    are_both(&rt, rt.alloc(), &COMMANDS);
+}
+
+/// Writes commands, which must have these texts, and not be read from them.
+fn are_only_written(rt: &impl Abort, alloc: Global, rows: &[(Command, &str)]) {
+    for (command, text) in rows {
+        is_written(rt, alloc, command, text);
+        is_not_read(rt, text);
     }
 }
 
 #[test]
 fn what_no_line_says_is_written_and_not_read(rt: HostRuntime) {
-    for (command, text) in [
-        (Command::SetI { address: 16_000 }, "START 16000"),
-        (Command::Run { limit: 10_000_000 }, "RUN 10000000"),
-    ] {
-        is_written(&rt, rt.alloc(), &command, text);
-        is_not_read(&rt, text);
-    }
+    are_only_written(
+        &rt,
+        rt.alloc(),
+        &[
+            (Command::SetI { address: 16_000 }, "START 16000"),
+            (Command::Run { limit: 10_000_000 }, "RUN 10000000"),
+        ],
+    );
 }
