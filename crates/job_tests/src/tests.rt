@@ -8,7 +8,29 @@ mod traces;
 use bcd_1401::Cell;
 use cpu_1401::Machine;
 use notation_1401::read_cells;
+use std::fmt::{Debug, Display};
 use std::process::Abort;
+
+/// Compares what a row gives with what it should. If they differ, the row is told.
+fn expect_same<T: PartialEq + Debug>(
+    rt: &impl Abort,
+    found: &T,
+    wanted: &T,
+    row: impl Display + Drop,
+) {
+    assert_eq!(rt; *found, *wanted, "{row}");
+}
+
+/// Compares bytes with those that they should be. If they differ, both are told.
+fn expect_bytes(rt: &impl Abort, found: &[u8], wanted: &[u8]) {
+    let is_same = found == wanted;
+    assert!(rt;
+        is_same,
+        "{} in place of {}",
+        found.escape_ascii(),
+        wanted.escape_ascii()
+    );
+}
 
 /// A machine with this many places, at power-on.
 fn machine_of(rt: &(impl Abort + AllocGlobal), size: u16) -> Machine {

@@ -2,16 +2,15 @@
 
 ghost use Rattle.std.specs.Prelude.{[], true};
 
-use super::{machine_of, machine_with};
+use super::{expect_bytes, expect_same, machine_of, machine_with};
 use bcd_1401::Char;
 use cpu_1401::{Machine, Stop};
 use devices_1401::{Card, PrintLine};
 use job_1401::{
-    Cards, Collected, Deck, DeckFault, JobEnd, JobFault, Output, Place, press_load_key, put_cards,
-    put_paper, read_deck, run_job,
+    Cards, Collected, Deck, DeckFault, JobEnd, JobFault, Output, Place, ReadDeck, press_load_key,
+    put_cards, put_paper, read_deck, run_job,
 };
 use std::process::Abort;
-use std::test::Fail;
 
 /// Columns 1 to 4 of each card are listed and punched, until it was the last one.
 const LIST_AND_PUNCH: &[u8] = b"~,001101~1~M004204~M004104~2~4~B533A~B507~.~ ";
@@ -53,18 +52,18 @@ fn expect_end<R: Cards, W: Output>(
     wanted: Result<JobEnd, JobFault>,
 ) {
     let end = run_job(machine, cards, limit, output);
-    assert_eq!(rt; end, wanted, "{limit}");
+    expect_same(rt, &end, &wanted, limit);
 }
 
 /// Compares the I register.
 fn expect_i(rt: &impl Abort, machine: &Machine, wanted: u16) {
-    assert_eq!(rt; machine.regs().i, wanted);
+    expect_same(rt, &machine.regs().i, &wanted, "I");
 }
 
 /// Compares the I register and how many cards are in the hopper.
 fn expect_at(rt: &impl Abort, machine: &Machine, wanted: (u16, u16)) {
     let regs = machine.regs();
-    assert_eq!(rt; (regs.i, regs.hopper), wanted);
+    expect_same(rt, &(regs.i, regs.hopper), &wanted, "I and hopper");
 }
 
 /// Compares a printed line with the one of this number, counted from 0 on.
@@ -74,62 +73,85 @@ fn expect_line(rt: &impl Abort, line: &PrintLine, number: u16) {
         line: (number % 66 + 1) as u8,
         text: digits(number),
     };
-    assert_eq!(rt; *line, printed, "{number}");
+    expect_same(rt, line, &printed, number);
 }
 
 /// Compares printed lines with so many numbered ones.
 fn expect_lines(rt: &impl Abort, lines: &[PrintLine], count: u16) {
-    assert_eq!(rt; lines.len(), usize::from(count));
-    for number in 0..count {
-        expect_line(rt, &lines[usize::from(number)], number);
+    expect_same(rt, &lines.len(), &usize::from(count), "lines");
+    for (line, number) in lines.iter().zip(0..count) {
+        expect_line(rt, line, number);
     }
+}
+
+/// Runs a job with these cards, compares how it ends, and returns what is put out.
+fn output_of(
+    rt: &(impl Abort + AllocGlobal),
+    machine: &mut Machine,
+    cards: &[Card],
+    limit: u32,
+    wanted: JobEnd,
+) -> Collected {
+    let mut deck = Deck::new(cards);
+    let mut output = Collected::new(rt.alloc());
+    expect_end(rt, machine, &mut deck, limit, &mut output, Ok(wanted));
+    output
+}
+
+/// Compares what is put out with so many numbered lines, and with cards.
+fn expect_output(rt: &impl Abort, output: &Collected, count: u16, cards: &[Card]) {
+    expect_same(rt, &output.cards.as_slice(), &cards, "cards");
+    expect_lines(rt, output.lines.as_slice(), count);
+}
+
+/// Lists and punches a long deck, and compares all that is put out.
+fn expect_long(rt: &(impl Abort + AllocGlobal), machine: &mut Machine, cards: &[Card]) {
+    let stop = Stop::Halt;
+    let end = JobEnd { steps: 8_422, stop };
+    let output = output_of(rt, machine, cards, 1_000_000, end);
+    expect_i(rt, machine, 534);
+    expect_output(rt, &output, 1_203, cards);
 }
 
 #[test]
 fn a_long_deck_is_read_printed_and_punched(rt: HostRuntime) {
     let mut machine = lister(&rt);
     let cards = numbered(&rt, 1_203);
-    let mut deck = Deck::new(cards.as_slice());
-    let mut output = Collected::new(rt.alloc());
-    let stop = Stop::Halt;
-    expect_end(
-        &rt,
-        &mut machine,
-        &mut deck,
-        1_000_000,
-        &mut output,
-        Ok(JobEnd { steps: 8_422, stop }),
-    );
-    expect_i(&rt, &machine, 534);
-    assert_eq!(rt; output.cards.as_slice(), cards.as_slice());
-    expect_lines(&rt, output.lines.as_slice(), 1_203);
+    expect_long(&rt, &mut machine, cards.as_slice());
 }
 
 /// Lists and punches so many cards in at most so many steps, and compares how that ends.
-fn expect_listed(rt: &(impl Abort + AllocGlobal), limit: u32, count: u16, steps: u32, stop: Stop) {
+fn expect_listed(rt: &(impl Abort + AllocGlobal), limit: u32, count: u16, wanted: JobEnd) {
     let mut machine = lister(rt);
     let cards = numbered(rt, count);
-    let mut deck = Deck::new(cards.as_slice());
-    let mut output = Collected::new(rt.alloc());
-    expect_end(
-        rt,
-        &mut machine,
-        &mut deck,
-        limit,
-        &mut output,
-        Ok(JobEnd { steps, stop }),
-    );
+    output_of(rt, &mut machine, cards.as_slice(), limit, wanted);
+}
+
+/// The same for each limit, number of cards, number of steps, and stop.
+fn expect_all_listed(rt: &(impl Abort + AllocGlobal), rows: &[(u32, u16, u32, Stop)]) {
+    for (limit, count, steps, stop) in rows {
+        let end = JobEnd {
+            steps: *steps,
+            stop: *stop,
+        };
+        expect_listed(rt, *limit, *count, end);
+    }
 }
 
 #[test]
 fn a_halt_as_the_last_step_is_told(rt: HostRuntime) {
-    expect_listed(&rt, 0, 3, 0, Stop::Limit);
-    expect_listed(&rt, 21, 3, 21, Stop::Limit);
-    expect_listed(&rt, 22, 3, 22, Stop::Halt);
-    expect_listed(&rt, 500, 71, 498, Stop::Halt);
-    expect_listed(&rt, 500, 72, 500, Stop::Limit);
-    expect_listed(&rt, 501, 72, 501, Stop::Limit);
-    expect_listed(&rt, 10, 0, 1, Stop::Reader);
+    expect_all_listed(
+        &rt,
+        &[
+            (0, 3, 0, Stop::Limit),
+            (21, 3, 21, Stop::Limit),
+            (22, 3, 22, Stop::Halt),
+            (500, 71, 498, Stop::Halt),
+            (500, 72, 500, Stop::Limit),
+            (501, 72, 501, Stop::Limit),
+            (10, 0, 1, Stop::Reader),
+        ],
+    );
 }
 
 /// A reader that is jammed.
@@ -166,28 +188,24 @@ impl Output for Broken {
     }
 }
 
+/// Runs a job with a jammed reader, and compares how it ends.
+fn expect_jammed(rt: &(impl Abort + AllocGlobal), machine: &mut Machine, wanted: JobFault) {
+    let mut output = Collected::new(rt.alloc());
+    expect_end(rt, machine, &mut Jammed, 10, &mut output, Err(wanted));
+}
+
+/// Runs a job of three cards with a broken printer and punch, and compares how it ends.
+fn expect_broken(rt: &(impl Abort + AllocGlobal), machine: &mut Machine, wanted: JobFault) {
+    let cards = numbered(rt, 3);
+    let mut deck = Deck::new(cards.as_slice());
+    expect_end(rt, machine, &mut deck, 10, &mut Broken, Err(wanted));
+}
+
 #[test]
 fn a_failed_read_and_a_failed_write_are_told_apart(rt: HostRuntime) {
     let mut machine = lister(&rt);
-    let mut output = Collected::new(rt.alloc());
-    expect_end(
-        &rt,
-        &mut machine,
-        &mut Jammed,
-        10,
-        &mut output,
-        Err(JobFault::Read),
-    );
-    let cards = numbered(&rt, 3);
-    let mut deck = Deck::new(cards.as_slice());
-    expect_end(
-        &rt,
-        &mut machine,
-        &mut deck,
-        10,
-        &mut Broken,
-        Err(JobFault::Write),
-    );
+    expect_jammed(&rt, &mut machine, JobFault::Read);
+    expect_broken(&rt, &mut machine, JobFault::Write);
 }
 
 /// Presses the load key, and compares what it finds.
@@ -197,28 +215,31 @@ fn expect_loaded<R: Cards>(
     cards: &mut R,
     wanted: Result<bool, JobFault>,
 ) {
-    assert_eq!(rt; press_load_key(machine, cards), wanted);
+    expect_same(rt, &press_load_key(machine, cards), &wanted, "the load key");
+}
+
+/// The deck of a text.
+fn deck_of(rt: &(impl Abort + AllocGlobal), text: &[u8]) -> ReadDeck {
+    read_deck(rt.alloc(), text).expect(rt, "a deck")
+}
+
+/// Loads the first of two cards, which moves on to the second one and halts.
+fn expect_first_card(rt: &(impl Abort + AllocGlobal), machine: &mut Machine, cards: &[Card]) {
+    let mut deck = Deck::new(cards);
+    let mut output = Collected::new(rt.alloc());
+    expect_loaded(rt, machine, &mut deck, Ok(true));
+    expect_at(rt, machine, (1, 1));
+    let stop = Stop::Halt;
+    let end = Ok(JobEnd { steps: 2, stop });
+    expect_end(rt, machine, &mut deck, 10, &mut output, end);
+    expect_at(rt, machine, (9, 1));
 }
 
 #[test]
-fn the_load_key_reads_the_first_card(rt: HostRuntime) -> Result<(), Fail> {
-    let read = read_deck(rt.alloc(), b",008009.\nREST\n")?;
+fn the_load_key_reads_the_first_card(rt: HostRuntime) {
+    let read = deck_of(&rt, b",008009.\nREST\n");
     let mut machine = machine_of(&rt, 1_400);
-    let mut deck = Deck::new(read.cards.as_slice());
-    let mut output = Collected::new(rt.alloc());
-    expect_loaded(&rt, &mut machine, &mut deck, Ok(true));
-    expect_at(&rt, &machine, (1, 1));
-    let stop = Stop::Halt;
-    expect_end(
-        &rt,
-        &mut machine,
-        &mut deck,
-        10,
-        &mut output,
-        Ok(JobEnd { steps: 2, stop }),
-    );
-    expect_at(&rt, &machine, (9, 1));
-    Ok(())
+    expect_first_card(&rt, &mut machine, read.cards.as_slice());
 }
 
 /// Presses the load key, and compares what it finds; the registers stay as they are.
@@ -230,7 +251,7 @@ fn expect_not_loaded<R: Cards>(
 ) {
     let before = machine.regs();
     expect_loaded(rt, machine, cards, wanted);
-    assert_eq!(rt; machine.regs(), before);
+    expect_same(rt, &machine.regs(), &before, "registers");
 }
 
 #[test]
@@ -242,30 +263,48 @@ fn the_load_key_finds_no_card_or_a_jammed_reader(rt: HostRuntime) {
 
 /// Reads a deck, and compares whether it has small letters and the text of its cards.
 fn expect_deck(rt: &(impl Abort + AllocGlobal), text: &[u8], small: bool, wanted: &[u8]) {
-    let deck = read_deck(rt.alloc(), text).expect(rt, "a deck");
-    assert_eq!(rt; deck.has_small_letters, small);
-    let mut again = Vec::new(rt.alloc());
-    put_cards(&mut again, deck.cards.as_slice()).expect(rt, "room");
-    assert_eq!(rt; again.as_slice(), wanted);
+    let deck = deck_of(rt, text);
+    expect_same(rt, &deck.has_small_letters, &small, text.escape_ascii());
+    expect_cards(rt, deck.cards.as_slice(), wanted);
+}
+
+/// Compares the text of cards.
+fn expect_cards(rt: &(impl Abort + AllocGlobal), cards: &[Card], wanted: &[u8]) {
+    let mut text = Vec::new(rt.alloc());
+    put_cards(&mut text, cards).expect(rt, "room");
+    expect_bytes(rt, text.as_slice(), wanted);
+}
+
+/// The same for each text.
+fn expect_decks(rt: &(impl Abort + AllocGlobal), rows: &[(&[u8], bool, &[u8])]) {
+    for (text, small, wanted) in rows {
+        expect_deck(rt, text, *small, wanted);
+    }
 }
 
 #[test]
 fn a_deck_is_a_card_a_line(rt: HostRuntime) {
-    expect_deck(&rt, b"a b\r\n\nLAST  ", true, b"A B\n\nLAST\n");
-    expect_deck(&rt, b"A\r\nB", false, b"A\nB\n");
-    expect_deck(&rt, b"\n\nz\n", true, b"\n\nZ\n");
-    expect_deck(&rt, b"", false, b"");
+    expect_decks(
+        &rt,
+        &[
+            (b"a b\r\n\nLAST  ", true, b"A B\n\nLAST\n"),
+            (b"A\r\nB", false, b"A\nB\n"),
+            (b"\n\nz\n", true, b"\n\nZ\n"),
+            (b"", false, b""),
+        ],
+    );
 }
 
 /// Compares the text of a fault.
 fn expect_told(rt: &(impl Abort + AllocGlobal), fault: DeckFault, told: &str) {
     let shown = format!(in rt.alloc(); "{fault}").expect(rt, "a text");
-    assert_eq!(rt; shown.as_str(), told);
+    expect_bytes(rt, shown.as_bytes(), told.as_bytes());
 }
 
 /// Compares the fault of a text that is no deck, and what is told of it.
 fn expect_fault(rt: &(impl Abort + AllocGlobal), text: &[u8], fault: DeckFault, told: &str) {
-    assert_eq!(rt; read_deck(rt.alloc(), text).err(), Some(fault));
+    let found = read_deck(rt.alloc(), text).err();
+    expect_same(rt, &found, &Some(fault), text.escape_ascii());
     expect_told(rt, fault, told);
 }
 
@@ -318,17 +357,27 @@ fn put_times(rt: &impl Abort, text: &mut Vec<u8>, count: u8, bytes: &[u8]) {
     }
 }
 
+/// Adds four printed lines on three forms to a text, and returns the place below the last.
+fn put_four(rt: &impl Abort, text: &mut Vec<u8>) -> Place {
+    let place = put_number(rt, text, Place::FIRST, 1, 3, 1);
+    let place = put_number(rt, text, place, 1, 4, 2);
+    let place = put_number(rt, text, place, 3, 1, 3);
+    put_number(rt, text, place, 3, 66, 4)
+}
+
+/// Adds what these lines are to a text.
+fn put_wanted(rt: &impl Abort, wanted: &mut Vec<u8>) {
+    put_times(rt, wanted, 1, b"\n\n0001\n0002\n\x0c\x0c0003\n");
+    put_times(rt, wanted, 64, b"\n");
+    put_times(rt, wanted, 1, b"0004\n");
+}
+
 #[test]
 fn lines_stand_at_their_places(rt: HostRuntime) {
     let mut text = Vec::new(rt.alloc());
-    let place = put_number(&rt, &mut text, Place::FIRST, 1, 3, 1);
-    let place = put_number(&rt, &mut text, place, 1, 4, 2);
-    let place = put_number(&rt, &mut text, place, 3, 1, 3);
-    let place = put_number(&rt, &mut text, place, 3, 66, 4);
+    let place = put_four(&rt, &mut text);
     let mut wanted = Vec::new(rt.alloc());
-    put_times(&rt, &mut wanted, 1, b"\n\n0001\n0002\n\x0c\x0c0003\n");
-    put_times(&rt, &mut wanted, 64, b"\n");
-    put_times(&rt, &mut wanted, 1, b"0004\n");
-    assert_eq!(rt; text.as_slice(), wanted.as_slice());
-    assert_eq!(rt; place, Place { form: 3, line: 67 });
+    put_wanted(&rt, &mut wanted);
+    expect_bytes(&rt, text.as_slice(), wanted.as_slice());
+    expect_same(&rt, &place, &Place { form: 3, line: 67 }, "place");
 }

@@ -1,6 +1,6 @@
 //! Decks that load themselves: what they are, and what a machine holds once one is loaded.
 
-use super::{machine_of, put_cell};
+use super::{expect_bytes, expect_same, machine_of, put_cell};
 use bcd_1401::{Cell, Char};
 use cpu_1401::Machine;
 use deck_1401::{DeckFault, write_deck};
@@ -8,7 +8,6 @@ use devices_1401::Card;
 use image_1401::{Image, read_image};
 use job_1401::read_deck;
 use std::process::Abort;
-use std::test::Fail;
 
 /// The steps in which each deck here is loaded.
 const STEPS: u16 = 2_000;
@@ -40,7 +39,7 @@ fn deck_of(rt: &(impl Abort + AllocGlobal), text: &[u8]) -> Vec<u8> {
 /// Compares the deck of an image with what is wanted.
 fn expect_deck(rt: &(impl Abort + AllocGlobal), image: &[u8], wanted: &[u8]) {
     let deck = deck_of(rt, image);
-    assert_eq!(rt; deck.as_slice(), wanted);
+    expect_bytes(rt, deck.as_slice(), wanted);
 }
 
 /// The first two cards of a deck for 4,000 places, and the others.
@@ -72,7 +71,7 @@ fn is_at_start(machine: &Machine, start: u16) -> bool {
 /// Carries out a step that isn't to stop.
 fn expect_step(rt: &impl Abort, machine: &mut Machine) {
     let at = machine.regs().i;
-    assert_eq!(rt; machine.step(), None, "at {at}");
+    expect_same(rt, &machine.step(), &None, at);
 }
 
 /// Lets a machine load its cards, up to the step that begins the program.
@@ -85,7 +84,7 @@ fn expect_started(rt: &impl Abort, machine: &mut Machine, start: u16) {
         expect_step(rt, machine);
     }
     let regs = machine.regs();
-    assert_eq!(rt; (regs.hopper, regs.i), (0, start));
+    expect_same(rt, &(regs.hopper, regs.i), &(0, start), "hopper and I");
 }
 
 /// What an image has at an address: a later segment counts before an earlier one.
@@ -107,7 +106,7 @@ fn cell_of(image: &Image, address: u16) -> Cell {
 fn expect_cell(rt: &impl Abort, machine: &Machine, image: &Image, address: u16) {
     let wanted = cell_of(image, address);
     assert!(rt; machine.core().in_core(address));
-    assert_eq!(rt; machine.core().get(address), wanted, "{address}");
+    expect_same(rt, &machine.core().get(address), &wanted, address);
 }
 
 /// Compares each place of a machine with an image.
@@ -134,13 +133,24 @@ fn expect_loaded(rt: &(impl Abort + AllocGlobal), text: &[u8]) {
 
 /// Compares the place for which no deck of an image is written, if there is one.
 fn expect_refused(rt: &(impl Abort + AllocGlobal), text: &[u8], place: Option<u16>) {
-    let image = read_image(rt.alloc(), text).expect(rt, "an image");
-    let fault = write_deck(rt.alloc(), &image).err();
     let wanted = match place {
         Some(at) => Some(DeckFault::Place(at)),
         None => None,
     };
-    assert_eq!(rt; fault, wanted);
+    expect_same(rt, &fault_of(rt, text), &wanted, text.escape_ascii());
+}
+
+/// The fault for which no deck of an image is written, if there is one.
+fn fault_of(rt: &(impl Abort + AllocGlobal), text: &[u8]) -> Option<DeckFault> {
+    let image = read_image(rt.alloc(), text).expect(rt, "an image");
+    write_deck(rt.alloc(), &image).err()
+}
+
+/// Compares the places for which no decks of images are written.
+fn expect_all_refused(rt: &(impl Abort + AllocGlobal), rows: &[(&[u8], Option<u16>)]) {
+    for (text, place) in rows {
+        expect_refused(rt, text, *place);
+    }
 }
 
 #[test]
@@ -202,31 +212,25 @@ END 01999
     );
 }
 
+/// Loads the decks of images in machines at power-on, and compares each place.
+fn expect_all_loaded(rt: &(impl Abort + AllocGlobal), texts: &[&[u8]]) {
+    for text in texts {
+        expect_loaded(rt, text);
+    }
+}
+
 #[test]
 fn each_size_is_loaded(rt: HostRuntime) {
-    expect_loaded(
+    expect_all_loaded(
         &rt,
-        b"IMAGE2 01400\n01396 04 ~1AB~C\n00081 03 A~BC\nEND 01396\n",
-    );
-    expect_loaded(
-        &rt,
-        b"IMAGE2 02000\n01996 04 ~1AB~C\n00081 03 A~BC\nEND 01996\n",
-    );
-    expect_loaded(
-        &rt,
-        b"IMAGE2 04000\n03996 04 ~1AB~C\n00081 03 A~BC\nEND 03996\n",
-    );
-    expect_loaded(
-        &rt,
-        b"IMAGE2 08000\n07996 04 ~1AB~C\n00081 03 A~BC\nEND 07996\n",
-    );
-    expect_loaded(
-        &rt,
-        b"IMAGE2 12000\n11996 04 ~1AB~C\n00081 03 A~BC\nEND 11996\n",
-    );
-    expect_loaded(
-        &rt,
-        b"IMAGE2 16000\n15996 04 ~1AB~C\n00081 03 A~BC\nEND 15996\n",
+        &[
+            b"IMAGE2 01400\n01396 04 ~1AB~C\n00081 03 A~BC\nEND 01396\n",
+            b"IMAGE2 02000\n01996 04 ~1AB~C\n00081 03 A~BC\nEND 01996\n",
+            b"IMAGE2 04000\n03996 04 ~1AB~C\n00081 03 A~BC\nEND 03996\n",
+            b"IMAGE2 08000\n07996 04 ~1AB~C\n00081 03 A~BC\nEND 07996\n",
+            b"IMAGE2 12000\n11996 04 ~1AB~C\n00081 03 A~BC\nEND 11996\n",
+            b"IMAGE2 16000\n15996 04 ~1AB~C\n00081 03 A~BC\nEND 15996\n",
+        ],
     );
 }
 
@@ -240,22 +244,29 @@ fn what_was_in_storage_is_cleared(rt: HostRuntime) {
     expect_loaded_in(&rt, &mut machine, CHARACTERS);
 }
 
+/// Compares the text of a fault.
+fn expect_told(rt: &(impl Abort + AllocGlobal), fault: DeckFault, told: &str) {
+    let text = format!(in rt.alloc(); "{fault}").expect(rt, "a text");
+    expect_bytes(rt, text.as_bytes(), told.as_bytes());
+}
+
 #[test]
-fn the_places_of_a_card_are_refused(rt: HostRuntime) -> Result<(), Fail> {
-    expect_refused(&rt, b"IMAGE2 01400\n00080 01 A\nEND 00400\n", Some(80));
-    expect_refused(&rt, b"IMAGE2 01400\n00000 01 ~ \nEND 00400\n", Some(0));
-    expect_refused(
+fn the_places_of_a_card_are_refused(rt: HostRuntime) {
+    expect_all_refused(
         &rt,
-        b"IMAGE2 01400\n00001 03    \n00078 04  12 \nEND 00400\n",
-        Some(79),
+        &[
+            (b"IMAGE2 01400\n00080 01 A\nEND 00400\n", Some(80)),
+            (b"IMAGE2 01400\n00000 01 ~ \nEND 00400\n", Some(0)),
+            (
+                b"IMAGE2 01400\n00001 03    \n00078 04  12 \nEND 00400\n",
+                Some(79),
+            ),
+            (
+                b"IMAGE2 01400\n00040 01 A\n00038 04     \nEND 00400\n",
+                None,
+            ),
+        ],
     );
-    expect_refused(
-        &rt,
-        b"IMAGE2 01400\n00040 01 A\n00038 04     \nEND 00400\n",
-        None,
-    );
-    let text = format!(in rt.alloc(); "{}", DeckFault::Place(7))?;
     let told = "place 007 isn't blank: the deck's cards are read into 001 to 080";
-    assert_eq!(rt; text.as_str(), told);
-    Ok(())
+    expect_told(&rt, DeckFault::Place(7), told);
 }

@@ -2,7 +2,7 @@
 
 ghost use Rattle.std.specs.Prelude.{◌≡◌, length};
 
-use super::machine_with;
+use super::{expect_bytes, machine_with};
 use bcd_1401::Char;
 use cpu_1401::Machine;
 use devices_1401::Card;
@@ -47,7 +47,7 @@ fn expect_next(
     before
         .put_line(&mut text, machine, work, stop)
         .expect(rt, "room");
-    assert_eq!(rt; text.as_slice(), line);
+    expect_bytes(rt, text.as_slice(), line);
 }
 
 /// Carries out one step of a program with as many cards in the hopper, and compares its line with what is wanted.
@@ -60,97 +60,98 @@ fn expect_line(rt: &(impl Abort + AllocGlobal), cells: &[u8], cards: u8, work: W
     expect_next(rt, &mut machine, &mut before, work, line);
 }
 
+/// The same for each program.
+fn expect_all_lines(rt: &(impl Abort + AllocGlobal), rows: &[(&[u8], u8, Work, &[u8])]) {
+    for (cells, cards, work, line) in rows {
+        expect_line(rt, cells, *cards, *work, line);
+    }
+}
+
 #[test]
 fn each_kind_of_step_has_its_line(rt: HostRuntime) {
-    // A move of one character.
-    expect_line(
+    expect_all_lines(
         &rt,
-        b"~M610611~.00~5~3",
-        0,
-        NOTHING,
-        b"00600\t~M610611 \tMCW  610,611        \t00609\t00610\t00611|~3|~5\n",
-    );
-    // 07 and 15 are 22: both digits change, and are one change.
-    expect_line(
-        &rt,
-        b"~A611613~.00~07~15",
-        0,
-        NOTHING,
-        b"00600\t~A611613 \tA    611,613        \t00609\t00611\t00612|~15|~22\n",
-    );
-    // Word marks at two places that aren't next to each other.
-    expect_line(
-        &rt,
-        b"~,608610~.576",
-        0,
-        NOTHING,
-        b"00600\t~,608610 \tSW   608,610        \t00607\t00609\t00608|5|~5\t00610|6|~6\n",
-    );
-    expect_line(
-        &rt,
-        b"~B650~.",
-        0,
-        NOTHING,
-        b"00600\t~B650    \tB    650            \t00650\t00604\n",
-    );
-    expect_line(
-        &rt,
-        b"~1~.",
-        1,
-        Work {
-            read: true,
-            ..NOTHING
-        },
-        b"00600\t~1       \tR                   \t00000\t00081\tREAD\t00001|   |ABC\n",
-    );
-    expect_line(
-        &rt,
-        b"~2~.",
-        0,
-        Work {
-            printed: true,
-            ..NOTHING
-        },
-        b"00600\t~2       \tW                   \t00000\t00333\tPRINT 0001/01\tCARRIAGE 0001/02\n",
-    );
-    expect_line(
-        &rt,
-        b"~4~.",
-        0,
-        Work {
-            punched: true,
-            ..NOTHING
-        },
-        b"00600\t~4       \tP                   \t00000\t00181\tPUNCH\n",
-    );
-    expect_line(
-        &rt,
-        b"~FK~.",
-        0,
-        NOTHING,
-        b"00600\t~FK      \tCC   K              \t00000\t00000\tCARRIAGE 0001/03\n",
-    );
-    expect_line(
-        &rt,
-        b"~.~.",
-        0,
-        NOTHING,
-        b"00600\t~.       \tH                   \t00000\t00000\tHALT\n",
-    );
-    expect_line(
-        &rt,
-        b"~1~.",
-        0,
-        NOTHING,
-        b"00600\t~1       \tR                   \t00000\t00000\tREADER\n",
-    );
-    // Cells without a word mark are no instruction.
-    expect_line(
-        &rt,
-        b"M610611~.",
-        0,
-        NOTHING,
-        b"00600\tM610611  \tMCW  610,611        \t00000\t00000\tNOMARK\n",
+        &[
+            // A move of one character.
+            (
+                b"~M610611~.00~5~3",
+                0,
+                NOTHING,
+                b"00600\t~M610611 \tMCW  610,611        \t00609\t00610\t00611|~3|~5\n",
+            ),
+            // 07 and 15 are 22: both digits change, and are one change.
+            (
+                b"~A611613~.00~07~15",
+                0,
+                NOTHING,
+                b"00600\t~A611613 \tA    611,613        \t00609\t00611\t00612|~15|~22\n",
+            ),
+            // Word marks at two places that aren't next to each other.
+            (
+                b"~,608610~.576",
+                0,
+                NOTHING,
+                b"00600\t~,608610 \tSW   608,610        \t00607\t00609\t00608|5|~5\t00610|6|~6\n",
+            ),
+            (
+                b"~B650~.",
+                0,
+                NOTHING,
+                b"00600\t~B650    \tB    650            \t00650\t00604\n",
+            ),
+            (
+                b"~1~.",
+                1,
+                Work {
+                    read: true,
+                    ..NOTHING
+                },
+                b"00600\t~1       \tR                   \t00000\t00081\tREAD\t00001|   |ABC\n",
+            ),
+            (
+                b"~2~.",
+                0,
+                Work {
+                    printed: true,
+                    ..NOTHING
+                },
+                b"00600\t~2       \tW                   \t00000\t00333\tPRINT 0001/01\tCARRIAGE 0001/02\n",
+            ),
+            (
+                b"~4~.",
+                0,
+                Work {
+                    punched: true,
+                    ..NOTHING
+                },
+                b"00600\t~4       \tP                   \t00000\t00181\tPUNCH\n",
+            ),
+            (
+                b"~FK~.",
+                0,
+                NOTHING,
+                b"00600\t~FK      \tCC   K              \t00000\t00000\tCARRIAGE 0001/03\n",
+            ),
+            (
+                b"~.~.",
+                0,
+                NOTHING,
+                b"00600\t~.       \tH                   \t00000\t00000\tHALT\n",
+            ),
+            (
+                b"~1~.",
+                0,
+                NOTHING,
+                b"00600\t~1       \tR                   \t00000\t00000\tREADER\n",
+            ),
+            // Cells without a word mark are no instruction.
+            (
+                b"M610611~.",
+                0,
+                NOTHING,
+                b"00600\tM610611  \tMCW  610,611        \t00000\t00000\tNOMARK\n",
+            ),
+        ],
     );
 }
 
