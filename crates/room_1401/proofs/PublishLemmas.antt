@@ -1,7 +1,7 @@
 -- What one command changes under the lock.
 use Rattle.std.proofs.Common.{◌≡◌, ◌≤◌, ℕ, List, [], ◌∷◌, ◌++◌, length, fold}
-use Rattle.std.proofs.Common.{refl, ap, sym, ◌∙◌, subst, arith, length-append}
-use Rattle.std.specs.Prelude.{Some, Option, ltb, if◌then◌else◌}
+use Rattle.std.proofs.Common.{refl, ap, sym, ◌∙◌, subst, arith}
+use Rattle.std.specs.Prelude.{Some, Option}
 use mathlib.Core.List.{IsPrefix}
 use Rattle.logbook.specs.Pages.{Book}
 use Rattle.cpu_1401.specs.State.{State, power_on}
@@ -15,7 +15,6 @@ use Rattle.lone_room_1401.specs.Replay.{pair, replay}
 use Rattle.room_1401.specs.Rule.{IsReplay, Publishes, changed, machine_after}
 use Rattle.room_1401.proofs.PrefixLemmas.{prefix_self, prefix_trans}
 use Rattle.lone_room_1401.proofs.ReplayLemmas.{state_after-append}
-use Rattle.room_1401.proofs.SeenLemmas.{caught_up}
 
 fold-append : {A B : Type 0} (f : B → A → B) (first : B) (xs ys : List A)
     → fold f first (xs ++ ys) ≡ fold f (fold f first xs) ys
@@ -87,15 +86,6 @@ published book size shown now pending left pairs was is none =
     subst (λ (changes : List Change). Publishes book size now changes pairs) (sym none)
     (subst (λ (s : Shown). Publishes book size s [] pairs) (sym is)
     (record { follows = (was.follows.0, prefix_self last.front.log); list = was.list }))
-
--- a seat that had seen all commands, and then sees one more
-pub seat_follows : (seen pairs front after : List SeatedCommand) (seat : ℕ) (command : Command)
-    → seen ≡ pairs → front ≡ pairs ++ pair seat command ∷ []
-    → after ≡ (if ltb (length seen) (length front) then front else seen) → IsPrefix front after
-    → after ≡ pairs ++ pair seat command ∷ []
-seat_follows seen pairs front after seat command same grown is that =
-    let more = length-append pairs (pair seat command ∷ []) in
-    caught_up seen front after is (omega (arith, ap length same, ap length grown, more)) that ∙ grown
 
 -- the replay's storage is as long as that of the room's machine
 pub storage_of : (size of_room : ℕ) (machine : State) (pairs more : List SeatedCommand)

@@ -46,7 +46,7 @@ impl<J: RoomId, R: Wait + Drop, K: Keeper + Drop> Model for Recorder<J, R, K> {
 }
 
 impl<J: RoomId, R: Wait + Drop, K: Keeper + Drop> Recorder<J, R, K> {
-    /// Of a new room.
+    /// A new room with what follows its journal, which is empty.
     pub(crate) fn new(
         room: Room,
         head: Head<J>,
