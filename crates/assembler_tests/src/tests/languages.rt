@@ -2,17 +2,16 @@
 
 use super::expecting::{
     expect_faults_of_images, expect_first_faults, expect_image, expect_image_in, expect_listing,
-    expect_warnings, listing_text, only_fault,
+    expect_same, expect_warnings, listing_text, only_fault,
 };
 use autocoder_1401::AsmKind::{
     DoubleLabel, Graphic, Label, Operand, Operation, OutOfCore, Undefined,
 };
-use autocoder_1401::Cause;
 use autocoder_1401::WarningKind::{NotFitted, ReadOn, UnusedLabel};
+use autocoder_1401::{AsmFault, Cause};
 use source_1401::Language::{Ibm, Plain};
-use source_1401::size_asked;
+use source_1401::{Stretch, size_asked};
 use std::process::Abort;
-use std::test::Fail;
 
 /// A source in small letters, with `&` for a plus sign.
 const SMALL_LETTERS: &[u8] = b"               org  500
@@ -25,9 +24,9 @@ const SMALL_LETTERS: &[u8] = b"               org  500
 ";
 
 #[test]
-fn small_letters_are_read_as_capitals(rt: HostRuntime) -> Result<(), Fail> {
+fn small_letters_are_read_as_capitals(rt: HostRuntime) {
     let wanted = b"IMAGE2 04000\n00500 21 ~!089~M5/9094~M520090~AB~A\nEND 00500\n";
-    expect_image(&rt, Ibm, SMALL_LETTERS, wanted)
+    expect_image(&rt, Ibm, SMALL_LETTERS, wanted);
 }
 
 #[test]
@@ -36,7 +35,7 @@ fn the_plain_language_refuses_small_letters(rt: HostRuntime) {
 }
 
 #[test]
-fn a_listing_shows_small_letters_as_they_stand(rt: HostRuntime) -> Result<(), Fail> {
+fn a_listing_shows_small_letters_as_they_stand(rt: HostRuntime) {
     let wanted = b"\
 0001 00500                         org  500
 0002 00500 !089          start     zs   field
@@ -47,11 +46,11 @@ fn a_listing_shows_small_letters_as_they_stand(rt: HostRuntime) -> Result<(), Fa
      00520 A        +1
 0007 00500                         end  start
 ";
-    expect_listing(&rt, Ibm, SMALL_LETTERS, wanted)
+    expect_listing(&rt, Ibm, SMALL_LETTERS, wanted);
 }
 
 #[test]
-fn a_plain_source_means_the_same(rt: HostRuntime) -> Result<(), Fail> {
+fn a_plain_source_means_the_same(rt: HostRuntime) {
     let source = b"               ORG  400
      START     ZA   +5,TOTAL
                BCE  START,TOTAL,&
@@ -60,13 +59,13 @@ fn a_plain_source_means_the_same(rt: HostRuntime) -> Result<(), Fail> {
                END  START
 ";
     let wanted = b"IMAGE2 04000\n00400 19 ~?418417~B400417&~   ~E\nEND 00400\n";
-    expect_image(&rt, Ibm, source, wanted)?;
-    let plain = listing_text(&rt, Plain, source)?;
-    expect_listing(&rt, Ibm, source, plain.as_slice())
+    expect_image(&rt, Ibm, source, wanted);
+    let plain = listing_text(&rt, Plain, source);
+    expect_listing(&rt, Ibm, source, plain.as_slice());
 }
 
 #[test]
-fn mnemonics_have_more_forms(rt: HostRuntime) -> Result<(), Fail> {
+fn mnemonics_have_more_forms(rt: HostRuntime) {
     let source = b"               ORG  500
      A         B    A,*,C
                B    A,/
@@ -85,7 +84,7 @@ fn mnemonics_have_more_forms(rt: HostRuntime) -> Result<(), Fail> {
 00540 19 4~D500526~D~D~B500558,~X
 END 00500
 ";
-    expect_image(&rt, Ibm, source, wanted)
+    expect_image(&rt, Ibm, source, wanted);
 }
 
 /// Instructions of which the machine never carries out those on lines 3 to 8, 10, 12 and 13.
@@ -106,17 +105,17 @@ const NOT_FITTED: &[u8] = b"               ORG  500
 ";
 
 #[test]
-fn what_the_machine_never_carries_out_is_assembled(rt: HostRuntime) -> Result<(), Fail> {
+fn what_the_machine_never_carries_out_is_assembled(rt: HostRuntime) {
     let wanted = b"IMAGE2 04000
 00500 40 ~M%U1700R~M%U1700R~U%U2R~U%U2M~@567700~H089700
 00540 28 ~N700~.001700~B540700A~B~P700201~E
 END 00500
 ";
-    expect_image(&rt, Ibm, NOT_FITTED, wanted)
+    expect_image(&rt, Ibm, NOT_FITTED, wanted);
 }
 
 #[test]
-fn what_the_machine_never_carries_out_is_warned_of(rt: HostRuntime) -> Result<(), Fail> {
+fn what_the_machine_never_carries_out_is_warned_of(rt: HostRuntime) {
     let wanted = [
         (3, NotFitted),
         (4, NotFitted),
@@ -128,7 +127,7 @@ fn what_the_machine_never_carries_out_is_warned_of(rt: HostRuntime) -> Result<()
         (12, NotFitted),
         (13, NotFitted),
     ];
-    expect_warnings(&rt, Ibm, NOT_FITTED, &wanted)
+    expect_warnings(&rt, Ibm, NOT_FITTED, &wanted);
 }
 
 /// A source with headings.
@@ -140,17 +139,17 @@ const HEADED: &[u8] = b"               job  Wages {March 1962}
 ";
 
 #[test]
-fn headings_place_nothing(rt: HostRuntime) -> Result<(), Fail> {
+fn headings_place_nothing(rt: HostRuntime) {
     expect_image(
         &rt,
         Ibm,
         HEADED,
         b"IMAGE2 04000\n00500 04 ~.500\nEND 00500\n",
-    )
+    );
 }
 
 #[test]
-fn headings_are_listed_as_comments_are(rt: HostRuntime) -> Result<(), Fail> {
+fn headings_are_listed_as_comments_are(rt: HostRuntime) {
     let wanted = b"\
 0001                               job  Wages {March 1962}
 0002                               ENT  AUTOCODER
@@ -158,11 +157,11 @@ fn headings_are_listed_as_comments_are(rt: HostRuntime) -> Result<(), Fail> {
 0004 00500 .500          A         h    a
 0005 00500                         end  A
 ";
-    expect_listing(&rt, Ibm, HEADED, wanted)
+    expect_listing(&rt, Ibm, HEADED, wanted);
 }
 
 #[test]
-fn fields_go_on_below_a_heading(rt: HostRuntime) -> Result<(), Fail> {
+fn fields_go_on_below_a_heading(rt: HostRuntime) {
     let source = b"               ORG  500
      REC       DA   2X4
                JOB  The fields of both areas
@@ -174,11 +173,11 @@ fn fields_go_on_below_a_heading(rt: HostRuntime) -> Result<(), Fail> {
         Ibm,
         source,
         b"IMAGE2 04000\n00500 08 ~  ~  ~  ~  \nEND 00503\n",
-    )
+    );
 }
 
 #[test]
-fn the_first_ctl_says_the_size(rt: HostRuntime) -> Result<(), Fail> {
+fn the_first_ctl_says_the_size(rt: HostRuntime) {
     let source = b"               job  Wages, March 1962
                ctl  66
      x1        equ  89
@@ -189,14 +188,14 @@ fn the_first_ctl_says_the_size(rt: HostRuntime) -> Result<(), Fail> {
      tab       dcw  @ab@
                end  start
 ";
-    assert_eq!(rt; size_asked(Plain, source), None);
-    assert_eq!(rt; size_asked(Ibm, source), Some(16_000));
+    expect_same(&rt, &size_asked(Plain, source), &None, source);
+    expect_same(&rt, &size_asked(Ibm, source), &Some(16_000), source);
     let wanted = b"IMAGE2 16000\n00500 21 ~!089~M5/9094~M520090~AB~A\nEND 00500\n";
-    expect_image_in(&rt, 16_000, Ibm, source, wanted)
+    expect_image_in(&rt, 16_000, Ibm, source, wanted);
 }
 
 #[test]
-fn sections_use_the_same_short_labels(rt: HostRuntime) -> Result<(), Fail> {
+fn sections_use_the_same_short_labels(rt: HostRuntime) {
     let source = b"               ORG  500
                SFX  A
      LOOP      B    LOOP
@@ -211,11 +210,11 @@ fn sections_use_the_same_short_labels(rt: HostRuntime) -> Result<(), Fail> {
         Ibm,
         source,
         b"IMAGE2 04000\n00500 12 ~B500~B500~B504\nEND 00504\n",
-    )
+    );
 }
 
 #[test]
-fn x1_is_a_symbol(rt: HostRuntime) -> Result<(), Fail> {
+fn x1_is_a_symbol(rt: HostRuntime) {
     // X2 is a label, and X1 and X3 are index registers; after a base +X2 is the index all the same.
     let source = b"     GO        MCW  X1+5,X1+X2
                MCW  X2,X3+X0
@@ -224,11 +223,11 @@ fn x1_is_a_symbol(rt: HostRuntime) -> Result<(), Fail> {
                END  GO
 ";
     let wanted = b"IMAGE2 04000\n00333 14 ~M0940Q9~M402099\n00400 03 ~000\nEND 00333\n";
-    expect_image(&rt, Ibm, source, wanted)
+    expect_image(&rt, Ibm, source, wanted);
 }
 
 #[test]
-fn xfr_places_nothing(rt: HostRuntime) -> Result<(), Fail> {
+fn xfr_places_nothing(rt: HostRuntime) {
     let source = b"               ORG  500
      GO        A    +1,9
                XFR  GO
@@ -241,7 +240,7 @@ fn xfr_places_nothing(rt: HostRuntime) -> Result<(), Fail> {
         Ibm,
         source,
         b"IMAGE2 04000\n00500 15 ~A507009~A~A507009\nEND 00500\n",
-    )?;
+    );
     let wanted = b"\
 0001 00500                         ORG  500
 0002 00500 A507009       GO        A    +1,9
@@ -251,11 +250,11 @@ fn xfr_places_nothing(rt: HostRuntime) -> Result<(), Fail> {
 0005 00508 A507009                 A    +1,9
 0006 00500                         END  GO
 ";
-    expect_listing(&rt, Ibm, source, wanted)
+    expect_listing(&rt, Ibm, source, wanted);
 }
 
 #[test]
-fn an_asterisk_says_a_value(rt: HostRuntime) -> Result<(), Fail> {
+fn an_asterisk_says_a_value(rt: HostRuntime) {
     let source = b"               ORG  340
      GO        B    LATER
      HERE      EQU  *+1
@@ -278,7 +277,7 @@ fn an_asterisk_says_a_value(rt: HostRuntime) -> Result<(), Fail> {
 00348 07 ~M4!5405
 END 00340
 ";
-    expect_image(&rt, Ibm, source, wanted)?;
+    expect_image(&rt, Ibm, source, wanted);
     let wanted = b"\
 0001 00340                         ORG  340
 0002 00340 B404          GO        B    LATER
@@ -296,11 +295,11 @@ END 00340
 0014 00354                         EX   *
 0015 00340                         END
 ";
-    expect_listing(&rt, Ibm, source, wanted)
+    expect_listing(&rt, Ibm, source, wanted);
 }
 
 #[test]
-fn an_asterisk_of_an_origin_is_the_next_place(rt: HostRuntime) -> Result<(), Fail> {
+fn an_asterisk_of_an_origin_is_the_next_place(rt: HostRuntime) {
     let source = b"     GO        A    +5,9
                ORG  *+20
                H    GO
@@ -308,11 +307,11 @@ fn an_asterisk_of_an_origin_is_the_next_place(rt: HostRuntime) -> Result<(), Fai
                END  *-2
 ";
     let wanted = b"IMAGE2 04000\n00333 07 ~A367009\n00360 04 ~.333\n00367 01 ~E\nEND 00364\n";
-    expect_image(&rt, Ibm, source, wanted)
+    expect_image(&rt, Ibm, source, wanted);
 }
 
 #[test]
-fn end_alone_begins_at_the_first_instruction(rt: HostRuntime) -> Result<(), Fail> {
+fn end_alone_begins_at_the_first_instruction(rt: HostRuntime) {
     let source = b"               ORG  400
      TAB       DCW  @X@
                H
@@ -320,13 +319,13 @@ fn end_alone_begins_at_the_first_instruction(rt: HostRuntime) -> Result<(), Fail
                END
 ";
     let wanted = b"IMAGE2 04000\n00400 03 ~X~.~N\nEND 00401\n";
-    expect_image(&rt, Ibm, source, wanted)?;
+    expect_image(&rt, Ibm, source, wanted);
     let none = b"               ORG  400\n     TAB       DCW  @X@\n               END\n";
-    expect_image(&rt, Ibm, none, b"IMAGE2 04000\n00400 01 ~X\nEND 00333\n")
+    expect_image(&rt, Ibm, none, b"IMAGE2 04000\n00400 01 ~X\nEND 00333\n");
 }
 
 #[test]
-fn areas_end_with_a_group_mark(rt: HostRuntime) -> Result<(), Fail> {
+fn areas_end_with_a_group_mark(rt: HostRuntime) {
     let source = b"               ORG  700
      REC       DA   2X5,C,G
      KEY            1,2
@@ -337,7 +336,7 @@ fn areas_end_with_a_group_mark(rt: HostRuntime) -> Result<(), Fail> {
                END
 ";
     let wanted = b"IMAGE2 04000\n00700 25 ~    ~ ~    ~ ~\"~A701703~M700701\nEND 00711\n";
-    expect_image(&rt, Ibm, source, wanted)?;
+    expect_image(&rt, Ibm, source, wanted);
     let wanted = b"\
 0001 00700                         ORG  700
 0002 00700               REC       DA   2X5,C,G
@@ -348,11 +347,11 @@ fn areas_end_with_a_group_mark(rt: HostRuntime) -> Result<(), Fail> {
 0007 00718 M700701                 MCW  REC,KEY
 0008 00711                         END
 ";
-    expect_listing(&rt, Ibm, source, wanted)
+    expect_listing(&rt, Ibm, source, wanted);
 }
 
 #[test]
-fn a_constant_may_be_an_address(rt: HostRuntime) -> Result<(), Fail> {
+fn a_constant_may_be_an_address(rt: HostRuntime) {
     let source = b"               ORG  514
      GO        MCW  TAB,X1
      TAB       DCW  @ABC@
@@ -371,11 +370,11 @@ fn a_constant_may_be_an_address(rt: HostRuntime) -> Result<(), Fail> {
 00524 07 ~M608611
 END 00514
 ";
-    expect_image(&rt, Ibm, source, wanted)
+    expect_image(&rt, Ibm, source, wanted);
 }
 
 #[test]
-fn the_first_fault_of_a_wider_source(rt: HostRuntime) -> Result<(), Fail> {
+fn the_first_fault_of_a_wider_source(rt: HostRuntime) {
     expect_first_faults(
         &rt,
         &[
@@ -467,27 +466,26 @@ fn the_first_fault_of_a_wider_source(rt: HostRuntime) -> Result<(), Fail> {
                 OutOfCore,
             ),
         ],
-    )
+    );
 }
 
 /// Compares what is wrong at the only fault of a source.
-fn expect_cause(rt: &(impl Abort + AllocGlobal), source: &[u8], wanted: Cause) -> Result<(), Fail> {
-    let explanation = only_fault(rt, source)?;
-    assert_eq!(rt; explanation.cause, wanted);
-    Ok(())
+fn expect_cause(rt: &(impl Abort + AllocGlobal), source: &[u8], wanted: Cause) {
+    let explanation = only_fault(rt, source);
+    expect_same(rt, &explanation.cause, &wanted, source);
 }
 
 #[test]
-fn a_fault_may_lie_in_the_lines_above(rt: HostRuntime) -> Result<(), Fail> {
+fn a_fault_may_lie_in_the_lines_above(rt: HostRuntime) {
     let second = b"               CTL  66\n               CTL  66\n               END  0\n";
-    expect_cause(&rt, second, Cause::ControlledBefore)?;
+    expect_cause(&rt, second, Cause::ControlledBefore);
     let apart =
         b"     A         A    A,A\n     B         DCW  #3\n               CHAIN2\n               END  B\n";
-    expect_cause(&rt, apart, Cause::NothingAbove)
+    expect_cause(&rt, apart, Cause::NothingAbove);
 }
 
 #[test]
-fn a_chain_is_warned_of_as_its_instructions_are(rt: HostRuntime) -> Result<(), Fail> {
+fn a_chain_is_warned_of_as_its_instructions_are(rt: HostRuntime) {
     let source = b"     GO        M    5,6
                CHAIN3
      NUMBER    DC   @X@
@@ -499,25 +497,20 @@ fn a_chain_is_warned_of_as_its_instructions_are(rt: HostRuntime) -> Result<(), F
         (2, ReadOn(343)),
         (3, UnusedLabel),
     ];
-    expect_warnings(&rt, Ibm, source, &wanted)
+    expect_warnings(&rt, Ibm, source, &wanted);
 }
 
 #[test]
-fn a_fault_in_small_letters_is_explained(rt: HostRuntime) -> Result<(), Fail> {
+fn a_fault_in_small_letters_is_explained(rt: HostRuntime) {
     let source = b"     start     mcw  tab&2,totax
      total     dcw  #3
      tab       dcw  #3
                end  start
 ";
-    let explanation = only_fault(&rt, source)?;
-    assert_eq!(rt;
-        (explanation.fault.line, explanation.fault.kind),
-        (1, Undefined)
-    );
-    assert_eq!(rt;
-        (explanation.columns.column, explanation.columns.length),
-        (27, 5)
-    );
+    let explanation = only_fault(&rt, source);
+    let AsmFault { line, kind } = explanation.fault;
+    expect_same(&rt, &(line, kind), &(1, Undefined), source);
+    let Stretch { column, length } = explanation.columns;
+    expect_same(&rt, &(column, length), &(27, 5), source);
     assert!(rt; matches!(explanation.cause, Cause::Undeclared(Some(_))));
-    Ok(())
 }

@@ -1,12 +1,16 @@
 //! Symbol tables and cross-references.
 
-use super::expecting::{image_beside, lines_listed};
+use super::expecting::{expect_bytes, expect_same, image_beside, lines_listed};
 use autocoder_1401::AsmKind::{self, OutOfCore, Undefined};
 use autocoder_1401::{AssemblyTables, assemble_with_tables};
 use image_1401::Image;
 use source_1401::Language;
 use std::process::Abort;
-use std::test::Fail;
+
+/// The tables of a source in 4,000 places, and its image and listing.
+fn tables_of(rt: &(impl Abort + AllocGlobal), source: &[u8]) -> AssemblyTables {
+    assemble_with_tables(rt.alloc(), Language::Plain, source, 4_000).expect(rt, "tables")
+}
 
 /// Compares the tables of a source in 4,000 places.
 fn expect_tables(
@@ -14,15 +18,14 @@ fn expect_tables(
     source: &[u8],
     symbols: &[u8],
     references: &[u8],
-) -> Result<(), Fail> {
-    let made = assemble_with_tables(rt.alloc(), Language::Plain, source, 4_000)?;
-    assert_eq!(rt; made.symbols.as_slice(), symbols);
-    assert_eq!(rt; made.references.as_slice(), references);
-    Ok(())
+) {
+    let made = tables_of(rt, source);
+    expect_bytes(rt, made.symbols.as_slice(), symbols, source);
+    expect_bytes(rt, made.references.as_slice(), references, source);
 }
 
 #[test]
-fn labels_are_in_the_order_of_their_lines(rt: HostRuntime) -> Result<(), Fail> {
+fn labels_are_in_the_order_of_their_lines(rt: HostRuntime) {
     let source = b"               ORG  400
      START     ZA   +5,TOTAL
      LOOP      A    +5,TOTAL
@@ -50,11 +53,11 @@ TOTAL  0005 0002 0003 0006
 HIGH   0006
 NAME   0007
 ",
-    )
+    );
 }
 
 #[test]
-fn a_field_is_that_of_the_first_area(rt: HostRuntime) -> Result<(), Fail> {
+fn a_field_is_that_of_the_first_area(rt: HostRuntime) {
     let source = b"               ORG  500
      REC       DA   2X4
      KEY            3,4
@@ -76,11 +79,11 @@ REC    0002
 KEY    0003 0005 0006
 ROOM   0004 0005
 ",
-    )
+    );
 }
 
 #[test]
-fn a_label_can_name_itself_with_an_index_register(rt: HostRuntime) -> Result<(), Fail> {
+fn a_label_can_name_itself_with_an_index_register(rt: HostRuntime) {
     let source = b"     A         B    A+X1
                MLC  B-1+X2,@A@
      B         DCW  #2
@@ -92,40 +95,38 @@ fn a_label_can_name_itself_with_an_index_register(rt: HostRuntime) -> Result<(),
         source,
         b"A      00333 00004 0001\nB      00345 00002 0003\n",
         b"A      0001 0001 0005\nB      0003 0002 0004\n",
-    )
+    );
 }
 
 #[test]
-fn a_source_without_labels_has_empty_tables(rt: HostRuntime) -> Result<(), Fail> {
+fn a_source_without_labels_has_empty_tables(rt: HostRuntime) {
     expect_tables(
         &rt,
         b"               MLC  @A@,+5\n               END  0\n",
         b"",
         b"",
-    )
+    );
 }
 
-/// The image of a source and the number of lines of its listing, beside the tables.
-fn beside_tables(rt: &impl AllocGlobal, source: &[u8]) -> Result<(Image, usize), Fail> {
-    let AssemblyTables { assembly, .. } = assemble_with_tables(
-        rt.alloc(),
-        Language::Plain,
-        source,
-        4_000,
-    )?;
-    let lines = assembly.listing.as_slice().len();
-    Ok((assembly.image, lines))
+/// The entry of an image, and how many segments it has.
+fn entry_and_count(image: &Image) -> (u16, usize) {
+    (image.start, image.segments.as_slice().len())
+}
+
+/// Compares an image and the number of lines of a listing with those beside the tables of a source.
+fn expect_beside(rt: &(impl Abort + AllocGlobal), source: &[u8], start: u16, lines: usize) {
+    let made = tables_of(rt, source);
+    let found = entry_and_count(&made.assembly.image);
+    expect_same(rt, &found, &(start, 1), source);
+    let listed = made.assembly.listing.as_slice().len();
+    expect_same(rt, &listed, &lines, source);
 }
 
 #[test]
-fn the_assembly_beside_them_is_that_of_the_source(rt: HostRuntime) -> Result<(), Fail> {
+fn the_assembly_beside_them_is_that_of_the_source(rt: HostRuntime) {
     let source = b"     A         MLC  +5,A\n               END  A\n";
-    let alone = image_beside(&rt, source, 4_000)?;
-    let (image, lines) = beside_tables(&rt, source)?;
-    assert_eq!(rt; image.start, alone.start);
-    assert_eq!(rt; image.segments.as_slice().len(), 1);
-    assert_eq!(rt; lines, lines_listed(&rt, source)?);
-    Ok(())
+    let Image { start, .. } = image_beside(&rt, source, 4_000);
+    expect_beside(&rt, source, start, lines_listed(&rt, source));
 }
 
 /// The line and the kind of the fault for which a source has no tables.
@@ -139,7 +140,7 @@ fn fault_of(rt: &impl AllocGlobal, source: &[u8]) -> Option<(u64, AsmKind)> {
 /// Compares the faults for which sources have no tables.
 fn expect_faults(rt: &(impl Abort + AllocGlobal), rows: &[(&[u8], u64, AsmKind)]) {
     for (source, line, kind) in rows {
-        assert_eq!(rt; fault_of(rt, source), Some((*line, *kind)));
+        expect_same(rt, &fault_of(rt, source), &Some((*line, *kind)), source);
     }
 }
 
@@ -149,12 +150,12 @@ fn a_source_with_a_fault_has_none(rt: HostRuntime) {
         &rt,
         &[
             (
-                b"     A         B    Q\n               END  A\n".as_slice(),
+                b"     A         B    Q\n               END  A\n",
                 1,
                 Undefined,
             ),
             (
-                b"               ORG  3999\n     A         B    A\n               END  A\n".as_slice(),
+                b"               ORG  3999\n     A         B    A\n               END  A\n",
                 2,
                 OutOfCore,
             ),

@@ -3,10 +3,9 @@
 use super::expecting::expect_warnings;
 use autocoder_1401::WarningKind::{ReadOn, UnlikeSigns, UnsetIndicator, UnusedLabel};
 use source_1401::Language::Plain;
-use std::test::Fail;
 
 #[test]
-fn a_label_that_no_operand_names(rt: HostRuntime) -> Result<(), Fail> {
+fn a_label_that_no_operand_names(rt: HostRuntime) {
     let source = b"     ENTRY     ZA   FIRST,SECOND
      SELF      B    SELF
      LONE      H    BEYOND+3
@@ -16,11 +15,11 @@ fn a_label_that_no_operand_names(rt: HostRuntime) -> Result<(), Fail> {
      BEYOND    EQU  SECOND
                END  ENTRY
 ";
-    expect_warnings(&rt, Plain, source, &[(3, UnusedLabel), (6, UnusedLabel)])
+    expect_warnings(&rt, Plain, source, &[(3, UnusedLabel), (6, UnusedLabel)]);
 }
 
 #[test]
-fn a_branch_that_nothing_sets(rt: HostRuntime) -> Result<(), Fail> {
+fn a_branch_that_nothing_sets(rt: HostRuntime) {
     let source = b"     A         BE   A
                BL   A
                BH   A
@@ -46,7 +45,7 @@ fn a_branch_that_nothing_sets(rt: HostRuntime) -> Result<(), Fail> {
         (6, UnsetIndicator),
         (7, UnsetIndicator),
     ];
-    expect_warnings(&rt, Plain, source, &unset)?;
+    expect_warnings(&rt, Plain, source, &unset);
     let set = b"     A         BE   A
                BAV  A
                C    A,A
@@ -54,11 +53,11 @@ fn a_branch_that_nothing_sets(rt: HostRuntime) -> Result<(), Fail> {
                DCW  #1
                END  A
 ";
-    expect_warnings(&rt, Plain, set, &[])
+    expect_warnings(&rt, Plain, set, &[]);
 }
 
 #[test]
-fn a_sign_beside_a_number_without_one(rt: HostRuntime) -> Result<(), Fail> {
+fn a_sign_beside_a_number_without_one(rt: HostRuntime) {
     let source = b"     A         C    +5,PLAIN
                C    PLAIN,-5
                C    @5@,PLAIN
@@ -80,11 +79,11 @@ fn a_sign_beside_a_number_without_one(rt: HostRuntime) -> Result<(), Fail> {
      OTHER     EQU  ALIAS
                END  OTHER
 ";
-    expect_warnings(&rt, Plain, source, &[(1, UnlikeSigns), (2, UnlikeSigns)])
+    expect_warnings(&rt, Plain, source, &[(1, UnlikeSigns), (2, UnlikeSigns)]);
 }
 
 #[test]
-fn an_instruction_without_a_mark_after_it(rt: HostRuntime) -> Result<(), Fail> {
+fn an_instruction_without_a_mark_after_it(rt: HostRuntime) {
     let before_space = b"     A         H    A
                DS   5
                W
@@ -95,7 +94,7 @@ fn an_instruction_without_a_mark_after_it(rt: HostRuntime) -> Result<(), Fail> {
                END  A
 ";
     let read_on = [(1, ReadOn(337)), (3, ReadOn(343)), (7, ReadOn(347))];
-    expect_warnings(&rt, Plain, before_space, &read_on)?;
+    expect_warnings(&rt, Plain, before_space, &read_on);
     let ended = b"     A         SW   A,A
                DS   5
                CS   A,A
@@ -107,16 +106,16 @@ fn an_instruction_without_a_mark_after_it(rt: HostRuntime) -> Result<(), Fail> {
                H    +5
                END  A
 ";
-    expect_warnings(&rt, Plain, ended, &[])?;
+    expect_warnings(&rt, Plain, ended, &[]);
     let not_blank = b"     A         B    A
                DC   @1@
                END  A
 ";
-    expect_warnings(&rt, Plain, not_blank, &[(1, ReadOn(337))])
+    expect_warnings(&rt, Plain, not_blank, &[(1, ReadOn(337))]);
 }
 
 #[test]
-fn storage_is_as_the_last_cells_leave_it(rt: HostRuntime) -> Result<(), Fail> {
+fn storage_is_as_the_last_cells_leave_it(rt: HostRuntime) {
     let marked_later = b"     A         H    A
                DS   1
                ORG  337
@@ -125,18 +124,18 @@ fn storage_is_as_the_last_cells_leave_it(rt: HostRuntime) -> Result<(), Fail> {
                H    A
                END  A
 ";
-    expect_warnings(&rt, Plain, marked_later, &[])?;
+    expect_warnings(&rt, Plain, marked_later, &[]);
     let unmarked_later = b"     A         H    A
                DCW  #1
                ORG  337
                DC   #1
                END  A
 ";
-    expect_warnings(&rt, Plain, unmarked_later, &[(1, ReadOn(337))])
+    expect_warnings(&rt, Plain, unmarked_later, &[(1, ReadOn(337))]);
 }
 
 #[test]
-fn warnings_of_a_line_are_in_the_order_of_their_kinds(rt: HostRuntime) -> Result<(), Fail> {
+fn warnings_of_a_line_are_in_the_order_of_their_kinds(rt: HostRuntime) {
     let source = b"     A         BAV  B
      C         C    +5,B
      B         DC   0
@@ -152,5 +151,5 @@ fn warnings_of_a_line_are_in_the_order_of_their_kinds(rt: HostRuntime) -> Result
         (5, UnusedLabel),
         (5, UnlikeSigns),
     ];
-    expect_warnings(&rt, Plain, source, &told)
+    expect_warnings(&rt, Plain, source, &told);
 }
