@@ -1,16 +1,8 @@
 //! The IBM 1401 at a terminal: reads the command line, and runs what it asks for.
 #![tactic(auto)]
 
-// sessions at a console, of an image or with a journal
-mod journals;
-mod loading;
-
-// rooms that operators share: how one begins, where they come in, who has which seat
-mod beginning;
-mod entrances;
-mod resuming;
-mod seating;
-mod serving;
+// the cards of a room that operators share
+mod hopper;
 
 // what a command line without a subcommand is told, what a run fails by, and its status
 mod fault;
@@ -18,14 +10,12 @@ mod help;
 
 use crate::fault::{Fault, report};
 use crate::help::tell;
-use crate::journals::{journal_file, keep_console, keep_loaded, resume_file};
-use crate::loading::{load, read_file};
-use crate::resuming::resume_seats;
-use crate::seating::open_seats;
-use crate::serving::open_room;
+use crate::hopper::cards_of;
 use arguments_1401::read_call;
 use assembling_1401::{assemble_file, disassemble_file};
-use calls_1401::Call;
+use calls_1401::{Call, Seating};
+use holding_1401::{journal_file, keep_console, keep_loaded, load_file, resume_file};
+use opening_1401::{new_machine, open_room, open_seats, resume_seats};
 use running_1401::{ErrorOutput, run_file};
 use std::fs::File;
 use std::io::{IsTerminal, StdinLock};
@@ -72,21 +62,25 @@ fn run<
     match read_call(rt.alloc(), words.as_slice()) {
         Ok(Call::Console { size }) => hold_console(rt, size),
         Ok(Call::Assemble(asked)) => assemble_file(rt, asked).map_err(Fault::Assemble),
-        Ok(Call::Load { file }) => hold_loaded(rt, file),
+        Ok(Call::Load { file }) => load_file(rt, file).map_err(Fault::Hold),
         Ok(Call::Disassemble { file }) => disassemble_file(rt, file).map_err(Fault::Assemble),
         Ok(Call::Run(job)) => run_file(rt, error_output, job).map_err(Fault::Run),
-        Ok(Call::Serve(service)) => open_room(rt, service),
-        Ok(Call::ServeSeats(asked)) => open_seats(rt, asked),
-        Ok(Call::KeptConsole { size, journal }) => keep_console(rt, size, journal),
-        Ok(Call::KeptLoad { file, journal }) => keep_loaded(rt, file, journal),
-        Ok(Call::Journal(asked)) => journal_file(rt, asked),
-        Ok(Call::Resume(asked)) => resume_file(rt, asked),
+        Ok(Call::Serve(service)) => open_room(rt, service).map_err(Fault::Open),
+        Ok(Call::ServeSeats(asked)) => serve_seats(rt, asked),
+        Ok(Call::KeptConsole { size, journal }) => {
+            keep_console(rt, size, journal).map_err(Fault::Hold)
+        }
+        Ok(Call::KeptLoad { file, journal }) => {
+            keep_loaded(rt, file, journal).map_err(Fault::Hold)
+        }
+        Ok(Call::Journal(asked)) => journal_file(rt, asked).map_err(Fault::Hold),
+        Ok(Call::Resume(asked)) => resume_file(rt, asked).map_err(Fault::Hold),
         Ok(
             Call::ResumeSeats {
                 resuming,
                 operators,
             },
-        ) => resume_seats(rt, resuming, operators),
+        ) => resume_seats(rt, resuming, operators).map_err(Fault::Open),
         Err(error) => tell(rt, error),
     }
 }
@@ -101,15 +95,29 @@ fn hold_console<R: Input<Reader = StdinLock<'static>> + Print + AllocGlobal>(
     console(rt.alloc(), size, &mut reader, &mut writer).map_err(Fault::Console)
 }
 
-/// Holds a session at standard input and output, with the image of a file loaded.
-fn hold_loaded<R: Files + Input<Reader = StdinLock<'static>> + Print + AllocGlobal>(
-    rt: &R,
-    file: String,
-) -> Result<(), Fault> {
-    let text = read_file(rt, file)?;
-    let mut reader = FromReader::new(rt.reader());
-    let mut writer = ToWriter::new(io::writer(rt));
-    load(rt.alloc(), text.as_slice(), &mut reader, &mut writer)
+/// Opens a room whose seats are taken again. What it begins with is read before the ports are asked for.
+fn serve_seats<
+    R: Threads
+        + Wait
+        + Sync
+        + Clock
+        + RandomSource
+        + Input<Reader = StdinLock<'static>>
+        + Print
+        + Eprint
+        + AllocGlobal
+        + Files<File = File>
+        + Net<Listener = TcpListener, Stream = TcpStream>,
+>(rt: &R, asked: Seating) -> Result<(), Fault> {
+    let Seating {
+        opening,
+        operators,
+        cards,
+        journal,
+    } = asked;
+    let machine = new_machine(rt, opening).map_err(Fault::Open)?;
+    let cards = cards_of(rt, cards)?;
+    open_seats(rt, machine, cards, operators, journal).map_err(Fault::Open)
 }
 
 /// The words of the command line, the program's own name in front.

@@ -1,0 +1,50 @@
+//! Why no session is held, or how it ended.
+ghost use Rattle.std.specs.Prelude.{◌≡◌};
+ghost use Rattle.terminal_1401.specs.Console.{outcome_of};
+ghost use Rattle.holding_1401.specs.Ended.{session_outcome};
+
+use answering_1401::SessionEnd;
+use image_1401::ImageFault;
+use keeping_1401::KeepFault;
+use terminal_1401::SessionFault;
+use thiserror::Error;
+
+/// What a session with an image or a journal may fail by.
+#[derive(Debug, Drop, Error)]
+pub enum HoldFault {
+    /// No core storage of the size named is made.
+    #[error("size refused")]
+    Size,
+    /// The file of this name can't be read, or is longer than any image.
+    #[error("cannot read {0}")]
+    Unread(String),
+    /// The file has no image's text.
+    #[error("image refused: {0}")]
+    Image(ImageFault),
+    /// The journal has no place for all commands that load the image.
+    #[error("journal full")]
+    JournalFull,
+    /// Memory was refused before the session.
+    #[error("memory refused")]
+    Memory,
+    /// Standard output didn't take what is told of a journal.
+    #[error("cannot write")]
+    Output,
+    /// A session ended so.
+    #[error("{0}")]
+    Session(SessionFault),
+    /// A journal isn't kept, or isn't taken up.
+    #[error("{0}")]
+    Kept(KeepFault),
+}
+
+/// What a session's end means for a program.
+///
+/// # Errors
+///
+/// `Session` with any end but QUIT and the end of the input.
+pub fn ended(end: SessionEnd) -> Result<(), HoldFault>
+    ensures { result ≡ session_outcome (outcome_of end) }
+{
+    terminal_1401::ended(end).map_err(HoldFault::Session)
+}

@@ -1,0 +1,273 @@
+//! What the subcommands `journal` and `resume` do, and sessions whose journal is kept.
+ghost use Rattle.std.specs.Prelude.{◌≡◌, false};
+
+use crate::fault::{HoldFault, ended};
+use crate::loading::{loaded_room, read_file};
+use answering_1401::{SessionEnd, session};
+use calls_1401::{NewJournal, Resuming, Showing};
+use core_1401::CoreFault;
+use journal_1401::{JournalFault, View, carry_chosen};
+use keeping_1401::{
+    Durability, FileFault, JournalFile, KeepFault, ShowFault, TakenUp, check_journal,
+    create_journal, keep_session, read_journal_file, read_room, resume_session, show_journal,
+    take_up_journal,
+};
+use lone_room_1401::{Room, Unkept};
+use std::alloc::Global;
+use std::fs::File;
+use std::marker::Brand;
+use std::rt::Files;
+use std::{fs, io};
+use streams_1401::{FromReader, Sink, Source, ToWriter};
+
+/// Shows the journal of a file, or checks it and tells how many entries it has.
+///
+/// # Errors
+///
+/// `Kept` if the file can't be read or has no journal, `Output` if standard output doesn't take the text, or
+/// `Memory`.
+pub fn journal_file<R: Files<File = File> + Print + AllocGlobal>(
+    rt: &R,
+    asked: Showing,
+) -> Result<(), HoldFault> {
+    let Showing {
+        file,
+        seat,
+        from,
+        check,
+    } = asked;
+    let text = match read_journal_file(rt, file.as_str()) {
+        Ok(text) => text,
+        Err(fault) => return Err(HoldFault::Kept(KeepFault::File(file, fault))),
+    };
+    if check {
+        return tell_entries(rt, file, check_journal(rt.alloc(), text.as_slice()));
+    }
+    let mut writer = ToWriter::new(io::writer(rt));
+    match show_journal(
+        rt.alloc(),
+        text.as_slice(),
+        View { seat, from },
+        &mut writer,
+    ) {
+        Ok(()) => Ok(()),
+        Err(ShowFault::Memory) => Err(HoldFault::Memory),
+        Err(ShowFault::Output) => Err(HoldFault::Output),
+        Err(ShowFault::Journal(fault)) => Err(no_journal(file, fault)),
+    }
+}
+
+/// Why the file of this name has no journal.
+fn no_journal(file: String, fault: JournalFault) -> HoldFault {
+    HoldFault::Kept(KeepFault::Journal(file, fault))
+}
+
+/// Tells how many entries a journal has.
+fn tell_entries(
+    rt: &impl Print,
+    file: String,
+    entries: Result<usize, JournalFault>,
+) -> Result<(), HoldFault> {
+    match entries {
+        Ok(entries) => println!(rt; "{entries} entries").map_err(|_| HoldFault::Output),
+        Err(fault) => Err(no_journal(file, fault)),
+    }
+}
+
+/// A room of this size at power-on.
+fn new_room(alloc: Global, size: u16) -> Result<Room, HoldFault> {
+    match Room::power_on(alloc, size) {
+        Ok(room) => Ok(room),
+        Err(CoreFault::Size) => Err(HoldFault::Size),
+        Err(CoreFault::Memory) => Err(HoldFault::Memory),
+    }
+}
+
+/// One session of standard input and output at the console of a new room, whose journal is kept in a new file.
+///
+/// # Errors
+///
+/// `Size` or `Memory` if there is no such room, `Kept` if the file can't be made, or what ended the session but
+/// QUIT and the end of the input.
+pub fn keep_console<R: Files<File = File> + Input + Print + AllocGlobal>(
+    rt: &R,
+    size: u16,
+    journal: NewJournal,
+) -> Result<(), HoldFault> {
+    let room = new_room(rt.alloc(), size)?;
+    keep_in_new(rt, room, journal)
+}
+
+/// The same for a new room that has an image loaded.
+///
+/// # Errors
+///
+/// `Unread` if the image's file can't be read, what `load` fails by, and as those of `keep_console`.
+pub fn keep_loaded<R: Files<File = File> + Input + Print + AllocGlobal>(
+    rt: &R,
+    file: String,
+    journal: NewJournal,
+) -> Result<(), HoldFault> {
+    let text = read_file(rt, file)?;
+    let room = loaded_room(rt.alloc(), text.as_slice())?;
+    keep_in_new(rt, room, journal)
+}
+
+/// What an entry outlasts, with `--sync` or without.
+pub fn durability_of(sync: bool) -> Durability {
+    if sync {
+        Durability::Disk
+    } else {
+        Durability::System
+    }
+}
+
+/// Keeps a room in a new file, and holds a session of standard input and output at its console.
+fn keep_in_new<R: Files<File = File> + Input + Print + AllocGlobal>(
+    rt: &R,
+    room: Room,
+    journal: NewJournal,
+) -> Result<(), HoldFault> {
+    let NewJournal { file, sync } = journal;
+    let name = String::from_str(rt.alloc(), file.as_str()).map_err(|_| HoldFault::Memory)?;
+    let sink = create_journal(rt, file, durability_of(sync)).map_err(HoldFault::Kept)?;
+    let mut reader = FromReader::new(rt.reader());
+    let mut writer = ToWriter::new(io::writer(rt));
+    match keep_by(rt.alloc(), room, sink, &mut reader, &mut writer) {
+        Ok(end) => ended(end),
+        Err(_) => {
+            // The file has no journal, and it is this call's own.
+            let _ = fs::remove_file(rt, name.as_str());
+            Err(HoldFault::Kept(KeepFault::File(name, FileFault::Unwritten)))
+        }
+    }
+}
+
+/// Keeps a room by a sink, and holds a session at its console.
+fn keep_by<S: Sink + Drop, R: Source, W: Sink>(
+    alloc: Global,
+    room: Room,
+    sink: S,
+    reader: &mut R,
+    writer: &mut W,
+) -> Result<SessionEnd, Unkept> {
+    keep_session::<Brand, S, R, W>(alloc, room, sink, reader, writer)
+}
+
+/// Carries out the commands of a journal again, and holds a session of standard input and output that goes on there. It
+/// is kept in the same file, or in a new one; or, if only the first of the commands are asked for, it isn't kept.
+///
+/// # Errors
+///
+/// `Kept` if a file can't be had or has no journal, `Memory`, or what ended the session but QUIT and the end of the
+/// input.
+pub fn resume_file<R: Files<File = File> + Input + Print + Eprint + AllocGlobal>(
+    rt: &R,
+    asked: Resuming,
+) -> Result<(), HoldFault> {
+    let Resuming {
+        file,
+        journal,
+        until,
+        without,
+        sync,
+    } = asked;
+    if journal.is_none() && until.is_none() {
+        return go_on(rt, file, durability_of(sync));
+    }
+    let room = read_chosen(rt, file, until, without.as_slice())?;
+    match journal {
+        Some(file) => keep_in_new(rt, room, NewJournal { file, sync }),
+        None => look_at(rt, room),
+    }
+}
+
+/// The room after those commands of a file's journal that are asked for.
+///
+/// # Errors
+///
+/// `Kept` if the file can't be had, has no journal or no entry of a number that is named, or `Memory`.
+pub fn read_chosen(
+    rt: &(impl Files<File = File> + AllocGlobal),
+    file: String,
+    until: Option<u64>,
+    without: &[u64],
+) -> Result<Room, HoldFault> {
+    let room = read_room(rt, file).map_err(HoldFault::Kept)?;
+    chosen_room(rt.alloc(), &room, until, without)
+}
+
+/// A room that has carried out some of a room's commands again.
+///
+/// # Errors
+///
+/// `Kept` if the journal has no entry of a number that is named, or `Memory`.
+fn chosen_room(
+    alloc: Global,
+    room: &Room,
+    until: Option<u64>,
+    without: &[u64],
+) -> Result<Room, HoldFault> {
+    let entries = room.journal().len() as u64;
+    let until = until.unwrap_or(entries);
+    if until > entries {
+        return Err(HoldFault::Kept(KeepFault::NoEntry(until)));
+    }
+    for number in without {
+        if *number == 0 || *number > entries {
+            return Err(HoldFault::Kept(KeepFault::NoEntry(*number)));
+        }
+    }
+    let size = room.machine().core().size();
+    carry_chosen(alloc, size, room.journal(), until, without).map_err(|_| HoldFault::Memory)
+}
+
+/// Holds a session of standard input and output at the console of a room, of which nothing is kept.
+fn look_at<R: Input + Print + AllocGlobal>(rt: &R, room: Room) -> Result<(), HoldFault> {
+    let mut room = room;
+    let mut reader = FromReader::new(rt.reader());
+    let mut writer = ToWriter::new(io::writer(rt));
+    ended(session(rt.alloc(), &mut room, &mut reader, &mut writer))
+}
+
+/// Tells on standard error which line was cut off, if one was.
+pub fn tell_cut(rt: &impl Eprint, cut: Option<u32>) {
+    if let Some(line) = cut {
+        let _ = eprintln!(rt; "ibm1401: line {line} was unfinished and is cut off");
+    }
+}
+
+/// Goes on in the file of a journal.
+fn go_on<R: Files<File = File> + Input + Print + Eprint + AllocGlobal>(
+    rt: &R,
+    file: String,
+    durability: Durability,
+) -> Result<(), HoldFault> {
+    let TakenUp {
+        room,
+        file,
+        cut,
+        ..
+    } = match take_up_journal(rt, file, durability) {
+        Ok(taken) => taken,
+        Err(fault) => return Err(HoldFault::Kept(fault)),
+    };
+    tell_cut(rt, cut);
+    let mut reader = FromReader::new(rt.reader());
+    let mut writer = ToWriter::new(io::writer(rt));
+    ended(resume_by(rt.alloc(), room, file, &mut reader, &mut writer))
+}
+
+/// Holds a session at the console of a room by the file that has its journal.
+fn resume_by<R: Source, W: Sink>(
+    alloc: Global,
+    room: Room,
+    sink: JournalFile,
+    reader: &mut R,
+    writer: &mut W,
+) -> SessionEnd
+    requires good { ⟦<JournalFile as Sink>⟧.has_failed sink ≡ false }
+{
+    // What the file had before is unknown, and so is what it has.
+    resume_session::<Brand, JournalFile, R, W>(alloc, room, sink, reader, writer)
+}

@@ -1,0 +1,140 @@
+//! What the seats of a room do before operators come.
+ghost use Rattle.std.specs.Prelude.{◌≡◌, ◌+◌, ◌<◌, ◌^◌, length, OnOk};
+ghost use Rattle.console_1401.specs.Served.{AreAllSeats};
+ghost use Rattle.opening_1401.specs.Outcome.{give_fault, room_fault};
+
+use crate::fault::OpenFault;
+use devices_1401::Card;
+use holding_1401::HoldFault;
+use image_1401::Image;
+use room_1401::{Command, Keeper, Room, RoomFault, RoomId, Seat, SharedRoom};
+use serving_1401::{GiveFault, SeatsFault, give, give_entries};
+use std::sync::Wait;
+use terminal_1401::SessionFault;
+
+/// What the room that refused a command, or didn't keep its entry, means for the program.
+fn room_fault(fault: RoomFault) -> OpenFault
+    ensures { result ≡ room_fault fault }
+{
+    match fault {
+        RoomFault::Memory => OpenFault::Hold(HoldFault::Memory),
+        RoomFault::JournalFull => OpenFault::Hold(HoldFault::JournalFull),
+        RoomFault::NoReading => OpenFault::Seats(SeatsFault::Unreturned),
+        RoomFault::Unkept => OpenFault::Hold(HoldFault::Session(SessionFault::Unkept)),
+    }
+}
+
+/// What it means for the program that the commands of a journal weren't given again.
+fn give_fault(fault: GiveFault) -> OpenFault
+    ensures { result ≡ give_fault fault }
+{
+    match fault {
+        GiveFault::NoSeat(seat) => OpenFault::NoSeat(seat),
+        GiveFault::Refused(fault) => room_fault(fault),
+    }
+}
+
+/// What the seats of a room do before operators come.
+#[derive(Drop)]
+pub(crate) enum Before {
+    /// The first loads an image, if there is one, and then feeds these cards.
+    Program {
+        /// The image.
+        image: Option<Image>,
+        /// The cards.
+        cards: Vec<Card>,
+    },
+    /// They give the commands of this room's journal again, each those of its number.
+    Journal(Room),
+}
+
+/// Does what is done before operators come.
+pub(crate) fn begin<J: RoomId, H: Wait + Drop, K: Keeper + Drop, W: Wait>(
+    wait: &W,
+    room: &SharedRoom<J, H, K>,
+    seats: &mut Vec<Seat<J>>,
+    before: Before,
+) -> Result<(), OpenFault>
+    requires seats { AreAllSeats J.seats seats.old.items }
+    requires count { (0 < J.seats) × (J.seats < 2 ^ 8) }
+    ensures seats { AreAllSeats J.seats seats.new.items }
+{
+    match before {
+        Before::Program { image, cards } => {
+            begin_by_first(wait, room, seats, image, cards.as_slice())
+        }
+        Before::Journal(before) => {
+            give_entries(wait, room, seats, before.journal()).map_err(give_fault)
+        }
+    }
+}
+
+/// Loads an image into a room and feeds cards, by the first of its seats.
+fn begin_by_first<J: RoomId, H: Wait + Drop, K: Keeper + Drop, W: Wait>(
+    wait: &W,
+    room: &SharedRoom<J, H, K>,
+    seats: &mut Vec<Seat<J>>,
+    image: Option<Image>,
+    cards: &[Card],
+) -> Result<(), OpenFault>
+    requires { AreAllSeats J.seats seats.old.items }
+    ensures { AreAllSeats J.seats seats.new.items }
+{
+    let Some(first) = seats.first_mut() else {
+        return Ok(());
+    };
+    begin_by(wait, room, first, image, cards)
+}
+
+/// Loads an image into a room and feeds cards, by a seat.
+fn begin_by<J: RoomId, H: Wait + Drop, K: Keeper + Drop, W: Wait>(
+    wait: &W,
+    room: &SharedRoom<J, H, K>,
+    seat: &mut Seat<J>,
+    image: Option<Image>,
+    cards: &[Card],
+) -> Result<(), OpenFault>
+    ensures { seat.new.number ≡ seat.old.number }
+{
+    if let Some(image) = image {
+        put_image_by(wait, room, seat, &image)?;
+    }
+    feed_by(wait, room, seat, cards)
+}
+
+/// Loads an image into a room, by a seat.
+fn put_image_by<J: RoomId, H: Wait + Drop, K: Keeper + Drop, W: Wait>(
+    wait: &W,
+    room: &SharedRoom<J, H, K>,
+    seat: &mut Seat<J>,
+    image: &Image,
+) -> Result<(), OpenFault>
+    ensures number { seat.new.number ≡ seat.old.number }
+    ensures made { OnOk result (seat.new.made ≡ seat.old.made + length image.now.segments + 1) }
+{
+    for segment in image.segments.as_slice() {
+        let command = Command::Deposit {
+            address: segment.address,
+            cells: segment.cells,
+        };
+        give(wait, room, seat, command).map_err(room_fault)?;
+    }
+    let start = image.start;
+    give(wait, room, seat, Command::SetI { address: start }).map_err(room_fault)
+}
+
+/// Feeds cards, by a seat.
+fn feed_by<J: RoomId, H: Wait + Drop, K: Keeper + Drop, W: Wait>(
+    wait: &W,
+    room: &SharedRoom<J, H, K>,
+    seat: &mut Seat<J>,
+    cards: &[Card],
+) -> Result<(), OpenFault>
+    ensures number { seat.new.number ≡ seat.old.number }
+    ensures made { OnOk result (seat.new.made ≡ seat.old.made + length cards.now) }
+{
+    for card in cards {
+        give(wait, room, seat, Command::Feed { card: *card }).map_err(room_fault)?;
+    }
+    Ok(())
+}

@@ -1,0 +1,28 @@
+//! Rooms that are opened to operators: what `serve` does, with or without seats that are taken again, and `resume` with
+//! seats.
+//!
+//! ```text
+//! open_room(rt, service)?                      // a console for each seat, once, until all have ended
+//! open_seats(rt, machine, cards, comers, kept)? // consoles and pages, whose seats are taken again, until QUIT
+//! resume_seats(rt, asked, comers)?             // the same, from where a journal ends
+//! ```
+#![tactic(auto)]
+
+// why no room is opened, or what went wrong in it
+pub mod fault;
+
+// a console for each seat, once
+pub mod serving;
+
+// seats that are taken again: where operators come in, what is done before, and the room
+mod beginning;
+mod entrances;
+pub mod seating;
+
+// the same where a journal ends
+pub mod resuming;
+
+pub use fault::OpenFault;
+pub use resuming::resume_seats;
+pub use seating::{NewMachine, new_machine, open_seats};
+pub use serving::open_room;

@@ -1,0 +1,183 @@
+//! What the subcommand `resume` does if operators share the room.
+ghost use Rattle.std.specs.Prelude.{◌≡◌, ◌≤◌, false, vec_len};
+ghost use Rattle.journal_1401.specs.JournalText.{journal_text};
+
+use crate::beginning::Before;
+use crate::entrances::{Entrances, open_entrances};
+use crate::fault::{OpenFault, not_kept};
+use crate::seating::{open_new, serve_room};
+use calls_1401::{NewJournal, Operators, Resuming};
+use holding_1401::{HoldFault, durability_of, read_chosen, tell_cut};
+use keeping_1401::{
+    Durability, JournalFile, TakenUp, TextKeeper, Verifier, find_journal, verify_journal,
+};
+use room_1401::{Entry, Opened, Room};
+use serving_1401::foreign_seat;
+use std::fs::File;
+use std::io::StdinLock;
+use std::marker::Brand;
+use std::net::{Net, TcpListener, TcpStream};
+use std::random::RandomSource;
+use std::rt::{Clock, Files};
+use std::sync::Wait;
+use std::thread::Threads;
+use streams_1401::Sink;
+
+/// Refuses a journal with entries of a seat that a room hasn't.
+fn expect_seats(entries: &[Entry], least: u8, most: u8) -> Result<(), OpenFault> {
+    match foreign_seat(entries, least, most) {
+        None => Ok(()),
+        Some(seat) => Err(OpenFault::NoSeat(seat)),
+    }
+}
+
+/// Opens a room to operators whose seats give the commands of a journal again first; it goes on as `serve` does. It is
+/// kept in the same file, or in a new one; or, if only the first of the commands are asked for, it isn't kept.
+///
+/// # Errors
+///
+/// `Port` if a port is refused; `Hold` with `Kept` if a file can't be had or has no journal; `NoSeat` if an entry is of
+/// a seat that the room hasn't: in the same file seat 0 is such a one, in a new file seat 1 gives its commands. Else as
+/// `open_seats`.
+pub fn resume_seats<
+    R: Threads
+        + Wait
+        + Sync
+        + Clock
+        + RandomSource
+        + Input<Reader = StdinLock<'static>>
+        + Print
+        + Eprint
+        + AllocGlobal
+        + Files<File = File>
+        + Net<Listener = TcpListener, Stream = TcpStream>,
+>(rt: &R, asked: Resuming, operators: Operators) -> Result<(), OpenFault> {
+    let entrances = open_entrances(rt, operators)?;
+    resume_at(rt, asked, operators.seats, &entrances)
+}
+
+/// The same once the ports are had.
+fn resume_at<
+    R: Threads
+        + Wait
+        + Sync
+        + Clock
+        + RandomSource
+        + Input<Reader = StdinLock<'static>>
+        + Print
+        + Eprint
+        + AllocGlobal
+        + Files<File = File>,
+>(rt: &R, asked: Resuming, seats: u8, entrances: &Entrances) -> Result<(), OpenFault>
+    requires { vec_len entrances.now.pages ≤ seats }
+{
+    let Resuming {
+        file,
+        journal,
+        until,
+        without,
+        sync,
+    } = asked;
+    if journal.is_none() && until.is_none() {
+        return go_on(rt, file, durability_of(sync), seats, entrances);
+    }
+    let room = room_of(rt, file, until, without.as_slice(), seats)?;
+    let size = room.machine().core().size();
+    let journal = new_journal(journal, sync);
+    open_new(rt, size, seats, Before::Journal(room), journal, entrances)
+}
+
+/// The same, of a journal whose seats the room has.
+fn room_of(
+    rt: &(impl Files<File = File> + AllocGlobal),
+    file: String,
+    until: Option<u64>,
+    without: &[u64],
+    seats: u8,
+) -> Result<Room, OpenFault> {
+    let room = read_chosen(rt, file, until, without).map_err(OpenFault::Hold)?;
+    expect_seats(room.journal(), 0, seats)?;
+    Ok(room)
+}
+
+/// The journal that is kept from there on, if there is a file for it.
+fn new_journal(file: Option<String>, sync: bool) -> Option<NewJournal> {
+    match file {
+        Some(file) => Some(NewJournal { file, sync }),
+        None => None,
+    }
+}
+
+/// Goes on in the file of a journal.
+fn go_on<
+    R: Threads
+        + Wait
+        + Sync
+        + Clock
+        + RandomSource
+        + Input<Reader = StdinLock<'static>>
+        + Print
+        + Eprint
+        + AllocGlobal
+        + Files<File = File>,
+>(
+    rt: &R,
+    file: String,
+    durability: Durability,
+    seats: u8,
+    entrances: &Entrances,
+) -> Result<(), OpenFault>
+    requires { vec_len entrances.now.pages ≤ seats }
+{
+    let found = find_journal(rt, file, durability).map_err(not_kept)?;
+    expect_seats(found.entries(), 1, seats)?;
+    let TakenUp {
+        room,
+        file,
+        text,
+        cut,
+    } = found.take_up().map_err(not_kept)?;
+    tell_cut(rt, cut);
+    verify_room(rt, room, file, text, seats, entrances)
+}
+
+/// Goes on by the file of a room's journal, which has its text.
+fn verify_room<
+    R: Threads
+        + Wait
+        + Sync
+        + Clock
+        + RandomSource
+        + Input<Reader = StdinLock<'static>>
+        + Print
+        + AllocGlobal
+        + Files,
+>(
+    rt: &R,
+    room: Room,
+    file: JournalFile,
+    text: Vec<u8>,
+    seats: u8,
+    entrances: &Entrances,
+) -> Result<(), OpenFault>
+    requires pages { vec_len entrances.now.pages ≤ seats }
+    requires good { ⟦<JournalFile as Sink>⟧.has_failed file ≡ false }
+    requires text { text.items ≡ journal_text room.size room.journal }
+{
+    let size = room.machine().core().size();
+    let verifier = verify_journal::<Brand, JournalFile>(rt.alloc(), file, text, size);
+    let Ok(keeper) = verifier else {
+        return Err(OpenFault::Hold(HoldFault::Memory));
+    };
+    let opened = Opened::new(seats);
+    serve_room::<Brand, R, TextKeeper<Brand, Verifier<JournalFile>>>(
+        rt,
+        size,
+        seats,
+        Before::Journal(room),
+        opened,
+        keeper,
+        entrances,
+        None,
+    )
+}

@@ -1,0 +1,277 @@
+//! What the subcommand `serve` does if seats are taken again, and what such rooms have in common.
+ghost use Rattle.std.specs.Prelude.{◌≡◌, ◌<◌, ◌≤◌, ◌^◌, [], false, vec_len};
+ghost use Rattle.std.specs.Io.KnownBytes.{Appends};
+ghost use Rattle.console_1401.specs.Served.{AreAllSeats};
+ghost use Rattle.lone_room_1401.specs.Kept.{kept_text};
+ghost use Rattle.opening_1401.specs.Outcome.{seats_outcome};
+
+use crate::beginning::{Before, begin};
+use crate::entrances::{Entrances, open_entrances, tell_ready};
+use crate::fault::{OpenFault, not_kept, not_told};
+use crate::serving::start_fault;
+use calls_1401::{NewJournal, Opening, Operators};
+use core_1401::Core;
+use devices_1401::Card;
+use holding_1401::{HoldFault, durability_of, read_file};
+use image_1401::{Image, read_image};
+use keeping_1401::{JournalFile, TextKeeper, begin_journal};
+use room_1401::{Keeper, NoKeeper, Opened, RoomId, Seat, SharedRoom};
+use serving_1401::{SeatsFault, SeatsServed, TakingTurns, serve_pages};
+use std::fs;
+use std::fs::File;
+use std::io::StdinLock;
+use std::marker::Brand;
+use std::net::{Net, TcpListener, TcpStream};
+use std::random::RandomSource;
+use std::rt::{Clock, Files};
+use std::sync::Wait;
+use std::thread::Threads;
+use streams_1401::FromReader;
+use terminal_1401::SessionFault;
+
+/// What became of a room while it was served means this for the program.
+///
+/// # Errors
+///
+/// `Hold` if an entry wasn't kept; else what went wrong first, if something did.
+fn seats_outcome(failed: bool, fault: Option<SeatsFault>) -> Result<(), OpenFault>
+    ensures { result ≡ seats_outcome failed fault }
+{
+    if failed {
+        return Err(OpenFault::Hold(HoldFault::Session(SessionFault::Unkept)));
+    }
+    match fault {
+        None => Ok(()),
+        Some(fault) => Err(OpenFault::Seats(fault)),
+    }
+}
+
+/// The image of a file.
+fn image_of(rt: &(impl Files + AllocGlobal), name: String) -> Result<Image, HoldFault> {
+    let text = read_file(rt, name)?;
+    read_image(rt.alloc(), text.as_slice()).map_err(HoldFault::Image)
+}
+
+/// A machine that is new to its operators.
+#[derive(Drop)]
+pub struct NewMachine {
+    /// How many places core storage has.
+    pub size: u16,
+    /// The image that is loaded; without one the machine is at power-on.
+    pub image: Option<Image>,
+}
+
+/// The machine that a room begins with.
+///
+/// # Errors
+///
+/// `Hold` with `Unread`, `Image` or `Memory` if there is no such image, or with `Size` if no core storage of the size
+/// named is made.
+pub fn new_machine(
+    rt: &(impl Files + AllocGlobal),
+    opening: Opening,
+) -> Result<NewMachine, OpenFault> {
+    let (size, image) = match opening {
+        Opening::PowerOn(size) => (size, None),
+        Opening::Image(name) => {
+            let image = image_of(rt, name).map_err(OpenFault::Hold)?;
+            (image.size, Some(image))
+        }
+    };
+    if !Core::is_size(size) {
+        return Err(OpenFault::Hold(HoldFault::Size));
+    }
+    Ok(NewMachine { size, image })
+}
+
+/// Opens a machine to operators whose seats are taken again, with these cards in its hopper. It tells on standard
+/// output when it listens, with the address of each page, and at the end how many commands the journal has. QUIT on
+/// standard input, or its end, closes the room.
+///
+/// # Errors
+///
+/// `NoReader`, or `Hold` with `Size` or `Memory`, if there is no such room; `Port` if a port is refused; `Hold` with
+/// `Kept` if the journal's file can't be had, with `Output` if standard output takes nothing, with `JournalFull` or
+/// `Session` if the image isn't loaded or a card isn't fed; or what went wrong while the room was served. A new file of
+/// a journal is left only if the room came about.
+pub fn open_seats<
+    R: Threads
+        + Wait
+        + Sync
+        + Clock
+        + RandomSource
+        + Input<Reader = StdinLock<'static>>
+        + Print
+        + AllocGlobal
+        + Files<File = File>
+        + Net<Listener = TcpListener, Stream = TcpStream>,
+>(
+    rt: &R,
+    machine: NewMachine,
+    cards: Vec<Card>,
+    operators: Operators,
+    journal: Option<NewJournal>,
+) -> Result<(), OpenFault> {
+    let NewMachine { size, image } = machine;
+    let before = Before::Program { image, cards };
+    let entrances = open_entrances(rt, operators)?;
+    open_new(rt, size, operators.seats, before, journal, &entrances)
+}
+
+/// Opens a room that is kept in a new file, or isn't kept.
+pub(crate) fn open_new<
+    R: Threads
+        + Wait
+        + Sync
+        + Clock
+        + RandomSource
+        + Input<Reader = StdinLock<'static>>
+        + Print
+        + AllocGlobal
+        + Files<File = File>,
+>(
+    rt: &R,
+    size: u16,
+    seats: u8,
+    before: Before,
+    journal: Option<NewJournal>,
+    entrances: &Entrances,
+) -> Result<(), OpenFault>
+    requires { vec_len entrances.now.pages ≤ seats }
+{
+    let opened = Opened::new(seats);
+    let Some(NewJournal { file, sync }) = journal else {
+        return serve_room::<Brand, R, NoKeeper>(
+            rt, size, seats, before, opened, NoKeeper, entrances, None,
+        );
+    };
+    let Ok(made) = String::from_str(rt.alloc(), file.as_str()) else {
+        return Err(OpenFault::Hold(HoldFault::Memory));
+    };
+    let sink = begin_journal(rt, file, size, durability_of(sync)).map_err(not_kept)?;
+    let keeper = TextKeeper::<Brand, JournalFile>::new(rt.alloc(), sink);
+    let made = Some(made);
+    serve_room::<Brand, R, TextKeeper<Brand, JournalFile>>(
+        rt, size, seats, before, opened, keeper, entrances, made,
+    )
+}
+
+/// Opens a room of this name, by a keeper that has the head of its journal, and serves it; if it doesn't come about,
+/// the file that was made for it is taken away.
+pub(crate) fn serve_room<
+    J: RoomId + Send + Sync,
+    R: Threads
+        + Wait
+        + Sync
+        + Clock
+        + RandomSource
+        + Input<Reader = StdinLock<'static>>
+        + Print
+        + AllocGlobal
+        + Files,
+    K: Keeper + Drop + Send + Sync,
+>(
+    rt: &R,
+    size: u16,
+    seats: u8,
+    before: Before,
+    opened: Opened,
+    keeper: K,
+    entrances: &Entrances,
+    made: Option<String>,
+) -> Result<(), OpenFault>
+    requires history { opened.book ≡ J.book }
+    requires ledger { (opened.ledger ≡ J.name) × (opened.parts ≡ J.parts) × (J.parts ≡ J.seats) }
+    requires named { (size ≡ J.size) × (seats ≡ J.seats) }
+    requires pages { vec_len entrances.now.pages ≤ seats }
+    requires good { K.has_failed keeper ≡ false }
+    requires kept { Appends K.first (K.kept keeper) (kept_text K.form size []) }
+{
+    let alloc = rt.alloc();
+    match SharedRoom::<J, &R, K>::power_on_kept(rt, alloc, size, seats, opened, keeper) {
+        Ok((room, seats)) => serve_begun(rt, room, seats, before, entrances, made),
+        Err(fault) => {
+            remove(rt, made);
+            Err(start_fault(fault))
+        }
+    }
+}
+
+/// The same once the room is opened: what comes before its operators, and then they.
+fn serve_begun<
+    J: RoomId + Send + Sync,
+    R: Threads
+        + Wait
+        + Sync
+        + Clock
+        + RandomSource
+        + Input<Reader = StdinLock<'static>>
+        + Print
+        + AllocGlobal
+        + Files,
+    K: Keeper + Drop + Send + Sync,
+>(
+    rt: &R,
+    room: SharedRoom<J, &R, K>,
+    mut seats: Vec<Seat<J>>,
+    before: Before,
+    entrances: &Entrances,
+    made: Option<String>,
+) -> Result<(), OpenFault>
+    requires ledger { J.parts ≡ J.seats }
+    requires seats { AreAllSeats J.seats seats.items }
+    requires count { (0 < J.seats) × (J.seats < 2 ^ 8) }
+    requires pages { vec_len entrances.now.pages ≤ J.seats }
+{
+    if let Err(fault) = begin(rt, &room, &mut seats, before) {
+        remove(rt, made);
+        return Err(fault);
+    }
+    serve_operators(rt, room, seats, entrances)
+}
+
+/// Tells that the room listens, serves it, and tells how many commands its journal has at the end.
+fn serve_operators<
+    J: RoomId + Send + Sync,
+    R: Threads
+        + Wait
+        + Sync
+        + Clock
+        + RandomSource
+        + Input<Reader = StdinLock<'static>>
+        + Print
+        + AllocGlobal,
+    K: Keeper + Drop + Send + Sync,
+>(
+    rt: &R,
+    room: SharedRoom<J, &R, K>,
+    seats: Vec<Seat<J>>,
+    entrances: &Entrances,
+) -> Result<(), OpenFault>
+    requires ledger { J.parts ≡ J.seats }
+    requires seats { AreAllSeats J.seats seats.items }
+    requires count { (0 < J.seats) × (J.seats < 2 ^ 8) }
+    requires pages { vec_len entrances.now.pages ≤ J.seats }
+{
+    let pages = entrances.pages.as_slice();
+    tell_ready(rt, pages)?;
+    let input = FromReader::new(rt.reader());
+    let consoles = entrances.consoles.as_ref();
+    let door = TakingTurns::new(rt);
+    let served = serve_pages(rt.alloc(), rt, room, seats, consoles, pages, input, &door);
+    tell_end(rt, served)
+}
+
+/// Tells how many commands the journal of a room has that was served.
+fn tell_end<K: Keeper + Drop>(rt: &impl Print, served: SeatsServed<K>) -> Result<(), OpenFault> {
+    let told = println!(rt; "JOURNAL {}", served.room.journal().len());
+    seats_outcome(served.keeper.has_failed(), served.fault)?;
+    told.map_err(not_told)
+}
+
+/// Takes away the file that was made for a journal, if one was: it has no journal of a room that operators came to.
+fn remove(rt: &impl Files, made: Option<String>) {
+    if let Some(name) = made {
+        let _ = fs::remove_file(rt, name.as_str());
+    }
+}
