@@ -6,7 +6,7 @@ use crate::switch_name::SwitchName;
 use bcd_1401::{Cell, Char};
 
 /// What a branch of five characters looks at (A24-1403, "Branch if Indicator On").
-#[derive(Clone, Copy, Debug, PartialEq, Eq)]
+#[derive(Clone, Copy)]
 pub enum Condition {
     /// `/`: the last compare found its fields unequal.
     Unequal,

@@ -3,7 +3,7 @@
 use bcd_1401::Char;
 
 /// What an instruction says.
-#[derive(Clone, Copy, Debug, PartialEq, Eq)]
+#[derive(Clone, Copy)]
 pub struct Instruction {
     /// How many characters it has, 1 to 8.
     pub len: u16,

@@ -12,7 +12,7 @@ use core_1401::{Core, LEAST_SIZE};
 use devices_1401::Card;
 
 /// What an operation of the card reader, the punch and the printer does, in this order.
-#[derive(Clone, Copy, Debug, PartialEq, Eq)]
+#[derive(Clone, Copy)]
 pub struct CardWork {
     /// Whether it writes the print area.
     pub writes: bool,
@@ -81,7 +81,7 @@ impl CardWork {
 }
 
 /// What an operation asks of the card reader, the punch and the printer. What is asked for is done in this order.
-#[derive(Clone, Copy, Debug, PartialEq, Eq)]
+#[derive(Clone, Copy)]
 pub struct IoRequest {
     /// A line to be printed, if there is one.
     pub line: Option<[Char; 132]>,

@@ -6,7 +6,7 @@ ghost use Rattle.cpu_1401.specs.Operation.{form_of, has_length, is_unfitted, is_
 use bcd_1401::Char;
 
 /// What an instruction does.
-#[derive(Clone, Copy, Debug, PartialEq, Eq)]
+#[derive(Clone, Copy, PartialEq, Eq)]
 pub enum Operation {
     /// `A`: adds the A field to the B field.
     Add,

@@ -20,7 +20,7 @@ use symbols_1401::{
 };
 
 /// What the lines before a line tell of it.
-#[derive(Clone, Copy, Debug, PartialEq, Eq)]
+#[derive(Clone, Copy)]
 pub(crate) struct LineContext {
     /// The line's number.
     pub number: u64,

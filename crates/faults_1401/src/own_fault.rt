@@ -13,7 +13,7 @@ use source_1401::{
 use symbols_1401::{AsmKind, KeptLine, Sites, Symbols};
 
 /// What the lines before a line tell of its faults.
-#[derive(Clone, Copy, Debug, PartialEq, Eq)]
+#[derive(Clone, Copy)]
 pub(crate) struct Before {
     /// What they tell of it anyway.
     pub at: LineContext,

@@ -8,7 +8,7 @@ use core_1401::{Core, SIZES};
 const MOST_PLACES: u16 = SIZES[2];
 
 /// A version of the text of an image.
-#[derive(Clone, Copy, Debug, PartialEq, Eq)]
+#[derive(Clone, Copy)]
 pub(crate) enum Version {
     /// 1: four digits, and core storage up to 4,000 places.
     One,

@@ -40,7 +40,7 @@ pub enum Broken {
 }
 
 /// What a stretch of a job has done.
-#[derive(Clone, Copy, Debug, PartialEq, Eq)]
+#[derive(Clone, Copy)]
 struct Stretch {
     /// How many instructions were carried out.
     steps: u32,

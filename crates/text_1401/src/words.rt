@@ -13,7 +13,7 @@ use notation_1401::read_digits;
 const MOST_DIGITS: usize = 7;
 
 /// The words that a line may begin with.
-#[derive(Clone, Copy, Debug, PartialEq, Eq)]
+#[derive(Clone, Copy)]
 pub(crate) enum Keyword {
     /// DEPOSIT: cells at an address.
     Deposit,
