@@ -13,7 +13,8 @@ use Rattle.source_1401.specs.Context.{lines_said}
 use Rattle.source_1401.specs.Language.{wider_line}
 use Rattle.source_1401.specs.Mnemonic.{instructions, assembler_operations}
 use Rattle.source_1401.specs.SourceLine.{columns_of, lines_of}
-use Rattle.source_1401.specs.WideMnemonic.{wide_instructions, wide_operations}
+use Rattle.source_1401.specs.WideMnemonic.{wide_instructions}
+use Rattle.source_1401.specs.WideOperation.{wide_operations}
 use Rattle.source_1401.specs.WideStatement.{wide_line_with}
 use Rattle.source_1401.specs.declared.language.Language.TheVariants.{Ibm}
 use Rattle.source_1401.specs.declared.statement.Line.{Line}

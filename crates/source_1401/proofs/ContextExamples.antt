@@ -12,7 +12,8 @@ use Rattle.source_1401.specs.Language.{is_sound, wider_line}
 use Rattle.source_1401.specs.Mnemonic.{instructions, assembler_operations}
 use Rattle.source_1401.specs.SourceLine.{columns_of}
 use Rattle.source_1401.specs.Statement.{label_of_line}
-use Rattle.source_1401.specs.WideMnemonic.{wide_instructions, wide_operations}
+use Rattle.source_1401.specs.WideMnemonic.{wide_instructions}
+use Rattle.source_1401.specs.WideOperation.{wide_operations}
 use Rattle.source_1401.specs.WideStatement.{wide_line_with}
 use Rattle.source_1401.specs.declared.address.Base.{Base}
 use Rattle.source_1401.specs.declared.address.Base.TheVariants as bases

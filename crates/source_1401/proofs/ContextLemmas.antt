@@ -25,9 +25,11 @@ use Rattle.source_1401.specs.Operands.{operand_in, operands_of, read_operand, is
 use Rattle.source_1401.specs.Punctuation.{comma}
 use Rattle.source_1401.specs.SourceLine.{columns_of, columns_in, is_comment}
 use Rattle.source_1401.specs.Statement.{body_by, bytes_with, line_of, one_address, statement_of}
-use Rattle.source_1401.specs.Symbols.{address_under, base_under, body_under, field_under, is_any, is_labelled}
+use Rattle.source_1401.specs.Description.{body_under}
+use Rattle.source_1401.specs.LineSymbols.{line_under, statement_under}
+use Rattle.source_1401.specs.Symbols.{address_under, base_under, field_under, is_any, is_labelled}
 use Rattle.source_1401.specs.Symbols.{label_under, literal_under}
-use Rattle.source_1401.specs.Symbols.{line_under, no_registers, operand_under, operands_under, statement_under}
+use Rattle.source_1401.specs.Symbols.{no_registers, operand_under, operands_under}
 use Rattle.source_1401.specs.declared.address.Address.{Address}
 use Rattle.source_1401.specs.declared.address.Base.{Base}
 use Rattle.source_1401.specs.declared.address.Base.TheVariants as bases

@@ -6,7 +6,8 @@ use Rattle.source_1401.specs.Language.{is_sound, wider_line, line_in}
 use Rattle.source_1401.specs.Mnemonic.{instructions, assembler_operations}
 use Rattle.source_1401.specs.SourceLine.{columns_of}
 use Rattle.source_1401.specs.WideColumns.{capitals, plus_signs_from}
-use Rattle.source_1401.specs.WideMnemonic.{wide_instructions, wide_operations}
+use Rattle.source_1401.specs.WideMnemonic.{wide_instructions}
+use Rattle.source_1401.specs.WideOperation.{wide_operations}
 use Rattle.source_1401.specs.WideStatement.{wide_line_with}
 use Rattle.source_1401.specs.declared.language.Language.TheVariants as languages
 use Rattle.source_1401.specs.declared.statement.Line.{Line}

@@ -7,7 +7,8 @@ use Rattle.source_1401.specs.LanguageFlaw.{is_wide_operation, nearest_wide_mnemo
 use Rattle.source_1401.specs.LanguageFlaw.{wider_columns, wide_flaw_of, wide_foreign_column, wide_operation_flaw}
 use Rattle.source_1401.specs.Mnemonic.{instructions, assembler_operations}
 use Rattle.source_1401.specs.SourceLine.{columns_of}
-use Rattle.source_1401.specs.WideMnemonic.{wide_instructions, wide_operations}
+use Rattle.source_1401.specs.WideMnemonic.{wide_instructions}
+use Rattle.source_1401.specs.WideOperation.{wide_operations}
 use Rattle.source_1401.specs.declared.flaw.Flaw.{Flaw}
 use Rattle.source_1401.specs.declared.flaw.OperandFlaw.{OperandFlaw}
 use Rattle.source_1401.specs.declared.flaw.OperandFlaw.TheVariants as flaws

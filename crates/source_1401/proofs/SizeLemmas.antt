@@ -23,7 +23,8 @@ use Rattle.source_1401.specs.Statement.{body_by, line_with, statement_of}
 use Rattle.source_1401.specs.WideBody.{shared_body_by}
 use Rattle.source_1401.specs.WideColumns.{capitals, plus_signs}
 use Rattle.source_1401.specs.WideConstant.{address_or_none, constant_by, constant_or_address}
-use Rattle.source_1401.specs.WideMnemonic.{AWideOwnRow, AWideRow, wide_operations, wide_operation_of, wide_row_of}
+use Rattle.source_1401.specs.WideMnemonic.{AWideRow, wide_row_of}
+use Rattle.source_1401.specs.WideOperation.{AWideOwnRow, wide_operations, wide_operation_of}
 use Rattle.source_1401.specs.WideStatement.{instruction_or_else, wide_body_by, wide_line_with}
 use Rattle.source_1401.specs.WideStatement.{wide_statement_of}
 use Rattle.source_1401.specs.declared.address.Address.{Address}
@@ -33,8 +34,8 @@ use Rattle.source_1401.specs.declared.mnemonic.Operation.{Operation}
 use Rattle.source_1401.specs.declared.mnemonic.Operation.TheVariants as operations
 use Rattle.source_1401.specs.declared.statement.SizeField.{SizeField}
 use Rattle.source_1401.specs.declared.statement.SizeField.TheVariants as sizes
-use Rattle.source_1401.specs.declared.wide_mnemonic.WideOperation.{WideOperation}
-use Rattle.source_1401.specs.declared.wide_mnemonic.WideOperation.TheVariants as own
+use Rattle.source_1401.specs.declared.wide_operation.WideOperation.{WideOperation}
+use Rattle.source_1401.specs.declared.wide_operation.WideOperation.TheVariants as own
 
 -- there is no size, or it is one that CTL has a digit for
 abbrev is_good_size : Option ℕ → Bool

@@ -9,7 +9,8 @@ use Rattle.source_1401.specs.Description.{describe}
 use Rattle.source_1401.specs.Language.{line_in}
 use Rattle.source_1401.specs.SourceLine.{columns_in, lines_of}
 use Rattle.source_1401.specs.Statement.{line_of, label_of_line}
-use Rattle.source_1401.specs.Symbols.{names_register, no_registers, statement_under, line_under}
+use Rattle.source_1401.specs.LineSymbols.{line_under, statement_under}
+use Rattle.source_1401.specs.Symbols.{names_register, no_registers}
 use Rattle.source_1401.specs.declared.context.Context.{Context}
 use Rattle.source_1401.specs.declared.description.Relation.{Relation}
 use Rattle.source_1401.specs.declared.description.Relation.TheVariants as relations

@@ -4,6 +4,7 @@ use Rattle.std.specs.Prelude.{Bool, true, false, not, Option, None, is_some}
 use Rattle.std.specs.Option.{option_map_or}
 use Rattle.source_1401.specs.LoneAddress.{is_one_address, is_value, is_wide_entry, is_wide_origin, is_wide_value}
 use Rattle.source_1401.specs.Operands.{has_malformed}
+use Rattle.source_1401.specs.Symbols.{operands_under}
 use Rattle.source_1401.specs.declared.description.Addressing.{Addressing}
 use Rattle.source_1401.specs.declared.description.Addressing.TheVariants as addressing
 use Rattle.source_1401.specs.declared.description.AreaRole.TheVariants as areas
@@ -23,6 +24,7 @@ use Rattle.source_1401.specs.declared.statement.SizeField.TheVariants as sizes
 use Rattle.source_1401.specs.declared.statement.SuffixField.{SuffixField}
 use Rattle.source_1401.specs.declared.statement.SuffixField.TheVariants as suffixes
 use Rattle.source_1401.specs.declared.statement.Span.{Span}
+use Rattle.source_1401.specs.declared.symbols.SymbolRule.{SymbolRule}
 
 -- what a row says in the columns that it doesn't name
 abbrev pub plain : Description
@@ -195,3 +197,31 @@ is_entry (addressing.EarlierValue of) = false
 is_entry (addressing.Equal of) = false
 is_entry (addressing.Value of) = false
 is_entry (addressing.Entry of) = true
+
+-- the symbols of an operation's operands
+abbrev pub body_under : SymbolRule → Body → Body
+body_under rule bodies.Unknown = bodies.Unknown
+body_under rule (bodies.Instruction instruction of) = bodies.Instruction instruction (operands_under rule of)
+body_under rule (bodies.MarkedConstant constant) = bodies.MarkedConstant constant
+body_under rule (bodies.Constant constant) = bodies.Constant constant
+body_under rule (bodies.Space places) = bodies.Space places
+body_under rule (bodies.Areas areas) = bodies.Areas areas
+body_under rule (bodies.Field span) = bodies.Field span
+body_under rule (bodies.Equate of) = bodies.Equate (operands_under rule of)
+body_under rule (bodies.Origin of) = bodies.Origin (operands_under rule of)
+body_under rule (bodies.Execute of) = bodies.Execute (operands_under rule of)
+body_under rule (bodies.End of) = bodies.End (operands_under rule of)
+body_under rule (bodies.Heading is_well_formed) = bodies.Heading is_well_formed
+body_under rule (bodies.Control size) = bodies.Control size
+body_under rule bodies.SecondControl = bodies.SecondControl
+body_under rule (bodies.Suffix suffix) = bodies.Suffix suffix
+body_under rule (bodies.Transfer of) = bodies.Transfer (operands_under rule of)
+body_under rule (bodies.Chain chain) = bodies.Chain chain
+body_under rule (bodies.AddressConstant constant) =
+    bodies.AddressConstant (record constant { operands = operands_under rule constant.operands })
+body_under rule (bodies.LabelledOrigin of) = bodies.LabelledOrigin (operands_under rule of)
+body_under rule (bodies.LiteralOrigin of) = bodies.LiteralOrigin (operands_under rule of)
+body_under rule (bodies.WideField span) = bodies.WideField span
+body_under rule (bodies.WideEquate of) = bodies.WideEquate (operands_under rule of)
+body_under rule (bodies.WideExecute of) = bodies.WideExecute (operands_under rule of)
+body_under rule (bodies.WideEnd of) = bodies.WideEnd (operands_under rule of)

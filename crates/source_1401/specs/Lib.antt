@@ -9,6 +9,7 @@ pub mod Heading
 pub mod Label
 pub mod Language
 pub mod LanguageFlaw
+pub mod LineSymbols
 pub mod Literal
 pub mod LoneAddress
 pub mod Mnemonic
@@ -26,5 +27,6 @@ pub mod WideBody
 pub mod WideColumns
 pub mod WideConstant
 pub mod WideMnemonic
+pub mod WideOperation
 pub mod WideOrigin
 pub mod WideStatement

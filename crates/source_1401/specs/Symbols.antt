@@ -1,7 +1,6 @@
 -- Symbols below SFX, and X1 to X3 as symbols (Autocoder, "Suffix", "Index Registers"; that these have no suffix own).
 use Rattle.std.specs.Prelude.{ℕ, ◌==◌, Bool, false, not, ◌&&◌, ◌||◌, if◌then◌else◌, slice_index, slice_set, Option}
 use Rattle.std.specs.Prelude.{None, Some, codes}
-use Rattle.std.specs.Option.{option_map}
 use Rattle.std.specs.Str.{bytes_eq}
 use Rattle.source_1401.specs.Punctuation.{blank}
 use Rattle.source_1401.specs.declared.address.Address.{Address}
@@ -17,10 +16,6 @@ use Rattle.source_1401.specs.declared.operands.Operand.TheVariants as operands
 use Rattle.source_1401.specs.declared.operands.OperandField.{OperandField}
 use Rattle.source_1401.specs.declared.operands.OperandField.TheVariants as fields
 use Rattle.source_1401.specs.declared.operands.Operands.{Operands}
-use Rattle.source_1401.specs.declared.statement.Body.{Body}
-use Rattle.source_1401.specs.declared.statement.Body.TheVariants as bodies
-use Rattle.source_1401.specs.declared.statement.Line.{Line}
-use Rattle.source_1401.specs.declared.statement.Statement.{Statement}
 use Rattle.source_1401.specs.declared.symbols.Registers.{Registers}
 use Rattle.source_1401.specs.declared.symbols.SymbolRule.{SymbolRule}
 
@@ -90,42 +85,7 @@ abbrev pub operands_under : SymbolRule → Operands → Operands
 operands_under rule this =
     record { a = field_under rule this.a; b = field_under rule this.b; d = this.d; is_whole = this.is_whole }
 
--- the symbols of an operation's operands
-abbrev pub body_under : SymbolRule → Body → Body
-body_under rule bodies.Unknown = bodies.Unknown
-body_under rule (bodies.Instruction instruction of) = bodies.Instruction instruction (operands_under rule of)
-body_under rule (bodies.MarkedConstant constant) = bodies.MarkedConstant constant
-body_under rule (bodies.Constant constant) = bodies.Constant constant
-body_under rule (bodies.Space places) = bodies.Space places
-body_under rule (bodies.Areas areas) = bodies.Areas areas
-body_under rule (bodies.Field span) = bodies.Field span
-body_under rule (bodies.Equate of) = bodies.Equate (operands_under rule of)
-body_under rule (bodies.Origin of) = bodies.Origin (operands_under rule of)
-body_under rule (bodies.Execute of) = bodies.Execute (operands_under rule of)
-body_under rule (bodies.End of) = bodies.End (operands_under rule of)
-body_under rule (bodies.Heading is_well_formed) = bodies.Heading is_well_formed
-body_under rule (bodies.Control size) = bodies.Control size
-body_under rule bodies.SecondControl = bodies.SecondControl
-body_under rule (bodies.Suffix suffix) = bodies.Suffix suffix
-body_under rule (bodies.Transfer of) = bodies.Transfer (operands_under rule of)
-body_under rule (bodies.Chain chain) = bodies.Chain chain
-body_under rule (bodies.AddressConstant constant) =
-    bodies.AddressConstant (record constant { operands = operands_under rule constant.operands })
-body_under rule (bodies.LabelledOrigin of) = bodies.LabelledOrigin (operands_under rule of)
-body_under rule (bodies.LiteralOrigin of) = bodies.LiteralOrigin (operands_under rule of)
-body_under rule (bodies.WideField span) = bodies.WideField span
-body_under rule (bodies.WideEquate of) = bodies.WideEquate (operands_under rule of)
-body_under rule (bodies.WideExecute of) = bodies.WideExecute (operands_under rule of)
-body_under rule (bodies.WideEnd of) = bodies.WideEnd (operands_under rule of)
-
 abbrev pub label_under : SymbolRule → LabelField → LabelField
 label_under rule labels.Absent = labels.Absent
 label_under rule labels.Malformed = labels.Malformed
 label_under rule (labels.Label label) = labels.Label (suffixed rule.suffix label)
-
-abbrev pub statement_under : SymbolRule → Statement → Statement
-statement_under rule this = record { label = label_under rule this.label; body = body_under rule this.body }
-
--- what a line says with its symbols under a rule
-abbrev pub line_under : SymbolRule → Line → Line
-line_under rule this = record { bytes = this.bytes; statement = option_map (statement_under rule) this.statement }

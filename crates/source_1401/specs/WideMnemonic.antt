@@ -1,4 +1,4 @@
--- The mnemonics of the wider language (Autocoder, "Operation", C24-3258 and J24-1434; A24-1403 for what
+-- The mnemonics of instructions in the wider language (Autocoder, "Operation", C24-3258 and J24-1434; A24-1403 for what
 -- they stand for).
 use Rattle.std.specs.Prelude.{ℕ, nat_lt, not, ◌&&◌, if◌then◌else◌, List, [], ◌∷◌, Option, None, Some, find, codes}
 use Rattle.std.specs.Option.{option_map}
@@ -10,8 +10,6 @@ use Rattle.source_1401.specs.declared.mnemonic.DCharacter.TheVariants as d
 use Rattle.source_1401.specs.declared.mnemonic.Form.{Form}
 use Rattle.source_1401.specs.declared.units.FirstOperand.{FirstOperand}
 use Rattle.source_1401.specs.declared.units.FirstOperand.TheVariants as firsts
-use Rattle.source_1401.specs.declared.wide_mnemonic.WideOperation.{WideOperation}
-use Rattle.source_1401.specs.declared.wide_mnemonic.WideOperation.TheVariants as own
 
 -- how many addresses at least and at most, the d-character
 abbrev pub AForm : Type 0
@@ -21,10 +19,6 @@ AForm = ℕ × ℕ × DCharacter
 -- that is tried after it
 abbrev pub AWideRow : Type 0
 AWideRow = List ℕ × ℕ × FirstOperand × AForm × Option AForm
-
--- the columns 16 to 20, and what they ask for of the assembler itself
-abbrev pub AWideOwnRow : Type 0
-AWideOwnRow = List ℕ × WideOperation
 
 -- the mnemonics that the plain language hasn't, or of which it has fewer forms
 unfoldable pub wide_instructions : List AWideRow
@@ -76,26 +70,9 @@ wide_instructions =
     (codes "RWU  ", byte "U", firsts.Tape (byte "U"), (1, 1, d.Fixed (byte "U")), None) ∷
     (codes "WTM  ", byte "U", firsts.Tape (byte "U"), (1, 1, d.Fixed (byte "M")), None) ∷ []
 
--- the mnemonics of the assembler's own operations that the plain language hasn't
-unfoldable pub wide_operations : List AWideOwnRow
-wide_operations =
-    (codes "JOB  ", own.Heading) ∷
-    (codes "ENT  ", own.Assembler) ∷
-    (codes "CTL  ", own.Control) ∷
-    (codes "SFX  ", own.Suffix) ∷
-    (codes "XFR  ", own.Transfer) ∷
-    (codes "CHAIN", own.Chain) ∷
-    (codes "DSA  ", own.Address) ∷
-    (codes "LTORG", own.LiteralOrigin) ∷ []
-
 -- the row of these columns
 abbrev pub wide_row_of : List ℕ → Option AWideRow
 wide_row_of columns = find (λ (row : AWideRow). bytes_eq row.0 columns) wide_instructions
-
--- what these columns ask for of the assembler itself, beside what they ask for in the plain language
-abbrev pub wide_operation_of : List ℕ → Option WideOperation
-wide_operation_of columns =
-    option_map (λ (row : AWideOwnRow). row.1) (find (λ (row : AWideOwnRow). bytes_eq row.0 columns) wide_operations)
 
 abbrev pub form_in : AForm → Form
 form_in row = record { least = row.0; most = row.1; d = row.2 }

@@ -1,23 +1,18 @@
 -- What the columns of a line say in the wider language (Autocoder, "Coding Sheet", "Operation").
-use Rattle.std.specs.Prelude.{ℕ, true, if◌then◌else◌, List, Option, None, Some}
-use Rattle.source_1401.specs.Control.{size_in, suffix_in, chain_in}
-use Rattle.source_1401.specs.Heading.{names_autocoder, wide_bytes_with}
+use Rattle.std.specs.Prelude.{ℕ, if◌then◌else◌, List, Option, None, Some}
+use Rattle.source_1401.specs.Heading.{wide_bytes_with}
 use Rattle.source_1401.specs.Label.{label_in}
-use Rattle.source_1401.specs.Operands.{operands_of}
 use Rattle.source_1401.specs.SourceLine.{columns_in, is_comment}
-use Rattle.source_1401.specs.Statement.{one_address}
 use Rattle.source_1401.specs.Units.{wide_operands}
 use Rattle.source_1401.specs.WideBody.{shared_body_of}
-use Rattle.source_1401.specs.WideConstant.{constant_of_address}
-use Rattle.source_1401.specs.WideOrigin.{literal_origin_in}
-use Rattle.source_1401.specs.WideMnemonic.{AWideRow, form_by, wide_operation_of, wide_row_of}
+use Rattle.source_1401.specs.WideMnemonic.{AWideRow, form_by, wide_row_of}
+use Rattle.source_1401.specs.WideOperation.{wide_body_with, wide_operation_of}
 use Rattle.source_1401.specs.declared.language.Language.TheVariants as languages
 use Rattle.source_1401.specs.declared.statement.Body.{Body}
 use Rattle.source_1401.specs.declared.statement.Body.TheVariants as bodies
 use Rattle.source_1401.specs.declared.statement.Statement.{Statement}
 use Rattle.source_1401.specs.declared.statement.Line.{Line}
-use Rattle.source_1401.specs.declared.wide_mnemonic.WideOperation.{WideOperation}
-use Rattle.source_1401.specs.declared.wide_mnemonic.WideOperation.TheVariants as own
+use Rattle.source_1401.specs.declared.wide_operation.WideOperation.{WideOperation}
 
 -- the instruction of a row
 abbrev pub wide_instruction : AWideRow → List ℕ → Body
@@ -29,17 +24,6 @@ wide_instruction row columns =
 abbrev pub instruction_or_else : Option AWideRow → List ℕ → List ℕ → Body
 instruction_or_else None operation columns = shared_body_of operation columns
 instruction_or_else (Some row) operation columns = wide_instruction row columns
-
--- what an operation of the assembler itself asks for
-abbrev pub wide_body_with : WideOperation → List ℕ → Body
-wide_body_with own.Heading columns = bodies.Heading true
-wide_body_with own.Assembler columns = bodies.Heading (names_autocoder columns)
-wide_body_with own.Control columns = bodies.Control (size_in columns)
-wide_body_with own.Suffix columns = bodies.Suffix (suffix_in columns)
-wide_body_with own.Transfer columns = bodies.Transfer (operands_of languages.Ibm one_address columns)
-wide_body_with own.Chain columns = bodies.Chain (chain_in columns)
-wide_body_with own.Address columns = bodies.AddressConstant (constant_of_address columns)
-wide_body_with own.LiteralOrigin columns = bodies.LiteralOrigin (literal_origin_in columns)
 
 abbrev pub wide_body_by : Option WideOperation → List ℕ → List ℕ → Body
 wide_body_by None operation columns = instruction_or_else (wide_row_of operation) operation columns

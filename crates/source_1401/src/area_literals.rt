@@ -1,17 +1,17 @@
 //! The area literals that a line declares.
 ghost use Rattle.std.specs.Prelude.{◌≡◌};
-ghost use Rattle.source_1401.specs.AreaLiterals.{area_of_literal, area_of_operand, area_at, areas_in, areas_of_body};
+ghost use Rattle.source_1401.specs.AreaLiterals.{area_of_literal, area_of_operand, area_at, areas_in};
 ghost use Rattle.source_1401.specs.AreaLiterals.{areas_of_statement, areas_of_line};
 
 use crate::literal::{AreaLiteral, Literal};
 use crate::operands::{Operand, OperandField, Operands};
-use crate::statement::{Body, Line, LineCheck};
+use crate::statement::{Line, LineCheck};
 
 /// The area literals of an instruction: that of its first address, and that of its second.
 pub type DeclaredAreas = (Option<AreaLiteral>, Option<AreaLiteral>);
 
 /// No area literals.
-const NO_AREAS: DeclaredAreas = (None, None);
+pub(crate) const NO_AREAS: DeclaredAreas = (None, None);
 
 impl Literal {
     /// The area, if it is one.
@@ -51,44 +51,10 @@ impl OperandField {
 
 impl Operands {
     /// Their area literals.
-    fn areas(self) -> DeclaredAreas
+    pub(crate) fn areas(self) -> DeclaredAreas
         ensures { result ≡ areas_in self }
     {
         (self.a.area(), self.b.area())
-    }
-}
-
-impl Body {
-    /// The area literals of the contents of the statement's row, without the row: far less to write than a row.
-    fn areas(&self) -> DeclaredAreas
-        ensures { result ≡ areas_of_body self.now }
-    {
-        match *self {
-            Body::Instruction(_, operands) => operands.areas(),
-            Body::Unknown
-            | Body::MarkedConstant(_)
-            | Body::Constant(_)
-            | Body::Space(_)
-            | Body::Areas(_)
-            | Body::Field(_)
-            | Body::Equate(_)
-            | Body::Origin(_)
-            | Body::Execute(_)
-            | Body::End(_)
-            | Body::Heading(_)
-            | Body::Control(_)
-            | Body::SecondControl
-            | Body::Suffix(_)
-            | Body::Transfer(_)
-            | Body::Chain(_)
-            | Body::AddressConstant(_)
-            | Body::LabelledOrigin(_)
-            | Body::LiteralOrigin(_)
-            | Body::WideField(_)
-            | Body::WideEquate(_)
-            | Body::WideExecute(_)
-            | Body::WideEnd(_) => NO_AREAS,
-        }
     }
 }
 

@@ -23,7 +23,7 @@ ghost use Rattle.source_1401.specs.Context.{size_of, control_by, control_in, may
 ghost use Rattle.source_1401.specs.Control.{is_control_size};
 ghost use Rattle.source_1401.specs.Language.{line_in};
 ghost use Rattle.source_1401.specs.SourceLine.{lines_of};
-ghost use Rattle.source_1401.specs.Symbols.{statement_under};
+ghost use Rattle.source_1401.specs.LineSymbols.{statement_under};
 ghost use Rattle.source_1401.specs.declared.language.Language.TheVariants as languages;
 
 use crate::area_literals::DeclaredAreas;

@@ -3,13 +3,16 @@
 //! A new kind of statement is a new row. What the assembler does with a statement, it does by the columns.
 ghost use Rattle.std.specs.Prelude.{◌≡◌};
 ghost use Rattle.source_1401.specs.Description.{field_row, equate_row, origin_row, execute_row, end_row};
-ghost use Rattle.source_1401.specs.Description.{describe, operands_in};
+ghost use Rattle.source_1401.specs.Description.{describe, operands_in, body_under};
+ghost use Rattle.source_1401.specs.AreaLiterals.{areas_of_body};
 ghost use Rattle.source_1401.specs.declared.statement.Body.TheVariants as bodies;
 
+use crate::area_literals::{DeclaredAreas, NO_AREAS};
 use crate::constant::Constant;
 use crate::mnemonic::Instruction;
 use crate::operands::{OperandField, Operands};
 use crate::statement::{AddressConstant, Areas, Body, Chain, SizeField, Span, SuffixField};
+use crate::symbols::SymbolRule;
 
 /// Whether a statement has a label.
 #[derive(Clone, Copy, Debug, PartialEq, Eq)]
@@ -520,6 +523,79 @@ impl Addressing {
             | Addressing::Equal(operands)
             | Addressing::Value(operands)
             | Addressing::Entry(operands) => operands,
+        }
+    }
+}
+
+impl Body {
+    /// The area literals of the contents of the statement's row, without the row: far less to write than a row.
+    pub(crate) fn areas(&self) -> DeclaredAreas
+        ensures { result ≡ areas_of_body self.now }
+    {
+        match *self {
+            Body::Instruction(_, operands) => operands.areas(),
+            Body::Unknown
+            | Body::MarkedConstant(_)
+            | Body::Constant(_)
+            | Body::Space(_)
+            | Body::Areas(_)
+            | Body::Field(_)
+            | Body::Equate(_)
+            | Body::Origin(_)
+            | Body::Execute(_)
+            | Body::End(_)
+            | Body::Heading(_)
+            | Body::Control(_)
+            | Body::SecondControl
+            | Body::Suffix(_)
+            | Body::Transfer(_)
+            | Body::Chain(_)
+            | Body::AddressConstant(_)
+            | Body::LabelledOrigin(_)
+            | Body::LiteralOrigin(_)
+            | Body::WideField(_)
+            | Body::WideEquate(_)
+            | Body::WideExecute(_)
+            | Body::WideEnd(_) => NO_AREAS,
+        }
+    }
+}
+
+impl Body {
+    /// What the line asks for, with its symbols as the rule reads them.
+    pub(crate) fn under(self, rule: SymbolRule) -> Body
+        ensures { result ≡ body_under rule self }
+    {
+        match self {
+            Body::Instruction(instruction, operands) => {
+                Body::Instruction(instruction, operands.under(rule))
+            },
+            Body::Equate(operands) => Body::Equate(operands.under(rule)),
+            Body::Origin(operands) => Body::Origin(operands.under(rule)),
+            Body::Execute(operands) => Body::Execute(operands.under(rule)),
+            Body::End(operands) => Body::End(operands.under(rule)),
+            Body::Transfer(operands) => Body::Transfer(operands.under(rule)),
+            Body::AddressConstant(constant) => Body::AddressConstant(AddressConstant {
+                operands: constant.operands.under(rule),
+                ..constant
+            }),
+            Body::LabelledOrigin(operands) => Body::LabelledOrigin(operands.under(rule)),
+            Body::LiteralOrigin(operands) => Body::LiteralOrigin(operands.under(rule)),
+            Body::WideEquate(operands) => Body::WideEquate(operands.under(rule)),
+            Body::WideExecute(operands) => Body::WideExecute(operands.under(rule)),
+            Body::WideEnd(operands) => Body::WideEnd(operands.under(rule)),
+            Body::Unknown
+            | Body::MarkedConstant(_)
+            | Body::Constant(_)
+            | Body::Space(_)
+            | Body::Areas(_)
+            | Body::Field(_)
+            | Body::WideField(_)
+            | Body::Heading(_)
+            | Body::Control(_)
+            | Body::SecondControl
+            | Body::Suffix(_)
+            | Body::Chain(_) => self,
         }
     }
 }

@@ -29,11 +29,12 @@ pub mod wide_columns; // columns as the wider language reads them
 pub mod heading; // JOB and ENT
 pub mod control; // the operands of CTL, SFX and CHAIN
 pub mod units; // units and tapes in the place of an address
-pub mod wide_mnemonic; // columns 16 to 20 in the wider language
+pub mod wide_mnemonic; // the mnemonics of instructions in the wider language
 pub mod wide_constant; // constants of addresses
 pub mod wide_areas; // options of DA, and fields without a mark
 pub mod wide_origin; // the operands of ORG and END in the wider language
 pub mod wide_body; // what the operations of both languages ask for in the wider one
+pub mod wide_operation; // the assembler's own operations that the plain language hasn't
 pub mod wide_statement; // what a line says in the wider language
 pub mod language; // what a line says in each language
 pub mod symbols; // symbols below SFX, and X1 to X3

@@ -3,14 +3,14 @@ ghost use Rattle.std.specs.Prelude.{◌≡◌};
 ghost use Rattle.std.specs.Option.{option_map};
 ghost use Rattle.source_1401.specs.Symbols.{register_name, names_register, is_register, suffixed, no_registers};
 ghost use Rattle.source_1401.specs.Symbols.{is_any, is_labelled, base_under, address_under, literal_under};
-ghost use Rattle.source_1401.specs.Symbols.{operand_under, field_under};
-ghost use Rattle.source_1401.specs.Symbols.{operands_under, body_under, label_under, statement_under, line_under};
+ghost use Rattle.source_1401.specs.Symbols.{operand_under, field_under, operands_under, label_under};
+ghost use Rattle.source_1401.specs.LineSymbols.{statement_under, line_under};
 
 use crate::address::{Address, Base};
 use crate::label::{Label, LabelField};
 use crate::literal::{AddressLiteral, AreaLiteral, Literal};
 use crate::operands::{Operand, OperandField, Operands};
-use crate::statement::{AddressConstant, Body, Line, Statement};
+use crate::statement::{Line, Statement};
 
 /// Which of X1 to X3 some line has as its label.
 #[derive(Clone, Copy, Debug, PartialEq, Eq)]
@@ -188,52 +188,13 @@ impl OperandField {
 
 impl Operands {
     /// The operands with their symbols as the rule reads them.
-    fn under(self, rule: SymbolRule) -> Operands
+    pub(crate) fn under(self, rule: SymbolRule) -> Operands
         ensures { result ≡ operands_under rule self }
     {
         Operands {
             a: self.a.under(rule),
             b: self.b.under(rule),
             ..self
-        }
-    }
-}
-
-impl Body {
-    /// What the line asks for, with its symbols as the rule reads them.
-    fn under(self, rule: SymbolRule) -> Body
-        ensures { result ≡ body_under rule self }
-    {
-        match self {
-            Body::Instruction(instruction, operands) => {
-                Body::Instruction(instruction, operands.under(rule))
-            },
-            Body::Equate(operands) => Body::Equate(operands.under(rule)),
-            Body::Origin(operands) => Body::Origin(operands.under(rule)),
-            Body::Execute(operands) => Body::Execute(operands.under(rule)),
-            Body::End(operands) => Body::End(operands.under(rule)),
-            Body::Transfer(operands) => Body::Transfer(operands.under(rule)),
-            Body::AddressConstant(constant) => Body::AddressConstant(AddressConstant {
-                operands: constant.operands.under(rule),
-                ..constant
-            }),
-            Body::LabelledOrigin(operands) => Body::LabelledOrigin(operands.under(rule)),
-            Body::LiteralOrigin(operands) => Body::LiteralOrigin(operands.under(rule)),
-            Body::WideEquate(operands) => Body::WideEquate(operands.under(rule)),
-            Body::WideExecute(operands) => Body::WideExecute(operands.under(rule)),
-            Body::WideEnd(operands) => Body::WideEnd(operands.under(rule)),
-            Body::Unknown
-            | Body::MarkedConstant(_)
-            | Body::Constant(_)
-            | Body::Space(_)
-            | Body::Areas(_)
-            | Body::Field(_)
-            | Body::WideField(_)
-            | Body::Heading(_)
-            | Body::Control(_)
-            | Body::SecondControl
-            | Body::Suffix(_)
-            | Body::Chain(_) => self,
         }
     }
 }

@@ -1,44 +1,18 @@
-//! The mnemonics of the wider language.
+//! The mnemonics of instructions in the wider language.
 ghost use Rattle.std.specs.Prelude.{◌≡◌, find};
 ghost use Rattle.std.specs.Str.{bytes_eq};
-ghost use Rattle.std.specs.Option.{option_map};
-ghost use Rattle.source_1401.specs.WideMnemonic.{AWideOwnRow, wide_instructions, wide_operations, wide_row_of};
-ghost use Rattle.source_1401.specs.WideMnemonic.{wide_operation_of, form_in, form_among, form_by};
+ghost use Rattle.source_1401.specs.WideMnemonic.{wide_instructions, wide_row_of, form_in, form_among, form_by};
 
 use crate::mnemonic::DCharacter::{self, Fixed};
 use crate::mnemonic::Form;
 use crate::operands::Operands;
 use crate::units::FirstOperand::{self, Address, Tape, Unit, UnitOrAddress};
 
-/// What columns 16 to 20 of a line ask for of the assembler itself, beside what they ask for in the plain language.
-#[derive(Clone, Copy, Debug, PartialEq, Eq)]
-pub enum WideOperation {
-    /// JOB: a heading.
-    Heading,
-    /// ENT: the name of an assembler.
-    Assembler,
-    /// CTL: the size of core storage.
-    Control,
-    /// SFX: the suffix of symbols.
-    Suffix,
-    /// XFR: a program that was loaded so far would be entered.
-    Transfer,
-    /// CHAIN: an operation, time and again.
-    Chain,
-    /// DSA: an address as a constant.
-    Address,
-    /// LTORG: the next place, at which the literals so far are placed.
-    LiteralOrigin,
-}
-
 /// A form in the table: how many addresses the source writes at least and at most, and the d-character.
 pub(crate) type FormRow = (u8, u8, DCharacter);
 
 /// A row of the table.
 pub(crate) type WideRow = ([u8; 5], u8, FirstOperand, FormRow, Option<FormRow>);
-
-/// A row of the table of the assembler's own operations.
-pub(crate) type WideOwnRow = ([u8; 5], WideOperation);
 
 /// No address, one or two.
 const TO_TWO: FormRow = (0, 2, DCharacter::Never);
@@ -125,43 +99,6 @@ pub(crate) fn wide_instructions() -> &'static [WideRow]
     ensures { result.now ≡ wide_instructions }
 {
     &WIDE_INSTRUCTIONS
-}
-
-/// The mnemonics of the assembler's own operations that the plain language hasn't.
-static WIDE_OPERATIONS: [WideOwnRow; 8] = [
-    (*b"JOB  ", WideOperation::Heading),
-    (*b"ENT  ", WideOperation::Assembler),
-    (*b"CTL  ", WideOperation::Control),
-    (*b"SFX  ", WideOperation::Suffix),
-    (*b"XFR  ", WideOperation::Transfer),
-    (*b"CHAIN", WideOperation::Chain),
-    (*b"DSA  ", WideOperation::Address),
-    (*b"LTORG", WideOperation::LiteralOrigin),
-];
-
-/// The table of the assembler's own operations that the plain language hasn't.
-#[tactic(auto, unfolding(crate::specs::WideMnemonic::wide_operations))]
-pub(crate) fn wide_operations() -> &'static [WideOwnRow]
-    ensures { result.now ≡ wide_operations }
-{
-    &WIDE_OPERATIONS
-}
-
-/// The row of these columns among the assembler's own operations.
-fn wide_own_row_of(rows: &[WideOwnRow], columns: &[u8]) -> Option<WideOwnRow>
-    ensures { result ≡ find (λ (row : AWideOwnRow). bytes_eq row.0 columns.now) rows.now }
-{
-    rows.iter().copied().find(|row| row.0.as_slice() == columns)
-}
-
-/// What the columns ask for of the assembler itself, beside what they ask for in the plain language.
-pub(crate) fn wide_operation_of(columns: &[u8]) -> Option<WideOperation>
-    ensures { result ≡ wide_operation_of columns.now }
-{
-    match wide_own_row_of(wide_operations(), columns) {
-        Some((_, operation)) => Some(operation),
-        None => None,
-    }
 }
 
 /// The row of these columns.

@@ -1,18 +1,15 @@
 //! What the columns of a line say in the wider language.
 ghost use Rattle.std.specs.Prelude.{◌≡◌};
-ghost use Rattle.source_1401.specs.WideStatement.{wide_instruction, wide_body_with, wide_body_of, wide_statement_of};
-ghost use Rattle.source_1401.specs.WideStatement.{wide_line_with};
+ghost use Rattle.source_1401.specs.WideStatement.{wide_instruction, wide_body_of, wide_statement_of, wide_line_with};
 
 use crate::columns::{COLUMNS, columns_in, is_comment};
-use crate::heading::names_autocoder;
 use crate::label::LabelField;
 use crate::language::Language;
 use crate::mnemonic::Instruction;
 use crate::operands::Operands;
-use crate::statement::{
-    AddressConstant, Body, Chain, Line, LineCheck, SizeField, Statement, SuffixField,
-};
-use crate::wide_mnemonic::{WideOperation, WideRow, form_by, wide_operation_of, wide_row_of};
+use crate::statement::{Body, Line, LineCheck, Statement};
+use crate::wide_mnemonic::{WideRow, form_by, wide_row_of};
+use crate::wide_operation::wide_operation_of;
 
 impl Body {
     /// The instruction of a row of the wider table.
@@ -27,25 +24,6 @@ impl Body {
             },
             Operands::from_wide_columns(row.2, form, columns),
         )
-    }
-
-    /// What an operation of the assembler itself with these columns for its operands asks for.
-    fn with_wide_operation(operation: WideOperation, columns: &[u8]) -> Body
-        ensures { result ≡ wide_body_with operation columns.now }
-    {
-        match operation {
-            WideOperation::Heading => Body::Heading(true),
-            WideOperation::Assembler => Body::Heading(names_autocoder(columns)),
-            WideOperation::Control => Body::Control(SizeField::from_columns(columns)),
-            WideOperation::Suffix => Body::Suffix(SuffixField::from_columns(columns)),
-            WideOperation::Transfer => Body::Transfer(Operands::one_address(
-                Language::Ibm,
-                columns,
-            )),
-            WideOperation::Chain => Body::Chain(Chain::from_columns(columns)),
-            WideOperation::Address => Body::AddressConstant(AddressConstant::from_columns(columns)),
-            WideOperation::LiteralOrigin => Body::LiteralOrigin(Operands::literal_origin(columns)),
-        }
     }
 
     /// What the columns for an operation and those for its operands ask for.
