@@ -1,12 +1,9 @@
 //! The texts of pictures.
 
-use crate::tests::room::{Work, expect_at_the_page};
-use std::alloc::{AllocError, Global};
-use std::ops::RangeInclusive;
-use std::test::Fail;
+use crate::tests::room::{NOTHING, Visit, expect_at_the_page};
 
-/// A new machine, after another seat's command.
-const NEW_MACHINE: &str = "SEAT 2 OF 3 MADE 0\n\
+/// The body of a new machine's picture, after another seat's command.
+const NEW_MACHINE: &str = "\r\n\r\nSEAT 2 OF 3 MADE 0\n\
     AFTER 1\n\
     I=00000 A=00000 B=00000 UNEQUAL=0 LOW=0 HIGH=0 OVERFLOW=0 SWITCHES=------- \
     HOPPER=000 STACKER=000 PAPER=000 FORM=0001 LINE=01\n\
@@ -33,15 +30,20 @@ const NEW_MACHINE: &str = "SEAT 2 OF 3 MADE 0\n\
     PAPER 0\n\
     ";
 
+/// A new machine's picture.
+const NEW_MACHINE_PICTURE: Visit<'static> = Visit {
+    after_another: true,
+    exchanges: &[("/picture?core=400&paper=0", "HTTP/1.1 200 ", NEW_MACHINE)],
+    ..NOTHING
+};
+
 #[test]
-fn a_new_machine_has_nothing_to_show(rt: HostRuntime) -> Result<(), Fail> {
-    let text = format!(in rt.alloc(); "{NEW_MACHINE}")?;
-    let pictures = [("?core=400&paper=0", text)];
-    expect_at_the_page(&rt, rt.alloc(), Work::Pictures("", &pictures), 0)
+fn a_new_machine_has_nothing_to_show(rt: HostRuntime) {
+    expect_at_the_page(&rt, &NEW_MACHINE_PICTURE);
 }
 
 /// A card has been read and one punched, a line printed, and the addition at 403 comes next.
-const BEFORE_AN_ADDITION: &str = "SEAT 2 OF 3 MADE 8\n\
+const BEFORE_AN_ADDITION: &str = "\r\n\r\nSEAT 2 OF 3 MADE 8\n\
     AFTER 9\n\
     I=00403 A=00000 B=00333 UNEQUAL=0 LOW=0 HIGH=0 OVERFLOW=0 SWITCHES=------- \
     HOPPER=001 STACKER=001 PAPER=001 FORM=0001 LINE=02\n\
@@ -80,40 +82,59 @@ const DECK: &str = "FEED CARD ONE\n\
     RUN 3\n\
     ";
 
+/// The picture before the addition.
+const DECK_PICTURE: Visit<'static> = Visit {
+    after_another: true,
+    lines: DECK,
+    exchanges: &[(
+        "/picture?core=400&paper=0",
+        "HTTP/1.1 200 ",
+        BEFORE_AN_ADDITION,
+    )],
+    made: 8,
+    ..NOTHING
+};
+
 #[test]
-fn a_picture_shows_all_that_a_visitor_sees(rt: HostRuntime) -> Result<(), Fail> {
-    let text = format!(in rt.alloc(); "{BEFORE_AN_ADDITION}")?;
-    let pictures = [("?core=400&paper=0", text)];
-    expect_at_the_page(&rt, rt.alloc(), Work::Pictures(DECK, &pictures), 8)
+fn a_picture_shows_all_that_a_visitor_sees(rt: HostRuntime) {
+    expect_at_the_page(&rt, &DECK_PICTURE);
 }
 
-/// The machine of `LONG_PAPER`, down to its printed lines. The card that is read next is blank, and the character at
-/// 403 has no word mark.
-const LONG_PAPER_MACHINE: &str = "SEAT 2 OF 3 MADE 10\n\
-    AFTER 11\n\
-    I=00403 A=00400 B=00181 UNEQUAL=0 LOW=0 HIGH=0 OVERFLOW=0 SWITCHES=------- \
-    HOPPER=002 STACKER=071 PAPER=070 FORM=0002 LINE=05\n\
-    NEXT\n\
-    READ \n\
-    HOPPER \n\
-    PUNCHED LAST\n\
-    CORE 00390 OF 04000\n\
-    \x20         ~4~2~B400                        \n\
-    \x20                                       \n\
-    \x20                                       \n\
-    \x20                                       \n\
-    \x20                                       \n\
-    \x20                                       \n\
-    \x20                                       \n\
-    \x20                                       \n\
-    \x20                                       \n\
-    \x20                                       \n\
-    \x20                                       \n\
-    \x20                                       \n\
-    \x20                                       \n\
-    \x20                                       \n\
-    \x20                                       \n\
-    ";
+/// The body of a picture of the machine of `LONG_PAPER` with its paper from a line on, and printed lines of forms. The
+/// card that is read next is blank, and the character at 403 has no word mark.
+macro_rules! long_paper {
+    ($paper:literal $(, $form:literal: $($line:literal)+)*) => {
+        concat!(
+            "\r\n\r\nSEAT 2 OF 3 MADE 10\n\
+            AFTER 11\n\
+            I=00403 A=00400 B=00181 UNEQUAL=0 LOW=0 HIGH=0 OVERFLOW=0 SWITCHES=------- \
+            HOPPER=002 STACKER=071 PAPER=070 FORM=0002 LINE=05\n\
+            NEXT\n\
+            READ \n\
+            HOPPER \n\
+            PUNCHED LAST\n\
+            CORE 00390 OF 04000\n\
+            \x20         ~4~2~B400                        \n\
+            \x20                                       \n\
+            \x20                                       \n\
+            \x20                                       \n\
+            \x20                                       \n\
+            \x20                                       \n\
+            \x20                                       \n\
+            \x20                                       \n\
+            \x20                                       \n\
+            \x20                                       \n\
+            \x20                                       \n\
+            \x20                                       \n\
+            \x20                                       \n\
+            \x20                                       \n\
+            \x20                                       \n\
+            ",
+            "PAPER ", $paper, "\n"
+            $(, $("LINE ", $form, " ", $line, " X\n"),+)*
+        )
+    };
+}
 
 /// What punches 70 cards and prints as many lines, and then punches another card.
 const LONG_PAPER: &str = "FEED\n\
@@ -128,53 +149,58 @@ const LONG_PAPER: &str = "FEED\n\
     START 0403\n\
     ";
 
-/// The picture of that machine with these printed lines: on the first form from one line down to the other, then those
-/// on the second form.
-fn long_paper(
-    alloc: Global,
-    paper: &str,
-    first: RangeInclusive<u8>,
-    second: RangeInclusive<u8>,
-) -> Result<String, AllocError> {
-    let mut text = format!(in alloc; "{LONG_PAPER_MACHINE}PAPER {paper}\n")?;
-    push_lines(alloc, &mut text, "0001", first)?;
-    push_lines(alloc, &mut text, "0002", second)?;
-    Ok(text)
-}
-
-/// Adds printed lines on a form to a text.
-fn push_lines(
-    alloc: Global,
-    text: &mut String,
-    form: &str,
-    lines: RangeInclusive<u8>,
-) -> Result<(), AllocError> {
-    for line in lines {
-        push_line(alloc, text, form, line)?;
-    }
-    Ok(())
-}
-
-/// Adds a printed line on a form to a text.
-fn push_line(alloc: Global, text: &mut String, form: &str, line: u8) -> Result<(), AllocError> {
-    let row = format!(in alloc; "LINE {form} {line:02} X\n")?;
-    text.push_str(row.as_str())
-}
+/// That machine's pictures, with 66 printed lines at most.
+const LONG_PAPER_PICTURES: Visit<'static> = Visit {
+    after_another: true,
+    lines: LONG_PAPER,
+    exchanges: &[
+        (
+            "/picture?core=390&paper=0",
+            "HTTP/1.1 200 ",
+            long_paper!("0",
+                "0001": "01" "02" "03" "04" "05" "06" "07" "08" "09" "10" "11" "12" "13" "14" "15" "16"
+                    "17" "18" "19" "20" "21" "22" "23" "24" "25" "26" "27" "28" "29" "30" "31" "32"
+                    "33" "34" "35" "36" "37" "38" "39" "40" "41" "42" "43" "44" "45" "46" "47" "48"
+                    "49" "50" "51" "52" "53" "54" "55" "56" "57" "58" "59" "60" "61" "62" "63" "64"
+                    "65" "66"),
+        ),
+        (
+            "/picture?core=390&paper=3",
+            "HTTP/1.1 200 ",
+            long_paper!("3",
+                "0001": "04" "05" "06" "07" "08" "09" "10" "11" "12" "13" "14" "15" "16" "17" "18" "19"
+                    "20" "21" "22" "23" "24" "25" "26" "27" "28" "29" "30" "31" "32" "33" "34" "35"
+                    "36" "37" "38" "39" "40" "41" "42" "43" "44" "45" "46" "47" "48" "49" "50" "51"
+                    "52" "53" "54" "55" "56" "57" "58" "59" "60" "61" "62" "63" "64" "65" "66",
+                "0002": "01" "02" "03"),
+        ),
+        (
+            "/picture?core=390&paper=10",
+            "HTTP/1.1 200 ",
+            long_paper!("10",
+                "0001": "11" "12" "13" "14" "15" "16" "17" "18" "19" "20" "21" "22" "23" "24" "25" "26"
+                    "27" "28" "29" "30" "31" "32" "33" "34" "35" "36" "37" "38" "39" "40" "41" "42"
+                    "43" "44" "45" "46" "47" "48" "49" "50" "51" "52" "53" "54" "55" "56" "57" "58"
+                    "59" "60" "61" "62" "63" "64" "65" "66",
+                "0002": "01" "02" "03" "04"),
+        ),
+        (
+            "/picture?core=390&paper=69",
+            "HTTP/1.1 200 ",
+            long_paper!("69",
+                "0002": "04"),
+        ),
+        (
+            "/picture?core=390&paper=500",
+            "HTTP/1.1 200 ",
+            long_paper!("500"),
+        ),
+    ],
+    made: 10,
+    ..NOTHING
+};
 
 #[test]
-fn a_picture_shows_66_printed_lines(rt: HostRuntime) -> Result<(), Fail> {
-    let alloc = rt.alloc();
-    let from_the_first = long_paper(alloc, "0", 1..=66, 1..=0)?;
-    let from_the_fourth = long_paper(alloc, "3", 4..=66, 1..=3)?;
-    let from_the_tenth = long_paper(alloc, "10", 11..=66, 1..=4)?;
-    let the_last = long_paper(alloc, "69", 1..=0, 4..=4)?;
-    let none = long_paper(alloc, "500", 1..=0, 1..=0)?;
-    let pictures = [
-        ("?core=390&paper=0", from_the_first),
-        ("?core=390&paper=3", from_the_fourth),
-        ("?core=390&paper=10", from_the_tenth),
-        ("?core=390&paper=69", the_last),
-        ("?core=390&paper=500", none),
-    ];
-    expect_at_the_page(&rt, alloc, Work::Pictures(LONG_PAPER, &pictures), 10)
+fn a_picture_shows_66_printed_lines(rt: HostRuntime) {
+    expect_at_the_page(&rt, &LONG_PAPER_PICTURES);
 }

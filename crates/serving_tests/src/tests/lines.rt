@@ -5,13 +5,12 @@ ghost use Rattle.std.specs.Prelude.{◌≡◌, false};
 use journal_1401::put_entry;
 use room_1401::{Entry, Keeper, Unkept};
 use std::alloc::Global;
-use std::process::Abort;
 
 /// Keeps the line of each entry in memory, as many as it has room for.
 #[derive(Drop)]
 pub struct Lines {
     alloc: Global,
-    text: Vec<u8>,
+    pub text: Vec<u8>,
     room_for: u64,
     failed: bool,
 }
@@ -27,11 +26,6 @@ impl Lines {
             room_for,
             failed: false,
         }
-    }
-
-    /// Compares all lines that were kept.
-    pub fn expect(&self, rt: &impl Abort, text: &str) {
-        assert_eq!(rt; self.text.as_slice(), text.as_bytes());
     }
 }
 

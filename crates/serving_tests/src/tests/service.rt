@@ -4,272 +4,217 @@ ghost use Rattle.console_1401.specs.Served.{AreAllSeats};
 
 use crate::tests::button::{Button, Pressed};
 use crate::tests::lines::Lines;
-use crate::tests::operators::Operators;
-use console_1401::{Door, OpenDoor};
+use crate::tests::operators::{Act, connect, operate};
+use crate::tests::{expect_same, expect_text};
+use console_1401::Door;
 use room_1401::{Opened, RoomId, Seat, SharedRoom};
 use serving_1401::{PagePort, SeatsFault, SeatsServed, serve_pages, serve_seats};
-use std::alloc::{AllocGlobal, Global};
+use std::alloc::AllocGlobal;
 use std::marker::Brand;
 use std::net::{Ipv4Addr, Net, SocketAddr, TcpListener, TcpStream};
 use std::process::Abort;
 use std::random::RandomSource;
 use std::sync::Wait;
-use std::sync::atomic::Ordering::SeqCst;
-use std::test::Fail;
 use std::thread;
 use std::thread::{Scope, Threads};
 use std::time::Clock;
 
-/// What a service left, and what its operators were told; `None` if a connection of theirs failed.
+/// An input, whether it fails in place of its end, and what goes wrong at all.
+pub type Closing = (&'static [u8], bool, Option<SeatsFault>);
+
+/// How a room is served, what its operators do, and what should come of it.
 #[derive(Drop)]
 pub struct Evening {
-    pub served: SeatsServed<Lines>,
-    pub told: Option<Vec<u8>>,
+    /// The inputs that close the room, each of them a new one.
+    pub closings: &'static [Closing],
+    /// Whether the first line of seat 2 is held until the input is read, which may come then.
+    pub holds: bool,
+    /// Whether the first operator is connected before anyone is served, and nobody else is accepted.
+    pub is_early: bool,
+    /// Whether seat 1 has a page.
+    pub has_page: bool,
+    /// How many commands there is room for where the room is kept.
+    pub room_for: u64,
+    /// What the operators do. Then the input may come.
+    pub acts: &'static [Act],
+    /// What they are told.
+    pub told: &'static str,
+    /// What is kept.
+    pub kept: &'static str,
+    /// How many commands the room's journal has.
+    pub commands: usize,
 }
 
-impl Evening {
-    /// Compares what the operators were told, what was kept, and what went wrong.
-    pub fn expect(&self, rt: &impl Abort, told: &str, kept: &str, fault: Option<SeatsFault>) {
-        self.expect_told(rt, told);
-        self.served.keeper.expect(rt, kept);
-        self.expect_fault(rt, fault);
+/// An evening at which nothing is done.
+pub const QUIET: Evening = Evening {
+    closings: &[(b"QUIT\n", false, None)],
+    holds: false,
+    is_early: false,
+    has_page: false,
+    room_for: 99,
+    acts: &[],
+    told: "",
+    kept: "",
+    commands: 0,
+};
+
+/// An evening with one input, and where the room is served then.
+#[derive(Drop)]
+pub struct Here<'a> {
+    pub evening: &'a Evening,
+    pub closing: &'a Closing,
+    pub listener: &'a TcpListener,
+    pub pages: &'a [PagePort],
+    pub consoles: SocketAddr,
+    pub page: SocketAddr,
+    pub button: &'a Button,
+}
+
+/// Holds the first line of seat 2, if it is to be held, until the input that closes the room is read.
+#[derive(Drop)]
+struct HoldingDoor<'a> {
+    button: &'a Button,
+    holds: bool,
+}
+
+impl Door for HoldingDoor<'_> {
+    fn before(&self, seat: u8, _line: u64) {
+        if self.holds && seat == 2 {
+            self.button.press();
+            Button::wait_until(&self.button.read);
+        }
     }
 
-    /// Compares what the operators were told.
-    fn expect_told(&self, rt: &impl Abort, told: &str) {
-        let heard = self.told.as_ref().map(|text| text.as_slice());
-        assert_eq!(rt; heard, Some(told.as_bytes()));
-    }
-
-    /// Compares what went wrong.
-    fn expect_fault(&self, rt: &impl Abort, fault: Option<SeatsFault>) {
-        assert_eq!(rt; self.served.fault, fault);
-    }
-
-    /// Compares how many commands the room's journal has.
-    pub fn expect_commands(&self, rt: &impl Abort, count: usize) {
-        assert_eq!(rt; self.served.room.journal().len(), count);
-    }
+    fn after(&self, _seat: u8, _line: u64) {}
 }
 
 /// A listener on a port of the loopback that is free.
-pub fn listen<R: Net<Listener = TcpListener, Stream = TcpStream>>(
-    rt: &R,
-) -> Result<TcpListener, Fail> {
-    Ok(TcpListener::bind(rt, (Ipv4Addr::LOCALHOST, 0))?)
+fn listen<R: Abort + Net<Listener = TcpListener, Stream = TcpStream>>(rt: &R) -> TcpListener {
+    TcpListener::bind(rt, (Ipv4Addr::LOCALHOST, 0)).expect(rt, "a port")
 }
 
-/// Serves the operators of a new room at a free port, until they have gone and this input has closed it.
-pub fn hold_until<
-    R: Threads
+/// Where a listener is.
+fn address_of(rt: &impl Abort, listener: &TcpListener) -> SocketAddr {
+    listener.local_addr().expect(rt, "an address")
+}
+
+/// Connects to a listener that accepts those who have come, and nobody else.
+fn come_early<R: Abort + Net<Stream = TcpStream>>(
+    rt: &R,
+    listener: &TcpListener,
+    streams: &mut Vec<TcpStream>,
+) {
+    let stream = connect(rt, address_of(rt, listener));
+    streams.push(stream).expect(rt, "room");
+    listener.set_nonblocking(true).expect(rt, "a way");
+}
+
+/// Serves new rooms with this many seats, one for each input, and compares what comes of it.
+pub fn expect_evening<
+    R: Abort
+        + Threads
         + Wait
         + Sync
         + Clock
         + AllocGlobal
         + RandomSource
         + Net<Listener = TcpListener, Stream = TcpStream>,
-    O: Operators + Sync,
->(
-    rt: &R,
-    alloc: Global,
-    seats: u8,
-    room_for: u64,
-    input: &[u8],
-    operators: &O,
-) -> Result<Evening, Fail>
+>(rt: &R, seats: u8, evening: &Evening)
     requires { (0 < seats) × (seats ≤ 8) }
 {
-    let listener = listen(rt)?;
+    for closing in evening.closings {
+        expect_closing(rt, seats, evening, closing);
+    }
+}
+
+/// Serves a new room, which this input closes.
+fn expect_closing<
+    R: Abort
+        + Threads
+        + Wait
+        + Sync
+        + Clock
+        + AllocGlobal
+        + RandomSource
+        + Net<Listener = TcpListener, Stream = TcpStream>,
+>(rt: &R, seats: u8, evening: &Evening, closing: &Closing)
+    requires { (0 < seats) × (seats ≤ 8) }
+{
+    let consoles = listen(rt);
+    let listener = listen(rt);
+    let page = address_of(rt, &listener);
+    let port = page.port();
+    let pages = [PagePort { port, listener }];
+    let mut streams = Vec::new(rt.alloc());
+    if evening.is_early {
+        come_early(rt, &consoles, &mut streams);
+    }
     let button = Button::new();
-    hold(
-        rt,
-        alloc,
-        seats,
-        room_for,
-        &listener,
-        Pressed::new(&button, input, false),
-        &button,
-        operators,
-        &OpenDoor,
-    )
-}
-
-/// Serves the operators of a new room, until they have gone and the input has closed it.
-pub fn hold<
-    R: Threads
-        + Wait
-        + Sync
-        + Clock
-        + AllocGlobal
-        + RandomSource
-        + Net<Listener = TcpListener, Stream = TcpStream>,
-    O: Operators + Sync,
-    D: Door + Sync,
->(
-    rt: &R,
-    alloc: Global,
-    seats: u8,
-    room_for: u64,
-    listener: &TcpListener,
-    input: Pressed<'_>,
-    button: &Button,
-    operators: &O,
-    door: &D,
-) -> Result<Evening, Fail>
-    requires { (0 < seats) × (seats ≤ 8) }
-{
-    hold_with_pages(
-        rt,
-        alloc,
-        seats,
-        room_for,
-        listener,
-        &[],
-        input,
-        button,
-        operators,
-        door,
-    )
-}
-
-/// The same for a room whose first seats have pages.
-pub fn hold_with_pages<
-    R: Threads
-        + Wait
-        + Sync
-        + Clock
-        + AllocGlobal
-        + RandomSource
-        + Net<Listener = TcpListener, Stream = TcpStream>,
-    O: Operators + Sync,
-    D: Door + Sync,
->(
-    rt: &R,
-    alloc: Global,
-    seats: u8,
-    room_for: u64,
-    listener: &TcpListener,
-    pages: &[PagePort],
-    input: Pressed<'_>,
-    button: &Button,
-    operators: &O,
-    door: &D,
-) -> Result<Evening, Fail>
-    requires { (0 < seats) × (seats ≤ 8) × (length pages.now ≤ seats) }
-{
+    let here = Here {
+        evening,
+        closing,
+        listener: &consoles,
+        pages: &pages,
+        consoles: address_of(rt, &consoles),
+        page,
+        button: &button,
+    };
     let opened = Opened::new(seats);
-    open::<Brand, R, O, D>(
-        rt, alloc, seats, opened, room_for, listener, pages, input, button, operators, door,
-    )
+    open::<Brand, R>(rt, seats, opened, &here, streams);
 }
 
 /// The same for a room of this name.
 fn open<
     J: RoomId + Send + Sync,
-    R: Threads
+    R: Abort
+        + Threads
         + Wait
         + Sync
         + Clock
         + AllocGlobal
         + RandomSource
         + Net<Listener = TcpListener, Stream = TcpStream>,
-    O: Operators + Sync,
-    D: Door + Sync,
->(
-    rt: &R,
-    alloc: Global,
-    seats: u8,
-    opened: Opened,
-    room_for: u64,
-    listener: &TcpListener,
-    pages: &[PagePort],
-    input: Pressed<'_>,
-    button: &Button,
-    operators: &O,
-    door: &D,
-) -> Result<Evening, Fail>
+>(rt: &R, seats: u8, opened: Opened, here: &Here, streams: Vec<TcpStream>)
     requires history { opened.book ≡ J.book }
     requires ledger { (opened.ledger ≡ J.name) × (opened.parts ≡ J.parts) × (J.parts ≡ J.seats) }
     requires named { (4000 ≡ J.size) × (seats ≡ J.seats) }
     requires count { (0 < seats) × (seats ≤ 8) }
-    requires pages { length pages.now ≤ seats }
+    requires pages { length here.now.pages.now ≤ seats }
 {
-    let address = listener.local_addr()?;
-    let keeper = Lines::new(alloc, room_for);
-    let (room, seats) = SharedRoom::<J, &R, Lines>::power_on_kept(
+    let alloc = rt.alloc();
+    let keeper = Lines::new(alloc, here.evening.room_for);
+    let powered = SharedRoom::<J, &R, Lines>::power_on_kept(
         rt, alloc, 4_000, seats, opened, keeper,
-    )?;
-    Ok(spend(
-        rt, alloc, room, seats, listener, pages, address, input, button, operators, door,
-    ))
-}
-
-/// Serves the operators, each of both in a thread of its own.
-fn spend<J, R, O, D>(
-    rt: &R,
-    alloc: Global,
-    room: SharedRoom<J, &R, Lines>,
-    seats: Vec<Seat<J>>,
-    listener: &TcpListener,
-    pages: &[PagePort],
-    address: SocketAddr,
-    input: Pressed<'_>,
-    button: &Button,
-    operators: &O,
-    door: &D,
-) -> Evening
-where
-    J: RoomId + Send + Sync,
-    R: Threads
-        + Wait
-        + Sync
-        + Clock
-        + AllocGlobal
-        + RandomSource
-        + Net<Listener = TcpListener, Stream = TcpStream>,
-    O: Operators + Sync,
-    D: Door + Sync,
-    requires ledger { J.parts ≡ J.seats }
-    requires seats { AreAllSeats J.seats seats.items }
-    requires count { (0 < J.seats) × (J.seats < 2 ^ 8) }
-    requires pages { length pages.now ≤ J.seats }
-{
+    );
+    let (room, seats) = powered.expect(rt, "a room");
     thread::scope(
         thread::scope_env(),
         rt,
-        move |scope| -> Evening
+        move |scope|
             requires { (J.parts ≡ J.seats)
                 × AreAllSeats J.seats seats.items
                 × (0 < J.seats)
                 × (J.seats < 2 ^ 8)
-                × (length pages.now ≤ J.seats) }
+                × (length here.now.pages.now ≤ J.seats) }
         {
-            attend_both(
-                scope, rt, alloc, room, seats, listener, pages, address, input, button, operators,
-                door,
-            )
+            attend_both(scope, rt, room, seats, here, streams);
         },
-    )
+    );
 }
 
-/// Serves here, and operates in a thread.
-fn attend_both<'s, E: 's, J, R, O, D>(
+/// Serves here, operates in a thread, and compares what comes of both.
+fn attend_both<'s, E: 's, J, R>(
     scope: &Scope<'s, E>,
     rt: &'s R,
-    alloc: Global,
     room: SharedRoom<J, &R, Lines>,
     seats: Vec<Seat<J>>,
-    listener: &TcpListener,
-    pages: &[PagePort],
-    address: SocketAddr,
-    input: Pressed<'_>,
-    button: &'s Button,
-    operators: &'s O,
-    door: &D,
-) -> Evening
+    here: &'s Here,
+    streams: Vec<TcpStream>,
+)
 where
     J: RoomId + Send + Sync,
-    R: Threads
+    R: Abort
+        + Threads
         + Wait
         + Sync
         + Clock
@@ -277,32 +222,26 @@ where
         + RandomSource
         + Net<Listener = TcpListener, Stream = TcpStream>
         + 's,
-    O: Operators + Sync + 's,
-    D: Door + Sync,
     requires ledger { J.parts ≡ J.seats }
     requires seats { AreAllSeats J.seats seats.items }
     requires count { (0 < J.seats) × (J.seats < 2 ^ 8) }
-    requires pages { length pages.now ≤ J.seats }
+    requires pages { length here.now.pages.now ≤ J.seats }
 {
-    let operating = scope.spawn(move || operate(rt, alloc, address, button, operators));
-    let served = serve(rt, alloc, room, seats, listener, pages, input, door);
-    let told = match operating {
-        Ok(thread) => thread.join(rt),
-        Err(_) => None,
-    };
-    Evening { served, told }
+    let operating = scope
+        .spawn(move || operate(rt, here, streams))
+        .expect(rt, "a thread");
+    let served = serve(rt, room, seats, here);
+    let told = operating.join(rt);
+    expect_text(rt, told.as_slice(), here.evening.told);
+    expect_served(rt, &served, here);
 }
 
-/// Serves consoles, and the pages if there are any.
-fn serve<J, R, D>(
+/// Serves consoles, and the page if there is one.
+fn serve<J, R>(
     rt: &R,
-    alloc: Global,
     room: SharedRoom<J, &R, Lines>,
     seats: Vec<Seat<J>>,
-    listener: &TcpListener,
-    pages: &[PagePort],
-    input: Pressed<'_>,
-    door: &D,
+    here: &Here,
 ) -> SeatsServed<Lines>
 where
     J: RoomId + Send + Sync,
@@ -313,29 +252,31 @@ where
         + AllocGlobal
         + RandomSource
         + Net<Listener = TcpListener, Stream = TcpStream>,
-    D: Door + Sync,
     requires ledger { J.parts ≡ J.seats }
     requires seats { AreAllSeats J.seats seats.items }
     requires count { (0 < J.seats) × (J.seats < 2 ^ 8) }
-    requires pages { length pages.now ≤ J.seats }
+    requires pages { length here.now.pages.now ≤ J.seats }
 {
-    if pages.is_empty() {
-        serve_seats(alloc, rt, room, seats, listener, input, door)
+    let alloc = rt.alloc();
+    let (bytes, fails, _) = *here.closing;
+    let input = Pressed::new(here.button, bytes, fails);
+    let door = HoldingDoor {
+        button: here.button,
+        holds: here.evening.holds,
+    };
+    if here.evening.has_page {
+        let consoles = Some(here.listener);
+        serve_pages(alloc, rt, room, seats, consoles, here.pages, input, &door)
     } else {
-        serve_pages(alloc, rt, room, seats, Some(listener), pages, input, door)
+        serve_seats(alloc, rt, room, seats, here.listener, input, &door)
     }
 }
 
-/// Operates, and presses the button.
-fn operate<R: Net<Stream = TcpStream>, O: Operators>(
-    rt: &R,
-    alloc: Global,
-    address: SocketAddr,
-    button: &Button,
-    operators: &O,
-) -> Option<Vec<u8>> {
-    let mut told = Vec::new(alloc);
-    let ended = operators.operate(rt, alloc, address, button, &mut told);
-    button.pressed.store(true, SeqCst);
-    if ended.is_ok() { Some(told) } else { None }
+/// Compares what was kept, how many commands there were, and what went wrong.
+fn expect_served(rt: &impl Abort, served: &SeatsServed<Lines>, here: &Here) {
+    expect_text(rt, served.keeper.text.as_slice(), here.evening.kept);
+    let (input, _, fault) = *here.closing;
+    let commands = served.room.journal().len();
+    expect_same(rt, &commands, &here.evening.commands, "commands");
+    expect_same(rt, &served.fault, &fault, input.escape_ascii());
 }

@@ -1,5 +1,5 @@
 -- The room's names are those of what was opened.
-use Rattle.serving_tests.proofs.tests.service.hold_with_pages.Given as goal
+use Rattle.serving_tests.proofs.tests.service.expect_closing.Given as goal
 
 abbrev pub ghosts-open-J-Ledger : goal.ghosts-open-J-Ledger
 ghosts-open-J-Ledger g a = record { name = a.opened.ledger; parts = a.opened.parts }
