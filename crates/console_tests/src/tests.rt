@@ -8,56 +8,122 @@ mod order;
 mod serving;
 mod sessions;
 
-use console_1401::{SessionEnd, Sink, Source, ToWriter, session};
+use console_1401::{FromReader, SessionEnd, Sink, Source, ToWriter, session};
 use room_1401::Room;
-use std::alloc::Global;
+use std::cell::RefCell;
+use std::fmt::{Debug, Display};
 use std::process::Abort;
-use std::test::Fail;
 
-/// How a session at a new machine ends, and how many commands it leaves in the journal.
-fn hold<R: Source, W: Sink>(
-    alloc: Global,
+/// Compares what a row gives with what it should. If they differ, the row is told.
+fn expect_same<T: PartialEq + Debug>(rt: &impl Abort, row: &impl Debug, found: &T, wanted: &T) {
+    assert_eq!(rt; *found, *wanted, "{row:?}");
+}
+
+/// Compares the bytes that a row gives with those that it should. If they differ, the row is told.
+fn expect_bytes(rt: &impl Abort, row: &impl Debug, found: &[u8], wanted: &[u8]) {
+    let is_same = found == wanted;
+    assert!(rt;
+        is_same,
+        "{row:?}: {} in place of {}",
+        found.escape_ascii(),
+        wanted.escape_ascii()
+    );
+}
+
+/// Compares how something is shown with a text. If they differ, the row is told.
+fn is_told(rt: &(impl Abort + AllocGlobal), row: &impl Debug, shown: &impl Display, wanted: &str) {
+    let told = format!(in rt.alloc(); "{shown}").expect(rt, wanted);
+    expect_bytes(rt, row, told.as_bytes(), wanted.as_bytes());
+}
+
+/// Has a session, and compares how it ends, and how many commands are then in the journal.
+fn expect_end<R: Source, W: Sink>(
+    rt: &(impl Abort + AllocGlobal),
+    row: &impl Debug,
+    room: &mut Room,
     reader: &mut R,
     writer: &mut W,
-) -> Result<(SessionEnd, usize), Fail> {
-    let mut room = Room::power_on(alloc, 4_000)?;
-    let end = session(alloc, &mut room, reader, writer);
-    Ok((end, room.journal().len()))
+    wanted: (SessionEnd, usize),
+) {
+    let end = session(rt.alloc(), room, reader, writer);
+    expect_same(rt, row, &(end, room.journal().len()), &wanted);
 }
 
-/// How it ends, what it writes, and how many commands it leaves.
-fn answers<R: Source>(alloc: Global, reader: &mut R) -> Result<(SessionEnd, Vec<u8>, usize), Fail> {
-    let mut writer = ToWriter::new(Vec::new(alloc));
-    let (end, commands) = hold(alloc, reader, &mut writer)?;
-    Ok((end, writer.into_inner(), commands))
-}
-
-/// Compares how a session ended. The row is the text that tells it from the other sessions of its test.
-fn expect_end(rt: &impl Abort, row: &str, ended: SessionEnd, end: SessionEnd) {
-    assert_eq!(rt; ended, end, "{row}");
-}
-
-/// Compares what a session wrote.
-fn expect_output(rt: &impl Abort, row: &str, written: &[u8], output: &str) {
-    assert_eq!(rt; written, output.as_bytes(), "{row}");
-}
-
-/// Compares how many commands a journal has.
-fn expect_commands(rt: &impl Abort, row: &str, recorded: usize, commands: usize) {
-    assert_eq!(rt; recorded, commands, "{row}");
-}
-
-/// Compares how a session at a new machine ends, what it writes, and how many commands it leaves.
-fn expect_answers<R: Source>(
-    rt: &impl Abort,
-    alloc: Global,
-    row: &str,
+/// Has a session at a new machine, and compares how it ends, and how many commands it leaves.
+fn expect_end_at_new<R: Source, W: Sink>(
+    rt: &(impl Abort + AllocGlobal),
+    row: &impl Debug,
     reader: &mut R,
-    (end, output, commands): (SessionEnd, &str, usize),
-) -> Result<(), Fail> {
-    let (ended, written, recorded) = answers(alloc, reader)?;
-    expect_end(rt, row, ended, end);
-    expect_output(rt, row, written.as_slice(), output);
-    expect_commands(rt, row, recorded, commands);
-    Ok(())
+    writer: &mut W,
+    wanted: (SessionEnd, usize),
+) {
+    let mut room = Room::power_on(rt.alloc(), 4_000).expect(rt, "a room");
+    expect_end(rt, row, &mut room, reader, writer, wanted);
+}
+
+/// Has a session at a new machine, and compares what it writes, how it ends, and how many commands it leaves.
+fn expect_answers<R: Source>(
+    rt: &(impl Abort + AllocGlobal),
+    row: &impl Debug,
+    reader: &mut R,
+    output: &[u8],
+    wanted: (SessionEnd, usize),
+) {
+    let mut writer = ToWriter::new(Vec::new(rt.alloc()));
+    expect_end_at_new(rt, row, reader, &mut writer, wanted);
+    expect_bytes(rt, row, writer.into_inner().as_slice(), output);
+}
+
+/// Compares what sessions on these lines write, how they end, and how many commands they leave.
+fn expect_sessions(rt: &(impl Abort + AllocGlobal), rows: &[(&str, &str, SessionEnd, usize)]) {
+    for (lines, output, end, commands) in rows {
+        let mut reader = FromReader::new(lines.as_bytes());
+        expect_answers(rt, lines, &mut reader, output.as_bytes(), (*end, *commands));
+    }
+}
+
+/// These bytes, a text so many times, and other bytes.
+fn repeated(
+    rt: &(impl Abort + AllocGlobal),
+    first: &[u8],
+    (text, times): (&[u8], u32),
+    last: &[u8],
+) -> Vec<u8> {
+    let mut bytes = Vec::from_slice(rt.alloc(), first).expect(rt, "room");
+    for _ in 0..times {
+        bytes.extend_from_slice(text).expect(rt, "room");
+    }
+    bytes.extend_from_slice(last).expect(rt, "room");
+    bytes
+}
+
+/// Has a session on such bytes at a new machine, and compares what it writes, how it ends, and how many commands it
+/// leaves.
+fn expect_repeated(
+    rt: &(impl Abort + AllocGlobal),
+    first: &[u8],
+    (text, times): (&[u8], u32),
+    last: &[u8],
+    output: &[u8],
+    wanted: (SessionEnd, usize),
+) {
+    let lines = repeated(rt, first, (text, times), last);
+    let mut reader = FromReader::new(lines.as_slice());
+    expect_answers(rt, &(times, lines.len()), &mut reader, output, wanted);
+}
+
+/// What is done, in order.
+type Record = RefCell<Vec<u8>>;
+
+/// Adds to a record, if there is memory for it.
+fn note(record: &Record, bytes: &[u8]) {
+    if let Ok(mut noted) = record.try_borrow_mut() {
+        let _noted = noted.extend_from_slice(bytes);
+    }
+}
+
+/// Compares a record.
+fn expect_record(rt: &impl Abort, record: &Record, wanted: &[u8]) {
+    let noted = record.try_borrow().expect(rt, "a record");
+    expect_bytes(rt, &"record", noted.as_slice(), wanted);
 }

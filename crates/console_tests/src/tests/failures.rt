@@ -1,23 +1,20 @@
 //! Reads and writes that fail.
 ghost use Rattle.std.specs.Prelude.{Some};
 
-use crate::tests::{expect_answers, expect_commands, expect_end, expect_output, hold};
+use super::{expect_answers, expect_bytes, expect_end_at_new, expect_same, is_told};
 use console_1401::{Failed, FromReader, ServeFault, SessionEnd, Sink, Source, ToWriter};
-use std::alloc::Global;
-use std::fmt::Display;
 use std::process::Abort;
-use std::test::Fail;
 
 // Gives its bytes, and then fails.
 #[derive(Drop)]
-pub struct BreaksOff<'a> {
+pub(super) struct BreaksOff<'a> {
     bytes: &'a [u8],
     failed: bool,
 }
 
 impl BreaksOff<'_> {
     /// Gives these bytes first.
-    pub fn new(bytes: &[u8]) -> BreaksOff<'_> {
+    pub(super) fn new(bytes: &[u8]) -> BreaksOff<'_> {
         BreaksOff {
             bytes,
             failed: false,
@@ -47,23 +44,11 @@ impl Source for BreaksOff<'_> {
 
 // Takes at most `width` bytes with each put, and fails once it has `limit` bytes.
 #[derive(Drop)]
-pub struct Narrow {
-    pub received: Vec<u8>,
+struct Narrow {
+    received: Vec<u8>,
     width: usize,
     limit: usize,
     failed: bool,
-}
-
-impl Narrow {
-    /// Has received nothing.
-    pub fn new(alloc: Global, width: usize, limit: usize) -> Narrow {
-        Narrow {
-            received: Vec::new(alloc),
-            width,
-            limit,
-            failed: false,
-        }
-    }
 }
 
 impl Sink for Narrow {
@@ -91,140 +76,127 @@ impl Sink for Narrow {
 }
 
 #[test]
-fn a_failed_read_leaves_the_unfinished_line(rt: HostRuntime) -> Result<(), Fail> {
+fn a_failed_read_leaves_the_unfinished_line(rt: HostRuntime) {
     let mut reader = BreaksOff::new(b"DEPOSIT 0500 K\nEXAMINE 0500");
-    let expected = (SessionEnd::Read, "OK\n", 1);
-    expect_answers(&rt, rt.alloc(), "unfinished", &mut reader, expected)
+    let end = (SessionEnd::Read, 1);
+    expect_answers(&rt, &"unfinished", &mut reader, b"OK\n", end);
 }
 
-/// Compares how these lines are answered at a sink: the end, the output, and the commands.
-fn expect_answers_in(
-    rt: &impl Abort,
-    alloc: Global,
-    row: &str,
-    lines: &str,
-    mut writer: Narrow,
-    (end, output, commands): (SessionEnd, &str, usize),
-) -> Result<(), Fail> {
-    let mut reader = FromReader::new(lines.as_bytes());
-    let (ended, recorded) = hold(alloc, &mut reader, &mut writer)?;
-    expect_end(rt, row, ended, end);
-    expect_output(rt, row, writer.received.as_slice(), output);
-    expect_commands(rt, row, recorded, commands);
-    Ok(())
-}
-
-/// Compares how these lines are answered at a sink of this width and limit: the end, the output, and the commands.
-fn expect_answers_at(
-    rt: &impl Abort,
-    alloc: Global,
+/// Compares how these lines are answered at a sink of this width and limit: the output, the end, and the commands.
+fn expect_narrow_at(
+    rt: &(impl Abort + AllocGlobal),
     lines: &str,
     (width, limit): (usize, usize),
-    expected: (SessionEnd, &str, usize),
-) -> Result<(), Fail> {
-    let row = format!(in alloc; "{width} {limit}")?;
-    let writer = Narrow::new(alloc, width, limit);
-    expect_answers_in(rt, alloc, row.as_str(), lines, writer, expected)
+    output: &str,
+    end: (SessionEnd, usize),
+) {
+    let mut reader = FromReader::new(lines.as_bytes());
+    let mut writer = Narrow {
+        received: Vec::new(rt.alloc()),
+        width,
+        limit,
+        failed: false,
+    };
+    let row = (width, limit);
+    expect_end_at_new(rt, &row, &mut reader, &mut writer, end);
+    expect_bytes(rt, &row, writer.received.as_slice(), output.as_bytes());
 }
 
-/// Compares how these lines are answered at sinks of these widths and limits: the end, the output, and the commands.
-pub fn expect_narrow(
-    rt: &impl Abort,
-    alloc: Global,
+/// Compares how these lines are answered at sinks of these widths and limits: the output, the end, and the commands.
+pub(super) fn expect_narrow(
+    rt: &(impl Abort + AllocGlobal),
     lines: &str,
-    rows: &[(usize, usize, SessionEnd, &str, usize)],
-) -> Result<(), Fail> {
-    for (width, limit, end, output, commands) in rows {
-        expect_answers_at(
-            rt,
-            alloc,
-            lines,
-            (*width, *limit),
-            (*end, *output, *commands),
-        )?;
+    rows: &[(usize, usize, &str, SessionEnd, usize)],
+) {
+    for (width, limit, output, end, commands) in rows {
+        expect_narrow_at(rt, lines, (*width, *limit), output, (*end, *commands));
     }
-    Ok(())
 }
 
 #[test]
-fn a_failed_write_leaves_the_command(rt: HostRuntime) -> Result<(), Fail> {
+fn a_failed_write_leaves_the_command(rt: HostRuntime) {
     expect_narrow(
         &rt,
-        rt.alloc(),
         "DEPOSIT 0500 ~0K\nEXAMINE 0500 2\n",
         &[
-            (1, 99, SessionEnd::EndOfInput, "OK\n~0K\n", 2),
-            (2, 99, SessionEnd::EndOfInput, "OK\n~0K\n", 2),
-            (3, 99, SessionEnd::EndOfInput, "OK\n~0K\n", 2),
-            (9, 0, SessionEnd::Write, "", 1),
-            (2, 2, SessionEnd::Write, "OK", 1),
-            (9, 3, SessionEnd::Write, "OK\n", 2),
-            (1, 6, SessionEnd::Write, "OK\n~0K", 2),
+            (1, 99, "OK\n~0K\n", SessionEnd::EndOfInput, 2),
+            (2, 99, "OK\n~0K\n", SessionEnd::EndOfInput, 2),
+            (3, 99, "OK\n~0K\n", SessionEnd::EndOfInput, 2),
+            (9, 0, "", SessionEnd::Write, 1),
+            (2, 2, "OK", SessionEnd::Write, 1),
+            (9, 3, "OK\n", SessionEnd::Write, 2),
+            (1, 6, "OK\n~0K", SessionEnd::Write, 2),
         ],
-    )
+    );
+}
+
+/// Compares how these lines are answered at a writer with this space: the output, the end, and the commands.
+pub(super) fn expect_within(
+    rt: &(impl Abort + AllocGlobal),
+    space: &mut [u8],
+    lines: &str,
+    output: &str,
+    end: (SessionEnd, usize),
+) {
+    let mut reader = FromReader::new(lines.as_bytes());
+    let mut writer = ToWriter::new(&mut *space);
+    expect_end_at_new(rt, &output, &mut reader, &mut writer, end);
+    expect_bytes(rt, &output, space, output.as_bytes());
 }
 
 #[test]
-fn a_writer_that_takes_nothing_has_failed(rt: HostRuntime) -> Result<(), Fail> {
-    let mut space = [0; 4];
-    let mut reader = FromReader::new(b"HELLO\nQUIT\n".as_slice());
-    let mut writer = ToWriter::new(space.as_mut_slice());
-    let (ended, _) = hold(rt.alloc(), &mut reader, &mut writer)?;
-    expect_end(&rt, "4 bytes", ended, SessionEnd::Write);
-    expect_output(&rt, "4 bytes", space.as_slice(), "ERRO");
-    Ok(())
+fn a_writer_that_takes_nothing_has_failed(rt: HostRuntime) {
+    let end = (SessionEnd::Write, 0);
+    expect_within(&rt, &mut [0; 4], "HELLO\nQUIT\n", "ERRO", end);
 }
 
-/// Compares how much of these bytes a writer takes at once, and how many it has then.
-fn expect_taken(rt: &impl Abort, alloc: Global, bytes: &[u8]) {
+/// Compares how much of these bytes a writer takes at once, whether it has failed, and how many it has then.
+fn expect_taken(rt: &(impl Abort + AllocGlobal), bytes: &[u8]) {
     let len = bytes.len();
-    let mut writer = ToWriter::new(Vec::new(alloc));
-    assert_eq!(rt; writer.put(bytes), Ok(len), "{len}");
-    assert!(rt; !writer.has_failed(), "{len}");
-    expect_commands(rt, "taken", writer.into_inner().len(), len);
+    let mut writer = ToWriter::new(Vec::new(rt.alloc()));
+    let taken = writer.put(bytes);
+    let found = (taken, writer.has_failed(), writer.into_inner().len());
+    expect_same(rt, &len, &found, &(Ok(len), false, len));
 }
 
 #[test]
-fn a_write_of_each_length_is_good(rt: HostRuntime) -> Result<(), Fail> {
+fn a_write_of_each_length_is_good(rt: HostRuntime) {
     let bytes = [b'A'; 300];
     for len in 0..=300 {
-        expect_taken(&rt, rt.alloc(), &bytes[..len]);
+        expect_taken(&rt, &bytes[..len]);
     }
-    Ok(())
 }
 
-/// Compares what a reader of this byte gives.
+/// Compares what a reader of this byte gives, and whether it has failed.
 fn expect_read(rt: &impl Abort, byte: u8) {
     let bytes = [byte];
     let mut reader = FromReader::new(bytes.as_slice());
-    assert_eq!(rt; reader.next_byte(), Ok(Some(byte)), "{byte}");
-    assert_eq!(rt; reader.next_byte(), Ok(None), "{byte}");
-    assert!(rt; !reader.has_failed(), "{byte}");
+    let first = reader.next_byte().expect(rt, "a byte");
+    let end = reader.next_byte().expect(rt, "the end");
+    let found = (first, end, reader.has_failed());
+    expect_same(rt, &byte, &found, &(Some(byte), None, false));
 }
 
 #[test]
-fn each_byte_is_read(rt: HostRuntime) -> Result<(), Fail> {
+fn each_byte_is_read(rt: HostRuntime) {
     for byte in 0..=255 {
         expect_read(&rt, byte);
     }
-    Ok(())
-}
-
-/// Compares a failure's text.
-fn expect_text(
-    rt: &impl Abort,
-    alloc: Global,
-    failure: &impl Display,
-    text: &str,
-) -> Result<(), Fail> {
-    let shown = format!(in alloc; "{failure}")?;
-    assert_eq!(rt; shown.as_str(), text);
-    Ok(())
 }
 
 #[test]
-fn each_failure_has_its_text(rt: HostRuntime) -> Result<(), Fail> {
-    expect_text(&rt, rt.alloc(), &Failed, "a read or a write failed")?;
-    expect_text(&rt, rt.alloc(), &ServeFault::Accept, "accept failed")?;
-    expect_text(&rt, rt.alloc(), &ServeFault::Thread, "thread refused")
+fn each_failure_has_its_text(rt: HostRuntime) {
+    is_told(&rt, &Failed, &Failed, "a read or a write failed");
+    is_told(
+        &rt,
+        &ServeFault::Accept,
+        &ServeFault::Accept,
+        "accept failed",
+    );
+    is_told(
+        &rt,
+        &ServeFault::Thread,
+        &ServeFault::Thread,
+        "thread refused",
+    );
 }

@@ -1,11 +1,9 @@
 //! Rooms that listen on the loopback.
 ghost use Rattle.std.specs.Prelude.{◌≡◌, ◌<◌};
 
-use crate::tests::{expect_commands, expect_output};
+use super::{expect_bytes, expect_same};
 use console_1401::{Door, OpenDoor, ServeFault, Served, serve};
-use room_1401::{Command, Entry, Opened, RoomId, SharedRoom};
-use std::alloc::Global;
-use std::io;
+use room_1401::{Command, Opened, RoomId, SharedRoom};
 use std::io::{Read, Write};
 use std::marker::Brand;
 use std::net::{Ipv4Addr, Net, Shutdown, TcpListener, TcpStream};
@@ -13,7 +11,6 @@ use std::process::Abort;
 use std::sync::Wait;
 use std::sync::atomic::AtomicBool;
 use std::sync::atomic::Ordering::SeqCst;
-use std::test::Fail;
 use std::thread::{Threads, yield_now};
 
 /// How often a held console looks whether it may go on.
@@ -24,16 +21,6 @@ const TURNS: u32 = 1_000_000;
 struct Hold {
     answered: AtomicBool,
     gave_up: AtomicBool,
-}
-
-impl Hold {
-    /// Nothing is answered.
-    fn new() -> Hold {
-        Hold {
-            answered: AtomicBool::new(false),
-            gave_up: AtomicBool::new(false),
-        }
-    }
 }
 
 impl Door for Hold {
@@ -57,254 +44,184 @@ impl Door for Hold {
     }
 }
 
-/// Sends these lines, and then nothing more.
-fn finish_sending(stream: &mut TcpStream, lines: &str) -> io::Result<()> {
-    stream.write_all(lines.as_bytes())?;
-    stream.shutdown(Shutdown::Write)
-}
-
-/// A connection to the listener that has sent this, and sends nothing more.
-fn send_lines<R: Net<Listener = TcpListener, Stream = TcpStream>>(
+/// A connection to the listener that has sent these lines, and sends nothing more.
+fn send_lines<R: Abort + Net<Listener = TcpListener, Stream = TcpStream>>(
     rt: &R,
     listener: &TcpListener,
-    lines: &str,
-) -> io::Result<TcpStream> {
-    let mut stream = TcpStream::connect(rt, listener.local_addr()?)?;
-    finish_sending(&mut stream, lines)?;
-    Ok(stream)
+    lines: &[u8],
+) -> TcpStream {
+    let address = listener.local_addr().expect(rt, "an address");
+    let mut stream = TcpStream::connect(rt, address).expect(rt, "a connection");
+    stream.write_all(lines).expect(rt, "a write");
+    stream.shutdown(Shutdown::Write).expect(rt, "an end");
+    stream
 }
 
-/// Two connections to the listener, which have sent these.
-fn connect_two<R: Net<Listener = TcpListener, Stream = TcpStream>>(
+/// The lines of a console, and the place that they examine.
+type Console<'a> = (&'a [u8], u16);
+
+/// A connection to the listener for each of these consoles, which has sent its lines.
+fn send_all<R: Abort + AllocGlobal + Net<Listener = TcpListener, Stream = TcpStream>>(
     rt: &R,
     listener: &TcpListener,
-    lines: [&str; 2],
-) -> io::Result<(TcpStream, TcpStream)> {
-    let one = send_lines(rt, listener, lines[0])?;
-    let two = send_lines(rt, listener, lines[1])?;
-    Ok((one, two))
+    consoles: &[Console<'_>],
+) -> Vec<TcpStream> {
+    let mut streams = Vec::new(rt.alloc());
+    for (lines, _) in consoles {
+        let stream = send_lines(rt, listener, lines);
+        streams.push(stream).expect(rt, "room");
+    }
+    streams
 }
 
-/// All that was sent back on a connection.
-fn replies(alloc: Global, stream: &mut TcpStream) -> io::Result<Vec<u8>> {
-    let mut bytes = Vec::new(alloc);
-    stream.read_to_end(&mut bytes)?;
-    Ok(bytes)
+/// Compares all that was sent back on each connection, with a bar after each.
+fn expect_replies(rt: &(impl Abort + AllocGlobal), streams: &mut [TcpStream], wanted: &[u8]) {
+    let mut sent = Vec::new(rt.alloc());
+    for stream in streams {
+        stream.read_to_end(&mut sent).expect(rt, "a read");
+        sent.extend_from_slice(b"|").expect(rt, "room");
+    }
+    expect_bytes(rt, &"replies", sent.as_slice(), wanted);
 }
 
-/// Compares what was sent back on a connection.
-fn expect_sent(
+/// Compares how many consoles there were, why there were no more, how long the journal is, and each entry with the
+/// command that examines the place of its console.
+fn expect_left(
     rt: &impl Abort,
-    alloc: Global,
-    row: &str,
-    stream: &mut TcpStream,
-    expected: &str,
-) -> Result<(), Fail> {
-    let sent = replies(alloc, stream)?;
-    expect_output(rt, row, sent.as_slice(), expected);
-    Ok(())
-}
-
-/// Compares what was sent back on two connections.
-fn expect_both(
-    rt: &impl Abort,
-    alloc: Global,
-    one: &mut TcpStream,
-    two: &mut TcpStream,
-    expected: [&str; 2],
-) -> Result<(), Fail> {
-    expect_sent(rt, alloc, "first", one, expected[0])?;
-    expect_sent(rt, alloc, "second", two, expected[1])
+    served: &Served,
+    consoles: &[Console<'_>],
+    wanted: (u8, Option<ServeFault>, usize),
+) {
+    let journal = served.room.journal();
+    let found = (served.consoles, served.fault, journal.len());
+    expect_same(rt, &"served", &found, &wanted);
+    for entry in journal {
+        let console = consoles.get(usize::from(entry.seat).saturating_sub(1));
+        let (_, address) = *console.expect(rt, "a console");
+        let own = Command::Examine { address, count: 1 };
+        expect_same(rt, &entry.seat, &entry.command, &own);
+    }
 }
 
 /// What is left of a new room of this size that has served consoles from this listener.
 fn serve_room<
     J: RoomId + Send + Sync,
-    R: Threads + Wait + Abort + Sync + Net<Listener = TcpListener, Stream = TcpStream>,
+    R: Threads
+        + Wait
+        + Abort
+        + AllocGlobal
+        + Sync
+        + Net<Listener = TcpListener, Stream = TcpStream>,
     D: Door + Sync,
->(
-    rt: &R,
-    alloc: Global,
-    size: u16,
-    seats: u8,
-    opened: Opened,
-    listener: &TcpListener,
-    door: &D,
-) -> Result<Served, Fail>
+>(rt: &R, size: u16, seats: u8, opened: Opened, listener: &TcpListener, door: &D) -> Served
     requires history { opened.book ≡ J.book }
     requires ledger { (opened.ledger ≡ J.name) × (opened.parts ≡ J.parts) × (J.parts ≡ J.seats) }
     requires named { (size ≡ J.size) × (seats ≡ J.seats) }
     requires count { 0 < seats }
 {
-    let (room, seats) = SharedRoom::<J, &R>::power_on(rt, alloc, size, seats, opened)?;
-    Ok(serve(alloc, rt, room, seats, listener, door))
+    let started = SharedRoom::<J, &R>::power_on(rt, rt.alloc(), size, seats, opened);
+    let (room, seats) = started.expect(rt, "a room");
+    serve(rt.alloc(), rt, room, seats, listener, door)
 }
 
-/// Compares how many consoles there were, why there were no more, and how long the journal is.
-fn expect_served(
-    rt: &impl Abort,
-    served: &Served,
-    consoles: (u8, Option<ServeFault>),
-    commands: usize,
-) {
-    assert_eq!(rt; (served.consoles, served.fault), consoles);
-    expect_commands(rt, "served", served.room.journal().len(), commands);
-}
-
-/// Serves two consoles that have sent these lines, and compares their replies and how long the journal is.
-fn two_consoles<
-    J: RoomId + Send + Sync,
-    R: Threads + Wait + Abort + Sync + Net<Listener = TcpListener, Stream = TcpStream>,
+/// Serves consoles at a new room of this size, each of which has sent its lines, and compares the replies, with a bar
+/// after those of each, how many consoles there were, why there were no more, and the journal. Where the listener waits
+/// for nobody, it accepts those that have come, and then none is there.
+fn expect_served<
+    R: Threads
+        + Wait
+        + Abort
+        + AllocGlobal
+        + Sync
+        + Net<Listener = TcpListener, Stream = TcpStream>,
     D: Door + Sync,
 >(
     rt: &R,
-    alloc: Global,
-    opened: Opened,
-    lines: [&str; 2],
-    expected: [&str; 2],
+    size: u16,
+    seats: u8,
+    waits: bool,
     door: &D,
-) -> Result<(), Fail>
-    requires history { opened.book ≡ J.book }
-    requires ledger { (opened.ledger ≡ J.name) × (opened.parts ≡ J.parts) × (J.parts ≡ J.seats) }
-    requires named { (4000 ≡ J.size) × (2 ≡ J.seats) }
+    consoles: &[Console<'_>],
+    replies: &[u8],
+    wanted: (u8, Option<ServeFault>, usize),
+)
+    requires { 0 < seats }
 {
-    let listener = TcpListener::bind(rt, (Ipv4Addr::LOCALHOST, 0))?;
-    let (mut one, mut two) = connect_two(rt, &listener, lines)?;
-    let served = serve_room::<J, R, D>(rt, alloc, 4_000, 2, opened, &listener, door)?;
-    expect_served(rt, &served, (2, None), 2);
-    expect_both(rt, alloc, &mut one, &mut two, expected)
+    let listener = TcpListener::bind(rt, (Ipv4Addr::LOCALHOST, 0)).expect(rt, "a port");
+    let mut streams = send_all(rt, &listener, consoles);
+    listener.set_nonblocking(!waits).expect(rt, "a listener");
+    let opened = Opened::new(seats);
+    let served = serve_room::<Brand, R, D>(rt, size, seats, opened, &listener, door);
+    expect_left(rt, &served, consoles, wanted);
+    expect_replies(rt, streams.as_mut_slice(), replies);
 }
 
 #[test]
-fn two_consoles_are_attended_at_once(rt: HostRuntime) -> Result<(), Fail> {
-    let door = Hold::new();
-    two_consoles::<Brand, _, _>(
-        &rt,
-        rt.alloc(),
-        Opened::new(2),
-        ["EXAMINE 0\nQUIT\n", "EXAMINE 0\nQUIT\n"],
-        [" \nBYE\n", " \nBYE\n"],
-        &door,
-    )?;
-    assert!(rt; !door.gave_up.load(SeqCst));
-    Ok(())
-}
-
-#[test]
-fn a_console_that_closes_one_half_is_answered(rt: HostRuntime) -> Result<(), Fail> {
-    two_consoles::<Brand, _, _>(
-        &rt,
-        rt.alloc(),
-        Opened::new(2),
-        ["EXAMINE 0", "EXAMINE 0\nQUIT\n"],
-        [" \n", " \nBYE\n"],
-        &OpenDoor,
-    )
-}
-
-/// A connection that has sent these lines, to a listener that then waits for no other.
-fn send_alone<R: Net<Listener = TcpListener, Stream = TcpStream>>(
-    rt: &R,
-    listener: &TcpListener,
-    lines: &str,
-) -> io::Result<TcpStream> {
-    let stream = send_lines(rt, listener, lines)?;
-
-    // It accepts the one that has come, and then none is there.
-    listener.set_nonblocking(true)?;
-    Ok(stream)
-}
-
-fn no_connection<
-    J: RoomId + Send + Sync,
-    R: Threads + Wait + Abort + Sync + Net<Listener = TcpListener, Stream = TcpStream>,
->(rt: &R, alloc: Global, opened: Opened) -> Result<(), Fail>
-    requires history { opened.book ≡ J.book }
-    requires ledger { (opened.ledger ≡ J.name) × (opened.parts ≡ J.parts) × (J.parts ≡ J.seats) }
-    requires named { (1400 ≡ J.size) × (3 ≡ J.seats) }
-{
-    let listener = TcpListener::bind(rt, (Ipv4Addr::LOCALHOST, 0))?;
-    let mut one = send_alone(rt, &listener, "EXAMINE 1399\n")?;
-    let served = serve_room::<J, R, _>(rt, alloc, 1_400, 3, opened, &listener, &OpenDoor)?;
-    expect_served(rt, &served, (1, Some(ServeFault::Accept)), 1);
-    expect_sent(rt, alloc, "accepted", &mut one, " \n")
-}
-
-#[test]
-fn consoles_go_on_after_a_refused_connection(rt: HostRuntime) -> Result<(), Fail> {
-    no_connection::<Brand, _>(&rt, rt.alloc(), Opened::new(3))
-}
-
-/// A line for each of eight connections, the k-th of which examines place k.
-const EIGHT_PLACES: [&str; 8] = [
-    "EXAMINE 1\n",
-    "EXAMINE 2\n",
-    "EXAMINE 3\n",
-    "EXAMINE 4\n",
-    "EXAMINE 5\n",
-    "EXAMINE 6\n",
-    "EXAMINE 7\n",
-    "EXAMINE 8\n",
-];
-
-/// Adds a connection that has sent these lines.
-fn add_connection<R: Net<Listener = TcpListener, Stream = TcpStream>>(
-    rt: &R,
-    listener: &TcpListener,
-    streams: &mut Vec<TcpStream>,
-    lines: &str,
-) -> Result<(), Fail> {
-    streams.push(send_lines(rt, listener, lines)?)?;
-    Ok(())
-}
-
-/// Eight connections to the listener, each of which has sent its line.
-fn connect_eight<R: Net<Listener = TcpListener, Stream = TcpStream>>(
-    rt: &R,
-    alloc: Global,
-    listener: &TcpListener,
-) -> Result<Vec<TcpStream>, Fail> {
-    let mut streams = Vec::new(alloc);
-    for lines in EIGHT_PLACES {
-        add_connection(rt, listener, &mut streams, lines)?;
-    }
-    Ok(streams)
-}
-
-/// Compares an entry with the command that examines the place of its seat's number.
-fn expect_own_place(rt: &impl Abort, entry: &Entry) {
-    let own = Command::Examine {
-        address: u16::from(entry.seat),
-        count: 1,
+fn two_consoles_are_attended_at_once(rt: HostRuntime) {
+    let door = Hold {
+        answered: AtomicBool::new(false),
+        gave_up: AtomicBool::new(false),
     };
-    assert_eq!(rt; entry.command, own);
-}
-
-/// Compares each entry with the command that examines the place of its seat's number.
-fn expect_own_places(rt: &impl Abort, journal: &[Entry]) {
-    for entry in journal {
-        expect_own_place(rt, entry);
-    }
-}
-
-/// Serves these eight connections, and compares each seat's command with the place of its own number.
-fn in_turn<
-    J: RoomId + Send + Sync,
-    R: Threads + Wait + Abort + Sync + Net<Listener = TcpListener, Stream = TcpStream>,
->(rt: &R, alloc: Global, opened: Opened) -> Result<(), Fail>
-    requires history { opened.book ≡ J.book }
-    requires ledger { (opened.ledger ≡ J.name) × (opened.parts ≡ J.parts) × (J.parts ≡ J.seats) }
-    requires named { (1400 ≡ J.size) × (8 ≡ J.seats) }
-{
-    let listener = TcpListener::bind(rt, (Ipv4Addr::LOCALHOST, 0))?;
-    let _streams = connect_eight(rt, alloc, &listener)?;
-    let served = serve_room::<J, R, _>(rt, alloc, 1_400, 8, opened, &listener, &OpenDoor)?;
-    expect_served(rt, &served, (8, None), 8);
-    expect_own_places(rt, served.room.journal());
-    Ok(())
+    expect_served(
+        &rt,
+        4_000,
+        2,
+        true,
+        &door,
+        &[(b"EXAMINE 0\nQUIT\n", 0), (b"EXAMINE 0\nQUIT\n", 0)],
+        b" \nBYE\n| \nBYE\n|",
+        (2, None, 2),
+    );
+    expect_same(&rt, &"gave up", &door.gave_up.load(SeqCst), &false);
 }
 
 #[test]
-fn connections_have_the_seats_in_their_order(rt: HostRuntime) -> Result<(), Fail> {
-    in_turn::<Brand, _>(&rt, rt.alloc(), Opened::new(8))
+fn a_console_that_closes_one_half_is_answered(rt: HostRuntime) {
+    expect_served(
+        &rt,
+        4_000,
+        2,
+        true,
+        &OpenDoor,
+        &[(b"EXAMINE 0", 0), (b"EXAMINE 0\nQUIT\n", 0)],
+        b" \n| \nBYE\n|",
+        (2, None, 2),
+    );
+}
+
+#[test]
+fn consoles_go_on_after_a_refused_connection(rt: HostRuntime) {
+    expect_served(
+        &rt,
+        1_400,
+        3,
+        false,
+        &OpenDoor,
+        &[(b"EXAMINE 1399\n", 1_399)],
+        b" \n|",
+        (1, Some(ServeFault::Accept), 1),
+    );
+}
+
+#[test]
+fn connections_have_the_seats_in_their_order(rt: HostRuntime) {
+    expect_served(
+        &rt,
+        1_400,
+        8,
+        true,
+        &OpenDoor,
+        &[
+            (b"EXAMINE 1\n", 1),
+            (b"EXAMINE 2\n", 2),
+            (b"EXAMINE 3\n", 3),
+            (b"EXAMINE 4\n", 4),
+            (b"EXAMINE 5\n", 5),
+            (b"EXAMINE 6\n", 6),
+            (b"EXAMINE 7\n", 7),
+            (b"EXAMINE 8\n", 8),
+        ],
+        b" \n| \n| \n| \n| \n| \n| \n| \n|",
+        (8, None, 8),
+    );
 }
