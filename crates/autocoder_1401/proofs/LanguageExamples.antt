@@ -141,7 +141,7 @@ end_is_counted_from_the_last_place = refl
 the_next_hundred : map next_hundred (pos 0 ∷ pos 348 ∷ pos 400 ∷ []) ≡ pos 0 ∷ pos 400 ∷ pos 400 ∷ []
 the_next_hundred = refl
 
--- fields without labels; one place alone has no word mark, and a group mark stands behind the last area
+-- fields without labels; one place alone has no word mark, and a group mark stands after the last area
 grouped : List ℕ
 grouped =
     codes "     REC       DA   2X3,G\n                    2,3\n     LAST           3\n"

@@ -144,7 +144,7 @@ one_literal_for_the_same_address : image_shown alike
 unfolding image_shown alike
 one_literal_for_the_same_address = refl
 
--- an area literal declares its symbol on the line that uses it first, behind the line's own label
+-- an area literal declares its symbol on the line that uses it first, after the line's own label
 tabled : List ℕ
 tabled =
     codes "     GO        MCW  ONE#2,TWO#3\n               MCW  TWO#3,+GO\n               MCW  TWO,ONE\n"

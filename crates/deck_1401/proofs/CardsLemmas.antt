@@ -50,7 +50,7 @@ front_of card = chars_of (card.first ∷ card.behind) ++ replicate (38 - length 
 abbrev pub card_of : CellCard → Card
 card_of card = record { 0 = front_of card ++ code_chars (code_of card) }
 
--- what is behind the card with the word marks of places
+-- what is after the card with the word marks of places
 abbrev marks_over : Storage → List ℕ → Storage
 marks_over rest [] = rest
 marks_over rest (place ∷ places) = marks_over (mark_behind rest place) places
@@ -112,7 +112,7 @@ all_cells_set [] post done at h = refl
 all_cells_set (cell ∷ cells) post done at h =
     one_set cell cells post done at cell.mark refl h (λ front next e. all_cells_set cells post front next e)
 
--- the places are behind the card
+-- the places are after the card
 each_place : (cells : List Cell) (at size k : ℕ) → 81 ≤ at → at + length cells ≤ 81 + size
     → IsPlace size (get_or (marked_places at cells) k 40)
 each_place [] at size k le lt = inl refl

@@ -33,7 +33,7 @@ pub record CardCode : Type 0 where
   pub sixth : ℕ
   pub seventh : ℕ
 
--- its columns, and those with the two blanks behind them
+-- its columns, and those with the two blanks after them
 abbrev pub code_line : CardCode → List ℕ
 code_line c =
     c.does ∷ spelled c.count (spelled c.top (27 ∷ spelled c.first (27 ∷ spelled c.second (27 ∷ spelled c.third
@@ -53,11 +53,11 @@ card_chars front code = columns front ++ code_chars code
 abbrev pub here : List ℕ → CardCode → Storage
 here front code = with_marks loader_marks 0 (0 ∷ card_chars front code)
 
--- a place whose word mark is set: 040, or one behind the card
+-- a place whose word mark is set: 040, or one past the card
 abbrev pub IsPlace : ℕ → ℕ → Type 0
 IsPlace size place = (place ≡ 40) ⊎ ((81 ≤ place) × (place < 81 + size))
 
--- what is behind the card, with the word mark of a place
+-- what is after the card, with the word mark of a place
 abbrev pub mark_behind : Storage → ℕ → Storage
 mark_behind rest place = if place == 40 then rest else with_mark rest (place - 81) true
 
@@ -110,7 +110,7 @@ length-mark_behind rest place = either (place == 40)
     either true = refl
     either false = length-set rest (place - 81) (record (cell_at rest (place - 81)) { mark = true })
 
--- what is behind the card with all seven word marks
+-- what is after the card with all seven word marks
 abbrev pub all_marked : CardCode → Storage → Storage
 all_marked code rest =
     mark_behind (mark_behind (mark_behind (mark_behind (mark_behind (mark_behind (mark_behind rest code.first)

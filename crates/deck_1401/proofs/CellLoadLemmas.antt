@@ -132,7 +132,7 @@ module _ (last : State) (hopper : List Card) (front chars : List ℕ) (code : Ca
   long_enough : code.count < length (here front code ++ (done ++ (blanks code.count ++ post)))
   long_enough = omega (arith, long, brings.top, brings.some, brings.most)
 
-  -- cells over the blanks behind the card
+  -- cells over the blanks after the card
   over : (f : ℕ → Cell) (mark : Bool)
       → ((i : ℕ) → i < code.count → f i ≡ get_or (first_marked mark chars) (code.count - 1 - i) blank)
       → with_cells (here front code ++ (done ++ (blanks code.count ++ post))) code.top code.count f

@@ -26,7 +26,7 @@ use Rattle.deck_1401.proofs.ProgramLemmas.{in_front, instruction, pair_len_by, s
 use Rattle.deck_1401.proofs.StepLemmas.{Leaves, both_true, clear_step, cleared_down, compare_step, is_there, machine}
 use Rattle.deck_1401.proofs.StepLemmas.{one_step, store_step, unequal_read}
 
--- the first card: the columns in front of the address in the instruction that clears, and those behind it
+-- the first card: the columns in front of the address in the instruction that clears, and those after it
 abbrev pub clear_front : List ℕ
 clear_front =
     27 ∷ 10 ∷ 10 ∷ 8 ∷ 10 ∷ 1 ∷ 5 ∷ 27 ∷ 10 ∷ 2 ∷ 2 ∷ 10 ∷ 2 ∷ 9 ∷ 27 ∷ 10 ∷ 3 ∷ 6 ∷ 10 ∷ 4 ∷ 10 ∷ 27 ∷ 10 ∷ 4 ∷ 4 ∷
@@ -43,7 +43,7 @@ clear_line address = clear_front ++ spelled address clear_back
 abbrev pub clear_chars : ℕ → List ℕ
 clear_chars address = clear_line address ++ replicate 18 0
 
--- core storage with the first card, and with blanks behind it
+-- core storage with the first card, and with blanks after it
 abbrev pub with_first_card : List ℕ → ℕ → ℕ → Storage
 with_first_card marks address n = with_card marks (clear_chars address) (blanks n)
 
@@ -51,7 +51,7 @@ with_first_card marks address n = with_card marks (clear_chars address) (blanks 
 abbrev pub first_marks : List ℕ
 first_marks = 1 ∷ 8 ∷ 15 ∷ 22 ∷ 29 ∷ 36 ∷ 40 ∷ 44 ∷ 51 ∷ 56 ∷ 60 ∷ []
 
--- an instruction without a word mark behind it is no longer than seven characters
+-- an instruction without a word mark after it is no longer than seven characters
 at_most_seven : (n : ℕ) → min 7 (1 + (1 + (1 + (1 + (1 + (1 + n))))) + 1) ≡ 7
 at_most_seven n = omega arith
 
@@ -207,7 +207,7 @@ others_differ x n other =
     ∙ ap (λ (k : ℕ). value_of k t u) (eqb-true h 10 g) ∙ ap (λ (k : ℕ). value_of 10 k u) (eqb-true t 9 f)
     ∙ ap (λ (k : ℕ). value_of 10 9 k) (eqb-true u 9 e)))
 
--- at 099 the machine goes on behind the branch
+-- at 099 the machine goes on after the branch
 goes_on : (last : State) (hopper : List Card) (n c d : ℕ) → Leaves last hopper (with_first_card first_marks 99 n) 56
     → (unequal low high : Bool)
     → Leads (machine (looked unequal low high) hopper (with_first_card first_marks 99 n) 44 c d) last

@@ -29,7 +29,7 @@ use Rattle.deck_1401.proofs.PlacesLemmas.{cells_in_front, chars_over, with_marks
 use Rattle.deck_1401.proofs.ProgramLemmas.{in_front, instruction, read_next, spelled, with_card}
 use Rattle.deck_1401.proofs.StepLemmas.{Leaves, clear_and_branch_step, cleared_down, machine, one_step}
 
--- what is behind the cards after one cell more
+-- what follows the cards, with one cell more
 abbrev Filled : State → List Card → ℕ → Storage → Cell → List Cell → Type 0
 Filled last end from done cell cells =
     (next : ℕ) → next ≤ length cells
@@ -95,7 +95,7 @@ start_line start = replicate 39 0 ++ 17 ∷ spelled start (10 ∷ 8 ∷ 10 ∷ [
 abbrev pub start_chars : ℕ → List ℕ
 start_chars start = start_line start ++ replicate 34 0
 
--- the machine at the first step of a program, with the cards behind the deck
+-- the machine at the first step of a program, with the cards after the deck
 abbrev pub ready : Storage → ℕ → List Card → State
 ready storage start behind =
     record (power_on 0) { storage = storage; i = start; devices = record no_cards { hopper = behind } }
@@ -127,7 +127,7 @@ start_card start rest behind a b =
     ∙ ap (λ (s : Storage). step_to (machine (power_on 0) behind s start start 47)) (card_cleared start rest))
     (no_more_steps after start behind start 47)
 
--- all cards behind the first two
+-- all cards after the first two
 abbrev pub later_cards : List Cell → ℕ → List Card
 later_cards cells start = map card_of (cards_from 0 81 cells) ++ record { 0 = start_chars start } ∷ []
 
@@ -159,7 +159,7 @@ deck_cards size cells start =
     record { 0 = clear_chars (size - 1) } ∷ record { 0 = loader_chars } ∷ later_cards cells start
 
 -- Storage of a whole number of hundreds, with these cells from 081 on: the deck that the load key takes leaves them
--- there, and the cards behind it in the hopper.
+-- there, and the cards after it in the hopper.
 pub deck_loads : (size : ℕ) (cells : List Cell) (start k : ℕ) → size ≡ 100 * k + 200 → size ≤ 16000
     → size ≡ 81 + length cells → (behind : List Card)
     → Leads (loaded size (deck_cards size cells start ++ behind)) (ready (blanks 81 ++ cells) start behind)

@@ -78,7 +78,7 @@ marks_written (a ∷ b ∷ c ∷ d ∷ e ∷ f ∷ []) text few = refl
 marks_written (a ∷ b ∷ c ∷ d ∷ e ∷ f ∷ g ∷ []) text few = refl
 marks_written (a ∷ b ∷ c ∷ d ∷ e ∷ f ∷ g ∷ h ∷ ps) text few = absurd (omega (arith, few))
 
--- the blanks behind the cells
+-- the blanks after the cells
 blanks_written : (k : ℕ) → drop k (codes "                                      ") ≡ map graphic (replicate (38 - k) 0)
 unfolding graphics
 blanks_written k = drop-replicate k 38 32 ∙ same (38 - k)

@@ -182,7 +182,7 @@ module _ (last : State) (hopper : List Card) (n : ℕ) where
       → Leaves last hopper (low first_marks loader_chars ++ blanks n) 1
   loader_run more = step_0 (step_1 (step_2 (step_3 (step_4 (step_5 (step_6 (step_7 (step_8 (step_9 (step_10 (step_11 more)))))))))))
 
--- blanks behind a card are those of 119 places, and others
+-- blanks after a card are those of 119 places, and others
 split_blanks : (marks chars : List ℕ) (n k : ℕ) → n ≡ 119 + k
     → with_card marks chars (blanks 119 ++ blanks k) ≡ with_card marks chars (blanks n)
 split_blanks marks chars n k e =

@@ -121,7 +121,7 @@ cells_in_front low rest at n f at_in =
     ext_get_or blank (with_cells (low ++ rest) at n f) (with_cells low at n f ++ rest) (size ∙ sym same)
     (λ q lt. front_place low rest at n f q at_in (omega (arith, size)) (cases_lt q (length low)) (where_is at n q))
 
--- a cell behind others
+-- a cell after others
 pub set_behind : (low rest : Storage) (at : ℕ) (cell : Cell)
     → set (low ++ rest) (length low + at) cell ≡ low ++ set rest at cell
 set_behind [] rest at cell =

@@ -34,7 +34,7 @@ abbrev pub spelled : ℕ → List ℕ → List ℕ
 spelled x chars =
     slice_index (spelling_of x) 0 ∷ slice_index (spelling_of x) 1 ∷ slice_index (spelling_of x) 2 ∷ chars
 
--- core storage with a card's characters in 001 to 080, the word marks that are there, and what is behind
+-- core storage with a card's characters in 001 to 080, the word marks that are there, and what comes after
 abbrev pub with_card : List ℕ → List ℕ → Storage → Storage
 with_card marks chars rest = with_marks marks 0 (0 ∷ chars) ++ rest
 

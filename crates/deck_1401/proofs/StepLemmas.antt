@@ -35,7 +35,7 @@ use Rattle.cpu_1401.specs.Step.{check_length, check_operation, perform, step}
 use Rattle.cpu_1401.specs.Stepped.{Stepped, step_to, stopped}
 use Rattle.deck_1401.specs.Loading.{Leads, all_carried_out}
 
--- one step and those behind it
+-- one step and those after it
 pub one_step : (s t last : State) → step s ≡ step_to t → Leads t last → Leads s last
 unfolding run_for
 one_step s t last e more = record {

@@ -57,7 +57,7 @@ graphics_stay (byte ∷ more) all =
     let parts = and_parts (is_graphic byte) (list_all is_graphic more) all in
     rw (graphic_stays byte parts.0, graphics_stay more parts.1) refl
 
--- the columns in front, those from 6 to 72, and those behind
+-- the columns in front, those from 6 to 72, and those after
 joined : (columns : List ℕ) → take 5 columns ++ (columns_in 6 72 columns ++ drop 72 columns) ≡ columns
 joined columns =
     ap (λ (behind : List ℕ). take 5 columns ++ (take 67 (drop 5 columns) ++ behind)) (sym (drop-drop 67 5 columns))

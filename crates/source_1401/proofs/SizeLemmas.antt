@@ -240,7 +240,7 @@ eighty line =
 abbrev in_capitals : List ℕ → List ℕ
 in_capitals columns = take 5 columns ++ (map to_ascii_uppercase (columns_in 6 72 columns) ++ drop 72 columns)
 
--- plus signs are put behind column 20, and capitals in place
+-- plus signs are put after column 20, and capitals in place
 operation_read : (columns : List ℕ) → length columns ≡ 80
     → (columns_in 16 20 (plus_signs columns) ≡ columns_in 16 20 columns)
     × (columns_in 16 20 (plus_signs (in_capitals columns)) ≡ map to_ascii_uppercase (columns_in 16 20 columns))

@@ -1,11 +1,11 @@
--- Options behind areas, one after the other.
+-- Options after areas, one by one.
 use Rattle.std.proofs.Common.{◌≡◌, ℕ, ◌≤◌, ◌==◌, false, List, [], ◌∷◌, length, drop, Some, refl, arith}
 use Rattle.std.specs.Prelude.{slice_index}
 use Rattle.source_1401.specs.Punctuation.{comma, letter_x}
 use Rattle.source_1401.specs.WideAreas.{option_and, options_and, register_and}
 use Rattle.source_1401.specs.declared.wide_areas.AreaOptions.{AreaOptions}
 
--- an option of one letter behind a comma, and those behind it
+-- an option of one letter after a comma, and those after it
 pub with_first : (these those : AreaOptions) (text : List ℕ) → 2 ≤ length text → slice_index text 0 ≡ comma
     → (slice_index text 1 == letter_x) ≡ false → option_and these (slice_index text 1) ≡ Some those
     → options_and those (drop 2 text) ≡ options_and these text
@@ -15,7 +15,7 @@ with_first these those (first ∷ second ∷ []) enough parting letter with = rw
 with_first these those (first ∷ second ∷ third ∷ more) enough parting letter with =
     rw (parting, letter, with) refl
 
--- X1, X2 or X3 behind a comma, and those behind it
+-- X1, X2 or X3 after a comma, and those after it
 pub with_register : (these those : AreaOptions) (text : List ℕ) → 2 ≤ length text → slice_index text 0 ≡ comma
     → slice_index text 1 ≡ letter_x → 1 ≤ length (drop 2 text)
     → register_and these (slice_index (drop 2 text) 0) ≡ Some those

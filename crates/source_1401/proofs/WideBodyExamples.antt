@@ -59,7 +59,7 @@ a_sign_before_a_symbol : asks (codes "DC   ") (codes "-TAB ") ∷ asks (codes "D
 unfolding asks
 a_sign_before_a_symbol = refl
 
--- digits behind a sign are what they are in the plain language
+-- digits after a sign are what they are in the plain language
 other_constants_stay : map (asks (codes "DCW  ")) (codes "+5 " ∷ codes "-12345678901234567890 " ∷ codes "+TAG+X4 "
     ∷ codes "+5+X1 " ∷ codes "-*" ∷ codes "TAG " ∷ codes "+@A@ " ∷ codes "5,6 " ∷ [])
     ≡ map bodies.MarkedConstant (Some (constants.Plus (text_of (codes "5")))

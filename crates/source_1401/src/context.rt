@@ -82,7 +82,7 @@ impl Context {
         }
     }
 
-    /// Puts the suffix behind the symbols of a statement, if they get one.
+    /// Puts the suffix after the symbols of a statement, if they get one.
     #[tactic(auto, using(crate::proofs::ContextLemmas::without_suffix))]
     fn put_suffix(self, statement: &mut Statement)
         ensures { statement.new ≡ statement_under (rule_in self) statement.old }

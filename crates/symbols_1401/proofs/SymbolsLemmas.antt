@@ -76,13 +76,13 @@ line_noted {S} old new number line lines label e =
     ap (λ found. option_or found (first_from (number + 1) lines label)) e
     ∙ or_later (get same_label old label) (declared_by number line label) (first_from (number + 1) lines label)
 
--- a line, and those behind it
+-- a line, and those after it
 pub line_of_rest : (lines : List Line) (i : ℕ) (line : Line) → i < length lines → line ≡ get_or lines i line
     → line ∷ drop (i + 1) lines ≡ drop i lines
 line_of_rest lines i line within is =
     sym (drop_more lines i line within ∙ ap (λ (each : Line). each ∷ drop (i + 1) lines) (sym is))
 
--- lines go on behind one that isn't END
+-- lines go on after one that isn't END
 pub goes_on : (line : Line) (rest : List Line) → is_end line ≡ false
     → line ∷ up_to_end rest ≡ up_to_end (line ∷ rest)
 goes_on line rest e = ap (λ b. cond b (line ∷ []) (line ∷ up_to_end rest)) (sym e)

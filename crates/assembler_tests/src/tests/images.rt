@@ -112,7 +112,7 @@ fn each_front_of_a_text_is_truncated(rt: HostRuntime) {
     expect_truncated(&rt, &OLD_TEXT);
 }
 
-/// Compares the fault of a text with a line feed behind it.
+/// Compares the fault of a text with a line feed after it.
 fn expect_no_more(rt: &(impl Abort + AllocGlobal), text: &[u8]) {
     let mut longer = Vec::from_slice(rt.alloc(), text).expect(rt, "room");
     longer.push(b'\n').expect(rt, "room");

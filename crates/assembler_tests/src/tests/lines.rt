@@ -9,7 +9,7 @@ use source_1401::{
 };
 use std::process::Abort;
 
-/// Splits a source, compares its first line, and returns what is behind that.
+/// Splits a source, compares its first line, and returns what follows it.
 fn behind_line<'a>(rt: &impl Abort, source: &'a [u8], wanted: &[u8]) -> &'a [u8] {
     let (first, behind) = split_line(source).expect(rt, "no line");
     expect_bytes(rt, first, wanted, source);

@@ -22,7 +22,7 @@ fn lister(rt: &(impl Abort + AllocGlobal)) -> Machine {
     machine
 }
 
-/// The characters of a number, in four digits, with blanks behind it.
+/// The characters of a number, in four digits, with blanks after it.
 fn digits<const N: usize>(number: u16) -> [Char; N] {
     let mut chars = [Char::BLANK; N];
     for (place, unit) in [1_000, 100, 10, 1].iter().enumerate() {

@@ -17,7 +17,7 @@ fn expect_answer(rt: &impl Abort, room: &mut Room, seat: u8, command: Command, a
     expect_same(rt, &command, &given, &Ok(answer));
 }
 
-/// Compares a new room's size, and the answers at its last place and behind it.
+/// Compares a new room's size, and the answers at its last place and after it.
 fn expect_size(rt: &impl Abort, mut room: Room, size: u16) {
     expect_recorded(rt, &room, 0);
     expect_same(rt, &size, &room.machine().core().size(), &size);

@@ -1,4 +1,4 @@
--- What is joined, with the lines that are left joined behind it, is all of it.
+-- What is joined, with the lines that are left joined after it, is all of it.
 use Rattle.std.proofs.Common.{◌≡◌, ◌++◌, drop}
 use Rattle.std.specs.List.{flat_map}
 use Rattle.assembling_1401.specs.Assemble.{line_text}

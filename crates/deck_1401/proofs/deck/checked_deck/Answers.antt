@@ -1,4 +1,4 @@
--- The deck of storage loads itself: nothing is under its cards, and the cells behind are characters.
+-- The deck of storage loads itself: nothing is under its cards, and the cells after that are characters.
 use Rattle.std.proofs.Common.{rules, ◌≡◌, ℕ, List, None, drop, length, subst, sym}
 use Rattle.deck_1401.specs.Card.{HaveChars}
 use Rattle.deck_1401.specs.Contents.{card_places, first_taken}

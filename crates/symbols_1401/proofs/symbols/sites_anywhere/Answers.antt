@@ -1,4 +1,4 @@
--- The line is noted, and those behind it are left.
+-- The line is noted, and those after it are left.
 use Rattle.std.proofs.Common.{◌+◌, List, drop, ap, ◌∙◌, arith}
 use Rattle.std.specs.Option.{option_or}
 use Rattle.std.proofs.lemmas.List.{drop_all}

@@ -1,4 +1,4 @@
--- The line is noted, and those behind it up to END are left.
+-- The line is noted, and those after it up to END are left.
 use Rattle.std.proofs.Common.{◌+◌, List, drop, sym, ap, ◌∙◌, arith}
 use Rattle.std.specs.Option.{option_or}
 use Rattle.std.proofs.lemmas.List.{drop_all}

@@ -1,4 +1,4 @@
--- The first option, and those behind it.
+-- The first option, and those after it.
 use Rattle.std.proofs.Common.{◌≡◌, ◌==◌, ◌≤◌, ◌-◌, ◌∙◌, sym, false, length, take, drop, Some, arith}
 use Rattle.std.specs.Prelude.{slice_index}
 use Rattle.std.proofs.lemmas.Bool.Decides.{nat_tests}
