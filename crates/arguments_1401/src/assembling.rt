@@ -1,68 +1,74 @@
 //! The words of the subcommand `assemble`.
 
-use crate::languages::{language_arg, language_in};
-use crate::options::{file, flag, option};
-use crate::reading::{name_in, named_size_in, refusal, size_arg};
-use crate::sizes::SizeTexts;
+use crate::commands::{Session, Subcommand, refusal};
+use crate::languages::{LANGUAGE, language_in};
+use crate::options::{Argument, FREE, Kind, TEXT, name_in};
+use crate::sizes::{SIZE, named_size_in};
 use calls_1401::{Assembling, Call, Product, Tables, Told};
-use clap::{Arg, ArgMatches, Command, Error};
+use clap::{ArgMatches, Error};
 use std::alloc::{AllocError, Global};
 
-/// The options that name what is written.
-fn product_args<'a>(alloc: Global) -> Result<Vec<Arg<'a>>, AllocError> {
-    let output = option(
-        alloc,
-        "output",
-        "OUT",
-        "The file to write to, in place of standard output; it is written whole or not at all",
-    );
-    Ok(vec![in alloc;
-        output.short('o'),
-        flag(alloc, "list", "Writes the listing in place of the image"),
-        flag(
-            alloc,
-            "symbols",
-            "Writes the symbol table in place of the image, or after the listing",
-        ),
-        flag(
-            alloc,
-            "xref",
-            "Writes the lines that name each label in place of the image, or after the listing",
-        ),
-        option(
-            alloc,
-            "deck",
-            "OUT",
-            "The file for a deck that loads itself; the image is then written only where -o names a file",
-        ),
-    ]?)
-}
-
-/// The other arguments of `assemble`.
-fn source_args<'a>(alloc: Global, sizes: &'a SizeTexts) -> Result<Vec<Arg<'a>>, AllocError> {
-    Ok(vec![in alloc;
-        flag(
-            alloc,
-            "all",
-            "Tells every fault of the source, or its warnings, a line each, as FILE:LINE:COLUMN: FAULT",
-        ),
-        language_arg(alloc),
-        size_arg(alloc, sizes),
-        file(alloc, "The file of the source; - is a name like any other"),
-    ]?)
-}
+/// The arguments of `assemble`: what is written, how, and of which source.
+const ARGUMENTS: &[Argument] = &[
+    Argument {
+        name: "output",
+        kind: Kind::Short("OUT", 'o'),
+        help: "The file to write to, in place of standard output; it is written whole or not at all",
+        ..FREE
+    },
+    Argument {
+        name: "list",
+        kind: Kind::Flag,
+        help: "Writes the listing in place of the image",
+        ..FREE
+    },
+    Argument {
+        name: "symbols",
+        kind: Kind::Flag,
+        help: "Writes the symbol table in place of the image, or after the listing",
+        ..FREE
+    },
+    Argument {
+        name: "xref",
+        kind: Kind::Flag,
+        help: "Writes the lines that name each label in place of the image, or after the listing",
+        ..FREE
+    },
+    Argument {
+        name: "deck",
+        kind: Kind::Value("OUT", TEXT, &[]),
+        help: "The file for a deck that loads itself; the image is then written only where -o names a file",
+        ..FREE
+    },
+    Argument {
+        name: "all",
+        kind: Kind::Flag,
+        help: "Tells every fault of the source, or its warnings, a line each, as FILE:LINE:COLUMN: FAULT",
+        ..FREE
+    },
+    LANGUAGE,
+    SIZE,
+    Argument {
+        name: "file",
+        kind: Kind::File,
+        is_required: true,
+        help: "The file of the source; - is a name like any other",
+        ..FREE
+    },
+];
 
 /// The subcommand `assemble`.
-pub(crate) fn assemble_command<'a>(
-    alloc: Global,
-    sizes: &'a SizeTexts,
-) -> Result<Command<'a>, AllocError> {
-    let product = product_args(alloc)?;
-    let source = source_args(alloc, sizes)?;
-    Command::new(alloc, "assemble")
-        .about("Assembles a source, and writes its core image")
-        .args(product)?
-        .args(source)
+static ASSEMBLE: Subcommand = Subcommand {
+    name: "assemble",
+    whole_name: "ibm1401 assemble",
+    about: "Assembles a source, and writes its core image",
+    session: Session::Nothing,
+    arguments: ARGUMENTS,
+};
+
+/// The same, written out in one place for all that name it.
+pub(crate) fn assemble() -> &'static Subcommand {
+    &ASSEMBLE
 }
 
 /// What the options of `assemble` name to be written.
@@ -81,13 +87,12 @@ fn product_in(matches: &ArgMatches<'_>) -> Product {
     }
 }
 
-/// A refusal of what `assemble` is asked for.
-fn assemble_refusal(alloc: Global, text: &str) -> Result<Error, AllocError> {
-    let sizes = SizeTexts::new(alloc)?;
-    refusal(
-        assemble_command(alloc, &sizes)?.bin_name("ibm1401 assemble")?,
-        text,
-    )
+/// Whether the options of `assemble` name one file for two things.
+fn names_one_file(matches: &ArgMatches<'_>) -> bool {
+    match (matches.get_str("output"), matches.get_str("deck")) {
+        (Some(out), Some(deck)) => out == deck,
+        (Some(_), None) | (None, _) => false,
+    }
 }
 
 /// What the options of `assemble` ask for.
@@ -96,24 +101,31 @@ pub(crate) fn assemble_call(
     matches: &ArgMatches<'_>,
     file: &str,
 ) -> Result<Call, Error> {
-    let file = String::from_str(alloc, file)?;
+    if names_one_file(matches) {
+        Err(refusal(alloc, assemble(), "-o and --deck name the same file")?)
+    } else {
+        Ok(Call::Assemble(assembling_in(alloc, matches, file)?))
+    }
+}
+
+/// How the options of `assemble` ask for this source to be assembled.
+fn assembling_in(
+    alloc: Global,
+    matches: &ArgMatches<'_>,
+    file: &str,
+) -> Result<Assembling, AllocError> {
     let told = if matches.get_flag("all") {
         Told::All
     } else {
         Told::First
     };
-    let out = name_in(alloc, matches, "output")?;
-    let deck = name_in(alloc, matches, "deck")?;
-    if deck.is_some() && out == deck {
-        return Err(assemble_refusal(alloc, "-o and --deck name the same file")?);
-    }
-    Ok(Call::Assemble(Assembling {
-        file,
+    Ok(Assembling {
+        file: String::from_str(alloc, file)?,
         language: language_in(matches),
         size: named_size_in(matches),
         product: product_in(matches),
-        out,
-        deck,
+        out: name_in(alloc, matches, "output")?,
+        deck: name_in(alloc, matches, "deck")?,
         told,
-    }))
+    })
 }

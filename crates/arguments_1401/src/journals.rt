@@ -1,118 +1,128 @@
 //! The options of journals, read by `clap`.
 
-use crate::options::{file, flag, option};
-use crate::reading::{LINES, name_in, refusal};
-use crate::serving::{operators_in, page_arg, pages_refused, port_arg, ports_group, seats_arg};
+use crate::commands::{Session, Subcommand, refusal};
+use crate::options::{ANY_U8, ANY_U32, Argument, FREE, Kind, TEXT, name_in};
+use crate::serving::{PAGE, PORT, SEATS, operators_in, pages_refused};
 use calls_1401::{Call, NewJournal, Resuming, Showing};
-use clap::{Arg, ArgMatches, Command, Error, value_parser};
+use clap::{ArgMatches, Error};
 use std::alloc::{AllocError, Global};
 
-/// The file in which a session's journal is kept, as an option.
-pub(crate) fn journal_arg<'a>(alloc: Global) -> Arg<'a> {
-    option(
-        alloc,
-        "journal",
-        "NEW",
-        "A new file for the journal: each command is in it before its reply is written",
-    )
-}
+/// The file in which a session's journal is kept.
+pub(crate) const JOURNAL: Argument = Argument {
+    name: "journal",
+    kind: Kind::Value("NEW", TEXT, &[]),
+    help: "A new file for the journal: each command is in it before its reply is written",
+    ..FREE
+};
 
-/// Whether entries are forced onto the disk, as an option.
-fn sync_arg<'a>(alloc: Global) -> Arg<'a> {
-    flag(
-        alloc,
-        "sync",
-        "Forces each entry of the journal onto the disk before its reply is written",
-    )
-}
+/// Whether entries are forced onto the disk.
+const SYNC: Argument = Argument {
+    name: "sync",
+    kind: Kind::Flag,
+    help: "Forces each entry of the journal onto the disk before its reply is written",
+    ..FREE
+};
 
 /// The same where a journal is kept in a new file or not at all.
-pub(crate) fn new_sync_arg<'a>(alloc: Global) -> Result<Arg<'a>, AllocError> {
-    sync_arg(alloc).requires_arg("journal")
-}
+pub(crate) const NEW_SYNC: Argument = Argument {
+    needs: &["journal"],
+    ..SYNC
+};
 
-/// The file of a journal, as an argument.
-fn journal_file_arg<'a>(alloc: Global) -> Arg<'a> {
-    file(alloc, "The file of the journal; - is a name like any other")
-}
+/// The file of a journal.
+const JOURNAL_FILE: Argument = Argument {
+    name: "file",
+    kind: Kind::File,
+    is_required: true,
+    help: "The file of the journal; - is a name like any other",
+    ..FREE
+};
 
-/// The entries that are shown, as options.
-fn entries_args<'a>(alloc: Global) -> Result<Vec<Arg<'a>>, AllocError> {
-    let seat = option(
-        alloc,
-        "seat",
-        "K",
-        "Shows the entries of this seat alone; 0 is a console with a machine of its own",
-    );
-    let from = option(alloc, "from", "N", "Shows entry N and those after it");
-    Ok(vec![in alloc;
-        seat.value_parser(value_parser!(u8)),
-        from.default_value("1").value_parser(value_parser!(u32)),
-        flag(
-            alloc,
-            "check",
-            "Shows only how many entries there are, each answered as the machine answers it",
-        ),
-    ]?)
-}
+/// The arguments of `journal`: the entries that are shown, and the file.
+const SHOWING: &[Argument] = &[
+    Argument {
+        name: "seat",
+        kind: Kind::Value("K", ANY_U8, &[]),
+        help: "Shows the entries of this seat alone; 0 is a console with a machine of its own",
+        ..FREE
+    },
+    Argument {
+        name: "from",
+        kind: Kind::Value("N", ANY_U32, &["1"]),
+        help: "Shows entry N and those after it",
+        ..FREE
+    },
+    Argument {
+        name: "check",
+        kind: Kind::Flag,
+        help: "Shows only how many entries there are, each answered as the machine answers it",
+        ..FREE
+    },
+    JOURNAL_FILE,
+];
 
 /// The subcommand `journal`.
-pub(crate) fn journal_command<'a>(alloc: Global) -> Result<Command<'a>, AllocError> {
-    let entries = entries_args(alloc)?;
-    Command::new(alloc, "journal")
-        .about("Shows a journal: who gave which command, and what it was answered")
-        .args(entries)?
-        .arg(journal_file_arg(alloc))
+static SHOW_JOURNAL: Subcommand = Subcommand {
+    name: "journal",
+    whole_name: "ibm1401 journal",
+    about: "Shows a journal: who gave which command, and what it was answered",
+    session: Session::Nothing,
+    arguments: SHOWING,
+};
+
+/// The same, written out in one place for all that name it.
+pub(crate) fn show_journal() -> &'static Subcommand {
+    &SHOW_JOURNAL
 }
 
-/// The arguments of `resume` that tell how the journal is taken up.
-fn resuming_args<'a>(alloc: Global) -> Result<Vec<Arg<'a>>, AllocError> {
-    let until = option(
-        alloc,
-        "until",
-        "N",
-        "Goes on after command N; without --journal nothing more is kept",
-    );
-    Ok(vec![in alloc;
-        option(
-            alloc,
-            "journal",
-            "NEW",
-            "A new file to go on in; FILE stays as it is",
-        ),
-        until.value_parser(value_parser!(u32)),
-        option(
-            alloc,
-            "without",
-            "N,..",
-            "Leaves these commands out; --journal names the file of what is left",
-        ),
-        sync_arg(alloc),
-    ]?)
-}
-
-/// The arguments of `resume` that tell who comes.
-fn operators_args<'a>(alloc: Global) -> Result<Vec<Arg<'a>>, AllocError> {
-    let port = port_arg(alloc).requires_arg("seats")?;
-    let seats = seats_arg(alloc).requires_arg("ports")?;
-    let page = page_arg(alloc).requires_arg("seats")?;
-    Ok(vec![in alloc; port, seats, page]?)
-}
+/// The arguments of `resume`: how the journal is taken up, who comes, and the file.
+const RESUMING: &[Argument] = &[
+    Argument {
+        name: "journal",
+        kind: Kind::Value("NEW", TEXT, &[]),
+        help: "A new file to go on in; FILE stays as it is",
+        ..FREE
+    },
+    Argument {
+        name: "until",
+        kind: Kind::Value("N", ANY_U32, &[]),
+        help: "Goes on after command N; without --journal nothing more is kept",
+        ..FREE
+    },
+    Argument {
+        name: "without",
+        kind: Kind::Value("N,..", TEXT, &[]),
+        help: "Leaves these commands out; --journal names the file of what is left",
+        ..FREE
+    },
+    SYNC,
+    Argument {
+        needs: &["seats"],
+        ..PORT
+    },
+    Argument {
+        needs: &["ports"],
+        ..SEATS
+    },
+    Argument {
+        needs: &["seats"],
+        ..PAGE
+    },
+    JOURNAL_FILE,
+];
 
 /// The subcommand `resume`.
-pub(crate) fn resume_command<'a>(alloc: Global) -> Result<Command<'a>, AllocError> {
-    let resuming = resuming_args(alloc)?;
-    let group = ports_group(alloc)?;
-    let operators = operators_args(alloc)?;
-    Command::new(alloc, "resume")
-        .about(
-            "Carries out a journal's commands again, and goes on as console does; with --port or --page as serve does",
-        )
-        .after_help(LINES)
-        .args(resuming)?
-        .group(group)?
-        .args(operators)?
-        .arg(journal_file_arg(alloc))
+static RESUME: Subcommand = Subcommand {
+    name: "resume",
+    whole_name: "ibm1401 resume",
+    about: "Carries out a journal's commands again, and goes on as console does; with --port or --page as serve does",
+    session: Session::LinesOrPorts,
+    arguments: RESUMING,
+};
+
+/// The same, written out in one place for all that name it.
+pub(crate) fn resume() -> &'static Subcommand {
+    &RESUME
 }
 
 /// The new journal that the options name, if they name one.
@@ -141,36 +151,59 @@ pub(crate) fn journal_call(
     }))
 }
 
-/// The journal that the options of `resume` name, and how it is taken up.
-fn resuming_in(alloc: Global, matches: &ArgMatches<'_>, file: &str) -> Result<Resuming, Error> {
-    let journal = name_in(alloc, matches, "journal")?;
-    let Some(without) = numbers_of(alloc, matches.get_str("without").unwrap_or(""))? else {
-        return Err(resume_refusal(alloc, "--without takes numbers parted by commas")?);
-    };
-    if !without.is_empty() && journal.is_none() {
-        return Err(resume_refusal(
-            alloc,
-            "--without makes another journal: --journal names its file",
-        )?);
-    }
-    let until = match matches.get_one::<u32>("until") {
+/// The number of the last command that is carried out again, if the options of `resume` name one.
+fn until_in(matches: &ArgMatches<'_>) -> Option<u64> {
+    match matches.get_one::<u32>("until") {
         Some(until) => Some(u64::from(until)),
         None => None,
-    };
-    let sync = matches.get_flag("sync");
-    if sync && until.is_some() && journal.is_none() {
-        return Err(resume_refusal(
-            alloc,
-            "--until keeps nothing without --journal, so --sync has nothing to write",
-        )?);
     }
+}
+
+/// The text of the numbers that the options of `resume` leave out.
+fn without_in<'a>(matches: &ArgMatches<'a>) -> &'a str {
+    matches.get_str("without").unwrap_or("")
+}
+
+/// Why a journal can't be taken up as the options of `resume` ask, if it can't.
+fn resuming_refused(matches: &ArgMatches<'_>) -> Option<&'static str> {
+    let without = without_in(matches);
+    if !are_numbers(without) {
+        return Some("--without takes numbers parted by commas");
+    }
+    if matches.get_str("journal").is_some() {
+        return None;
+    }
+    if !without.is_empty() {
+        return Some("--without makes another journal: --journal names its file");
+    }
+    if matches.get_flag("sync") && until_in(matches).is_some() {
+        return Some("--until keeps nothing without --journal, so --sync has nothing to write");
+    }
+    None
+}
+
+/// The journal that the options of `resume` name, and how it is taken up.
+fn resuming_in(
+    alloc: Global,
+    matches: &ArgMatches<'_>,
+    file: &str,
+) -> Result<Resuming, AllocError> {
     Ok(Resuming {
         file: String::from_str(alloc, file)?,
-        journal,
-        until,
-        without,
-        sync,
+        journal: name_in(alloc, matches, "journal")?,
+        until: until_in(matches),
+        without: numbers_of(alloc, without_in(matches))?,
+        sync: matches.get_flag("sync"),
     })
+}
+
+/// Why the options of `resume` can't be met, if they can't.
+fn resume_refused(matches: &ArgMatches<'_>) -> Option<&'static str> {
+    match (resuming_refused(matches), operators_in(matches)) {
+        (Some(text), _) => Some(text),
+        (None, Some(operators)) => pages_refused(operators),
+        (None, None) => None,
+    }
 }
 
 /// What the options of `resume` ask for.
@@ -179,35 +212,36 @@ pub(crate) fn resume_call(
     matches: &ArgMatches<'_>,
     file: &str,
 ) -> Result<Call, Error> {
-    let resuming = resuming_in(alloc, matches, file)?;
-    let Some(operators) = operators_in(matches) else {
-        return Ok(Call::Resume(resuming));
-    };
-    if let Some(text) = pages_refused(operators) {
-        return Err(resume_refusal(alloc, text)?);
+    match resume_refused(matches) {
+        Some(text) => Err(refusal(alloc, resume(), text)?),
+        None => Ok(resumed_call(alloc, matches, file)?),
     }
-    Ok(Call::ResumeSeats {
-        resuming,
-        operators,
+}
+
+/// What the options of `resume` ask for, where they can be met.
+fn resumed_call(alloc: Global, matches: &ArgMatches<'_>, file: &str) -> Result<Call, AllocError> {
+    let resuming = resuming_in(alloc, matches, file)?;
+    Ok(match operators_in(matches) {
+        Some(operators) => Call::ResumeSeats {
+            resuming,
+            operators,
+        },
+        None => Call::Resume(resuming),
     })
 }
 
-/// A refusal of what `resume` is asked for.
-fn resume_refusal(alloc: Global, text: &str) -> Result<Error, AllocError> {
-    refusal(resume_command(alloc)?.bin_name("ibm1401 resume")?, text)
+/// Whether a text is a list of numbers that is parted by commas; an empty text is one of none.
+fn are_numbers(text: &str) -> bool {
+    text.is_empty() || text.split(',').all(|word| word.parse::<u32>().is_ok())
 }
 
-/// The numbers of a list that is parted by commas, none of an empty text; nothing if one isn't a number.
-fn numbers_of(alloc: Global, text: &str) -> Result<Option<Vec<u64>>, AllocError> {
+/// The numbers of a list that is parted by commas.
+fn numbers_of(alloc: Global, text: &str) -> Result<Vec<u64>, AllocError> {
     let mut numbers = Vec::new(alloc);
-    if text.is_empty() {
-        return Ok(Some(numbers));
-    }
     for word in text.split(',') {
-        match word.parse::<u32>() {
-            Ok(number) => numbers.push(u64::from(number))?,
-            Err(_) => return Ok(None),
+        if let Ok(number) = word.parse::<u32>() {
+            numbers.push(u64::from(number))?;
         }
     }
-    Ok(Some(numbers))
+    Ok(numbers)
 }

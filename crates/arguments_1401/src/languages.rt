@@ -1,27 +1,23 @@
 //! The language of a source, as an option.
 
-use crate::options::option;
-use clap::{Arg, ArgMatches};
+use crate::options::{Argument, FREE, Kind};
+use clap::ArgMatches;
+use clap::builder::ValueParser;
 use source_1401::Language;
-use std::alloc::Global;
+
+/// The name of the plain language.
+const PLAIN: &str = "plain";
 
 /// The name of the wider language.
 const WIDER: &str = "ibm";
 
-/// The names of the languages.
-const NAMES: &[&str] = &["plain", WIDER];
-
 /// The language of the source.
-pub(crate) fn language_arg<'a>(alloc: Global) -> Arg<'a> {
-    option(
-        alloc,
-        "language",
-        "LANGUAGE",
-        "The language of the source: plain Autocoder, or the wider one of old decks",
-    )
-    .default_value("plain")
-    .value_parser(NAMES)
-}
+pub(crate) const LANGUAGE: Argument = Argument {
+    name: "language",
+    kind: Kind::Value("LANGUAGE", ValueParser::Names(&[PLAIN, WIDER]), &[PLAIN]),
+    help: "The language of the source: plain Autocoder, or the wider one of old decks",
+    ..FREE
+};
 
 /// The language that the options of a subcommand name.
 pub(crate) fn language_in(matches: &ArgMatches<'_>) -> Language {

@@ -5,8 +5,11 @@
 //! ```
 #![tactic(auto)]
 
-// the kinds of options
+// the kinds of arguments
 mod options;
+
+// the kinds of subcommands
+mod commands;
 
 // the words of each subcommand, and the options that several have
 mod assembling;

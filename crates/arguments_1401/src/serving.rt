@@ -1,103 +1,88 @@
 //! The options of a room that operators share, read by `clap`.
 
-use crate::journals::{journal_arg, new_journal_in, new_sync_arg};
-use crate::options::{flag, option};
-use crate::reading::{LINES, name_in, refusal, size_arg, size_in};
-use crate::sizes::SizeTexts;
+use crate::commands::{Session, Subcommand, refusal};
+use crate::journals::{JOURNAL, NEW_SYNC, new_journal_in};
+use crate::options::{Argument, FREE, Kind, TEXT, name_in};
+use crate::sizes::{SIZE, size_in};
 use calls_1401::{Call, Opening, Operators, Seating, Service};
-use clap::{Arg, ArgGroup, ArgMatches, Command, Error, value_parser};
+use clap::builder::ValueParser;
+use clap::{ArgMatches, Error};
 use std::alloc::{AllocError, Global};
 
 /// The port that a browser leaves out of an address, so that a page there couldn't tell whether it was asked for.
 const UNNAMED_PORT: u16 = 80;
 
-/// The port at which operators come, as an option.
-pub(crate) fn port_arg<'a>(alloc: Global) -> Arg<'a> {
-    option(alloc, "port", "P", "The port on 127.0.0.1, 1 to 65535").value_parser(value_parser!(
-        u16
-    ).range(1..))
-}
+/// Any port.
+const ANY_PORT: ValueParser<'static> = ValueParser::Signed(1, 65_535);
 
-/// The port of the first page, as an option.
-pub(crate) fn page_arg<'a>(alloc: Global) -> Arg<'a> {
-    option(
-        alloc,
-        "page",
-        "PORT",
-        "The port on 127.0.0.1 of seat 1's page in a browser; each next seat's is one more",
-    )
-    .value_parser(value_parser!(u16).range(1..))
-}
+/// The port at which operators come.
+pub(crate) const PORT: Argument = Argument {
+    name: "port",
+    kind: Kind::Value("P", ANY_PORT, &[]),
+    help: "The port on 127.0.0.1, 1 to 65535",
+    ..FREE
+};
 
-/// The ports at which operators come, one or both of them.
-pub(crate) fn ports_group<'a>(alloc: Global) -> Result<ArgGroup<'a>, AllocError> {
-    Ok(
-        ArgGroup::new(alloc, "ports")
-            .arg("port")?
-            .arg("page")?
-            .multiple(true),
-    )
-}
+/// The port of the first page.
+pub(crate) const PAGE: Argument = Argument {
+    name: "page",
+    kind: Kind::Value("PORT", ANY_PORT, &[]),
+    help: "The port on 127.0.0.1 of seat 1's page in a browser; each next seat's is one more",
+    ..FREE
+};
 
-/// How many operators there are, as an option.
-pub(crate) fn seats_arg<'a>(alloc: Global) -> Arg<'a> {
-    option(alloc, "seats", "K", "How many operators there are, 1 to 8").value_parser(value_parser!(
-        u8
-    ).range(1..=8))
-}
+/// How many operators there are.
+pub(crate) const SEATS: Argument = Argument {
+    name: "seats",
+    kind: Kind::Value("K", ValueParser::Signed(1, 8), &[]),
+    help: "How many operators there are, 1 to 8",
+    ..FREE
+};
 
-/// The options that tell what is there before operators come, but for the size.
-fn opening_args<'a>(alloc: Global) -> Result<Vec<Arg<'a>>, AllocError> {
-    let image = option(
-        alloc,
-        "image",
-        "FILE",
-        "The file of a core image, which is loaded before operators come",
-    )
-    .conflicts_with("size")?;
-    let sync = new_sync_arg(alloc)?;
-    Ok(vec![in alloc;
-        image,
-        option(
-            alloc,
-            "cards",
-            "DECK",
-            "The file of a deck, a card a line, which is in the hopper when operators come",
-        ),
-        journal_arg(alloc),
-        sync,
-    ]?)
-}
-
-/// The arguments of `serve` that tell who comes.
-fn operators_args<'a>(alloc: Global) -> Result<Vec<Arg<'a>>, AllocError> {
-    Ok(vec![in alloc;
-        port_arg(alloc),
-        seats_arg(alloc).required(true),
-        flag(
-            alloc,
-            "keep-seats",
-            "Gives the seat of a console that has ended to the next operator, as the next four options do",
-        ),
-        page_arg(alloc),
-    ]?)
-}
+/// The arguments of `serve`: who comes, and what is there before.
+const ARGUMENTS: &[Argument] = &[
+    PORT,
+    Argument {
+        is_required: true,
+        ..SEATS
+    },
+    Argument {
+        name: "keep-seats",
+        kind: Kind::Flag,
+        help: "Gives the seat of a console that has ended to the next operator, as the next four options do",
+        ..FREE
+    },
+    PAGE,
+    Argument {
+        name: "image",
+        kind: Kind::Value("FILE", TEXT, &[]),
+        excludes: &["size"],
+        help: "The file of a core image, which is loaded before operators come",
+        ..FREE
+    },
+    Argument {
+        name: "cards",
+        kind: Kind::Value("DECK", TEXT, &[]),
+        help: "The file of a deck, a card a line, which is in the hopper when operators come",
+        ..FREE
+    },
+    JOURNAL,
+    NEW_SYNC,
+    SIZE,
+];
 
 /// The subcommand `serve`.
-pub(crate) fn serve_command<'a>(
-    alloc: Global,
-    sizes: &'a SizeTexts,
-) -> Result<Command<'a>, AllocError> {
-    let group = ports_group(alloc)?.required(true);
-    let operators = operators_args(alloc)?;
-    let opening = opening_args(alloc)?;
-    Command::new(alloc, "serve")
-        .about("Opens a machine to operators, each with a connection or a page of his own")
-        .after_help(LINES)
-        .group(group)?
-        .args(operators)?
-        .args(opening)?
-        .arg(size_arg(alloc, sizes))
+static SERVE: Subcommand = Subcommand {
+    name: "serve",
+    whole_name: "ibm1401 serve",
+    about: "Opens a machine to operators, each with a connection or a page of his own",
+    session: Session::Ports,
+    arguments: ARGUMENTS,
+};
+
+/// The same, written out in one place for all that name it.
+pub(crate) fn serve() -> &'static Subcommand {
+    &SERVE
 }
 
 /// The operators that the options name, if they name any.
@@ -122,15 +107,6 @@ pub(crate) fn pages_refused(operators: Operators) -> Option<&'static str> {
     None
 }
 
-/// A refusal of what `serve` is asked for.
-fn serve_refusal(alloc: Global, text: &str) -> Result<Error, AllocError> {
-    let sizes = SizeTexts::new(alloc)?;
-    refusal(
-        serve_command(alloc, &sizes)?.bin_name("ibm1401 serve")?,
-        text,
-    )
-}
-
 /// What the options of `serve` ask for.
 pub(crate) fn serve_call(
     alloc: Global,
@@ -138,9 +114,17 @@ pub(crate) fn serve_call(
     operators: Operators,
 ) -> Result<Call, Error> {
     match pages_refused(operators) {
-        Some(text) => Err(serve_refusal(alloc, text)?),
+        Some(text) => Err(refusal(alloc, serve(), text)?),
         None => Ok(room_call(alloc, matches, operators)?),
     }
+}
+
+/// Whether the options of `serve` ask for a new room that is gone with its first operators.
+fn is_plain(matches: &ArgMatches<'_>) -> bool {
+    matches.get_str("image").is_none()
+        && matches.get_str("cards").is_none()
+        && matches.get_str("journal").is_none()
+        && !matches.get_flag("keep-seats")
 }
 
 /// The room that the options of `serve` ask for, for these operators.
@@ -149,23 +133,34 @@ fn room_call(
     matches: &ArgMatches<'_>,
     operators: Operators,
 ) -> Result<Call, AllocError> {
-    let size = size_in(matches);
-    let image = name_in(alloc, matches, "image")?;
-    let cards = name_in(alloc, matches, "cards")?;
-    let journal = new_journal_in(alloc, matches)?;
-    let is_new = image.is_none() && cards.is_none() && journal.is_none();
     let Operators { seats, port, page } = operators;
-    if let (true, Some(port), None) = (is_new && !matches.get_flag("keep-seats"), port, page) {
-        return Ok(Call::Serve(Service { size, seats, port }));
+    match (is_plain(matches), port, page) {
+        (true, Some(port), None) => {
+            let size = size_in(matches);
+            Ok(Call::Serve(Service { size, seats, port }))
+        },
+        _ => Ok(Call::ServeSeats(seating_in(alloc, matches, operators)?)),
     }
-    let opening = match image {
+}
+
+/// What a room begins with by the options of `serve`.
+fn opening_in(alloc: Global, matches: &ArgMatches<'_>) -> Result<Opening, AllocError> {
+    Ok(match name_in(alloc, matches, "image")? {
         Some(file) => Opening::Image(file),
-        None => Opening::PowerOn(size),
-    };
-    Ok(Call::ServeSeats(Seating {
-        opening,
+        None => Opening::PowerOn(size_in(matches)),
+    })
+}
+
+/// The room whose seats are taken again, by the options of `serve`.
+fn seating_in(
+    alloc: Global,
+    matches: &ArgMatches<'_>,
+    operators: Operators,
+) -> Result<Seating, AllocError> {
+    Ok(Seating {
+        opening: opening_in(alloc, matches)?,
         operators,
-        cards,
-        journal,
-    }))
+        cards: name_in(alloc, matches, "cards")?,
+        journal: new_journal_in(alloc, matches)?,
+    })
 }

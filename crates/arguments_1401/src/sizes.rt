@@ -1,6 +1,9 @@
-//! What the help says of the sizes of core storage.
+//! The size of core storage, as an option.
 
+use crate::options::{Argument, FREE, Kind};
 use calls_1401::DEFAULT_SIZE;
+use clap::ArgMatches;
+use clap::parser::ValueSource;
 use core_1401::SIZES;
 use std::alloc::{AllocError, Global};
 
@@ -14,21 +17,61 @@ pub(crate) struct SizeTexts {
     pub(crate) default: String,
 }
 
+/// Adds a size to the help, with this before it.
+fn put_size_text(
+    alloc: Global,
+    help: &mut String,
+    front: &str,
+    size: u16,
+) -> Result<(), AllocError> {
+    help.push_str(format!(in alloc; "{front}{size}")?.as_str())
+}
+
+/// Adds each size to the help.
+fn put_size_texts(alloc: Global, help: &mut String) -> Result<(), AllocError> {
+    for (place, size) in SIZES.iter().enumerate() {
+        let front = if place == 0 {
+            " "
+        } else if place + 1 == SIZES.len() {
+            " or "
+        } else {
+            ", "
+        };
+        put_size_text(alloc, help, front, *size)?;
+    }
+    Ok(())
+}
+
 impl SizeTexts {
     /// The texts of `SIZES` and `DEFAULT_SIZE`.
     pub(crate) fn new(alloc: Global) -> Result<SizeTexts, AllocError> {
-        let mut help = String::from_str(alloc, "The places of core storage:")?;
-        for (place, size) in SIZES.iter().enumerate() {
-            let front = if place == 0 {
-                " "
-            } else if place + 1 == SIZES.len() {
-                " or "
-            } else {
-                ", "
-            };
-            help.push_str(format!(in alloc; "{front}{size}")?.as_str())?;
-        }
-        let default = format!(in alloc; "{DEFAULT_SIZE}")?;
-        Ok(SizeTexts { help, default })
+        let mut texts = SizeTexts {
+            help: String::from_str(alloc, "The places of core storage:")?,
+            default: String::new(alloc),
+        };
+        put_size_texts(alloc, &mut texts.help)?;
+        put_size_text(alloc, &mut texts.default, "", DEFAULT_SIZE)?;
+        Ok(texts)
+    }
+}
+
+/// The size of core storage.
+pub(crate) const SIZE: Argument = Argument {
+    name: "size",
+    kind: Kind::Size,
+    ..FREE
+};
+
+/// The size that the options of a subcommand name.
+pub(crate) fn size_in(matches: &ArgMatches<'_>) -> u16 {
+    matches.get_one::<u16>("size").unwrap_or(DEFAULT_SIZE)
+}
+
+/// The size that the command line itself names, and not its default.
+pub(crate) fn named_size_in(matches: &ArgMatches<'_>) -> Option<u16> {
+    if matches.value_source("size") == Some(ValueSource::CommandLine) {
+        matches.get_one::<u16>("size")
+    } else {
+        None
     }
 }

@@ -1,0 +1,122 @@
+//! The kinds of subcommands.
+
+use crate::options::{Argument, args_of};
+use crate::sizes::SizeTexts;
+use clap::error::ErrorKind;
+use clap::{Arg, ArgGroup, Command, Error};
+use std::alloc::{AllocError, Global};
+
+/// A subcommand.
+#[derive(Clone, Copy)]
+pub(crate) struct Subcommand {
+    /// Its name.
+    pub name: &'static str,
+    /// The same, with the program's in front.
+    pub whole_name: &'static str,
+    /// What the help says that it does.
+    pub about: &'static str,
+    /// How lines are given to it.
+    pub session: Session,
+    /// Its arguments. In the help they have this order.
+    pub arguments: &'static [Argument],
+}
+
+/// How lines are given to a subcommand.
+#[derive(Clone, Copy)]
+pub(crate) enum Session {
+    /// It takes none.
+    Nothing,
+    /// By standard input.
+    Lines,
+    /// By standard input, or at the ports.
+    LinesOrPorts,
+    /// At the ports.
+    Ports,
+}
+
+/// The lines of a session, for the help.
+const LINES: &str = "\
+Lines, each with one reply:
+  DEPOSIT A TEXT  puts the cells of TEXT at address A and above; ~ before one gives it a word mark
+  EXAMINE A [N]   shows the cell at address A, or N cells from there on, 1 to 40
+  REGS            shows registers, indicators, switches and devices
+  START A         sets the I register, and runs nothing
+  SWITCH X ON     turns sense switch X on, A to G; SWITCH X OFF turns it off
+  FEED TEXT       puts a card with TEXT in its first columns into the hopper
+  LOAD            presses the load key: reads a card to 001 and starts there
+  RUN N           carries out at most N instructions, 1 to 1000000
+  LINE            takes the oldest printed line, with its form and line
+  CARD            takes the oldest punched card
+  GLANCE A        shows the cell at address A, and after how many commands; it isn't recorded
+  QUIT            ends the session, of which nothing is kept";
+
+/// The ports at which operators come, one or both of them.
+fn ports_group<'a>(alloc: Global, is_required: bool) -> Result<ArgGroup<'a>, AllocError> {
+    ArgGroup::new(alloc, "ports")
+        .multiple(true)
+        .required(is_required)
+        .arg("port")?
+        .arg("page")
+}
+
+/// The same as all groups of a subcommand.
+fn ports_alone<'a>(alloc: Global, is_required: bool) -> Result<Vec<ArgGroup<'a>>, AllocError> {
+    Ok(vec![in alloc; ports_group(alloc, is_required)?]?)
+}
+
+/// The groups of a subcommand to which lines are given so.
+fn groups_of<'a>(alloc: Global, session: Session) -> Result<Vec<ArgGroup<'a>>, AllocError> {
+    match session {
+        Session::Nothing | Session::Lines => Ok(Vec::new(alloc)),
+        Session::LinesOrPorts => ports_alone(alloc, false),
+        Session::Ports => ports_alone(alloc, true),
+    }
+}
+
+/// The command of a subcommand, without arguments.
+fn bare<'a>(alloc: Global, of: &Subcommand) -> Command<'a> {
+    match of.session {
+        Session::Nothing => Command::new(alloc, of.name).about(of.about),
+        Session::Lines | Session::LinesOrPorts | Session::Ports => {
+            Command::new(alloc, of.name)
+                .about(of.about)
+                .after_help(LINES)
+        },
+    }
+}
+
+/// A command with these groups and arguments, in this order.
+fn with<'a>(
+    command: Command<'a>,
+    groups: Vec<ArgGroup<'a>>,
+    args: Vec<Arg<'a>>,
+) -> Result<Command<'a>, AllocError> {
+    command.groups(groups)?.args(args)
+}
+
+/// The command of a subcommand, with the texts that the help takes from the sizes.
+pub(crate) fn command_of<'a>(
+    alloc: Global,
+    sizes: &'a SizeTexts,
+    of: &Subcommand,
+) -> Result<Command<'a>, AllocError> {
+    let groups = groups_of(alloc, of.session)?;
+    let args = args_of(alloc, sizes, of.arguments)?;
+    with(bare(alloc, of), groups, args)
+}
+
+/// A refusal of what is asked for with this command, which has this whole name.
+fn refusal_of(
+    command: Result<Command<'_>, AllocError>,
+    name: &str,
+    text: &str,
+) -> Result<Error, AllocError> {
+    let mut command = command?.bin_name(name)?;
+    command.error(ErrorKind::ValueValidation, text)
+}
+
+/// A refusal of what a subcommand is asked for.
+pub(crate) fn refusal(alloc: Global, of: &Subcommand, text: &str) -> Result<Error, AllocError> {
+    let sizes = SizeTexts::new(alloc)?;
+    refusal_of(command_of(alloc, &sizes, of), of.whole_name, text)
+}
