@@ -1,30 +1,22 @@
 //! Core storage as the cells of a source fill it.
 ghost use Rattle.std.specs.Prelude.{◌≡◌, ◌∷◌, ◌++◌, ◌<◌, ◌^◌, [], fold, length, replicate, IfOk, IfErr, OnOk};
 ghost use Rattle.core_1401.specs.Storage.{blank};
+ghost use Rattle.symbols_1401.specs.Chains.{chains_of};
 ghost use Rattle.symbols_1401.specs.Fault.{IsMemory};
-ghost use Rattle.placing_1401.specs.Cells.{address_or_zero, numbered, statement_cells, cells_from};
+ghost use Rattle.symbols_1401.specs.Symbols.{sites_of};
+ghost use Rattle.symbols_1401.specs.View.{chains_view};
+ghost use Rattle.placing_1401.specs.Cells.{address_or_zero, numbered, row_cells, statement_cells, cells_from};
 ghost use Rattle.placing_1401.specs.Filling.{with_cell, addresses_from, addresses_of, filled};
-ghost use Rattle.placing_1401.specs.Placement.{placed_after, placed, start_of, unplaced};
+ghost use Rattle.placing_1401.specs.Placement.{placed_after, placed, start_by, start_of, unplaced};
 ghost use Rattle.placing_1401.specs.View.{places_of};
 
 use crate::cells::cells_of;
 use crate::placing::{Placing, place_all};
 use crate::segments::lines_behind;
 use bcd_1401::Cell;
-use source_1401::Language;
+use source_1401::{Description, Language};
 use std::alloc::Global;
-use symbols_1401::{AsmFault, KeptLine, SourceHashing, declared};
-
-/// Core storage with the cells of the lines so far.
-#[derive(Drop)]
-struct FilledSoFar<'a> {
-    /// What is placed so far.
-    so_far: Placing<'a>,
-    /// Core storage.
-    storage: Vec<Cell>,
-    /// The address at which each line begins.
-    addresses: Vec<u16>,
-}
+use symbols_1401::{AsmFault, Chains, KeptLine, SourceHashing, declared};
 
 /// Core storage as the cells of a source fill it, and where its lines begin.
 #[derive(Drop)]
@@ -50,53 +42,88 @@ fn put_cells(storage: &mut [Cell], address: u16, cells: &[Cell]) -> Result<(), A
     Ok(())
 }
 
-impl FilledSoFar<'_> {
-    /// Puts the cells of a line, with these lines after it.
+/// Puts the cells of a statement with this row into storage, with these lines after it; those that aren't in core are
+/// left out.
+fn put_statement(
+    alloc: Global,
+    all: &Placing<'_>,
+    so_far: &Placing<'_>,
+    row: &Description,
+    behind: &[KeptLine],
+    storage: &mut [Cell],
+) -> Result<(), AsmFault>
+    ensures ok { OnOk result (storage.new ≡ fold with_cell storage.old
+        (numbered (address_or_zero (start_by (places_of so_far.now) row.now row.now.next))
+        (row_cells (places_of all.now) (places_of so_far.now) row.now row.now.next behind.now))) }
+    ensures err { IfErr result IsMemory }
+{
+    let start = so_far.start_address(row)?;
+    let cells = cells_of(alloc, all, so_far, row, behind)?;
+    put_cells(storage, start, &cells)
+}
+
+impl Filling {
+    /// Puts the cells of a line, with these lines after it, and goes on in what is placed so far.
     fn put_line(
         &mut self,
         alloc: Global,
         all: &Placing<'_>,
+        so_far: &mut Placing<'_>,
         line: &KeptLine,
         behind: &[KeptLine],
     ) -> Result<(), AsmFault>
         ensures storage { OnOk result (self.new.storage.items ≡ fold with_cell self.old.storage.items
-            (numbered (address_or_zero (start_of (places_of self.old.so_far) line.now.statement))
-            (statement_cells (places_of all.now) (places_of self.old.so_far) line.now.statement behind.now))) }
+            (numbered (address_or_zero (start_of (places_of so_far.old) line.now.statement))
+            (statement_cells (places_of all.now) (places_of so_far.old) line.now.statement behind.now))) }
         ensures addresses { OnOk result (self.new.addresses.items
-            ≡ self.old.addresses.items ++ address_or_zero (places_of self.old.so_far).next ∷ []) }
-        ensures placed { OnOk result
-            (places_of self.new.so_far ≡ placed_after (places_of self.old.so_far) line.now) }
+            ≡ self.old.addresses.items ++ address_or_zero (places_of so_far.old).next ∷ []) }
+        ensures placed { OnOk result (places_of so_far.new ≡ placed_after (places_of so_far.old) line.now) }
         ensures err { IfErr result IsMemory }
     {
-        self.addresses.push(self.so_far.address())?;
+        self.addresses.push(so_far.address())?;
         let Some(statement) = &line.line().statement else {
             return Ok(());
         };
         let row = statement.body.describe();
-        let cells = cells_of(alloc, all, &self.so_far, &row, behind)?;
-        let start = self.so_far.start_address(&row)?;
-        put_cells(&mut self.storage, start, &cells)?;
-        self.so_far.place_row(statement, &row)?;
+        put_statement(alloc, all, so_far, &row, behind, &mut self.storage)?;
+        so_far.place_row(statement, &row)
+    }
+
+    /// Puts the cells of lines, and goes on in what is placed so far.
+    fn put_lines(
+        &mut self,
+        alloc: Global,
+        all: &Placing<'_>,
+        so_far: &mut Placing<'_>,
+        lines: &[KeptLine],
+    ) -> Result<(), AsmFault>
+        ensures storage { OnOk result (self.new.storage.items ≡ fold with_cell self.old.storage.items
+            (cells_from (places_of all.now) (places_of so_far.old) lines.now)) }
+        ensures addresses { OnOk result (self.new.addresses.items
+            ≡ self.old.addresses.items ++ addresses_from (places_of so_far.old) lines.now) }
+        ensures err { IfErr result IsMemory }
+    {
+        for (i, line) in lines.iter().enumerate() {
+            self.put_line(alloc, all, so_far, line, lines_behind(lines, i))?;
+        }
         Ok(())
     }
 
-    /// Puts the cells of lines.
-    fn put_lines(
+    /// Puts the cells of all lines, of which nothing is placed so far.
+    fn put_all(
         &mut self,
         alloc: Global,
         all: &Placing<'_>,
         lines: &[KeptLine],
     ) -> Result<(), AsmFault>
         ensures storage { OnOk result (self.new.storage.items ≡ fold with_cell self.old.storage.items
-            (cells_from (places_of all.now) (places_of self.old.so_far) lines.now)) }
+            (cells_from (places_of all.now) (unplaced (places_of all.now)) lines.now)) }
         ensures addresses { OnOk result (self.new.addresses.items
-            ≡ self.old.addresses.items ++ addresses_from (places_of self.old.so_far) lines.now) }
+            ≡ self.old.addresses.items ++ addresses_from (unplaced (places_of all.now)) lines.now) }
         ensures err { IfErr result IsMemory }
     {
-        for (i, line) in lines.iter().enumerate() {
-            self.put_line(alloc, all, line, lines_behind(lines, i))?;
-        }
-        Ok(())
+        let mut so_far = Placing::new(alloc, all.hashing, all.chains);
+        self.put_lines(alloc, all, &mut so_far, lines)
     }
 }
 
@@ -113,16 +140,29 @@ fn fill_placed(
         ≡ addresses_from (unplaced (places_of all.now)) lines.now) }
     ensures err { IfErr result IsMemory }
 {
-    let mut made = FilledSoFar {
-        so_far: Placing::new(alloc, all.hashing, all.chains),
+    let mut filling = Filling {
         storage: vec![in alloc; Cell::BLANK; usize::from(size)]?,
         addresses: Vec::new(alloc),
     };
-    made.put_lines(alloc, all, lines)?;
-    Ok(Filling {
-        storage: made.storage,
-        addresses: made.addresses,
-    })
+    filling.put_all(alloc, all, lines)?;
+    Ok(filling)
+}
+
+/// Core storage of this size as the cells of lines fill it, whose chains of EQUs these are, and where they begin.
+fn fill_by(
+    alloc: Global,
+    hashing: SourceHashing,
+    chains: &Chains,
+    size: u16,
+    lines: &[KeptLine],
+) -> Result<Filling, AsmFault>
+    requires { chains_view chains.now ≡ chains_of (sites_of lines.now) lines.now }
+    ensures storage { IfOk result (λ filling. filling.storage.items ≡ filled size lines.now) }
+    ensures addresses { IfOk result (λ filling. filling.addresses.items ≡ addresses_of lines.now) }
+    ensures err { IfErr result IsMemory }
+{
+    let all = place_all(alloc, hashing, chains, lines)?;
+    fill_placed(alloc, &all, size, lines)
 }
 
 /// Core storage of this size as the cells of lines fill it, and where they begin.
@@ -144,7 +184,5 @@ pub fn fill(
     ensures err { IfErr result IsMemory }
 {
     let symbols = declared(alloc, hashing, Language::Ibm, lines)?;
-    let all = place_all(alloc, hashing, &symbols.chains, lines)?;
-    let filling = fill_placed(alloc, &all, size, lines)?;
-    Ok(filling)
+    fill_by(alloc, hashing, &symbols.chains, size, lines)
 }

@@ -1,6 +1,7 @@
 //! The values of addresses, and what of a line isn't in core.
-ghost use Rattle.std.specs.Prelude.{◌≡◌, IfOk, IfErr};
+ghost use Rattle.std.specs.Prelude.{◌≡◌, ◌||◌, IfOk, IfErr};
 ghost use Rattle.symbols_1401.specs.Fault.{IsMemory};
+ghost use Rattle.placing_1401.specs.Placement.{asked_value};
 ghost use Rattle.placing_1401.specs.Values.{address_value, is_in_core, are_in_core, literal_outside, operand_outside};
 ghost use Rattle.placing_1401.specs.Values.{places_outside, literals_outside, next_outside, value_outside};
 ghost use Rattle.placing_1401.specs.Values.{addresses_outside, row_outside};
@@ -9,7 +10,9 @@ ghost use Rattle.placing_1401.specs.View.{places_of};
 use crate::lengths::{contents_length, last_place};
 use crate::literals::LiteralKey;
 use crate::placing::{Placing, behind_literals};
-use source_1401::{Address, Addressing, Description, Literal, Next, Operand, OperandField};
+use source_1401::{
+    Address, Addressing, Description, Literal, Next, Operand, OperandField, Operands,
+};
 use symbols_1401::{AsmFault, checked_sum};
 
 /// Whether a value is the address of a place of core storage of this size.
@@ -116,6 +119,37 @@ impl<'a> Placing<'a> {
         }
     }
 
+    /// Whether one of these operands is an address whose value isn't in core.
+    fn are_operands_outside(
+        &self,
+        size: u16,
+        here: i64,
+        operands: Operands,
+    ) -> Result<bool, AsmFault>
+        ensures value { IfOk result (λ outside. outside ≡ (operand_outside size (places_of self.now) here operands.a
+            || operand_outside size (places_of self.now) here operands.b)) }
+        ensures err { IfErr result IsMemory }
+    {
+        let a = self.is_operand_outside(size, here, operands.a)?;
+        let b = self.is_operand_outside(size, here, operands.b)?;
+        Ok(a || b)
+    }
+
+    /// Whether the value that a statement here asks for isn't in core, by the labels of what is placed by others.
+    fn is_asked_outside(
+        &self,
+        size: u16,
+        by: &Placing<'a>,
+        row: &Description,
+    ) -> Result<bool, AsmFault>
+        ensures value { IfOk result (λ outside. outside ≡ value_outside size
+            (asked_value (places_of by.now) (places_of self.now) row.now.next row.now.addressing) row.now.next) }
+        ensures err { IfErr result IsMemory }
+    {
+        let value = self.asked_value(by, row)?;
+        Ok(is_value_outside(size, value, row.next))
+    }
+
     /// Whether an address or a value of a statement here isn't in core, by the values of all labels.
     fn are_addresses_outside(
         &self,
@@ -131,18 +165,10 @@ impl<'a> Placing<'a> {
             Addressing::Nothing => Ok(false),
             Addressing::Addresses(operands) => {
                 let last = last_place(self.next, contents_length(&row.contents))?;
-                let a = all.is_operand_outside(size, last, operands.a)?;
-                let b = all.is_operand_outside(size, last, operands.b)?;
-                Ok(a || b)
+                all.are_operands_outside(size, last, operands)
             },
-            Addressing::EarlierValue(_) => {
-                let value = self.asked_value(self, row)?;
-                Ok(is_value_outside(size, value, row.next))
-            },
-            Addressing::Equal(_) | Addressing::Value(_) => {
-                let value = self.asked_value(all, row)?;
-                Ok(is_value_outside(size, value, row.next))
-            },
+            Addressing::EarlierValue(_) => self.is_asked_outside(size, self, row),
+            Addressing::Equal(_) | Addressing::Value(_) => self.is_asked_outside(size, all, row),
             Addressing::Entry(operands) => {
                 let value = all.entry_value(operands.a)?;
                 Ok(!is_in_core(size, value))

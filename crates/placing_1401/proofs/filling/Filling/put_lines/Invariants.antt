@@ -5,14 +5,14 @@ use Rattle.std.specs.Prelude.{fold}
 use Rattle.placing_1401.specs.Cells.{cells_from}
 use Rattle.placing_1401.specs.Filling.{with_cell, addresses_from}
 use Rattle.placing_1401.specs.View.{places_of}
-use Rattle.placing_1401.proofs.filling.FilledSoFar.put_lines.Given as goal
+use Rattle.placing_1401.proofs.filling.Filling.put_lines.Given as goal
 
 abbrev pub invariant-loop-i : goal.invariant-loop-i
 invariant-loop-i l = record {
   storage : fold with_cell l.self.storage.items
-      (cells_from (places_of l.all) (places_of l.self.so_far) (drop l.i l.lines))
+      (cells_from (places_of l.all) (places_of l.so_far) (drop l.i l.lines))
       ≡ fold with_cell l.initial.self.storage.items
-      (cells_from (places_of l.all) (places_of l.initial.self.so_far) l.lines);
-  addresses : l.self.addresses.items ++ addresses_from (places_of l.self.so_far) (drop l.i l.lines)
-      ≡ l.initial.self.addresses.items ++ addresses_from (places_of l.initial.self.so_far) l.lines;
+      (cells_from (places_of l.all) (places_of l.initial.so_far) l.lines);
+  addresses : l.self.addresses.items ++ addresses_from (places_of l.so_far) (drop l.i l.lines)
+      ≡ l.initial.self.addresses.items ++ addresses_from (places_of l.initial.so_far) l.lines;
 }
