@@ -11,23 +11,12 @@ ghost use Rattle.faults_1401.specs.OwnFault.{nothing_before, told};
 ghost use Rattle.faults_1401.specs.ToldFaults.{told_end};
 ghost use Rattle.faults_1401.specs.declared.explanation.Cause.TheVariants.{NoEnd};
 
+use crate::declarations::Declarations;
 use crate::explanation::{Cause, Explanation, WHOLE_LINE, explain};
 use crate::own_fault::{Before, told_of};
 use source_1401::{Language, split_line};
 use std::alloc::Global;
-use symbols_1401::{
-    AsmFault, AsmKind, KeptLine, Sites, SourceHashing, Symbols, declared, read_lines,
-    sites_anywhere,
-};
-
-/// What is declared: by the lines up to END, and by all of them.
-#[derive(Drop)]
-struct Declarations {
-    /// What the lines up to END declare.
-    symbols: Symbols,
-    /// Where each symbol is declared, by those after END too.
-    anywhere: Sites,
-}
+use symbols_1401::{AsmFault, AsmKind, KeptLine, SourceHashing, read_lines};
 
 /// Adds the fault of a line with what is wrong, if one is told of it.
 fn put_explained(
@@ -113,6 +102,26 @@ fn put_all_explained(
     Ok(())
 }
 
+/// The faults of a source's lines that declare this, each with what is wrong.
+fn explanations_by(
+    alloc: Global,
+    language: Language,
+    this: &Declarations,
+    source: &[u8],
+    lines: &[KeptLine],
+) -> Result<Vec<Explanation>, AsmFault>
+    requires as_many { length lines.now ≡ length (lines_of source.now) }
+    requires few { length lines.now < 2 ^ 32 }
+    ensures ok { IfOk result (λ v. v.items
+        ≡ explained_from language (symbols_view this.now.symbols) (get same_label this.now.anywhere) lines.now
+        nothing_before lines.now (lines_of source.now)) }
+    ensures err { IfErr result IsMemory }
+{
+    let mut explanations = Vec::new(alloc);
+    put_all_explained(language, this, source, lines, &mut explanations)?;
+    Ok(explanations)
+}
+
 /// The faults of a source's lines, each with what is wrong.
 fn line_explanations(
     alloc: Global,
@@ -127,12 +136,8 @@ fn line_explanations(
     ensures ok { IfOk result (λ v. v.items ≡ explained_lines language (lines_of source.now)) }
     ensures err { IfErr result IsMemory }
 {
-    let symbols = declared(alloc, hashing, language, lines)?;
-    let anywhere = sites_anywhere(alloc, hashing, lines)?;
-    let this = Declarations { symbols, anywhere };
-    let mut explanations = Vec::new(alloc);
-    put_all_explained(language, &this, source, lines, &mut explanations)?;
-    Ok(explanations)
+    let this = Declarations::new(alloc, hashing, language, lines)?;
+    explanations_by(alloc, language, &this, source, lines)
 }
 
 /// The faults of a source, each with what is wrong, but for what isn't in core.
@@ -149,12 +154,11 @@ pub fn source_explanations(
     ensures err { IfErr result IsMemory }
 {
     let lines = read_lines(alloc, language, source)?;
-    let explanations = line_explanations(
+    line_explanations(
         alloc,
         SourceHashing::from_source(source),
         language,
         source,
         &lines,
-    )?;
-    Ok(explanations)
+    )
 }

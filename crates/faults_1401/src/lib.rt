@@ -10,6 +10,7 @@
 //! of labels, for warnings of sources without a fault.
 #![tactic(auto)]
 
+mod declarations; // what is declared, by the lines up to END and by all
 pub mod first_fault; // faults of kinds 2 to 8, 10 and 11
 pub mod own_fault; // which faults only follow from one told before
 pub mod told_faults; // all faults of lines but those

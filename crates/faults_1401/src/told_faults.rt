@@ -8,13 +8,11 @@ ghost use Rattle.symbols_1401.specs.View.{symbols_view};
 ghost use Rattle.faults_1401.specs.OwnFault.{nothing_before};
 ghost use Rattle.faults_1401.specs.ToldFaults.{told_faults, told_end, faults_from, line_faults};
 
+use crate::declarations::Declarations;
 use crate::own_fault::{Before, told_of};
 use source_1401::Language;
 use std::alloc::Global;
-use symbols_1401::{
-    AsmFault, AsmKind, KeptLine, Sites, SourceHashing, Symbols, declared, read_lines,
-    sites_anywhere,
-};
+use symbols_1401::{AsmFault, AsmKind, KeptLine, Sites, SourceHashing, Symbols, read_lines};
 
 /// Adds what is told of a line.
 fn put_told(faults: &mut Vec<AsmFault>, line: u64, kind: Option<AsmKind>) -> Result<(), AsmFault>
@@ -64,6 +62,22 @@ fn put_faults(
     Ok(())
 }
 
+/// The faults of lines that declare this.
+fn faults_by(
+    alloc: Global,
+    this: &Declarations,
+    lines: &[KeptLine],
+) -> Result<Vec<AsmFault>, AsmFault>
+    requires { length lines.now < 2 ^ 32 }
+    ensures ok { IfOk result (λ faults. faults.items
+        ≡ faults_from (symbols_view this.now.symbols) (get same_label this.now.anywhere) nothing_before lines.now) }
+    ensures err { IfErr result IsMemory }
+{
+    let mut faults = Vec::new(alloc);
+    put_faults(&this.symbols, &this.anywhere, lines, &mut faults)?;
+    Ok(faults)
+}
+
 /// The faults of lines, but for what isn't in core.
 fn line_faults(
     alloc: Global,
@@ -75,11 +89,8 @@ fn line_faults(
     ensures ok { IfOk result (λ faults. faults.items ≡ line_faults language lines.now) }
     ensures err { IfErr result IsMemory }
 {
-    let symbols = declared(alloc, hashing, language, lines)?;
-    let anywhere = sites_anywhere(alloc, hashing, lines)?;
-    let mut faults = Vec::new(alloc);
-    put_faults(&symbols, &anywhere, lines, &mut faults)?;
-    Ok(faults)
+    let this = Declarations::new(alloc, hashing, language, lines)?;
+    faults_by(alloc, &this, lines)
 }
 
 /// The faults of a source, but for what isn't in core.
@@ -96,6 +107,5 @@ pub fn source_faults(
     ensures err { IfErr result IsMemory }
 {
     let lines = read_lines(alloc, language, source)?;
-    let faults = line_faults(alloc, SourceHashing::from_source(source), language, &lines)?;
-    Ok(faults)
+    line_faults(alloc, SourceHashing::from_source(source), language, &lines)
 }

@@ -1,0 +1,39 @@
+//! What the lines of a source declare: those up to END, and all of them.
+ghost use Rattle.std.specs.Prelude.{◌≡◌, ◌<◌, ◌^◌, length, IfOk, IfErr};
+ghost use Rattle.indexmap.specs.IndexMap.{get};
+ghost use Rattle.symbols_1401.specs.Fault.{IsMemory};
+ghost use Rattle.symbols_1401.specs.Known.{declared_at};
+ghost use Rattle.symbols_1401.specs.Symbols.{same_label, sites_anywhere};
+ghost use Rattle.symbols_1401.specs.View.{symbols_view};
+
+use source_1401::Language;
+use std::alloc::Global;
+use symbols_1401::{AsmFault, KeptLine, Sites, SourceHashing, Symbols, declared, sites_anywhere};
+
+/// What is declared: by the lines up to END, and by all of them.
+#[derive(Drop)]
+pub(crate) struct Declarations {
+    /// What the lines up to END declare.
+    pub symbols: Symbols,
+    /// Where each symbol is declared, by those after END too.
+    pub anywhere: Sites,
+}
+
+impl Declarations {
+    /// What these lines declare.
+    pub(crate) fn new(
+        alloc: Global,
+        hashing: SourceHashing,
+        language: Language,
+        lines: &[KeptLine],
+    ) -> Result<Declarations, AsmFault>
+        requires { length lines.now < 2 ^ 32 }
+        ensures symbols { IfOk result (λ this. symbols_view this.symbols ≡ declared_at language lines.now) }
+        ensures anywhere { IfOk result (λ this. get same_label this.anywhere ≡ sites_anywhere lines.now) }
+        ensures err { IfErr result IsMemory }
+    {
+        let symbols = declared(alloc, hashing, language, lines)?;
+        let anywhere = sites_anywhere(alloc, hashing, lines)?;
+        Ok(Declarations { symbols, anywhere })
+    }
+}
