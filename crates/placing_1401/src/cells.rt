@@ -137,16 +137,15 @@ impl Placing<'_> {
             OperandField::Operand(Operand::Address(address)) => {
                 let value = self.address_value(here, address)?;
                 let index = self.address_index(address);
-                put_chars(out, &address_chars(address_or_zero(value), index))?;
+                put_chars(out, &address_chars(address_or_zero(value), index))
             },
             OperandField::Operand(Operand::Literal(literal)) => {
                 let value = self.literal_value(LiteralKey::from_literal(literal));
-                put_chars(out, &encode(address_or_zero(value)))?;
+                put_chars(out, &encode(address_or_zero(value)))
             },
-            OperandField::Operand(Operand::Unit(unit)) => put_chars(out, &unit_chars(unit))?,
-            OperandField::Absent | OperandField::Malformed => {},
+            OperandField::Operand(Operand::Unit(unit)) => put_chars(out, &unit_chars(unit)),
+            OperandField::Absent | OperandField::Malformed => Ok(()),
         }
-        Ok(())
     }
 
     /// Puts the addresses of an instruction.
@@ -267,11 +266,10 @@ fn put_constant(
     };
     let characters = Characters::from_constant(constant);
     if marked {
-        put_marked(out, characters.as_slice())?;
+        put_marked(out, characters.as_slice())
     } else {
-        put_codes(out, characters.as_slice())?;
+        put_codes(out, characters.as_slice())
     }
-    Ok(())
 }
 
 /// Puts characters, with a word mark at the first or without one.
@@ -397,8 +395,7 @@ fn put_areas(
     mark(&mut area, 0);
     mark_fields(&mut area, lines);
     put_repeated(areas.count, &area, out)?;
-    put_group_mark(areas.has_group_mark, out)?;
-    Ok(())
+    put_group_mark(areas.has_group_mark, out)
 }
 
 /// Puts an area, as many times as there are areas.

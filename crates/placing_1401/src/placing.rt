@@ -434,8 +434,7 @@ impl<'a> Placing<'a> {
     {
         let value = self.label_value(&statement.body, row)?;
         self.pass(row)?;
-        self.give(statement.label, value)?;
-        Ok(())
+        self.give(statement.label, value)
     }
 
     /// Places a line.

@@ -120,8 +120,7 @@ impl Builder {
         ensures err { IfErr result IsMemory }
     {
         let cells = cells_of(alloc, all, so_far, row, behind)?;
-        self.put_all(so_far.start_address(row)?, &cells)?;
-        Ok(())
+        self.put_all(so_far.start_address(row)?, &cells)
     }
 
     /// The segments.
