@@ -98,8 +98,7 @@ fn put_all_explained(
         before = before.next(&this.symbols, line);
         sources = behind;
     }
-    put_explained_end(before, explanations)?;
-    Ok(())
+    put_explained_end(before, explanations)
 }
 
 /// The faults of a source's lines that declare this, each with what is wrong.

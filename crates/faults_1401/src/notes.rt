@@ -61,8 +61,7 @@ fn note_named(labels: &mut LabelSet, line: &KeptLine) -> Result<(), AsmFault>
     };
     let operands = body.describe().addressing.operands();
     note(labels, symbol_in(operands.a))?;
-    note(labels, symbol_in(operands.b))?;
-    Ok(())
+    note(labels, symbol_in(operands.b))
 }
 
 /// Whether a constant is digits without a sign.
@@ -114,8 +113,7 @@ fn note_number(labels: &mut LabelSet, line: &KeptLine) -> Result<(), AsmFault>
     let Some(statement) = line.line().statement else {
         return Ok(());
     };
-    note(labels, number_label(statement))?;
-    Ok(())
+    note(labels, number_label(statement))
 }
 
 /// Whether an operand is a literal with a plus sign.
@@ -195,8 +193,7 @@ fn note_addressed(labels: &mut LabelSet, operands: Operands) -> Result<(), AsmFa
     ensures err { IfErr result IsMemory }
 {
     note(labels, addressed_in(operands.a))?;
-    note(labels, addressed_in(operands.b))?;
-    Ok(())
+    note(labels, addressed_in(operands.b))
 }
 
 /// Adds a label, if there is one, and those whose addresses are literals among these operands.
@@ -210,8 +207,7 @@ fn note_with_addressed(
     ensures err { IfErr result IsMemory }
 {
     note(labels, label)?;
-    note_addressed(labels, operands)?;
-    Ok(())
+    note_addressed(labels, operands)
 }
 
 /// Adds the labels of fields into which a line may bring a sign.
@@ -224,8 +220,7 @@ fn note_signed(labels: &mut LabelSet, line: &KeptLine) -> Result<(), AsmFault>
         return Ok(());
     };
     let row = body.describe();
-    note_with_addressed(labels, signed_label(row), row.addressing.operands())?;
-    Ok(())
+    note_with_addressed(labels, signed_label(row), row.addressing.operands())
 }
 
 /// Whether a chain is of instructions of this operation.

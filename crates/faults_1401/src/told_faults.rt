@@ -58,8 +58,7 @@ fn put_faults(
         )?;
         before = before.next(symbols, line);
     }
-    put_end(faults, before)?;
-    Ok(())
+    put_end(faults, before)
 }
 
 /// The faults of lines that declare this.
