@@ -1,90 +1,40 @@
 //! Consoles, whose lines come from standard input, and whose replies go to standard output.
-ghost use Rattle.std.specs.Prelude.{◌≡◌, IfOk, nat_lt, true};
-ghost use Rattle.std.specs.List.{list_all};
-ghost use Rattle.image_1401.specs.Image.{IsInCore, is_inside};
 
-use crate::recorded::{load, new_room};
-use crate::shared::open_room;
 use crate::shown::show_room;
-use crate::written::SOURCE;
-use autocoder_1401::{AsmFault, assemble_image};
+use crate::telling::Teller;
 use console_1401::{FromReader, OpenDoor, SessionEnd, ToWriter};
-use image_1401::Image;
-use room_1401::{Opened, Room, RoomId, Seat, SharedRoom};
-use source_1401::Language;
+use room_1401::{Room, RoomId, Seat, SharedRoom};
 use std::alloc::Global;
-use std::io;
-use std::io::Read;
-use std::marker::Brand;
+use std::io::{Read, Stdin};
 use std::sync::Wait;
 
-/// Prints how a session ended, the journal and the machine.
-fn show_end(rt: &impl Print, room: &Room, end: SessionEnd) -> io::Result<()> {
-    println!(rt; "END {end:?}")?;
-    show_room(rt, room)
-}
-
-/// Holds a session, and prints how it ended, the journal and the machine.
-fn hold_session(rt: &(impl Input + Print), alloc: Global, room: &mut Room) -> io::Result<()> {
-    let mut reader = FromReader::new(rt.reader());
-    let mut writer = ToWriter::new(io::writer(rt));
+/// Holds a session, and shows how it ended, the journal and the machine. Nothing if something couldn't be told before.
+pub fn hold_session(teller: &mut Teller, input: Stdin, alloc: Global, room: &mut Room) {
+    if teller.has_failed() {
+        return;
+    }
+    let mut reader = FromReader::new(input);
+    let mut writer = ToWriter::new(teller.output);
     let end = console_1401::session(alloc, room, &mut reader, &mut writer);
-    show_end(rt, room, end)
+    teller.tell(format_args!("END {end:?}"));
+    show_room(teller, room);
 }
 
-/// A session at a new machine.
-pub fn session(rt: &(impl Input + Print), alloc: Global) -> io::Result<()> {
-    match new_room(rt, alloc)? {
-        Some(mut room) => hold_session(rt, alloc, &mut room),
-        None => Ok(()),
-    }
+/// Tells how a console ended, by the number of its seat and how many commands the seat has then made.
+fn tell_end(teller: &mut Teller, end: SessionEnd, number: u8, made: u64) {
+    teller.tell(format_args!("END {end:?} {number} {made}"));
 }
 
-/// The image of a source, in core storage of 4,000 places.
-fn assembled(alloc: Global, source: &[u8]) -> Result<Image, AsmFault>
-    ensures { IfOk result IsInCore }
-{
-    assemble_image(alloc, Language::Plain, source, 4_000)
-}
-
-/// Holds a session at a machine into which an image is loaded. False if the room was refused.
-fn hold_loaded(rt: &(impl Input + Print), alloc: Global, image: &Image) -> io::Result<bool>
-    requires segments { list_all (is_inside image.now.size) image.now.segments ≡ true }
-    requires start { nat_lt image.now.start image.now.size ≡ true }
-{
-    match load(rt, alloc, image)? {
-        Some(mut room) => {
-            hold_session(rt, alloc, &mut room)?;
-            Ok(true)
-        }
-        None => Ok(false),
-    }
-}
-
-/// A session at a machine into which a program was loaded as it came from the assembler.
-pub fn program(rt: &(impl Input + Print), alloc: Global) -> io::Result<()> {
-    for _ in 0..2 {
-        match assembled(alloc, SOURCE) {
-            Ok(image) => {
-                if hold_loaded(rt, alloc, &image)? {
-                    return Ok(());
-                }
-            }
-            Err(fault) => println!(rt; "refused {:?} at line {}", fault.kind, fault.line)?,
-        }
-    }
-    Ok(())
-}
-
-/// Attends the console of a seat, whose lines come from a reader, and prints how it ended.
-fn attend_lines<J: RoomId, R: Wait + Print, S: Read + Drop>(
+/// Attends the console of a seat, whose lines come from a reader, and tells how it ended.
+fn attend_lines<J: RoomId, R: Wait, S: Read + Drop>(
     rt: &R,
+    teller: &mut Teller,
     alloc: Global,
     room: &SharedRoom<J, &R>,
     seat: Seat<J>,
     lines: S,
-) -> io::Result<()> {
-    let mut writer = ToWriter::new(io::writer(rt));
+) {
+    let mut writer = ToWriter::new(teller.output);
     let mut reader = FromReader::new(lines);
     let (seat, end) = console_1401::attend(
         alloc,
@@ -95,72 +45,53 @@ fn attend_lines<J: RoomId, R: Wait + Print, S: Read + Drop>(
         &mut writer,
         &OpenDoor,
     );
-    println!(rt; "END {end:?} {} {}", seat.number(), seat.made())
+    tell_end(teller, end, seat.number(), seat.made());
 }
 
-/// Attends the console of a seat: the lines of seat 1 are standard input's, and any other asks for one place.
-fn attend_seat<J: RoomId, R: Wait + Input + Print>(
+/// Attends the console of a seat: the lines of seat 1 are standard input's, and any other asks for one place. Nothing
+/// if something couldn't be told before.
+fn attend_seat<J: RoomId, R: Wait>(
     rt: &R,
+    teller: &mut Teller,
+    input: Stdin,
     alloc: Global,
     room: &SharedRoom<J, &R>,
     seat: Seat<J>,
-) -> io::Result<()> {
+) {
+    if teller.has_failed() {
+        return;
+    }
     if seat.number() == 1 {
-        attend_lines(rt, alloc, room, seat, rt.reader())
+        attend_lines(rt, teller, alloc, room, seat, input);
     } else {
-        attend_lines(rt, alloc, room, seat, b"EXAMINE 0\nQUIT\n".as_slice())
+        let lines = b"EXAMINE 0\nQUIT\n".as_slice();
+        attend_lines(rt, teller, alloc, room, seat, lines);
     }
 }
 
 /// Attends the consoles of these seats, one after another.
-fn attend_seats<J: RoomId, R: Wait + Input + Print>(
+fn attend_seats<J: RoomId, R: Wait>(
     rt: &R,
+    teller: &mut Teller,
+    input: Stdin,
     alloc: Global,
     room: &SharedRoom<J, &R>,
     seats: Vec<Seat<J>>,
-) -> io::Result<()> {
+) {
     for seat in seats {
-        attend_seat(rt, alloc, room, seat)?;
+        attend_seat(rt, teller, input, alloc, room, seat);
     }
-    Ok(())
 }
 
-/// Attends the consoles of these seats, and shows their room.
-fn attend_room<J: RoomId, R: Wait + Input + Print>(
+/// Attends the consoles of these seats, and shows their room, which is abandoned.
+pub fn attend_room<J: RoomId, R: Wait>(
     rt: &R,
+    teller: &mut Teller,
+    input: Stdin,
     alloc: Global,
     room: SharedRoom<J, &R>,
     seats: Vec<Seat<J>>,
-) -> io::Result<()> {
-    attend_seats(rt, alloc, &room, seats)?;
-    show_room(rt, &room.abandon())
-}
-
-/// Lines at the first of two seats; then the other one, which asks for one place. False if the room was refused.
-fn operate<J: RoomId, R: Wait + Input + Print>(
-    rt: &R,
-    alloc: Global,
-    opened: Opened,
-) -> io::Result<bool>
-    requires history { opened.book ≡ J.book }
-    requires ledger { (opened.ledger ≡ J.name) × (opened.parts ≡ J.parts) × (J.parts ≡ J.seats) }
-    requires named { (4000 ≡ J.size) × (2 ≡ J.seats) }
-{
-    match open_room::<J, R>(rt, alloc, opened)? {
-        Some((room, seats)) => {
-            attend_room(rt, alloc, room, seats)?;
-            Ok(true)
-        }
-        None => Ok(false),
-    }
-}
-
-/// Two consoles at the seats of a room.
-pub fn attend(rt: &(impl Wait + Input + Print), alloc: Global) -> io::Result<()> {
-    for _ in 0..2 {
-        if operate::<Brand, _>(rt, alloc, Opened::new(2))? {
-            break;
-        }
-    }
-    Ok(())
+) {
+    attend_seats(rt, teller, input, alloc, &room, seats);
+    show_room(teller, &room.abandon());
 }

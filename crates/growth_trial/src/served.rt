@@ -2,8 +2,9 @@
 ghost use Rattle.std.specs.Prelude.{◌≡◌};
 ghost use Rattle.room_1401.specs.Seen.{newcomers};
 
-use crate::shared::open_room;
-use crate::shown::{show_bytes, show_room};
+use crate::shown::show_room;
+use crate::started::AT_POWER_ON;
+use crate::telling::Teller;
 use console_1401::{Door, Served};
 use room_1401::{Opened, RoomId, Seat, SharedRoom};
 use std::alloc::Global;
@@ -61,80 +62,98 @@ fn send_lines<R: Net<Listener = TcpListener, Stream = TcpStream>>(
     Ok(stream)
 }
 
-/// A listener and two connections to it that have sent their lines, which is told.
-fn listen<R: Print + Net<Listener = TcpListener, Stream = TcpStream>>(
+/// A listener, and two connections to it that have sent their lines.
+fn listen<R: Net<Listener = TcpListener, Stream = TcpStream>>(
     rt: &R,
-) -> io::Result<(TcpListener, TcpStream, TcpStream)> {
+) -> io::Result<(TcpListener, (TcpStream, TcpStream))> {
     let listener = TcpListener::bind(rt, (Ipv4Addr::LOCALHOST, 0))?;
     let one = send_lines(rt, &listener)?;
     let two = send_lines(rt, &listener)?;
-    println!(rt; "BEGIN")?;
-    Ok((listener, one, two))
+    Ok((listener, (one, two)))
 }
 
-/// Prints all that was sent back on a connection, or that it was reset.
-fn show_replies(rt: &impl Print, stream: &mut TcpStream) -> io::Result<()> {
+/// Shows all that was sent back on a connection, or that it was reset.
+fn show_replies(teller: &mut Teller, stream: &mut TcpStream) {
     let mut bytes = [0; 100];
     for _ in 0..100 {
         match stream.read(&mut bytes) {
             Ok(0) => break,
-            Ok(count) => show_bytes(rt, &bytes[..count.min(100)])?,
-            Err(_) => return println!(rt; "END by a reset"),
+            Ok(count) => teller.tell_bytes(&bytes[..count.min(100)]),
+            Err(_) => {
+                teller.tell("END by a reset");
+                return;
+            }
         }
     }
-    println!(rt; "END")
+    teller.tell("END");
 }
 
-/// Prints how a service ended, its consoles' replies, the journal and the machine.
-fn show_served(
-    rt: &impl Print,
-    served: &Served,
-    one: &mut TcpStream,
-    two: &mut TcpStream,
-) -> io::Result<()> {
-    println!(rt; "CONSOLES {} {:?}", served.consoles, served.fault)?;
-    show_replies(rt, one)?;
-    show_replies(rt, two)?;
-    show_room(rt, &served.room)
+/// Shows how a service ended, its consoles' replies, the journal and the machine.
+fn show_served(teller: &mut Teller, served: &Served, streams: &mut (TcpStream, TcpStream)) {
+    teller.tell(format_args!("CONSOLES {} {:?}", served.consoles, served.fault));
+    show_replies(teller, &mut streams.0);
+    show_replies(teller, &mut streams.1);
+    show_room(teller, &served.room);
 }
 
-/// Serves the two at the seats of a room, and prints their replies, how the service ended, the journal and the machine.
-fn serve_room<
-    J: RoomId + Send + Sync,
-    R: Threads + Wait + Print + Sync + Net<Listener = TcpListener, Stream = TcpStream>,
->(rt: &R, alloc: Global, room: SharedRoom<J, &R>, seats: Vec<Seat<J>>) -> io::Result<()>
+/// Serves the two that the listener has, at the seats of a room, and then listens no more. The second one's line is
+/// carried out first.
+fn serve_two<J: RoomId + Send + Sync, R: Threads + Wait + Sync>(
+    rt: &R,
+    alloc: Global,
+    room: SharedRoom<J, &R>,
+    seats: Vec<Seat<J>>,
+    listener: TcpListener,
+) -> Served
     requires ledger { J.parts ≡ J.seats }
     requires named { 2 ≡ J.seats }
     requires seats { seats.items ≡ newcomers 2 }
 {
-    let (listener, mut one, mut two) = listen(rt)?;
     let door = SecondFirst {
         is_answered: AtomicBool::new(false),
     };
-    let served = console_1401::serve(alloc, rt, room, seats, &listener, &door);
-    drop(listener);
-    show_served(rt, &served, &mut one, &mut two)
+    console_1401::serve(alloc, rt, room, seats, &listener, &door)
 }
 
-/// Serves the two, and prints their replies, how the service ended, the journal and the machine.
+/// Serves two at the seats of a room, and shows how that ended, their replies, the journal and the machine.
+fn serve_room<
+    J: RoomId + Send + Sync,
+    R: Threads + Wait + Sync + Net<Listener = TcpListener, Stream = TcpStream>,
+>(rt: &R, teller: &mut Teller, alloc: Global, room: SharedRoom<J, &R>, seats: Vec<Seat<J>>)
+    requires ledger { J.parts ≡ J.seats }
+    requires named { 2 ≡ J.seats }
+    requires seats { seats.items ≡ newcomers 2 }
+{
+    match listen(rt) {
+        Ok((listener, mut streams)) => {
+            teller.tell("BEGIN");
+            let served = serve_two(rt, alloc, room, seats, listener);
+            show_served(teller, &served, &mut streams);
+        }
+        Err(fault) => teller.fail(fault),
+    }
+}
+
+/// Serves two in a room of this name, and shows how that ended, their replies, the journal and the machine.
 fn operate<
     J: RoomId + Send + Sync,
-    R: Threads + Wait + Print + Sync + Net<Listener = TcpListener, Stream = TcpStream>,
->(rt: &R, alloc: Global, opened: Opened) -> io::Result<()>
+    R: Threads + Wait + Sync + Net<Listener = TcpListener, Stream = TcpStream>,
+>(rt: &R, teller: &mut Teller, alloc: Global, opened: Opened)
     requires history { opened.book ≡ J.book }
     requires ledger { (opened.ledger ≡ J.name) × (opened.parts ≡ J.parts) × (J.parts ≡ J.seats) }
     requires named { (4000 ≡ J.size) × (2 ≡ J.seats) }
 {
-    match open_room::<J, R>(rt, alloc, opened)? {
-        Some((room, seats)) => serve_room(rt, alloc, room, seats),
-        None => Ok(()),
+    match SharedRoom::<J, &R>::power_on(rt, alloc, 4_000, 2, opened) {
+        Ok((room, seats)) => serve_room(rt, teller, alloc, room, seats),
+        Err(fault) => teller.tell_refused(&fault, AT_POWER_ON),
     }
 }
 
 /// Two consoles that have sent their lines before the room listens. The second one's is carried out first.
-pub fn serve<R: Threads + Wait + Print + Sync + Net<Listener = TcpListener, Stream = TcpStream>>(
+pub fn serve<R: Threads + Wait + Sync + Net<Listener = TcpListener, Stream = TcpStream>>(
     rt: &R,
+    teller: &mut Teller,
     alloc: Global,
-) -> io::Result<()> {
-    operate::<Brand, _>(rt, alloc, Opened::new(2))
+) {
+    operate::<Brand, _>(rt, teller, alloc, Opened::new(2));
 }

@@ -1,38 +1,30 @@
 //! What a trial shows.
 
+use crate::telling::Teller;
 use bcd_1401::{Cell, Char};
 use cpu_1401::Machine;
 use room_1401::Room;
-use std::io;
-use std::io::Write;
 
-/// Prints all of a room: each entry of the journal, and the machine.
-pub fn show_room(rt: &impl Print, room: &Room) -> io::Result<()> {
+/// Shows all of a room: each entry of the journal, and the machine.
+pub fn show_room(teller: &mut Teller, room: &Room) {
     for entry in room.journal() {
-        println!(rt; "{entry:?}")?;
+        teller.tell_value(entry);
     }
-    show_machine(rt, room.machine())
+    show_machine(teller, room.machine());
 }
 
-/// Prints a place of core storage that isn't blank.
-fn show_place(rt: &impl Print, at: u16, cell: Cell) -> io::Result<()> {
+/// Shows a place of core storage that isn't blank.
+fn show_place(teller: &mut Teller, at: u16, cell: Cell) {
     if cell.mark || cell.char != Char::BLANK {
-        return println!(rt; "{at} {cell:?}");
+        teller.tell(format_args!("{at} {cell:?}"));
     }
-    Ok(())
 }
 
-/// Prints all of a machine: its registers, and each place of core storage that isn't blank.
-pub fn show_machine(rt: &impl Print, machine: &Machine) -> io::Result<()> {
-    println!(rt; "{:?}", machine.regs())?;
+/// Shows all of a machine: its registers, and each place of core storage that isn't blank.
+pub fn show_machine(teller: &mut Teller, machine: &Machine) {
+    teller.tell_value(&machine.regs());
     let core = machine.core();
     for at in 0..core.size() {
-        show_place(rt, at, core.get(at))?;
+        show_place(teller, at, core.get(at));
     }
-    Ok(())
-}
-
-/// Prints bytes.
-pub fn show_bytes(rt: &impl Print, bytes: &[u8]) -> io::Result<()> {
-    io::writer(rt).write_all(bytes)
 }

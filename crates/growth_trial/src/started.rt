@@ -1,77 +1,70 @@
 //! Machines and their parts at power-on.
 
-use crate::shown::{show_machine, show_room};
-use core_1401::Core;
+use crate::shown::show_machine;
+use crate::telling::Teller;
+use core_1401::{Core, CoreFault};
 use cpu_1401::Machine;
 use devices_1401::Devices;
-use room_1401::Room;
 use std::alloc::Global;
-use std::io;
 
-/// Prints why there is no core storage of 1,401 places.
-fn show_no_core(rt: &impl Print, alloc: Global) -> io::Result<()> {
-    println!(rt; "{:?}", Core::power_on(alloc, 1_401).err())
+/// Where core storage is refused to what has it as a part.
+pub const AT_POWER_ON: &str = " at power-on";
+
+/// Tells why no core storage was made, and where that was. It gives false.
+pub fn tell_no_core(teller: &mut Teller, fault: CoreFault, place: &str) -> bool {
+    teller.tell_refused(&fault, place);
+    false
 }
 
-/// Prints how many places core storage has.
-fn show_size(rt: &impl Print, core: &Core) -> io::Result<()> {
-    println!(rt; "{} places", core.size())
-}
-
-/// Core storage of 1,400 places, and of a size that there is none of.
-pub fn core(rt: &impl Print, alloc: Global) -> io::Result<()> {
-    show_no_core(rt, alloc)?;
-    for _ in 0..2 {
-        match Core::power_on(alloc, 1_400) {
-            Ok(core) => return show_size(rt, &core),
-            Err(fault) => println!(rt; "refused {fault:?}")?,
+/// Core storage of 1,400 places. False if it was refused.
+fn make_core(teller: &mut Teller, alloc: Global) -> bool {
+    match Core::power_on(alloc, 1_400) {
+        Ok(core) => {
+            teller.tell(format_args!("{} places", core.size()));
+            true
         }
+        Err(fault) => tell_no_core(teller, fault, ""),
     }
-    Ok(())
 }
 
-/// Prints what is in the devices, and where the carriage is.
-fn show_devices(rt: &impl Print, devices: &Devices) -> io::Result<()> {
+/// Core storage of a size that there is none of, and of 1,400 places, asked for a second time if it was refused.
+pub fn core(teller: &mut Teller, alloc: Global) {
+    teller.tell_value(&Core::power_on(alloc, 1_401).err());
+    if !make_core(teller, alloc) {
+        make_core(teller, alloc);
+    }
+}
+
+/// Shows what is in the devices, and where the carriage is.
+fn show_devices(teller: &mut Teller, devices: &Devices) {
     let (hopper, stacker, paper) = (devices.hopper(), devices.stacker(), devices.paper());
-    println!(rt; "hopper {hopper} stacker {stacker} paper {paper}")?;
-    println!(rt; "form {} line {}", devices.form(), devices.line())
+    let (form, line) = (devices.form(), devices.line());
+    teller.tell(format_args!(
+        "hopper {hopper} stacker {stacker} paper {paper}\nform {form} line {line}"
+    ));
 }
 
-/// The devices, with nothing in them and the carriage at the first line.
-pub fn devices(rt: &impl Print, alloc: Global) -> io::Result<()> {
-    for _ in 0..2 {
-        match Devices::power_on(alloc) {
-            Ok(devices) => return show_devices(rt, &devices),
-            Err(_) => println!(rt; "refused Memory")?,
+/// The devices, with nothing in them and the carriage at the first line. False if they were refused.
+pub fn devices(teller: &mut Teller, alloc: Global) -> bool {
+    match Devices::power_on(alloc) {
+        Ok(devices) => {
+            show_devices(teller, &devices);
+            true
+        }
+        Err(_) => {
+            teller.tell("refused Memory");
+            false
         }
     }
-    Ok(())
 }
 
-/// A machine of 4,000 places.
-pub fn machine(rt: &impl Print, alloc: Global) -> io::Result<()> {
-    for _ in 0..2 {
-        match Machine::power_on(alloc, 4_000) {
-            Ok(machine) => return show_machine(rt, &machine),
-            Err(fault) => println!(rt; "refused {fault:?}")?,
+/// A machine of 4,000 places. False if it was refused.
+pub fn machine(teller: &mut Teller, alloc: Global) -> bool {
+    match Machine::power_on(alloc, 4_000) {
+        Ok(machine) => {
+            show_machine(teller, &machine);
+            true
         }
+        Err(fault) => tell_no_core(teller, fault, ""),
     }
-    Ok(())
-}
-
-/// Prints why there is no room of 100 places.
-fn show_no_room(rt: &impl Print, alloc: Global) -> io::Result<()> {
-    println!(rt; "{:?}", Room::power_on(alloc, 100).err())
-}
-
-/// A room of 4,000 places, and of a size that there is none of.
-pub fn room(rt: &impl Print, alloc: Global) -> io::Result<()> {
-    show_no_room(rt, alloc)?;
-    for _ in 0..2 {
-        match Room::power_on(alloc, 4_000) {
-            Ok(room) => return show_room(rt, &room),
-            Err(fault) => println!(rt; "refused {fault:?}")?,
-        }
-    }
-    Ok(())
 }

@@ -2,14 +2,14 @@
 ghost use Rattle.image_1401.specs.Image.{IsInCore};
 
 use crate::recorded::COMMANDS;
-use crate::shown::show_bytes;
+use crate::started::{AT_POWER_ON, tell_no_core};
+use crate::telling::Teller;
 use autocoder_1401::{AsmFault, AsmKind, Assembly, assemble, assemble_image};
 use cpu_1401::Machine;
 use image_1401::{Image, ImageFault, read_image, write_image};
 use room_1401::{Answer, carry_out};
 use source_1401::Language;
 use std::alloc::Global;
-use std::io;
 use text_1401::{Line, parse_line, reply_text};
 
 /// Puts five into a field and adds five to it.
@@ -22,10 +22,10 @@ pub const SOURCE: &[u8] =
 const IMAGE: &[u8] = b"IMAGE2 04000\n00400 24 ~?423420~A423420~.414~   ~HI~E\nEND 00400\n";
 
 /// A source without a fault, and one with one.
-const SOURCES: [&[u8]; 2] = [SOURCE, b"               B    Q\n"];
+pub const SOURCES: &[&[u8]] = &[SOURCE, b"               B    Q\n"];
 
 /// Texts that are an image's and texts that aren't.
-const IMAGES: [&[u8]; 6] = [
+pub const IMAGES: &[&[u8]] = &[
     IMAGE,
     b"",
     b"IMAGE1 4001\n",
@@ -34,176 +34,162 @@ const IMAGES: [&[u8]; 6] = [
     b"IMAGE1 4000\n0400 24 ~?423420~A423420~.414~   ~HI~E\nEND 04",
 ];
 
-/// Prints bytes and the end of their line.
-fn show_line(rt: &impl Print, line: &[u8]) -> io::Result<()> {
-    show_bytes(rt, line)?;
-    println!(rt; "")
+/// Tells bytes and the end of their line.
+fn tell_line(teller: &mut Teller, line: &[u8]) {
+    teller.tell_bytes(line);
+    teller.tell("");
 }
 
-/// Prints an image.
-fn show_image(rt: &impl Print, image: &Image) -> io::Result<()> {
-    println!(rt; "{image:?}")
-}
-
-/// Prints an image and a listing.
-fn show_assembly(rt: &impl Print, assembly: &Assembly) -> io::Result<()> {
-    show_image(rt, &assembly.image)?;
+/// Shows an image and a listing.
+fn show_assembly(teller: &mut Teller, assembly: &Assembly) {
+    teller.tell_value(&assembly.image);
     for line in assembly.listing.as_slice() {
-        show_line(rt, line.as_slice())?;
+        tell_line(teller, line.as_slice());
     }
-    Ok(())
 }
 
-/// Tells that memory was refused at a line.
-fn tell_refused(rt: &impl Print, fault: AsmFault) -> io::Result<()> {
-    println!(rt; "refused Memory at line {}", fault.line)
-}
-
-/// Tells a fault of a source.
-fn tell_fault(rt: &impl Print, fault: AsmFault) -> io::Result<()> {
-    println!(rt; "{fault:?}")
-}
-
-/// The image and the listing of a source, or its fault, asked for a second time if they were refused.
-fn assembly_of(rt: &impl Print, alloc: Global, source: &[u8]) -> io::Result<()> {
-    for _ in 0..2 {
-        match assemble(alloc, Language::Plain, source, 4_000) {
-            Ok(assembly) => return show_assembly(rt, &assembly),
-            Err(fault) if fault.kind == AsmKind::Memory => tell_refused(rt, fault)?,
-            Err(fault) => return tell_fault(rt, fault),
+/// Tells a fault of a source. False if memory was refused.
+fn tell_fault(teller: &mut Teller, fault: AsmFault) -> bool {
+    match fault.kind {
+        AsmKind::Memory => {
+            teller.tell(format_args!("refused Memory at line {}", fault.line));
+            false
+        }
+        _ => {
+            teller.tell_value(&fault);
+            true
         }
     }
-    Ok(())
 }
 
-/// The image and the listing of a source, and the fault of one that has one.
-pub fn assembly(rt: &impl Print, alloc: Global) -> io::Result<()> {
-    for source in SOURCES {
-        assembly_of(rt, alloc, source)?;
-    }
-    Ok(())
-}
-
-/// The image alone of a source, or its fault, asked for a second time if it was refused.
-fn image_of(rt: &impl Print, alloc: Global, source: &[u8]) -> io::Result<()> {
-    for _ in 0..2 {
-        match assemble_image(alloc, Language::Plain, source, 4_000) {
-            Ok(image) => return show_image(rt, &image),
-            Err(fault) if fault.kind == AsmKind::Memory => tell_refused(rt, fault)?,
-            Err(fault) => return tell_fault(rt, fault),
+/// The image and the listing of a source, or its fault. False if they were refused.
+fn assembly_of(teller: &mut Teller, alloc: Global, source: &[u8]) -> bool {
+    match assemble(alloc, Language::Plain, source, 4_000) {
+        Ok(assembly) => {
+            show_assembly(teller, &assembly);
+            true
         }
+        Err(fault) => tell_fault(teller, fault),
     }
-    Ok(())
 }
 
-/// The image alone of a source, and the fault of one that has one.
-pub fn image_alone(rt: &impl Print, alloc: Global) -> io::Result<()> {
-    for source in SOURCES {
-        image_of(rt, alloc, source)?;
+/// The image alone of a source, or its fault. False if it was refused.
+fn image_of(teller: &mut Teller, alloc: Global, source: &[u8]) -> bool {
+    match assemble_image(alloc, Language::Plain, source, 4_000) {
+        Ok(image) => {
+            teller.tell_value(&image);
+            true
+        }
+        Err(fault) => tell_fault(teller, fault),
     }
-    Ok(())
 }
 
-/// Tells that memory was refused where an image was to be written.
-fn tell_unwritten(rt: &impl Print, image: &Image) -> io::Result<()> {
-    println!(rt; "refused Memory at writing {image:?}")
-}
-
-/// Prints the text of an image, asked for a second time if it was refused. False if it was refused twice.
-fn show_text(rt: &impl Print, alloc: Global, image: &Image) -> io::Result<bool>
+/// The text of an image. False if it was refused.
+fn text_of(teller: &mut Teller, alloc: Global, image: &Image) -> bool
     requires { IsInCore image.now }
 {
-    for _ in 0..2 {
-        match write_image(alloc, image) {
-            Ok(text) => {
-                show_bytes(rt, text.as_slice())?;
-                return Ok(true);
-            }
-            Err(_) => tell_unwritten(rt, image)?,
+    match write_image(alloc, image) {
+        Ok(text) => {
+            teller.tell_bytes(text.as_slice());
+            true
+        }
+        Err(_) => {
+            teller.tell(format_args!("refused Memory at writing {image:?}"));
+            false
         }
     }
-    Ok(false)
 }
 
-/// The text of an image.
-pub fn image(rt: &impl Print, alloc: Global) -> io::Result<()> {
-    for _ in 0..2 {
-        match read_image(alloc, IMAGE) {
-            Ok(image) => {
-                if show_text(rt, alloc, &image)? {
-                    return Ok(());
-                }
-            }
-            Err(fault) => println!(rt; "refused {fault:?} at reading")?,
+/// The text of an image, asked for a second time if it was refused. False if the image was refused, or its text twice.
+pub fn image(teller: &mut Teller, alloc: Global) -> bool {
+    match read_image(alloc, IMAGE) {
+        Ok(image) => text_of(teller, alloc, &image) || text_of(teller, alloc, &image),
+        Err(fault) => {
+            teller.tell_refused(&fault, " at reading");
+            false
         }
     }
-    Ok(())
 }
 
-/// Tells why a text is no image's.
-fn tell_unread(rt: &impl Print, fault: ImageFault) -> io::Result<()> {
-    println!(rt; "{fault:?}")
+/// The image of a text, or what it is refused for. False if memory was refused.
+fn image_in(teller: &mut Teller, alloc: Global, text: &[u8]) -> bool {
+    match read_image(alloc, text) {
+        Ok(image) => teller.tell_value(&image),
+        Err(ImageFault::Memory) => {
+            teller.tell("refused Memory");
+            return false;
+        }
+        Err(fault) => teller.tell_value(&fault),
+    }
+    true
 }
 
-/// The image of a text, or what it is refused for, asked for a second time if memory was refused.
-fn image_in(rt: &impl Print, alloc: Global, text: &[u8]) -> io::Result<()> {
-    for _ in 0..2 {
-        match read_image(alloc, text) {
-            Ok(image) => return show_image(rt, &image),
-            Err(ImageFault::Memory) => println!(rt; "refused Memory")?,
-            Err(fault) => return tell_unread(rt, fault),
+/// What is told of a text.
+#[derive(Clone, Copy)]
+pub enum Kind {
+    /// The image and the listing of a source.
+    Listing,
+    /// The image alone of a source.
+    Image,
+    /// The image whose text it is.
+    Text,
+}
+
+/// What is told of a text, or its fault. False if it was refused.
+fn tell_text(teller: &mut Teller, alloc: Global, text: &[u8], kind: Kind) -> bool {
+    match kind {
+        Kind::Listing => assembly_of(teller, alloc, text),
+        Kind::Image => image_of(teller, alloc, text),
+        Kind::Text => image_in(teller, alloc, text),
+    }
+}
+
+/// What is told of texts, and the faults of those that have one, each asked for a second time if it was refused.
+pub fn tell_texts(teller: &mut Teller, alloc: Global, texts: &[&[u8]], kind: Kind) {
+    for text in texts {
+        if !tell_text(teller, alloc, text, kind) {
+            tell_text(teller, alloc, text, kind);
         }
     }
-    Ok(())
 }
 
-/// The images of texts, and what those that are none are refused for.
-pub fn images(rt: &impl Print, alloc: Global) -> io::Result<()> {
-    for text in IMAGES {
-        image_in(rt, alloc, text)?;
+/// The reply to an answer. False if it was refused.
+fn reply(teller: &mut Teller, alloc: Global, answer: &Answer) -> bool {
+    match reply_text(alloc, answer) {
+        Ok(text) => {
+            tell_line(teller, text.as_slice());
+            true
+        }
+        Err(_) => {
+            teller.tell(format_args!("refused Memory {answer:?}"));
+            false
+        }
     }
-    Ok(())
-}
-
-/// Tells that memory was refused where an answer was to be written.
-fn tell_unanswered(rt: &impl Print, answer: &Answer) -> io::Result<()> {
-    println!(rt; "refused Memory {answer:?}")
 }
 
 /// The reply to an answer, asked for a second time if it was refused.
-fn reply(rt: &impl Print, alloc: Global, answer: &Answer) -> io::Result<()> {
-    for _ in 0..2 {
-        match reply_text(alloc, answer) {
-            Ok(text) => return show_line(rt, text.as_slice()),
-            Err(_) => tell_unanswered(rt, answer)?,
-        }
-    }
-    Ok(())
-}
-
-/// The reply to a line's command.
-fn reply_to(rt: &impl Print, alloc: Global, machine: &mut Machine, line: &str) -> io::Result<()> {
-    match parse_line(line.as_bytes()) {
-        Ok(Line::Command(command)) => reply(rt, alloc, &carry_out(machine, &command)),
-        _ => Ok(()),
+fn reply_to(teller: &mut Teller, alloc: Global, answer: &Answer) {
+    if !reply(teller, alloc, answer) {
+        reply(teller, alloc, answer);
     }
 }
 
 /// The replies to all commands at a machine.
-fn reply_to_all(rt: &impl Print, alloc: Global, machine: &mut Machine) -> io::Result<()> {
+fn reply_to_all(teller: &mut Teller, alloc: Global, machine: &mut Machine) {
     for line in COMMANDS {
-        reply_to(rt, alloc, machine, line)?;
-    }
-    Ok(())
-}
-
-/// The replies to all commands.
-pub fn replies(rt: &impl Print, alloc: Global) -> io::Result<()> {
-    for _ in 0..2 {
-        match Machine::power_on(alloc, 4_000) {
-            Ok(mut machine) => return reply_to_all(rt, alloc, &mut machine),
-            Err(fault) => println!(rt; "refused {fault:?} at power-on")?,
+        if let Ok(Line::Command(command)) = parse_line(line.as_bytes()) {
+            reply_to(teller, alloc, &carry_out(machine, &command));
         }
     }
-    Ok(())
+}
+
+/// The replies to all commands. False if the machine was refused.
+pub fn replies(teller: &mut Teller, alloc: Global) -> bool {
+    match Machine::power_on(alloc, 4_000) {
+        Ok(mut machine) => {
+            reply_to_all(teller, alloc, &mut machine);
+            true
+        }
+        Err(fault) => tell_no_core(teller, fault, AT_POWER_ON),
+    }
 }
