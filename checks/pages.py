@@ -9,7 +9,8 @@ import threading
 import time
 from pathlib import Path
 
-from checks.report import PROGRAM, REPLY_SECONDS, SECONDS, TOP, difference, expect, misuse, run, tell
+from checks.asking import ASKED, PAGE, PAUSE, ask, expect_within, free_ports
+from checks.report import PROGRAM, REPLY_SECONDS, SECONDS, TOP, expect, misuse, run, tell
 from checks.seats import handles
 from checks.service import answer, hear, say
 
@@ -19,21 +20,6 @@ MOST_WAITING = 64
 # How long a page waits for the first byte of a connection, and for each other part of it.
 PATIENCE = 1
 TAKEN = b"a console sits at this seat\n"
-
-
-def free_ports(count):
-    """The first of as many ports in a row that are free."""
-    while True:
-        with socket.socket() as first:
-            first.bind(("127.0.0.1", 0))
-            port = first.getsockname()[1]
-            try:
-                for more in range(1, count):
-                    with socket.socket() as free:
-                        free.bind(("127.0.0.1", port + more))
-                return port
-            except (OSError, OverflowError):
-                continue
 
 
 class Pages:
@@ -63,16 +49,21 @@ class Pages:
         return socket.create_connection(("127.0.0.1", self.page + seat - 1), timeout=REPLY_SECONDS)
 
     def ask(self, seat, method="GET", path="/", body=None, fields=()):
-        """A request at the page of a seat: the status, and the body."""
-        page = http.client.HTTPConnection("127.0.0.1", self.page + seat - 1, timeout=REPLY_SECONDS)
-        try:
-            page.request(method, path, body, dict(fields))
-            response = page.getresponse()
-            return response.status, response.read()
-        except (OSError, http.client.HTTPException) as late:
-            return 0, repr(late).encode()
-        finally:
-            page.close()
+        """A request at the page of a seat: the status, and the body. It is made again where nothing comes back."""
+        for _ in range(ASKED):
+            page = http.client.HTTPConnection("127.0.0.1", self.page + seat - 1, timeout=REPLY_SECONDS)
+            try:
+                page.request(method, path, body, dict(fields))
+                response = page.getresponse()
+                return response.status, response.read()
+            except http.client.RemoteDisconnected as silent:
+                found = 0, repr(silent).encode()
+                time.sleep(PAUSE)
+            except (OSError, http.client.HTTPException) as late:
+                return 0, repr(late).encode()
+            finally:
+                page.close()
+        return found
 
     def give(self, seat, made, line):
         """A line at the page of a seat that has made this many commands."""
@@ -96,15 +87,29 @@ def same(name, is_it, wanted):
 
 
 def is_page(name, asked):
-    """Tells whether a request was answered by the page."""
-    tell(name, "" if asked[0] == 200 and b"1401" in asked[1] else f"it is {asked!r}")
+    """Tells whether a request was answered by the page, to the byte."""
+    tell(name, "" if asked == (200, PAGE) else f"it is {asked[0]} {asked[1][-300:]!r}")
 
 
-def whoever_comes_first(_):
+def each_route(port):
+    """A request of each route, the last one without what a line has to say of its sender."""
+    own = f"HTTP/1.1\r\nHost: 127.0.0.1:{port}\r\n"
+    return [
+        ("the page", f"GET / {own}\r\n"),
+        ("a picture", f"GET /picture?core=0&paper=0 {own}\r\n"),
+        ("a line of anybody", f"POST /line {own}Content-Length: 4\r\n\r\nREGS"),
+    ]
+
+
+def whoever_comes_first(folder):
     """A seat goes to its page or to a console, whoever comes first; a page keeps it, a console frees it."""
-    room = Pages(2)
+    kept = folder / "first.journal"
+    room = Pages(2, "--journal", kept)
     with room.console() as first:
         answer("a console comes first", say(first, b"DEPOSIT 0700 ~1\n"), b"OK\n")
+        for name, request in each_route(room.page):
+            response = ask(room.page, request.encode())
+            expect_within(f"refused at its page: {name}", response, "HTTP/1.1 503 ", b"\r\n\r\n" + TAKEN)
         same("its page is refused", room.ask(1), (503, TAKEN))
         same("so is a line there", room.give(1, 1, b"DEPOSIT 0700 ~2"), (503, TAKEN))
         is_page("the other page is there", room.ask(2))
@@ -119,9 +124,25 @@ def whoever_comes_first(_):
     same("a line goes on from that", room.give(1, 1, b"EXAMINE 0700 1"), (200, b"~1\n"))
     with room.console() as late:
         answer("a page keeps its seat", hear(late), b"FULL\n")
+    is_page("and is there again", room.ask(1))
     same("QUIT of a page leaves it its seat", room.give(1, 2, b"QUIT"), (200, b"BYE\n"))
     same("and it goes on", room.give(1, 2, b"GLANCE 0700"), (200, b"AFTER 3 ~1\n"))
     room.ended("a room with pages ends", 3)
+    text = (b"JOURNAL1 4000\n1\t1\tDEPOSIT 0700 ~1\tOK\n2\t2\tEXAMINE 0700 1\t~1\n"
+            b"3\t1\tEXAMINE 0700 1\t~1\n")
+    same("what was refused is no command", kept.read_bytes(), text)
+
+
+def idle_to_the_end(_):
+    """Connections that send nothing, and stay, keep neither the first request waiting, which would come only after
+    longer than a reply may take if they were waited for one after the other, nor the end, which each of them hears."""
+    room = Pages(1)
+    idle = [room.connect(1) for _ in range(IDLE)]
+    is_page(f"the first request of all, behind {IDLE} idle connections", room.ask(1))
+    room.ended("a room ends though they stay", 0)
+    answer("each of them hears the end", b"".join(hear(each) + b"/" for each in idle), b"/" * IDLE)
+    for connection in idle:
+        connection.close()
 
 
 def many_wait(_):
@@ -285,5 +306,5 @@ def all_held(_):
 def page_seats():
     """All of these."""
     with tempfile.TemporaryDirectory() as folder:
-        for part in whoever_comes_first, many_wait, begun, refused, unheard, all_held:
+        for part in whoever_comes_first, idle_to_the_end, many_wait, begun, refused, unheard, all_held:
             part(Path(folder))
