@@ -14,11 +14,13 @@ from pathlib import Path
 
 from checks.journals import sync_library
 from checks.report import PROGRAM, REPLY_SECONDS, SECONDS, TOP, difference, expect, run, tell
-from checks.service import answer, hear, say
+from checks.service import answer, hear, say, visit
 
 # How many served rooms are killed, and how many operators each of them has.
 KILLS = 200
 OPERATORS = 8
+# How many times a port is looked at.
+PROBES = 20
 # How many commands an operator has ready: more than are answered before a kill.
 READY_LINES = 2_000
 
@@ -87,6 +89,57 @@ def taken_again(_):
     room.ended("a room is ended by QUIT and a carriage return", 0, b"quit\r\nQUIT\r\n")
     ended = run([PROGRAM, "serve", "--port", str(room.port), "--seats", "1", "--keep-seats"], b"")
     expect("a room whose input is at its end", ended, 0, "READY\nJOURNAL 0\n")
+
+
+def lowest_free(folder):
+    """A connection has the lowest seat that is free, which is so as soon as the one before it has heard its end."""
+    path = folder / "lowest.journal"
+    room = Room("serve", "--port", "PORT", "--seats", "3", "--journal", path)
+    with room.console() as first, room.console() as second:
+        answer("the first of three seats", say(first, b"DEPOSIT 1 A\n"), b"OK\n")
+        answer("the second of them", say(second, b"EXAMINE 1\n"), b"A\n")
+        first.sendall(b"QUIT\n")
+        answer("the first is left", hear(first), b"BYE\n")
+        third = visit(room.console(), b"GLANCE 1\nDEPOSIT 1 C\nQUIT\n")
+        answer("it is taken again, and left", third, b"AFTER 2 A\nOK\nBYE\n")
+        second.sendall(b"EXAMINE 1\nQUIT\n")
+        answer("the second goes on, and is left", hear(second), b"C\nBYE\n")
+    room.ended("a room of three seats ends", 4)
+    text = (b"JOURNAL1 4000\n1\t1\tDEPOSIT 0001 A\tOK\n2\t2\tEXAMINE 0001 1\tA\n3\t1\tDEPOSIT 0001 C\tOK\n"
+            b"4\t2\tEXAMINE 0001 1\tC\n")
+    tell("each command has the seat that was free", "; ".join(difference("the file", path.read_bytes(), text)))
+
+
+def without_a_seat(folder):
+    """A connection for which no seat is left is told FULL, also behind one that hasn't read it yet; a last line needs
+    no line feed."""
+    path = folder / "one.journal"
+    room = Room("serve", "--port", "PORT", "--seats", "1", "--journal", path)
+    with room.console() as only:
+        answer("the only seat", say(only, b"EXAMINE 1\n"), b" \n")
+        with room.console() as unread, room.console() as late:
+            answer("a connection behind one that doesn't read", hear(late), b"FULL\n")
+            answer("and that one, when it does", hear(unread), b"FULL\n")
+        only.sendall(b"EXAMINE 2\nQUIT\n")
+        answer("the seat goes on, and is left", hear(only), b" \nBYE\n")
+    answer("the next connection has it", visit(room.console(), b"EXAMINE 3"), b" \n")
+    room.process.stdin.close()
+    room.process.stdin = None
+    room.ended("a room of one seat ends with its input", 3, None)
+    text = b"JOURNAL1 4000\n" + b"".join(b"%d\t1\tEXAMINE 000%d 1\t \n" % (k, k) for k in (1, 2, 3))
+    tell("each command is of that seat", "; ".join(difference("the file", path.read_bytes(), text)))
+
+
+def probes(folder):
+    """Connections that send nothing hear nothing, and each leaves its seat to the next; QUIT needs no line feed."""
+    path = folder / "probes.journal"
+    room = Room("serve", "--port", "PORT", "--seats", "1", "--journal", path)
+    heard = b"".join(visit(room.console(), b"") + b"/" for _ in range(PROBES))
+    answer(f"{PROBES} probes of a port hear nothing", heard, b"/" * PROBES)
+    answer("and cost no seat", visit(room.console(), b"EXAMINE 1\n"), b" \n")
+    room.ended("a room is ended by QUIT at the end of its input", 1, b"QUIT")
+    text = b"JOURNAL1 4000\n1\t1\tEXAMINE 0001 1\t \n"
+    tell("they are no commands", "; ".join(difference("the file", path.read_bytes(), text)))
 
 
 def begun(folder):
@@ -451,7 +504,7 @@ def seats():
     """All of these."""
     with tempfile.TemporaryDirectory() as folder:
         for part in (
-            taken_again, begun, misused, kept, resumed, unkept, unheard, unheld, all_held, unaccepted, unread, denied,
-            unsynced, killed
+            taken_again, lowest_free, without_a_seat, probes, begun, misused, kept, resumed, unkept, unheard, unheld,
+            all_held, unaccepted, unread, denied, unsynced, killed
         ):
             part(Path(folder))

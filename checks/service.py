@@ -61,6 +61,17 @@ def hear(console):
     return replies
 
 
+def visit(console, lines):
+    """Sends lines and nothing more, and gives all replies until the end of the connection."""
+    with console:
+        try:
+            console.sendall(lines)
+            console.shutdown(socket.SHUT_WR)
+        except OSError as late:
+            return str(late).encode()
+        return hear(console)
+
+
 def answer(name, is_it, wanted):
     """Tells whether a console was answered so."""
     tell(name, "; ".join(difference("the reply", is_it, wanted)))
