@@ -5,8 +5,6 @@ mod closing;
 mod giving;
 mod lines;
 mod operators;
-mod pages;
-mod seats;
 mod service;
 mod taking_turns;
 

@@ -1,16 +1,11 @@
 //! What operators do at their connections.
 
 use crate::tests::service::Here;
-use page_1401::document::PAGE;
 use std::alloc::AllocGlobal;
 use std::io::{Read, Write};
 use std::net::{Net, Shutdown, SocketAddr, TcpStream};
 use std::process::Abort;
 use std::thread::yield_now;
-use std::time::Duration;
-
-/// How many bytes an answer has up to its status.
-const STATUS_BYTES: usize = 12;
 
 /// What operators do next: something, a number, and a text.
 pub type Act = (Does, usize, &'static str);
@@ -20,23 +15,15 @@ pub type Act = (Does, usize, &'static str);
 pub enum Does {
     /// As many connect to the consoles' port. Connections are numbered as they come, from 0 on.
     Come,
-    /// As many connect to the page's port.
-    ComeToThePage,
     /// On the connection of the number the text is sent, and a line is heard.
     HearLine,
     /// On the connection of the number the text is sent, and all is heard that is still sent.
     HearEnd,
-    /// As many of the connections, from the first one on, hear all that is still sent.
-    AllHearEnd,
     /// As many connect to the consoles' port, one after the other; each sends the text and nothing more, hears all, and
     /// goes.
     Visit,
-    /// One asks for the page, which has a second for its answer.
-    Ask,
     /// The other threads have as many turns.
     Yield,
-    /// The input may come.
-    Press,
 }
 
 /// Connects to a port.
@@ -112,61 +99,8 @@ fn visit<R: Abort + Net<Stream = TcpStream>>(
     }
 }
 
-/// Whether an answer is the page.
-fn is_page(answer: &[u8]) -> bool {
-    answer.ends_with(PAGE)
-}
-
-/// Adds an answer's status to what was told, and whether it is the page.
-fn tell_answer(rt: &impl Abort, answer: &[u8], is_page: bool, told: &mut Vec<u8>) {
-    let status = answer.get(..STATUS_BYTES).unwrap_or(answer);
-    let end = if is_page { " PAGE/" } else { "/" };
-    told.extend_from_slice(status).expect(rt, "room");
-    told.extend_from_slice(end.as_bytes()).expect(rt, "room");
-}
-
-/// Connects, sends this, and adds the answer, which has a second to come.
-fn fetch<R: Abort + Net<Stream = TcpStream>>(
-    rt: &R,
-    address: SocketAddr,
-    text: &str,
-    answer: &mut Vec<u8>,
-) {
-    let stream = connect(rt, address);
-    stream
-        .set_read_timeout(Some(Duration::from_secs(1)))
-        .expect(rt, text);
-    send(rt, &stream, text);
-    let mut reader = &stream;
-    reader.read_to_end(answer).expect(rt, text);
-}
-
-/// Asks for the page, which has a second for its answer, and adds the answer's status to what was told, and whether it
-/// is the page.
-fn ask<R: Abort + AllocGlobal + Net<Stream = TcpStream>>(
-    rt: &R,
-    address: SocketAddr,
-    told: &mut Vec<u8>,
-) {
-    let request = format!(in rt.alloc(); "GET / HTTP/1.1\r\nHost: {address}\r\n\r\n").expect(
-        rt,
-        "a request",
-    );
-    let mut answer = Vec::new(rt.alloc());
-    fetch(rt, address, request.as_str(), &mut answer);
-    let is_page = is_page(answer.as_slice());
-    tell_answer(rt, answer.as_slice(), is_page, told);
-}
-
-/// As many of these connections hear all that is still sent, which is added.
-fn all_hear_end(rt: &impl Abort, streams: &[TcpStream], many: usize, told: &mut Vec<u8>) {
-    for stream in streams.iter().take(many) {
-        hear_end(rt, stream, told);
-    }
-}
-
 /// Does what comes next.
-fn act<R: Abort + AllocGlobal + Net<Stream = TcpStream>>(
+fn act<R: Abort + Net<Stream = TcpStream>>(
     rt: &R,
     here: &Here,
     act: &Act,
@@ -176,20 +110,16 @@ fn act<R: Abort + AllocGlobal + Net<Stream = TcpStream>>(
     let (does, number, text) = *act;
     match does {
         Does::Come => connect_all(rt, here.consoles, number, streams),
-        Does::ComeToThePage => connect_all(rt, here.page, number, streams),
         Does::HearLine | Does::HearEnd => {
             let stream = streams.as_slice().get(number).expect(rt, text);
             send_and_hear(rt, stream, text, matches!(does, Does::HearLine), told);
         }
-        Does::AllHearEnd => all_hear_end(rt, streams.as_slice(), number, told),
         Does::Visit => visit(rt, here.consoles, number, text, told),
-        Does::Ask => ask(rt, here.page, told),
         Does::Yield => {
             for _ in 0..number {
                 yield_now();
             }
         }
-        Does::Press => here.button.press(),
     }
 }
 

@@ -1,5 +1,5 @@
 //! A service with its operators.
-ghost use Rattle.std.specs.Prelude.{◌≡◌, ◌<◌, ◌≤◌, ◌^◌, length};
+ghost use Rattle.std.specs.Prelude.{◌≡◌, ◌<◌, ◌≤◌, ◌^◌};
 ghost use Rattle.console_1401.specs.Served.{AreAllSeats};
 
 use crate::tests::button::{Button, Pressed};
@@ -8,7 +8,7 @@ use crate::tests::operators::{Act, connect, operate};
 use crate::tests::{expect_same, expect_text};
 use console_1401::Door;
 use room_1401::{Opened, RoomId, Seat, SharedRoom};
-use serving_1401::{PagePort, SeatsFault, SeatsServed, serve_pages, serve_seats};
+use serving_1401::{SeatsFault, SeatsServed, serve_seats};
 use std::alloc::AllocGlobal;
 use std::marker::Brand;
 use std::net::{Ipv4Addr, Net, SocketAddr, TcpListener, TcpStream};
@@ -31,8 +31,6 @@ pub struct Evening {
     pub holds: bool,
     /// Whether the first operator is connected before anyone is served, and nobody else is accepted.
     pub is_early: bool,
-    /// Whether seat 1 has a page.
-    pub has_page: bool,
     /// How many commands there is room for where the room is kept.
     pub room_for: u64,
     /// What the operators do. Then the input may come.
@@ -50,7 +48,6 @@ pub const QUIET: Evening = Evening {
     closings: &[(b"QUIT\n", false, None)],
     holds: false,
     is_early: false,
-    has_page: false,
     room_for: 99,
     acts: &[],
     told: "",
@@ -64,9 +61,7 @@ pub struct Here<'a> {
     pub evening: &'a Evening,
     pub closing: &'a Closing,
     pub listener: &'a TcpListener,
-    pub pages: &'a [PagePort],
     pub consoles: SocketAddr,
-    pub page: SocketAddr,
     pub button: &'a Button,
 }
 
@@ -141,10 +136,6 @@ fn expect_closing<
     requires { (0 < seats) × (seats ≤ 8) }
 {
     let consoles = listen(rt);
-    let listener = listen(rt);
-    let page = address_of(rt, &listener);
-    let port = page.port();
-    let pages = [PagePort { port, listener }];
     let mut streams = Vec::new(rt.alloc());
     if evening.is_early {
         come_early(rt, &consoles, &mut streams);
@@ -154,9 +145,7 @@ fn expect_closing<
         evening,
         closing,
         listener: &consoles,
-        pages: &pages,
         consoles: address_of(rt, &consoles),
-        page,
         button: &button,
     };
     let opened = Opened::new(seats);
@@ -179,7 +168,6 @@ fn open<
     requires ledger { (opened.ledger ≡ J.name) × (opened.parts ≡ J.parts) × (J.parts ≡ J.seats) }
     requires named { (4000 ≡ J.size) × (seats ≡ J.seats) }
     requires count { (0 < seats) × (seats ≤ 8) }
-    requires pages { length here.now.pages.now ≤ seats }
 {
     let alloc = rt.alloc();
     let keeper = Lines::new(alloc, here.evening.room_for);
@@ -194,8 +182,7 @@ fn open<
             requires { (J.parts ≡ J.seats)
                 × AreAllSeats J.seats seats.items
                 × (0 < J.seats)
-                × (J.seats < 2 ^ 8)
-                × (length here.now.pages.now ≤ J.seats) }
+                × (J.seats < 2 ^ 8) }
         {
             attend_both(scope, rt, room, seats, here, streams);
         },
@@ -225,7 +212,6 @@ where
     requires ledger { J.parts ≡ J.seats }
     requires seats { AreAllSeats J.seats seats.items }
     requires count { (0 < J.seats) × (J.seats < 2 ^ 8) }
-    requires pages { length here.now.pages.now ≤ J.seats }
 {
     let operating = scope
         .spawn(move || operate(rt, here, streams))
@@ -236,7 +222,7 @@ where
     expect_served(rt, &served, here);
 }
 
-/// Serves consoles, and the page if there is one.
+/// Serves consoles.
 fn serve<J, R>(
     rt: &R,
     room: SharedRoom<J, &R, Lines>,
@@ -255,7 +241,6 @@ where
     requires ledger { J.parts ≡ J.seats }
     requires seats { AreAllSeats J.seats seats.items }
     requires count { (0 < J.seats) × (J.seats < 2 ^ 8) }
-    requires pages { length here.now.pages.now ≤ J.seats }
 {
     let alloc = rt.alloc();
     let (bytes, fails, _) = *here.closing;
@@ -264,12 +249,7 @@ where
         button: here.button,
         holds: here.evening.holds,
     };
-    if here.evening.has_page {
-        let consoles = Some(here.listener);
-        serve_pages(alloc, rt, room, seats, consoles, here.pages, input, &door)
-    } else {
-        serve_seats(alloc, rt, room, seats, here.listener, input, &door)
-    }
+    serve_seats(alloc, rt, room, seats, here.listener, input, &door)
 }
 
 /// Compares what was kept, how many commands there were, and what went wrong.
