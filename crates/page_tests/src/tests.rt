@@ -1,5 +1,0 @@
-mod hostile;
-mod pictures;
-mod requests;
-mod room;
-mod taken;
