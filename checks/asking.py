@@ -135,7 +135,7 @@ def status(response):
 
 
 def body(response):
-    """What stands behind a response's head."""
+    """What follows a response's head."""
     return response.partition(b"\r\n\r\n")[2]
 
 

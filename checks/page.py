@@ -3,7 +3,6 @@ import base64
 import hashlib
 import re
 import socket
-import time
 
 from checks.asking import PAGE, PageRoom, Silent, after, body, expect_made, expect_refused, expect_status
 from checks.asking import expect_unchanged, expect_within, field, get, made, post, status
@@ -11,9 +10,9 @@ from checks.hostile import damaged_at_each_place, damaged_by_chance, hostile_req
 from checks.report import REPLY_SECONDS, TOP, run, tell
 from checks.service import answer
 
-# How many connections stay silent while a request is answered, and within how many seconds it has to be.
-SILENT = 40
-PROMPT = 1.0
+# How many connections stay silent while a request is answered. A page waits a second for each, so that a reply would
+# come too late if it waited for one after the other.
+SILENT = 2 * REPLY_SECONDS
 # One request of so many may have to be made again, at most.
 SILENCES = 100
 
@@ -240,18 +239,12 @@ def refused_lines(room):
 def silent_connections(room):
     """Connections that send nothing keep nobody waiting."""
     silent = [socket.create_connection(("127.0.0.1", room.port), timeout=REPLY_SECONDS) for _ in range(SILENT)]
-    began = time.monotonic()
     response = get(room.port, "/picture?core=0&paper=0")
-    took = time.monotonic() - began
     expect_status(f"a picture beside {SILENT} silent connections", response, 200)
-    tell("it is prompt", "" if took <= PROMPT else f"it took {took:.1f} seconds")
-    dripping = socket.create_connection(("127.0.0.1", room.port), timeout=REPLY_SECONDS)
-    dripping.sendall(b"GET /picture HTTP/1.1\r\nHo")
-    began = time.monotonic()
+    begun = socket.create_connection(("127.0.0.1", room.port), timeout=REPLY_SECONDS)
+    begun.sendall(b"GET /picture HTTP/1.1\r\nHo")
     expect_status("a picture beside half a request", get(room.port, "/picture?core=0&paper=0"), 200)
-    took = time.monotonic() - began
-    tell("it waits for the patience at most", "" if took <= 3 * PROMPT else f"it took {took:.1f} seconds")
-    for connection in [*silent, dripping]:
+    for connection in [*silent, begun]:
         connection.close()
 
 

@@ -14,11 +14,10 @@ from checks.report import PROGRAM, REPLY_SECONDS, SECONDS, TOP, expect, misuse, 
 from checks.seats import handles
 from checks.service import answer, hear, say
 
-# How many idle connections a page may have without a delay, and how many at most.
-IDLE = 40
+# How many idle connections a page may have without a delay, and how many at most. It waits a second for each, so that a
+# reply would come too late if it waited for one after the other.
+IDLE = 2 * REPLY_SECONDS
 MOST_WAITING = 64
-# How long a page waits for the first byte of a connection, and for each other part of it.
-PATIENCE = 1
 TAKEN = b"a console sits at this seat\n"
 
 
@@ -138,52 +137,56 @@ def idle_to_the_end(_):
     longer than a reply may take if they were waited for one after the other, nor the end, which each of them hears."""
     room = Pages(1)
     idle = [room.connect(1) for _ in range(IDLE)]
-    is_page(f"the first request of all, behind {IDLE} idle connections", room.ask(1))
+    is_page(f"the first request of all, after {IDLE} idle connections", room.ask(1))
     room.ended("a room ends though they stay", 0)
     answer("each of them hears the end", b"".join(hear(each) + b"/" for each in idle), b"/" * IDLE)
     for connection in idle:
         connection.close()
 
 
+def ended_first(connections, few):
+    """How many connections have ended once these few have."""
+    late, ended = time.monotonic() + REPLY_SECONDS, []
+    while len(ended) < few and time.monotonic() < late:
+        ended = select.select(connections, [], [], 0.01)[0]
+    return len(ended)
+
+
+def drip(connection, asking):
+    """Sends a byte now and then, until somebody's request is answered or the connection is closed."""
+    try:
+        while asking.is_alive():
+            connection.sendall(b"E")
+            time.sleep(PAUSE)
+    except OSError:
+        pass
+
+
 def many_wait(_):
-    """Idle connections delay nobody; those beyond what a page takes are closed at once; one that drips is let go."""
+    """Idle connections delay nobody, and are closed; those beyond what a page takes are closed before the others; one
+    that drips is let go."""
     room = Pages(1, consoles=False)
     is_page("a page alone", room.ask(1))
     idle = [room.connect(1) for _ in range(IDLE)]
-    begun = time.monotonic()
     is_page(f"a page behind {IDLE} idle connections", room.ask(1))
-    took = time.monotonic() - begun
-    tell("is answered within half a second", "" if took < 0.5 else f"it took {took:.1f} s")
-    time.sleep(PATIENCE + 0.5)
-    for connection in idle:
-        connection.settimeout(0.2)
-    closed = [hear(connection) for connection in idle]
-    same("the idle ones are closed", closed, [b""] * IDLE)
+    same("the idle ones are closed", [hear(connection) for connection in idle], [b""] * IDLE)
     idle = [room.connect(1) for _ in range(MOST_WAITING + 6)]
-    time.sleep(0.3)
-    same("those beyond 64 are closed at once", len(select.select(idle, [], [], 0)[0]), 6)
-    time.sleep(PATIENCE + 0.2)
-    is_page("and the page is there again", room.ask(1))
+    same(f"those beyond {MOST_WAITING} are closed first", ended_first(idle, 6), 6)
+    same("and the others", [hear(connection) for connection in idle], [b""] * len(idle))
+    is_page("the page is there again", room.ask(1))
+    answers = []
+    asking = threading.Thread(target=lambda: answers.append(room.ask(1)))
     with room.connect(1) as drips:
-        begun = time.monotonic()
         drips.sendall(b"G")
-        answers = []
-        asking = threading.Thread(target=lambda: answers.append((room.ask(1), time.monotonic() - begun)))
         asking.start()
-        try:
-            for _ in range(100):
-                drips.sendall(b"E")
-                time.sleep(0.1)
-        except OSError:
-            pass
+        drip(drips, asking)
         asking.join()
-    is_page("a request behind one that drips", answers[0][0])
-    tell("is answered within three seconds", "" if answers[0][1] < 3 else f"it took {answers[0][1]:.1f} s")
+    is_page("a request behind one that drips", answers[0])
     idle = [room.connect(1) for _ in range(IDLE)]
     begun = time.monotonic()
     room.ended("a room with idle connections ends", 0)
     took = time.monotonic() - begun
-    tell("within two seconds", "" if took < 2 else f"it took {took:.1f} s")
+    tell("before it could have waited for each", "" if took < REPLY_SECONDS else f"it took {took:.1f} s")
     for connection in idle:
         connection.close()
 
