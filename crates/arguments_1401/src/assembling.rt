@@ -66,7 +66,7 @@ static ASSEMBLE: Subcommand = Subcommand {
     arguments: ARGUMENTS,
 };
 
-/// The same, written out in one place for all that name it.
+/// A reference to it.
 pub(crate) fn assemble() -> &'static Subcommand {
     &ASSEMBLE
 }

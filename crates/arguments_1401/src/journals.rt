@@ -70,7 +70,7 @@ static SHOW_JOURNAL: Subcommand = Subcommand {
     arguments: SHOWING,
 };
 
-/// The same, written out in one place for all that name it.
+/// A reference to it.
 pub(crate) fn show_journal() -> &'static Subcommand {
     &SHOW_JOURNAL
 }
@@ -120,7 +120,7 @@ static RESUME: Subcommand = Subcommand {
     arguments: RESUMING,
 };
 
-/// The same, written out in one place for all that name it.
+/// A reference to it.
 pub(crate) fn resume() -> &'static Subcommand {
     &RESUME
 }

@@ -35,7 +35,7 @@ static CONSOLE: Subcommand = Subcommand {
     arguments: &[JOURNAL, NEW_SYNC, SIZE],
 };
 
-/// The same, written out in one place for all that name it.
+/// A reference to it.
 fn console() -> &'static Subcommand {
     &CONSOLE
 }
@@ -49,7 +49,7 @@ static LOAD: Subcommand = Subcommand {
     arguments: &[JOURNAL, NEW_SYNC, IMAGE],
 };
 
-/// The same, written out in one place for all that name it.
+/// A reference to it.
 fn load() -> &'static Subcommand {
     &LOAD
 }
@@ -63,7 +63,7 @@ static DISASSEMBLE: Subcommand = Subcommand {
     arguments: &[IMAGE],
 };
 
-/// The same, written out in one place for all that name it.
+/// A reference to it.
 fn disassemble() -> &'static Subcommand {
     &DISASSEMBLE
 }
@@ -132,7 +132,7 @@ static RUN: Subcommand = Subcommand {
     arguments: RUNNING,
 };
 
-/// The same, written out in one place for all that name it.
+/// A reference to it.
 fn run() -> &'static Subcommand {
     &RUN
 }

@@ -80,7 +80,7 @@ static SERVE: Subcommand = Subcommand {
     arguments: ARGUMENTS,
 };
 
-/// The same, written out in one place for all that name it.
+/// A reference to it.
 pub(crate) fn serve() -> &'static Subcommand {
     &SERVE
 }

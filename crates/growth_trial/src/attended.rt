@@ -8,7 +8,7 @@ use std::alloc::Global;
 use std::io::{Read, Stdin};
 use std::sync::Wait;
 
-/// Holds a session, and shows how it ended, the journal and the machine. Nothing if something couldn't be told before.
+/// Holds a session, and shows how it ended, the journal and the machine. Does nothing if a line couldn't be told.
 pub fn hold_session(teller: &mut Teller, input: Stdin, alloc: Global, room: &mut Room) {
     if teller.has_failed() {
         return;
@@ -48,8 +48,8 @@ fn attend_lines<J: RoomId, R: Wait, S: Read + Drop>(
     tell_end(teller, end, seat.number(), seat.made());
 }
 
-/// Attends the console of a seat: the lines of seat 1 are standard input's, and any other asks for one place. Nothing
-/// if something couldn't be told before.
+/// Attends the console of a seat: the lines of seat 1 are standard input's, and any other asks for one place. Does
+/// nothing if a line couldn't be told.
 fn attend_seat<J: RoomId, R: Wait>(
     rt: &R,
     teller: &mut Teller,

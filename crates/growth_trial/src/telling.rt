@@ -13,7 +13,7 @@ pub struct Teller {
 }
 
 impl Teller {
-    /// One that has told nothing.
+    /// A teller that has told nothing yet.
     pub fn new(output: Stdout) -> Teller {
         Teller {
             output,
@@ -51,7 +51,7 @@ impl Teller {
         self.tell(format_args!("{value:?}"));
     }
 
-    /// Tells that a call was refused, why, and what stood then or where it was.
+    /// Tells that a call was refused and why, followed by the rest of the line.
     pub fn tell_refused(&mut self, fault: &impl Debug, besides: impl Display + Drop) {
         self.tell(format_args!("refused {fault:?}{besides}"));
     }
