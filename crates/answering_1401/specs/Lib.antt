@@ -4,4 +4,3 @@ pub mod Limits
 pub mod ReplyText
 pub mod Session
 pub mod Text
-pub mod Turns

@@ -1,7 +1,7 @@
 -- What the console replies (own).
 use Rattle.std.specs.Prelude.{ℕ, List, [], ◌∷◌, ◌++◌, Option, None, Some, codes}
 use Rattle.text_1401.specs.AnswerText.{answer_text, fault_text, glance_text}
-use Rattle.lone_room_1401.specs.FaultText.{glance_fault_text, room_fault_text}
+use Rattle.operator_1401.specs.FaultText.{glance_fault_text, room_fault_text}
 use Rattle.answering_1401.specs.declared.reply.Reply.{Reply}
 use Rattle.answering_1401.specs.declared.reply.Reply.TheVariants as reply
 use Rattle.notation_1401.specs.Bytes.{line_feed}

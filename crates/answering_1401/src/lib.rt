@@ -1,11 +1,11 @@
 //! The operator's console of the IBM 1401, as a function of its bytes: lines are read from a source, and answered to a
-//! sink, one after the other.
+//! sink, one after the other, by whatever carries them out.
 //!
 //! ```text
 //! let mut reader = FromReader::new(b"EXAMINE 0500\nQUIT\n".as_slice());
 //! let mut writer = ToWriter::new(Vec::new(alloc));
-//! session(alloc, &mut room, &mut reader, &mut writer)     // SessionEnd::Quit
-//! writer.into_inner()                                     // " \nBYE\n": a blank, and the end
+//! answer_lines(alloc, &mut responder, &mut reader, &mut writer)   // SessionEnd::Quit
+//! writer.into_inner()                                             // its reply, and "BYE\n"
 //! ```
 #![tactic(auto)]
 
@@ -18,15 +18,9 @@ pub mod responder;
 pub mod answering;
 pub mod session_end;
 
-// the console of a room, kept or not
-pub mod kept_sessions;
-pub mod sessions;
-
 pub use answering::answer_lines;
-pub use kept_sessions::session_kept;
 pub use reply::{Reply, reply_bytes};
 pub use responder::Responder;
 pub use session_end::SessionEnd;
-pub use sessions::{OWN_SEAT, session};
 pub use streams_1401::{Failed, FromReader, Sink, Source, ToWriter, put_all};
 pub use text_1401::{LINE_LIMIT, Line, LineFault, parse_line, reply_text};

@@ -2,8 +2,7 @@
 ghost use Rattle.std.specs.Prelude.{◌≡◌, IfOk, Some};
 ghost use Rattle.answering_1401.specs.ReplyText.{bytes_of};
 
-use command_1401::Answer;
-use lone_room_1401::{Glance, GlanceFault, RoomFault};
+use operator_1401::{Answer, Glance, GlanceFault, RoomFault};
 use std::alloc::{AllocError, Global};
 use text_1401::{LineFault, fault_text, glance_text, reply_text};
 

@@ -7,10 +7,10 @@ use Rattle.cpu_1401.specs.State.{State, power_on}
 use Rattle.devices_1401.specs.Devices.{Devices, no_cards}
 use Rattle.devices_1401.specs.declared.card.Card.{Card}
 use Rattle.devices_1401.specs.declared.print_line.PrintLine.{PrintLine}
-use Rattle.command_1401.specs.declared.answer.Answer.TheVariants as answer
-use Rattle.command_1401.specs.declared.answer.Refusal.{Refusal}
-use Rattle.command_1401.specs.declared.answer.Refusal.TheVariants as refusal
-use Rattle.command_1401.specs.declared.command.Command.TheVariants.{Feed, LoadKey, TakeLine, TakeCard}
+use Rattle.operator_1401.specs.declared.answer.Answer.TheVariants as answer
+use Rattle.operator_1401.specs.declared.answer.Refusal.{Refusal}
+use Rattle.operator_1401.specs.declared.answer.Refusal.TheVariants as refusal
+use Rattle.operator_1401.specs.declared.command.Command.TheVariants.{Feed, LoadKey, TakeLine, TakeCard}
 use Rattle.command_1401.specs.CarryOut.{Carried, carry_out}
 
 abbrev card : List ℕ → Card

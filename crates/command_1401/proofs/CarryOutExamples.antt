@@ -3,10 +3,10 @@ use Rattle.std.proofs.Common.{◌≡◌, true, false, [], ◌∷◌, refl}
 use Rattle.bcd_1401.specs.declared.cell.Cell.{Cell}
 use Rattle.core_1401.specs.Storage.{blank}
 use Rattle.cpu_1401.specs.State.{State, power_on}
-use Rattle.command_1401.specs.declared.answer.Answer.TheVariants.{Done, Refused}
-use Rattle.command_1401.specs.declared.answer.Refusal.TheVariants.{Address, Limit, Count}
-use Rattle.command_1401.specs.declared.command.Command.TheVariants.{Deposit, Examine, SetI, Switch, Run}
-use Rattle.cpu_1401.specs.declared.switch_name.SwitchName.TheVariants.{B}
+use Rattle.operator_1401.specs.declared.answer.Answer.TheVariants.{Done, Refused}
+use Rattle.operator_1401.specs.declared.answer.Refusal.TheVariants.{Address, Limit, Count}
+use Rattle.operator_1401.specs.declared.command.Command.TheVariants.{Deposit, Examine, SetI, Switch, Run}
+use Rattle.panel_1401.specs.declared.switch_name.SwitchName.TheVariants.{B}
 use Rattle.command_1401.specs.CarryOut.{carry_out}
 
 -- K with a word mark

@@ -7,18 +7,18 @@ use Rattle.core_1401.specs.Storage.{Storage, is_in_core}
 use Rattle.cpu_1401.specs.CardsAndPrinter.{load, with_devices}
 use Rattle.cpu_1401.specs.Run.{Finished, most_steps, run_for}
 use Rattle.cpu_1401.specs.State.{State, regs_of, with_switch}
-use Rattle.cpu_1401.specs.SwitchName.{switch_number}
+use Rattle.panel_1401.specs.SwitchName.{switch_number}
 use Rattle.devices_1401.specs.Devices.{after_card, after_line, fed, is_full}
 use Rattle.devices_1401.specs.declared.card.Card.{Card}
 use Rattle.devices_1401.specs.declared.print_line.PrintLine.{PrintLine}
-use Rattle.command_1401.specs.declared.answer.Answer.{Answer}
-use Rattle.command_1401.specs.declared.answer.Answer.TheVariants.{Done, Cells, Regs, Ran, Refused}
-use Rattle.command_1401.specs.declared.answer.Answer.TheVariants as answer
-use Rattle.command_1401.specs.declared.answer.Refusal.{Refusal}
-use Rattle.command_1401.specs.declared.answer.Refusal.TheVariants.{Address, Hopper, Reader, Empty, Limit, Count}
-use Rattle.command_1401.specs.declared.command.Command.{Command}
-use Rattle.command_1401.specs.declared.command.Command.TheVariants.{Deposit, Examine, Registers, SetI, Switch, Feed}
-use Rattle.command_1401.specs.declared.command.Command.TheVariants.{LoadKey, Run, TakeLine, TakeCard}
+use Rattle.operator_1401.specs.declared.answer.Answer.{Answer}
+use Rattle.operator_1401.specs.declared.answer.Answer.TheVariants.{Done, Cells, Regs, Ran, Refused}
+use Rattle.operator_1401.specs.declared.answer.Answer.TheVariants as answer
+use Rattle.operator_1401.specs.declared.answer.Refusal.{Refusal}
+use Rattle.operator_1401.specs.declared.answer.Refusal.TheVariants.{Address, Hopper, Reader, Empty, Limit, Count}
+use Rattle.operator_1401.specs.declared.command.Command.{Command}
+use Rattle.operator_1401.specs.declared.command.Command.TheVariants.{Deposit, Examine, Registers, SetI, Switch, Feed}
+use Rattle.operator_1401.specs.declared.command.Command.TheVariants.{LoadKey, Run, TakeLine, TakeCard}
 
 -- what a command leaves: the machine, and the answer
 pub record Carried : Type 0 where

@@ -1,2 +1,1 @@
 pub mod CarryOut
-pub mod RefusalText

@@ -4,12 +4,11 @@ ghost use Rattle.core_1401.specs.Cells.{most_cells};
 ghost use Rattle.command_1401.specs.CarryOut.{are_in_core, carry_out, deposit, deposited, examine, examined};
 ghost use Rattle.command_1401.specs.CarryOut.{feed, load_key, run, set_i, take_card, take_line};
 
-use crate::answer::{Answer, Refusal};
-use crate::command::Command;
 use bcd_1401::Cell;
 use core_1401::{Cells, Core, MOST_CELLS};
 use cpu_1401::Machine;
 use devices_1401::Card;
+use operator_1401::{Answer, Command, Refusal};
 
 /// The most instructions of a run.
 const MOST_STEPS: u32 = 1_000_000;

@@ -1,4 +1,4 @@
-//! What an operator asks of the IBM 1401, and what the machine answers.
+//! What an operator asks of the IBM 1401, carried out on the machine.
 //!
 //! ```text
 //! let mut machine = Machine::power_on(alloc, 4000)?;
@@ -7,15 +7,7 @@
 //! ```
 #![tactic(auto)]
 
-// what is asked
-pub mod command;
-
-// what is done
 pub mod carrying;
 
-// what is answered
-pub mod answer;
-
-pub use answer::{Answer, Refusal};
 pub use carrying::carry_out;
-pub use command::Command;
+pub use operator_1401::{Answer, Command, Refusal};

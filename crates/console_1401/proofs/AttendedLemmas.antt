@@ -6,10 +6,10 @@ use Rattle.std.proofs.lemmas.List.Concat.{flat_map-cons}
 use Rattle.std.specs.List.{zip}
 use Rattle.std.specs.Prelude.{Ok, Err}
 use mathlib.Core.List.{IsPrefix}
-use Rattle.command_1401.specs.declared.answer.Answer.{Answer}
-use Rattle.command_1401.specs.declared.command.Command.{Command}
+use Rattle.operator_1401.specs.declared.answer.Answer.{Answer}
+use Rattle.operator_1401.specs.declared.command.Command.{Command}
 use Rattle.lone_room_1401.specs.declared.entry.SeatedCommand.{SeatedCommand}
-use Rattle.lone_room_1401.specs.declared.fault.RoomFault.TheVariants.{Memory, JournalFull, NoReading, Unkept}
+use Rattle.operator_1401.specs.declared.fault.RoomFault.TheVariants.{Memory, JournalFull, NoReading, Unkept}
 use Rattle.lone_room_1401.specs.Journal.{most_entries}
 use Rattle.lone_room_1401.specs.Replay.{pair}
 use Rattle.room_1401.specs.Seen.{SeatView}

@@ -2,11 +2,11 @@
 use Rattle.std.specs.Prelude.{◌≡◌, ℕ, ◌+◌, ◌<◌, List, [], ◌∷◌, ◌++◌, length, map, Option, None, Some, Ok, Err}
 use Rattle.std.specs.List.{flat_map, zip}
 use mathlib.Core.List.{IsPrefix}
-use Rattle.command_1401.specs.declared.answer.Answer.{Answer}
-use Rattle.command_1401.specs.declared.command.Command.{Command}
+use Rattle.operator_1401.specs.declared.answer.Answer.{Answer}
+use Rattle.operator_1401.specs.declared.command.Command.{Command}
 use Rattle.lone_room_1401.specs.declared.entry.SeatedCommand.{SeatedCommand}
-use Rattle.lone_room_1401.specs.declared.fault.RoomFault.{RoomFault}
-use Rattle.lone_room_1401.specs.declared.fault.RoomFault.TheVariants.{Memory, JournalFull, NoReading, Unkept}
+use Rattle.operator_1401.specs.declared.fault.RoomFault.{RoomFault}
+use Rattle.operator_1401.specs.declared.fault.RoomFault.TheVariants.{Memory, JournalFull, NoReading, Unkept}
 use Rattle.lone_room_1401.specs.Journal.{most_entries}
 use Rattle.lone_room_1401.specs.Replay.{pair, reply_to, cell_after}
 use Rattle.room_1401.specs.Seen.{SeatView}

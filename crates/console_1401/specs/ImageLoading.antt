@@ -2,8 +2,8 @@
 use Rattle.std.specs.Prelude.{◌≡◌, ℕ, ◌<◌, List, [], ◌∷◌, ◌++◌, length, map, take}
 use Rattle.image_1401.specs.declared.image.Image.{Image}
 use Rattle.image_1401.specs.declared.image.Segment.{Segment}
-use Rattle.command_1401.specs.declared.answer.Answer.TheVariants.{Done}
-use Rattle.command_1401.specs.declared.command.Command.TheVariants.{Deposit, SetI}
+use Rattle.operator_1401.specs.declared.answer.Answer.TheVariants.{Done}
+use Rattle.operator_1401.specs.declared.command.Command.TheVariants.{Deposit, SetI}
 use Rattle.lone_room_1401.specs.declared.entry.Entry.{Entry}
 use Rattle.lone_room_1401.specs.Journal.{entry}
 

@@ -1,10 +1,10 @@
 -- What a line is answered at a seat of a shared room, and what the seat has seen and made then (own).
 use Rattle.std.specs.Prelude.{◌≡◌, ℕ, ◌+◌, ◌<◌, ◌≤◌, List, length, Option, None, Some, Ok, Err}
 use mathlib.Core.List.{IsPrefix}
-use Rattle.command_1401.specs.declared.command.Command.{Command}
-use Rattle.lone_room_1401.specs.declared.fault.GlanceFault.{GlanceFault}
-use Rattle.lone_room_1401.specs.declared.fault.GlanceFault.TheVariants.{Range, Gone}
-use Rattle.lone_room_1401.specs.declared.fault.RoomFault.TheVariants.{Memory, JournalFull}
+use Rattle.operator_1401.specs.declared.command.Command.{Command}
+use Rattle.operator_1401.specs.declared.fault.GlanceFault.{GlanceFault}
+use Rattle.operator_1401.specs.declared.fault.GlanceFault.TheVariants.{Range, Gone}
+use Rattle.operator_1401.specs.declared.fault.RoomFault.TheVariants.{Memory, JournalFull}
 use Rattle.lone_room_1401.specs.Journal.{most_entries}
 use Rattle.lone_room_1401.specs.Replay.{cell_after}
 use Rattle.room_1401.specs.Seen.{SeatView, Carries}

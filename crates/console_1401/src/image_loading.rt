@@ -5,8 +5,8 @@ ghost use Rattle.image_1401.specs.Image.{is_inside};
 ghost use Rattle.lone_room_1401.specs.Journal.{answer_to, entry, is_full, refusal_of};
 ghost use Rattle.console_1401.specs.ImageLoading.{segment_entry, start_entry, load_entries, WentOnByFewer};
 
-use answering_1401::OWN_SEAT;
 use image_1401::{Image, Segment};
+use lone_room_1401::OWN_SEAT;
 use room_1401::{Answer, Command, Room, RoomFault};
 
 /// Loads an image: the console deposits each segment in order, and sets the I register to the entry. Each command is

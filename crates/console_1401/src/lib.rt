@@ -1,4 +1,4 @@
-//! The consoles of the IBM 1401: at a room that one has alone, as `answering_1401` has them, and at the seats of a room
+//! The consoles of the IBM 1401: at a room that one has alone, as `lone_room_1401` has them, and at the seats of a room
 //! that operators share; and an image put into a room.
 //!
 //! ```text
@@ -20,9 +20,10 @@ pub mod serving;
 pub use ahead::ahead_of;
 pub use answering_1401::{
     Failed, FromReader, LINE_LIMIT, Line, LineFault, SessionEnd, Sink, Source, ToWriter,
-    parse_line, put_all, reply_text, session, session_kept,
+    parse_line, put_all, reply_text,
 };
 pub use attending::{Unanswered, answer_line, attend};
 pub use door::{Door, OpenDoor};
 pub use image_loading::put_image;
+pub use lone_room_1401::{session, session_kept};
 pub use serving::{ServeFault, Served, serve};

@@ -10,7 +10,8 @@ use Rattle.std.proofs.lemmas.List.FromFn.{get_or-map-range_with_len, length-map-
 use Rattle.bcd_1401.specs.declared.cell.Cell.{Cell}
 use Rattle.core_1401.specs.Places.{is_within, with_cells, written_cell}
 use Rattle.core_1401.specs.Storage.{Storage, blank, cell_at, with_char, with_mark}
-use Rattle.cpu_1401.specs.CardsAndPrinter.{card_columns, with_chars_from}
+use Rattle.cpu_1401.specs.CardsAndPrinter.{with_chars_from}
+use Rattle.devices_1401.specs.Card.{card_columns}
 
 -- putting a character leaves each word mark
 char_keeps_mark : (storage : Storage) (at char k : ℕ) → at < length storage

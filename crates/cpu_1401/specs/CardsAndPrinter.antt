@@ -7,6 +7,7 @@ use Rattle.std.specs.Option.{is_some}
 use Rattle.bcd_1401.specs.declared.cell.Cell.{Cell}
 use Rattle.core_1401.specs.Places.{with_cells}
 use Rattle.core_1401.specs.Storage.{Storage, blank, cell_at, with_char, with_mark}
+use Rattle.devices_1401.specs.Card.{card_columns}
 use Rattle.devices_1401.specs.Carriage.{Carriage}
 use Rattle.devices_1401.specs.Devices.{Devices, after_read, is_full, printed, punched}
 use Rattle.devices_1401.specs.declared.card.Card.{Card}
@@ -15,8 +16,8 @@ use Rattle.devices_1401.specs.declared.fault.ControlFault.TheVariants as fault
 use Rattle.cpu_1401.specs.declared.io_request.IoRequest.{IoRequest}
 use Rattle.cpu_1401.specs.declared.io_request.CardWork.{CardWork}
 use Rattle.cpu_1401.specs.declared.instruction.Instruction.{Instruction}
-use Rattle.cpu_1401.specs.declared.stop.Stop.{Stop}
-use Rattle.cpu_1401.specs.declared.stop.Stop.TheVariants as stop
+use Rattle.panel_1401.specs.declared.stop.Stop.{Stop}
+use Rattle.panel_1401.specs.declared.stop.Stop.TheVariants as stop
 use Rattle.cpu_1401.specs.Branch.{branch_to, go_on}
 use Rattle.cpu_1401.specs.State.{State}
 use Rattle.cpu_1401.specs.Stepped.{Stepped, step_to, stopped}
@@ -40,9 +41,6 @@ punch_area = 101
 
 abbrev pub print_area : ℕ
 print_area = 201
-
-abbrev pub card_columns : ℕ
-card_columns = 80
 
 abbrev pub print_positions : ℕ
 print_positions = 132

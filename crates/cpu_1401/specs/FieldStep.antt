@@ -7,7 +7,7 @@ use Rattle.cpu_1401.specs.declared.instruction.Instruction.{Instruction}
 use Rattle.cpu_1401.specs.Branch.{branch_to}
 use Rattle.cpu_1401.specs.State.{State}
 use Rattle.cpu_1401.specs.Stepped.{Stepped, step_to, stopped}
-use Rattle.cpu_1401.specs.Stop.{stop_of}
+use Rattle.fields_1401.specs.Outcome.{stop_of}
 
 -- after an operation on fields: its core and its registers, and the next instruction; a sum that was too large turns
 -- the overflow indicator on, and one that fits leaves it as it is

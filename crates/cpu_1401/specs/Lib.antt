@@ -15,5 +15,3 @@ pub mod Source
 pub mod State
 pub mod Step
 pub mod Stepped
-pub mod Stop
-pub mod SwitchName

@@ -14,7 +14,7 @@ use Rattle.fields_1401.specs.Suppress.{suppress_at}
 use Rattle.cpu_1401.specs.declared.instruction.Instruction.{Instruction}
 use Rattle.cpu_1401.specs.declared.operation.Operation.{Operation}
 use Rattle.cpu_1401.specs.declared.operation.Operation.TheVariants as op
-use Rattle.cpu_1401.specs.declared.stop.Stop.TheVariants as stop
+use Rattle.panel_1401.specs.declared.stop.Stop.TheVariants as stop
 use Rattle.cpu_1401.specs.Branch.{after_branch, branch_on_cell, go_on, passes}
 use Rattle.cpu_1401.specs.CardsAndPrinter.{after_line, after_control, after_work}
 use Rattle.cpu_1401.specs.CardsAndPrinter.{punching, reading, reading_and_punching}

@@ -1,7 +1,8 @@
 //! The areas of core storage that cards and lines go through.
 ghost use Rattle.std.specs.Prelude.{◌≡◌, ◌+◌, ◌≤◌};
 ghost use Rattle.core_1401.specs.Storage.{least_core_size};
-ghost use Rattle.cpu_1401.specs.CardsAndPrinter.{card_at, card_columns, read_area};
+ghost use Rattle.cpu_1401.specs.CardsAndPrinter.{card_at, read_area};
+ghost use Rattle.devices_1401.specs.Card.{card_columns};
 
 use crate::machine::Machine;
 use bcd_1401::Char;

@@ -8,8 +8,8 @@ ghost use Rattle.cpu_1401.specs.Branch.{passes};
 use crate::condition::{Condition, passes};
 use crate::instruction::Instruction;
 use crate::machine::Machine;
-use crate::stop::Stop;
 use fields_1401::step_down;
+use panel_1401::Stop;
 
 impl Machine {
     /// Carries out a `B`: of four characters it branches always, of five on a condition, and of eight where the

@@ -2,8 +2,8 @@
 ghost use Rattle.std.specs.Prelude.{◌≡◌};
 ghost use Rattle.cpu_1401.specs.Branch.{condition_of, passes};
 
-use crate::switch_name::SwitchName;
 use bcd_1401::{Cell, Char};
+use panel_1401::SwitchName;
 
 /// What a branch of five characters looks at (A24-1403, "Branch if Indicator On").
 #[derive(Clone, Copy)]

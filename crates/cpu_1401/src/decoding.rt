@@ -9,8 +9,8 @@ ghost use Rattle.cpu_1401.specs.Stepped.{stopped};
 use crate::decoded::{Address, Decoded, is_ready, source_of};
 use crate::machine::Machine;
 use crate::operation::{Operation, is_unfitted};
-use crate::stop::Stop;
 use bcd_1401::Char;
+use panel_1401::Stop;
 
 impl Machine {
     /// Decodes the instruction at the I register, or says why it can't be carried out.

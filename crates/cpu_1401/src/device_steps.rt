@@ -14,10 +14,10 @@ use crate::areas::{BEHIND_PRINT_AREA, READ_AREA};
 use crate::instruction::Instruction;
 use crate::io_request::{CardWork, IoRequest, card_of};
 use crate::machine::Machine;
-use crate::stop::Stop;
 use bcd_1401::Char;
 use core_1401::{Core, LEAST_SIZE};
 use devices_1401::{ControlFault, MOST_HELD};
+use panel_1401::Stop;
 
 /// The code of the lozenge, which asks for word marks to be printed.
 const LOZENGE: u8 = 60;

@@ -2,7 +2,7 @@
 ghost use Rattle.std.specs.Prelude.{◌≡◌, ◌<◌, ◌||◌, Some, None, IfOk, IfErr, length};
 ghost use Rattle.core_1401.specs.Address.{addresses};
 ghost use Rattle.std.specs.Result.{ForOk};
-ghost use Rattle.cpu_1401.specs.Stop.{stop_of};
+ghost use Rattle.fields_1401.specs.Outcome.{stop_of};
 ghost use Rattle.cpu_1401.specs.FieldStep.{after_clear, after_comparison};
 ghost use Rattle.fields_1401.specs.Compare.{comparison_at};
 ghost use Rattle.fields_1401.specs.Marks.{clear_down_at};
@@ -10,8 +10,8 @@ ghost use Rattle.fields_1401.specs.Marks.{clear_down_at};
 use crate::instruction::Instruction;
 use crate::machine::Machine;
 use crate::marking::clear_down_there;
-use crate::stop::Stop;
 use fields_1401::{Done, FieldStop, compare_within};
+use panel_1401::Stop;
 
 impl Machine {
     /// Takes the registers that an operation on fields left, turns the overflow indicator on if a sum was too large,

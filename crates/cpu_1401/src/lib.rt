@@ -11,8 +11,6 @@
 mod areas;
 mod loading;
 pub mod machine;
-pub mod regs;
-pub mod switch_name;
 
 // an instruction: its operation, its cells, those that it is decoded from, and the decoded ones that are kept
 mod cache_entry;
@@ -24,11 +22,10 @@ mod instruction;
 mod kept;
 mod operation;
 
-// a step, a run of them, and why one ends
+// a step, and a run of them
 pub mod frame;
 pub mod running;
 pub mod stepping;
-pub mod stop;
 
 // what each kind of operation does
 mod branch_steps;
@@ -41,7 +38,5 @@ mod register_steps;
 pub use fetched::{InstructionCells, instruction_cells};
 pub use frame::step_law;
 pub use machine::Machine;
-pub use regs::Regs;
+pub use panel_1401::{Regs, Stop, SwitchName};
 pub use running::Ran;
-pub use stop::Stop;
-pub use switch_name::SwitchName;

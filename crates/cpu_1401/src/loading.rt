@@ -4,7 +4,8 @@ ghost use Rattle.std.specs.Prelude.{IfSome};
 ghost use Rattle.std.specs.Prelude.{if◌then◌else◌};
 ghost use Rattle.devices_1401.specs.Devices.{after_card, after_line, fed, is_full};
 ghost use Rattle.core_1401.specs.Storage.{cell_at};
-ghost use Rattle.cpu_1401.specs.CardsAndPrinter.{card_columns, load, read_area, with_devices};
+ghost use Rattle.cpu_1401.specs.CardsAndPrinter.{load, read_area, with_devices};
+ghost use Rattle.devices_1401.specs.Card.{card_columns};
 
 use crate::areas::{BEHIND_READ_AREA, READ_AREA};
 use crate::device_steps::put_chars;

@@ -5,10 +5,10 @@ ghost use Rattle.cpu_1401.specs.State.{IsInRange, power_on, regs_of, with_cell, 
 ghost use Rattle.devices_1401.specs.Movement.{pending_of};
 
 use crate::kept::DecodeCache;
-use crate::regs::Regs;
 use bcd_1401::Cell;
 use core_1401::{Core, CoreFault};
 use devices_1401::{Devices, Movement};
+use panel_1401::Regs;
 use std::alloc::Global;
 use std::marker::Model;
 

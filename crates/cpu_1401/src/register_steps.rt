@@ -6,9 +6,9 @@ ghost use Rattle.fields_1401.specs.Places.{marks_of};
 
 use crate::instruction::Instruction;
 use crate::machine::Machine;
-use crate::stop::Stop;
 use core_1401::{Core, encode};
 use fields_1401::step_down;
+use panel_1401::Stop;
 
 impl Machine {
     /// Stores an address in the three places that end at the A address. The word marks there stay, and so does the zone

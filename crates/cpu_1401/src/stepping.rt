@@ -14,12 +14,12 @@ use crate::io_request::CardWork;
 use crate::machine::Machine;
 use crate::marking::{clear_marks_there, edit_there, load_there, set_marks_there, suppress_there};
 use crate::operation::Operation;
-use crate::stop::Stop;
 use core_1401::ADDRESSES;
 use fields_1401::{
     add_within, move_chars_within, move_digit_within, move_zone_within, subtract_within,
     zero_add_within, zero_subtract_within,
 };
+use panel_1401::Stop;
 
 impl Machine {
     /// Carries out the instruction at the I register, or says why it can't. A halt is carried out; any other stop

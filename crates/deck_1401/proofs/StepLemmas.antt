@@ -24,7 +24,7 @@ use Rattle.cpu_1401.specs.declared.condition.Condition.TheVariants.{Unequal}
 use Rattle.cpu_1401.specs.declared.instruction.Instruction.{Instruction}
 use Rattle.cpu_1401.specs.declared.operation.Operation.{Operation}
 use Rattle.cpu_1401.specs.declared.operation.Operation.TheVariants as op
-use Rattle.cpu_1401.specs.declared.stop.Stop.TheVariants as stop
+use Rattle.panel_1401.specs.declared.stop.Stop.TheVariants as stop
 use Rattle.cpu_1401.specs.FieldStep.{after_clear, after_comparison, after_field}
 use Rattle.cpu_1401.specs.Instruction.{begins_at, instruction_of, length_at}
 use Rattle.cpu_1401.specs.Operation.{form_of, has_length, is_unfitted_length, operation_of}

@@ -10,3 +10,7 @@ columns_of card = map column_of card.0
 -- one of the columns is that of no character
 abbrev pub NoCard : List ℕ → Type 0
 NoCard columns = (k : ℕ) × ((k < length columns) × ((char : ℕ) → char < 64 → column_of char ≢ slice_index columns k))
+
+-- how many there are
+abbrev pub card_columns : ℕ
+card_columns = 80

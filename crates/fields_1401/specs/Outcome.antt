@@ -4,6 +4,9 @@ use Rattle.core_1401.specs.Address.{addresses}
 use Rattle.core_1401.specs.Storage.{Storage}
 use Rattle.fields_1401.specs.declared.done.Done.{Done}
 use Rattle.fields_1401.specs.declared.done.FieldStop.{FieldStop}
+use Rattle.fields_1401.specs.declared.done.FieldStop.TheVariants as field
+use Rattle.panel_1401.specs.declared.stop.Stop.{Stop}
+use Rattle.panel_1401.specs.declared.stop.Stop.TheVariants as stop
 
 -- the core and what goes with it afterwards, or why the operation can't be carried out
 abbrev pub Outcome : Type 0
@@ -27,3 +30,8 @@ pub record CarriesOut (outcome : Outcome) (old new : Storage) (result : Result D
   pub a_range : IfOk result (λ done. done.a < addresses)
   pub b_range : IfOk result (λ done. done.b < addresses)
   pub size : length new ≡ length old
+
+-- the stop of an operation on fields that can't be carried out: the one of the same name
+abbrev pub stop_of : FieldStop → Stop
+stop_of field.Address = stop.Address
+stop_of field.Overlap = stop.Overlap

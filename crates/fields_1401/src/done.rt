@@ -1,5 +1,8 @@
 //! What an operation on fields leaves beside the core, and why it can't be carried out.
+ghost use Rattle.std.specs.Prelude.{◌≡◌};
+ghost use Rattle.fields_1401.specs.Outcome.{stop_of};
 
+use panel_1401::Stop;
 use thiserror::Error;
 
 /// What an operation on fields leaves beside the core.
@@ -29,4 +32,15 @@ pub enum FieldStop {
     /// 2: the fields overlap where they may not.
     #[error("OVERLAP")]
     Overlap,
+}
+
+impl From<FieldStop> for Stop {
+    ghost from_gives = { λ stop why. why ≡ stop_of stop };
+
+    fn from(stop: FieldStop) -> Stop {
+        match stop {
+            FieldStop::Address => Stop::Address,
+            FieldStop::Overlap => Stop::Overlap,
+        }
+    }
 }

@@ -3,7 +3,7 @@ use Rattle.std.specs.Prelude.{◌≡◌, ◌<◌, ◌⊎◌, ℕ, ⊤, List, len
 use Rattle.answering_1401.specs.declared.session_end.SessionEnd.{SessionEnd}
 use Rattle.console_1401.specs.ImageLoading.{load_entries}
 use Rattle.answering_1401.specs.Session.{SessionDid}
-use Rattle.answering_1401.specs.Turns.{Answered}
+use Rattle.lone_room_1401.specs.Turns.{Answered}
 use Rattle.image_1401.specs.declared.image.Image.{Image}
 use Rattle.image_1401.specs.ImageText.{IsTextOf}
 use Rattle.image_1401.specs.Refusal.{IsRefused}

@@ -3,7 +3,7 @@ ghost use Rattle.std.specs.Prelude.{◌≡◌, false};
 
 use crate::fault::{HoldFault, ended};
 use crate::loading::{loaded_room, read_file};
-use answering_1401::{SessionEnd, session};
+use answering_1401::SessionEnd;
 use calls_1401::{NewJournal, Resuming, Showing};
 use core_1401::CoreFault;
 use journal_1401::{JournalFault, View, carry_chosen};
@@ -12,7 +12,7 @@ use keeping_1401::{
     create_journal, keep_session, read_journal_file, read_room, resume_session, show_journal,
     take_up_journal,
 };
-use lone_room_1401::{Room, Unkept};
+use lone_room_1401::{Room, Unkept, session};
 use std::alloc::Global;
 use std::fs::File;
 use std::marker::Brand;

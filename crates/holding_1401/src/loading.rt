@@ -4,12 +4,11 @@ ghost use Rattle.terminal_1401.specs.Console.{streams};
 ghost use Rattle.holding_1401.specs.Load.{LoadDid, IsLoadedRoom, IsWhyNotLoaded};
 
 use crate::fault::{HoldFault, ended};
-use answering_1401::session;
 use console_1401::put_image;
 use core_1401::CoreFault;
 use files_1401::{FileFault, read_whole};
 use image_1401::read_image;
-use lone_room_1401::{Room, RoomFault};
+use lone_room_1401::{Room, RoomFault, session};
 use std::alloc::Global;
 use std::io;
 use std::rt::Files;

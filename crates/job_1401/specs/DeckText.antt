@@ -4,7 +4,7 @@ use Rattle.std.specs.List.{prefix_len}
 use Rattle.std.specs.Prelude.{ℕ, ◌+◌, ◌-◌, ◌==◌, nat_lt, if◌then◌else◌, Bool, List, [], ◌∷◌, ◌++◌, length, map, min}
 use Rattle.std.specs.Prelude.{replicate, Option, is_some, position, unwrap_or, Result, Ok, Err}
 use Rattle.bcd_1401.specs.Graphic.{graphics}
-use Rattle.cpu_1401.specs.CardsAndPrinter.{card_columns}
+use Rattle.devices_1401.specs.Card.{card_columns}
 use Rattle.devices_1401.specs.declared.card.Card.{Card}
 use Rattle.notation_1401.specs.Bytes.{line_feed}
 use Rattle.notation_1401.specs.Characters.{blank_code, graphics_of, trimmed}

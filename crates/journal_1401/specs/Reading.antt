@@ -9,8 +9,8 @@ use Rattle.core_1401.specs.Storage.{core_sizes}
 use Rattle.notation_1401.specs.Bytes.{line_feed}
 use Rattle.notation_1401.specs.Digits.{digits_in, number_in}
 use Rattle.notation_1401.specs.Prefix.{after_prefix}
-use Rattle.command_1401.specs.declared.answer.Answer.{Answer}
-use Rattle.command_1401.specs.declared.command.Command.{Command}
+use Rattle.operator_1401.specs.declared.answer.Answer.{Answer}
+use Rattle.operator_1401.specs.declared.command.Command.{Command}
 use Rattle.text_1401.specs.declared.line.Line.{Line}
 use Rattle.text_1401.specs.declared.line.Line.TheVariants as line
 use Rattle.text_1401.specs.declared.line.LineFault.{LineFault}

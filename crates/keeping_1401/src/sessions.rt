@@ -5,8 +5,8 @@ ghost use Rattle.journal_1401.specs.JournalText.{journal_text};
 
 use crate::keeping::{keep_room, take_up_room};
 use crate::text_keeper::Beginning;
-use answering_1401::{SessionEnd, session_kept};
-use lone_room_1401::{Room, Unkept};
+use answering_1401::SessionEnd;
+use lone_room_1401::{Room, Unkept, session_kept};
 use std::alloc::Global;
 use streams_1401::{Sink, Source};
 

@@ -3,9 +3,9 @@ use Rattle.std.proofs.Common.{◌≡◌, true, List, [], ◌∷◌, refl, arith,
 use Rattle.bcd_1401.specs.declared.cell.Cell.{Cell}
 use Rattle.core_1401.specs.Storage.{blank}
 use Rattle.cpu_1401.specs.State.{power_on}
-use Rattle.command_1401.specs.declared.answer.Answer.TheVariants.{Done, Cells, Refused}
-use Rattle.command_1401.specs.declared.answer.Refusal.TheVariants.{Address}
-use Rattle.command_1401.specs.declared.command.Command.TheVariants.{Deposit, Examine, SetI}
+use Rattle.operator_1401.specs.declared.answer.Answer.TheVariants.{Done, Cells, Refused}
+use Rattle.operator_1401.specs.declared.answer.Refusal.TheVariants.{Address}
+use Rattle.operator_1401.specs.declared.command.Command.TheVariants.{Deposit, Examine, SetI}
 use Rattle.lone_room_1401.specs.declared.entry.Entry.{Entry}
 use Rattle.lone_room_1401.specs.Account.{IsExplained}
 use Rattle.command_1401.specs.CarryOut.{carry_out}

@@ -1,4 +1,8 @@
+mod GlanceExamples
 mod JournalExamples
 pub mod KeptLemmas
 mod ReplayExamples
 pub mod ReplayLemmas
+mod SessionEndExamples
+mod SessionExamples
+pub mod TurnsLemmas

@@ -5,13 +5,13 @@ use Rattle.bcd_1401.specs.Graphic.{graphics}
 use Rattle.bcd_1401.specs.declared.cell.Cell.{Cell}
 use Rattle.core_1401.specs.Places.{with_cells}
 use Rattle.core_1401.specs.Storage.{blank}
-use Rattle.cpu_1401.specs.declared.stop.Stop.TheVariants as stop
+use Rattle.panel_1401.specs.declared.stop.Stop.TheVariants as stop
 use Rattle.cpu_1401.specs.Run.{run_for}
 use Rattle.cpu_1401.specs.Step.{step}
 use Rattle.devices_1401.specs.declared.card.Card.{Card}
-use Rattle.command_1401.specs.declared.answer.Answer.TheVariants.{Done, Cells, Ran, Refused}
-use Rattle.command_1401.specs.declared.answer.Refusal.TheVariants as refusal
-use Rattle.command_1401.specs.declared.command.Command.TheVariants.{Deposit, Examine, SetI, Feed, LoadKey, Run}
+use Rattle.operator_1401.specs.declared.answer.Answer.TheVariants.{Done, Cells, Ran, Refused}
+use Rattle.operator_1401.specs.declared.answer.Refusal.TheVariants as refusal
+use Rattle.operator_1401.specs.declared.command.Command.TheVariants.{Deposit, Examine, SetI, Feed, LoadKey, Run}
 use Rattle.command_1401.specs.CarryOut.{carry_out}
 use Rattle.lone_room_1401.specs.declared.entry.SeatedCommand.{SeatedCommand}
 use Rattle.lone_room_1401.specs.Replay.{pair, answers_of, replay}

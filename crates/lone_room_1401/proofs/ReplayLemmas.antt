@@ -3,8 +3,8 @@ use Rattle.std.proofs.Common.{◌≡◌, ℕ, suc, List, [], ◌∷◌, ◌++◌
 use Rattle.std.proofs.Common.{refl, ap, sym, ◌∙◌, subst, arith, length-append}
 use Rattle.std.proofs.lemmas.List.{map_push}
 use Rattle.cpu_1401.specs.State.{State, power_on}
-use Rattle.command_1401.specs.declared.answer.Answer.{Answer}
-use Rattle.command_1401.specs.declared.command.Command.{Command}
+use Rattle.operator_1401.specs.declared.answer.Answer.{Answer}
+use Rattle.operator_1401.specs.declared.command.Command.{Command}
 use Rattle.lone_room_1401.specs.declared.entry.Entry.{Entry}
 use Rattle.lone_room_1401.specs.declared.entry.SeatedCommand.{SeatedCommand}
 use Rattle.lone_room_1401.specs.Account.{IsExplained}

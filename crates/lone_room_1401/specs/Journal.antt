@@ -1,12 +1,12 @@
 -- The journal: each command with its seat and its answer, oldest first (own).
 use Rattle.std.specs.Prelude.{◌≡◌, ℕ, Bool, List, length, map, nat_le, if◌then◌else◌}
 use Rattle.cpu_1401.specs.State.{State}
-use Rattle.command_1401.specs.declared.answer.Answer.{Answer}
-use Rattle.command_1401.specs.declared.command.Command.{Command}
+use Rattle.operator_1401.specs.declared.answer.Answer.{Answer}
+use Rattle.operator_1401.specs.declared.command.Command.{Command}
 use Rattle.lone_room_1401.specs.declared.entry.Entry.{Entry}
 use Rattle.lone_room_1401.specs.declared.entry.SeatedCommand.{SeatedCommand}
-use Rattle.lone_room_1401.specs.declared.fault.RoomFault.{RoomFault}
-use Rattle.lone_room_1401.specs.declared.fault.RoomFault.TheVariants.{Memory, JournalFull}
+use Rattle.operator_1401.specs.declared.fault.RoomFault.{RoomFault}
+use Rattle.operator_1401.specs.declared.fault.RoomFault.TheVariants.{Memory, JournalFull}
 use Rattle.lone_room_1401.specs.Replay.{pair, replay, answers_of, reply_to}
 
 -- an entry of the journal

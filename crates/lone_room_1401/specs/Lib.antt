@@ -1,5 +1,5 @@
 pub mod Account
-pub mod FaultText
 pub mod Journal
 pub mod Kept
 pub mod Replay
+pub mod Turns

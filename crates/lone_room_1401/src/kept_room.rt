@@ -6,10 +6,10 @@ ghost use Rattle.lone_room_1401.specs.Journal.{answer_to, entry, is_full, refusa
 ghost use Rattle.lone_room_1401.specs.Kept.{IsKeptAs, kept_text};
 
 use crate::entry::Entry;
-use crate::fault::RoomFault;
 use crate::keeper::{Carried, Keeper};
 use crate::room::Room;
 use command_1401::Command;
+use operator_1401::RoomFault;
 use std::marker::Model;
 
 /// A room and its keeper. What is kept is the text of the room's journal. After a write that failed it breaks off in

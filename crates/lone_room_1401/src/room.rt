@@ -5,10 +5,10 @@ ghost use Rattle.core_1401.specs.Storage.{is_core_size};
 ghost use Rattle.lone_room_1401.specs.Journal.{IsLegal, answer_to, entry, is_full, most_entries, refusal_of, state_of};
 
 use crate::entry::Entry;
-use crate::fault::RoomFault;
 use command_1401::{Answer, Command, carry_out};
 use core_1401::CoreFault;
 use cpu_1401::Machine;
+use operator_1401::RoomFault;
 use std::alloc::Global;
 use std::marker::Model;
 use std::slice::from_ref;

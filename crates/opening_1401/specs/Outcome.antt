@@ -4,8 +4,8 @@ use Rattle.room_1401.specs.declared.fault.StartFault.{StartFault}
 use Rattle.room_1401.specs.declared.fault.StartFault.TheVariants as start
 use Rattle.console_1401.specs.declared.serving.ServeFault.{ServeFault}
 use Rattle.console_1401.specs.declared.serving.ServeFault.TheVariants as serve
-use Rattle.lone_room_1401.specs.declared.fault.RoomFault.{RoomFault}
-use Rattle.lone_room_1401.specs.declared.fault.RoomFault.TheVariants as room
+use Rattle.operator_1401.specs.declared.fault.RoomFault.{RoomFault}
+use Rattle.operator_1401.specs.declared.fault.RoomFault.TheVariants as room
 use Rattle.serving_1401.specs.declared.fault.SeatsFault.{SeatsFault}
 use Rattle.serving_1401.specs.declared.fault.SeatsFault.TheVariants as seats
 use Rattle.serving_1401.specs.declared.giving.GiveFault.{GiveFault}

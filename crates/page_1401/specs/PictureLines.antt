@@ -9,8 +9,8 @@ use Rattle.notation_1401.specs.Digits.{digits_in}
 use Rattle.devices_1401.specs.declared.card.Card.{Card}
 use Rattle.devices_1401.specs.declared.print_line.PrintLine.{PrintLine}
 use Rattle.instruction_text_1401.specs.InstructionText.{instruction_text}
-use Rattle.command_1401.specs.declared.answer.Answer.{Answer}
-use Rattle.command_1401.specs.declared.answer.Answer.TheVariants as answer
+use Rattle.operator_1401.specs.declared.answer.Answer.{Answer}
+use Rattle.operator_1401.specs.declared.answer.Answer.TheVariants as answer
 use Rattle.room_1401.specs.declared.picture.Picture.{Picture}
 use Rattle.text_1401.specs.AnswerText.{answer_text}
 use Rattle.notation_1401.specs.Characters.{graphics_of, trimmed}

@@ -8,7 +8,7 @@ use Rattle.logbook.specs.Pages.{Book}
 use Rattle.lone_room_1401.specs.declared.entry.SeatedCommand.{SeatedCommand}
 use Rattle.room_1401.specs.declared.published.Shown.{Shown}
 use Rattle.room_1401.specs.declared.published.Change.{Change}
-use Rattle.command_1401.specs.declared.command.Command.{Command}
+use Rattle.operator_1401.specs.declared.command.Command.{Command}
 use Rattle.command_1401.specs.CarryOut.{carry_out}
 use Rattle.lone_room_1401.specs.Journal.{most_entries}
 use Rattle.lone_room_1401.specs.Replay.{replay}

@@ -1,7 +1,7 @@
 -- What the end of a job is for the program (own).
 use Rattle.std.specs.Prelude.{⊤, Result, Ok, Err}
-use Rattle.cpu_1401.specs.declared.stop.Stop.{Stop}
-use Rattle.cpu_1401.specs.declared.stop.Stop.TheVariants as stop
+use Rattle.panel_1401.specs.declared.stop.Stop.{Stop}
+use Rattle.panel_1401.specs.declared.stop.Stop.TheVariants as stop
 use Rattle.running_1401.specs.declared.fault.RunFault.{RunFault}
 use Rattle.running_1401.specs.declared.fault.RunFault.TheVariants as fault
 use Rattle.running_1401.specs.declared.ending.Ending.{Ending}

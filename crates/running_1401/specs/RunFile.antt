@@ -1,7 +1,7 @@
 -- What a run of files may be refused or fail by (own). Nothing is said of the files themselves. A name is the list of
 -- its bytes.
 use Rattle.std.specs.Prelude.{◌≡◌, ◌≢◌, ◌⊎◌, ℕ, ⊤, true, List, Option, Some, option_map, string_bytes}
-use Rattle.cpu_1401.specs.declared.stop.Stop.TheVariants as stop
+use Rattle.panel_1401.specs.declared.stop.Stop.TheVariants as stop
 use Rattle.calls_1401.specs.declared.call.Job.{Job}
 use Rattle.calls_1401.specs.declared.call.Start.{Start}
 use Rattle.calls_1401.specs.declared.call.Start.TheVariants as start

@@ -9,7 +9,7 @@ use Rattle.std.proofs.lemmas.Option.{none-some}
 use Rattle.std.proofs.lemmas.List.Elements.{All-cons, All-head, All-nil, All-tail}
 use Rattle.std.proofs.lemmas.List.{drop_more, get_or-map, length-take-le, take-append-drop}
 use Rattle.std.proofs.Math.Seq.{map-set_same, set-append_seam}
-use Rattle.command_1401.specs.declared.answer.Answer.{Answer}
+use Rattle.operator_1401.specs.declared.answer.Answer.{Answer}
 use Rattle.lone_room_1401.specs.declared.entry.Entry.{Entry}
 use Rattle.room_1401.specs.Seen.{SeatView, Carries}
 use Rattle.console_1401.specs.Served.{AreAllSeats}

@@ -1,7 +1,7 @@
 -- The commands of a journal, given again by the seats of a room (own).
 use Rattle.std.specs.Prelude.{◌≡◌, ℕ, ◌+◌, ◌≤◌, nat_lt, ◌||◌, max, if◌then◌else◌, List, [], ◌∷◌, ◌++◌, Option, None}
 use Rattle.std.specs.Prelude.{Some}
-use Rattle.command_1401.specs.declared.answer.Answer.{Answer}
+use Rattle.operator_1401.specs.declared.answer.Answer.{Answer}
 use Rattle.lone_room_1401.specs.declared.entry.Entry.{Entry}
 use Rattle.room_1401.specs.Seen.{SeatView, Carries}
 use Rattle.serving_1401.specs.declared.giving.GiveFault.{GiveFault}

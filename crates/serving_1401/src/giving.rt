@@ -1,6 +1,6 @@
 //! The commands of a journal, given again by the seats of a room before its operators come.
 ghost use Rattle.std.specs.Prelude.{◌≡◌, ◌↔◌, ℕ, ◌+◌, ◌<◌, ◌^◌, None, Some, All, OnOk, IfErr};
-ghost use Rattle.command_1401.specs.declared.answer.Answer.{Answer};
+ghost use Rattle.operator_1401.specs.declared.answer.Answer.{Answer};
 ghost use Rattle.room_1401.specs.Seen.{Carries};
 ghost use Rattle.console_1401.specs.Served.{AreAllSeats};
 ghost use Rattle.serving_1401.specs.Giving.{GiveAll, IsSeated, IsWhyNotGiven, foreign_in};

@@ -32,8 +32,8 @@ use Rattle.cpu_1401.specs.declared.io_request.IoRequest.{IoRequest}
 use Rattle.cpu_1401.specs.declared.instruction.Instruction.{Instruction}
 use Rattle.cpu_1401.specs.declared.operation.Operation.{Operation}
 use Rattle.cpu_1401.specs.declared.operation.Operation.TheVariants as op
-use Rattle.cpu_1401.specs.declared.stop.Stop.{Stop}
-use Rattle.cpu_1401.specs.declared.stop.Stop.TheVariants as stop
+use Rattle.panel_1401.specs.declared.stop.Stop.{Stop}
+use Rattle.panel_1401.specs.declared.stop.Stop.TheVariants as stop
 use Rattle.cpu_1401.specs.Branch.{after_branch, branch_on_cell, go_on, has_char, passes}
 use Rattle.cpu_1401.specs.CardsAndPrinter.{after_cards, after_control, after_line, all_three, asks, behind_last}
 use Rattle.cpu_1401.specs.CardsAndPrinter.{behind_print_area, has_d, line_alone}
@@ -48,7 +48,7 @@ use Rattle.cpu_1401.specs.Rows.{meaning_in}
 use Rattle.cpu_1401.specs.State.{State}
 use Rattle.cpu_1401.specs.Step.{check_length, check_operation, perform, step}
 use Rattle.cpu_1401.specs.Stepped.{Stepped, stopped}
-use Rattle.cpu_1401.specs.Stop.{stop_of}
+use Rattle.fields_1401.specs.Outcome.{stop_of}
 use Rattle.stop_reasons_1401.proofs.StopLemmas.{card_stops}
 use Rattle.stop_reasons_1401.specs.Halting.{halted_at, has_branched, is_halt_to, is_taken_for_another, told_of_halt}
 use Rattle.stop_reasons_1401.specs.Said.{char_of}

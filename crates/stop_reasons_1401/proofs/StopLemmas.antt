@@ -10,13 +10,13 @@ use Rattle.fields_1401.specs.declared.done.Done.{Done}
 use Rattle.fields_1401.specs.declared.done.FieldStop.{FieldStop}
 use Rattle.fields_1401.specs.Outcome.{Outcome}
 use Rattle.cpu_1401.specs.declared.instruction.Instruction.{Instruction}
-use Rattle.cpu_1401.specs.declared.stop.Stop.{Stop}
+use Rattle.panel_1401.specs.declared.stop.Stop.{Stop}
 use Rattle.cpu_1401.specs.Branch.{branch_to}
 use Rattle.cpu_1401.specs.CardsAndPrinter.{after_control, control_stop, unless_hindered}
 use Rattle.cpu_1401.specs.FieldStep.{after_clear, after_comparison, after_field}
 use Rattle.cpu_1401.specs.State.{State}
 use Rattle.cpu_1401.specs.Stepped.{step_to}
-use Rattle.cpu_1401.specs.Stop.{stop_of}
+use Rattle.fields_1401.specs.Outcome.{stop_of}
 
 -- a step that is carried out either way
 either_stops : (c : Bool) (s t : State) → (if c then step_to s else step_to t).stop ≡ None

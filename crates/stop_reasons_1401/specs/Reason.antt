@@ -5,11 +5,11 @@ use Rattle.devices_1401.specs.Control.{line_of_channel, low_of}
 use Rattle.devices_1401.specs.Devices.{is_full}
 use Rattle.cpu_1401.specs.declared.instruction.Instruction.{Instruction}
 use Rattle.cpu_1401.specs.declared.operation.Operation.TheVariants as op
-use Rattle.cpu_1401.specs.declared.stop.Stop.{Stop}
-use Rattle.cpu_1401.specs.declared.stop.Stop.TheVariants as stop
+use Rattle.panel_1401.specs.declared.stop.Stop.{Stop}
+use Rattle.panel_1401.specs.declared.stop.Stop.TheVariants as stop
 use Rattle.cpu_1401.specs.Operation.{is_unfitted, operation_of}
 use Rattle.cpu_1401.specs.State.{State}
-use Rattle.cpu_1401.specs.Stop.{stop_of}
+use Rattle.fields_1401.specs.Outcome.{stop_of}
 use Rattle.stop_reasons_1401.specs.declared.reason.Reason.{Reason}
 use Rattle.stop_reasons_1401.specs.declared.reason.Reason.TheVariants as reason
 use Rattle.stop_reasons_1401.specs.FieldReason.{IsFieldSo, field_stop}

@@ -4,7 +4,7 @@ use Rattle.core_1401.specs.Address.{effective_at}
 use Rattle.core_1401.specs.Storage.{cell_at}
 use Rattle.cpu_1401.specs.declared.instruction.Instruction.{Instruction}
 use Rattle.cpu_1401.specs.declared.operation.Operation.{Operation}
-use Rattle.cpu_1401.specs.declared.stop.Stop.{Stop}
+use Rattle.panel_1401.specs.declared.stop.Stop.{Stop}
 use Rattle.cpu_1401.specs.Instruction.{instruction_of, length_at}
 use Rattle.cpu_1401.specs.Operation.{form_of, has_length, is_unfitted_length, operation_of}
 use Rattle.cpu_1401.specs.State.{State}

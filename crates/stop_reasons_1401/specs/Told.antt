@@ -1,7 +1,7 @@
 -- What is told of a machine that ended a run with a stop (own).
 use Rattle.std.specs.Prelude.{◌≡◌, Option, Some, None, IfSome, IsSome}
-use Rattle.cpu_1401.specs.declared.stop.Stop.{Stop}
-use Rattle.cpu_1401.specs.declared.stop.Stop.TheVariants as stop
+use Rattle.panel_1401.specs.declared.stop.Stop.{Stop}
+use Rattle.panel_1401.specs.declared.stop.Stop.TheVariants as stop
 use Rattle.cpu_1401.specs.State.{State}
 use Rattle.cpu_1401.specs.Step.{step}
 use Rattle.stop_reasons_1401.specs.declared.reason.Reason.{Reason}

@@ -3,7 +3,7 @@ use Rattle.std.specs.Prelude.{◌≡◌, ◌⊎◌, ℕ, ⊤, List, [], Option, 
 use Rattle.lone_room_1401.specs.Account.{Account}
 use Rattle.answering_1401.specs.declared.session_end.SessionEnd.{SessionEnd}
 use Rattle.answering_1401.specs.declared.session_end.SessionEnd.TheVariants as end
-use Rattle.answering_1401.specs.Turns.{Answered}
+use Rattle.lone_room_1401.specs.Turns.{Answered}
 use Rattle.answering_1401.specs.Session.{SessionDid}
 use Rattle.terminal_1401.specs.declared.fault.ConsoleFault.{ConsoleFault}
 use Rattle.terminal_1401.specs.declared.fault.ConsoleFault.TheVariants as console

@@ -4,9 +4,8 @@ ghost use Rattle.core_1401.specs.Storage.{is_core_size};
 ghost use Rattle.terminal_1401.specs.Console.{ConsoleDid, streams};
 
 use crate::fault::{ConsoleFault, ended};
-use answering_1401::session;
 use core_1401::CoreFault;
-use lone_room_1401::Room;
+use lone_room_1401::{Room, session};
 use std::alloc::Global;
 use streams_1401::{Sink, Source};
 

@@ -4,11 +4,11 @@ use Rattle.std.specs.Prelude.{codes}
 use Rattle.std.specs.Fmt.{digits}
 use Rattle.bcd_1401.specs.declared.cell.Cell.{Cell}
 use Rattle.bcd_1401.specs.Graphic.{graphics}
-use Rattle.cpu_1401.specs.declared.regs.Regs.{Regs}
-use Rattle.cpu_1401.specs.declared.stop.Stop.TheVariants as stop
-use Rattle.command_1401.specs.declared.answer.Answer.{Answer}
-use Rattle.command_1401.specs.declared.answer.Answer.TheVariants as answer
-use Rattle.command_1401.specs.declared.answer.Refusal.TheVariants.{Address, Hopper, Reader, Empty, Limit, Count}
+use Rattle.panel_1401.specs.declared.regs.Regs.{Regs}
+use Rattle.panel_1401.specs.declared.stop.Stop.TheVariants as stop
+use Rattle.operator_1401.specs.declared.answer.Answer.{Answer}
+use Rattle.operator_1401.specs.declared.answer.Answer.TheVariants as answer
+use Rattle.operator_1401.specs.declared.answer.Refusal.TheVariants.{Address, Hopper, Reader, Empty, Limit, Count}
 use Rattle.text_1401.specs.AnswerText.{answer_text, switches_text, regs_text, ran_text, line_text}
 use Rattle.notation_1401.specs.Cells.{cells_text}
 use Rattle.text_1401.specs.AnswerText.{card_text}

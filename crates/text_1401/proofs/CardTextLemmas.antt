@@ -14,7 +14,7 @@ use Rattle.std.proofs.lemmas.List.Elements.{All-head, All-tail}
 use Rattle.std.proofs.lemmas.List.Sums.{suffix_len-le-length}
 use Rattle.bcd_1401.specs.Graphic.{graphics}
 use Rattle.devices_1401.specs.declared.card.Card.{Card}
-use Rattle.command_1401.specs.declared.command.Command.TheVariants as command
+use Rattle.operator_1401.specs.declared.command.Command.TheVariants as command
 use Rattle.text_1401.specs.declared.line.Line.TheVariants.{Command}
 use Rattle.text_1401.specs.declared.line.LineFault.TheVariants.{Graphic, Length}
 use Rattle.notation_1401.proofs.MissingLemmas.{all_there, missed, taken_all, taken_first, the_values}

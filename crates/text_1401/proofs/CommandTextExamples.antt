@@ -4,10 +4,10 @@ use Rattle.std.specs.Prelude.{codes}
 use Rattle.std.specs.Fmt.{digits}
 use Rattle.bcd_1401.specs.declared.cell.Cell.{Cell}
 use Rattle.bcd_1401.specs.Graphic.{graphics}
-use Rattle.command_1401.specs.declared.command.Command.{Command}
-use Rattle.command_1401.specs.declared.command.Command.TheVariants.{Deposit, Examine, Registers, SetI, Switch, Feed}
-use Rattle.command_1401.specs.declared.command.Command.TheVariants.{LoadKey, Run, TakeLine, TakeCard}
-use Rattle.cpu_1401.specs.declared.switch_name.SwitchName.TheVariants.{A, G}
+use Rattle.operator_1401.specs.declared.command.Command.{Command}
+use Rattle.operator_1401.specs.declared.command.Command.TheVariants.{Deposit, Examine, Registers, SetI, Switch, Feed}
+use Rattle.operator_1401.specs.declared.command.Command.TheVariants.{LoadKey, Run, TakeLine, TakeCard}
+use Rattle.panel_1401.specs.declared.switch_name.SwitchName.TheVariants.{A, G}
 use Rattle.notation_1401.specs.Cells.{cells_text}
 use Rattle.notation_1401.specs.Characters.{graphics_of, trimmed}
 use Rattle.text_1401.specs.CommandText.{command_text}

@@ -9,14 +9,14 @@ use Rattle.std.proofs.lemmas.List.{append_assoc, append-nil, length-map, length-
 use Rattle.bcd_1401.specs.declared.cell.Cell.{Cell}
 use Rattle.bcd_1401.specs.Graphic.{graphics}
 use Rattle.core_1401.specs.Address.{addresses}
-use Rattle.cpu_1401.specs.declared.switch_name.SwitchName.{SwitchName}
-use Rattle.cpu_1401.specs.declared.switch_name.SwitchName.TheVariants.{A, B, C, D, E, F, G}
+use Rattle.panel_1401.specs.declared.switch_name.SwitchName.{SwitchName}
+use Rattle.panel_1401.specs.declared.switch_name.SwitchName.TheVariants.{A, B, C, D, E, F, G}
 use Rattle.devices_1401.specs.declared.card.Card.{Card}
 use Rattle.notation_1401.specs.Cells.{cell_text, cells_text}
 use Rattle.notation_1401.specs.Digits.{digits_in}
-use Rattle.command_1401.specs.declared.command.Command.{Command}
-use Rattle.command_1401.specs.declared.command.Command.TheVariants.{Deposit, Examine, Registers, SetI, Switch, Feed}
-use Rattle.command_1401.specs.declared.command.Command.TheVariants.{LoadKey, Run, TakeLine, TakeCard}
+use Rattle.operator_1401.specs.declared.command.Command.{Command}
+use Rattle.operator_1401.specs.declared.command.Command.TheVariants.{Deposit, Examine, Registers, SetI, Switch, Feed}
+use Rattle.operator_1401.specs.declared.command.Command.TheVariants.{LoadKey, Run, TakeLine, TakeCard}
 use Rattle.text_1401.specs.declared.line.Line.TheVariants as line
 use Rattle.text_1401.specs.Words.{blank, letter_of, most_digits}
 use Rattle.notation_1401.specs.Characters.{graphics_of, trimmed}

@@ -3,9 +3,9 @@ use Rattle.std.proofs.Common.{◌≡◌, ℕ, true, false, List, [], ◌∷◌, 
 use Rattle.std.specs.Prelude.{Ok, Err, codes}
 use Rattle.bcd_1401.specs.declared.cell.Cell.{Cell}
 use Rattle.bcd_1401.specs.Graphic.{graphics}
-use Rattle.command_1401.specs.declared.command.Command.TheVariants.{Deposit, Examine, Registers, SetI, Switch, Feed}
-use Rattle.command_1401.specs.declared.command.Command.TheVariants.{LoadKey, Run, TakeLine, TakeCard}
-use Rattle.cpu_1401.specs.declared.switch_name.SwitchName.TheVariants.{A, B, C, D, E, F, G}
+use Rattle.operator_1401.specs.declared.command.Command.TheVariants.{Deposit, Examine, Registers, SetI, Switch, Feed}
+use Rattle.operator_1401.specs.declared.command.Command.TheVariants.{LoadKey, Run, TakeLine, TakeCard}
+use Rattle.panel_1401.specs.declared.switch_name.SwitchName.TheVariants.{A, B, C, D, E, F, G}
 use Rattle.text_1401.specs.declared.line.Line.TheVariants.{Empty, Command, Quit}
 use Rattle.text_1401.specs.declared.line.LineFault.TheVariants.{Word, Number, Graphic, Length, Extra}
 use Rattle.text_1401.specs.Words.{word_in, behind_word, keyword_of, number_of, address_of, count_of, switch_named}

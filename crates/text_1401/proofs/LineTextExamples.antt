@@ -5,8 +5,8 @@ use Rattle.std.specs.Fmt.{digits}
 use Rattle.std.specs.Prelude.{codes}
 use Rattle.bcd_1401.specs.declared.cell.Cell.{Cell}
 use Rattle.bcd_1401.specs.Graphic.{graphics}
-use Rattle.cpu_1401.specs.declared.switch_name.SwitchName.TheVariants.{C}
-use Rattle.command_1401.specs.declared.command.Command.TheVariants.{Deposit, Examine, Switch}
+use Rattle.panel_1401.specs.declared.switch_name.SwitchName.TheVariants.{C}
+use Rattle.operator_1401.specs.declared.command.Command.TheVariants.{Deposit, Examine, Switch}
 use Rattle.text_1401.specs.declared.line.Line.TheVariants.{Empty, Command}
 use Rattle.notation_1401.specs.Characters.{graphics_of}
 use Rattle.text_1401.specs.CardText.{card_with}

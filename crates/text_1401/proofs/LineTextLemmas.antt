@@ -11,11 +11,11 @@ use Rattle.bcd_1401.specs.declared.cell.Cell.{Cell}
 use Rattle.bcd_1401.specs.Graphic.{graphics}
 use Rattle.core_1401.specs.Address.{addresses}
 use Rattle.core_1401.specs.Cells.{most_cells}
-use Rattle.cpu_1401.specs.declared.switch_name.SwitchName.{SwitchName}
-use Rattle.cpu_1401.specs.declared.switch_name.SwitchName.TheVariants.{A, B, C, D, E, F, G}
-use Rattle.cpu_1401.specs.CardsAndPrinter.{card_columns}
+use Rattle.panel_1401.specs.declared.switch_name.SwitchName.{SwitchName}
+use Rattle.panel_1401.specs.declared.switch_name.SwitchName.TheVariants.{A, B, C, D, E, F, G}
+use Rattle.devices_1401.specs.Card.{card_columns}
 use Rattle.devices_1401.specs.declared.card.Card.{Card}
-use Rattle.command_1401.specs.declared.command.Command.TheVariants as command
+use Rattle.operator_1401.specs.declared.command.Command.TheVariants as command
 use Rattle.text_1401.specs.declared.line.Line.{Line}
 use Rattle.text_1401.specs.declared.line.Line.TheVariants.{Empty, Command, Glance, Quit}
 use Rattle.text_1401.specs.declared.words.Keyword.{Keyword}

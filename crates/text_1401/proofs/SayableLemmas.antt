@@ -21,7 +21,7 @@ use Rattle.notation_1401.specs.Cells.{cell_of, cells_of, spelled, tilde}
 use Rattle.bcd_1401.specs.Digits.{is_digit, value_of}
 use Rattle.notation_1401.specs.declared.fault.CellsFault.{CellsFault}
 use Rattle.notation_1401.specs.declared.fault.CellsFault.TheVariants as cells_fault
-use Rattle.command_1401.specs.declared.command.Command.TheVariants as command
+use Rattle.operator_1401.specs.declared.command.Command.TheVariants as command
 use Rattle.text_1401.specs.declared.line.Line.{Line}
 use Rattle.text_1401.specs.declared.line.Line.TheVariants.{Empty, Command, Quit}
 use Rattle.text_1401.specs.declared.line.LineFault.{LineFault}

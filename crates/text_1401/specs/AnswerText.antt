@@ -4,18 +4,18 @@ use Rattle.std.specs.Prelude.{false, Ok, codes, slice_index_or}
 use Rattle.bcd_1401.specs.declared.cell.Cell.{Cell}
 use Rattle.notation_1401.specs.Cells.{cell_text, cells_of, cells_text, spelled}
 use Rattle.notation_1401.specs.Digits.{digits_in}
-use Rattle.cpu_1401.specs.declared.regs.Regs.{Regs}
-use Rattle.cpu_1401.specs.declared.stop.Stop.{Stop}
-use Rattle.cpu_1401.specs.declared.switch_name.SwitchName.{SwitchName}
-use Rattle.cpu_1401.specs.declared.switch_name.SwitchName.TheVariants.{A, B, C, D, E, F, G}
-use Rattle.cpu_1401.specs.Stop.{stop_number, stop_name}
-use Rattle.cpu_1401.specs.SwitchName.{switch_number}
+use Rattle.panel_1401.specs.declared.regs.Regs.{Regs}
+use Rattle.panel_1401.specs.declared.stop.Stop.{Stop}
+use Rattle.panel_1401.specs.declared.switch_name.SwitchName.{SwitchName}
+use Rattle.panel_1401.specs.declared.switch_name.SwitchName.TheVariants.{A, B, C, D, E, F, G}
+use Rattle.panel_1401.specs.Stop.{stop_number, stop_name}
+use Rattle.panel_1401.specs.SwitchName.{switch_number}
 use Rattle.devices_1401.specs.declared.card.Card.{Card}
 use Rattle.devices_1401.specs.declared.print_line.PrintLine.{PrintLine}
-use Rattle.command_1401.specs.declared.answer.Answer.{Answer}
-use Rattle.command_1401.specs.declared.answer.Answer.TheVariants as answer
-use Rattle.command_1401.specs.RefusalText.{refusal_text}
-use Rattle.command_1401.specs.declared.command.Command.TheVariants as command
+use Rattle.operator_1401.specs.declared.answer.Answer.{Answer}
+use Rattle.operator_1401.specs.declared.answer.Answer.TheVariants as answer
+use Rattle.operator_1401.specs.RefusalText.{refusal_text}
+use Rattle.operator_1401.specs.declared.command.Command.TheVariants as command
 use Rattle.text_1401.specs.declared.line.LineFault.{LineFault}
 use Rattle.text_1401.specs.declared.line.LineFault.TheVariants as line_fault
 use Rattle.text_1401.specs.declared.line.Line.TheVariants as line

@@ -2,7 +2,7 @@
 use Rattle.std.specs.Prelude.{ℕ, ◌-◌, nat_le, if◌then◌else◌, List, ◌++◌, length, take, replicate}
 use Rattle.std.specs.Prelude.{filter_map, Option, is_some, Result, Ok, Err}
 use Rattle.std.specs.List.{list_all}
-use Rattle.cpu_1401.specs.CardsAndPrinter.{card_columns}
+use Rattle.devices_1401.specs.Card.{card_columns}
 use Rattle.devices_1401.specs.declared.card.Card.{Card}
 use Rattle.notation_1401.specs.Characters.{blank_code}
 use Rattle.text_1401.specs.declared.line.LineFault.{LineFault}

@@ -2,9 +2,9 @@
 use Rattle.std.specs.Prelude.{ℕ, List, ◌++◌, codes}
 use Rattle.notation_1401.specs.Cells.{cells_text}
 use Rattle.notation_1401.specs.Digits.{digits_in}
-use Rattle.command_1401.specs.declared.command.Command.{Command}
-use Rattle.command_1401.specs.declared.command.Command.TheVariants.{Deposit, Examine, Registers, SetI, Switch, Feed}
-use Rattle.command_1401.specs.declared.command.Command.TheVariants.{LoadKey, Run, TakeLine, TakeCard}
+use Rattle.operator_1401.specs.declared.command.Command.{Command}
+use Rattle.operator_1401.specs.declared.command.Command.TheVariants.{Deposit, Examine, Registers, SetI, Switch, Feed}
+use Rattle.operator_1401.specs.declared.command.Command.TheVariants.{LoadKey, Run, TakeLine, TakeCard}
 use Rattle.notation_1401.specs.Characters.{graphics_of, trimmed}
 use Rattle.text_1401.specs.LineText.{setting_text}
 use Rattle.text_1401.specs.Words.{letter_of}

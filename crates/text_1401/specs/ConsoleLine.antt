@@ -2,7 +2,7 @@
 use Rattle.std.specs.Prelude.{ℕ, ◌==◌, nat_lt, if◌then◌else◌, List, length, drop, Option, None, Some, Result, Ok, Err}
 use Rattle.bcd_1401.specs.declared.cell.Cell.{Cell}
 use Rattle.notation_1401.specs.Cells.{cells_of, spelled}
-use Rattle.command_1401.specs.declared.command.Command.TheVariants as command
+use Rattle.operator_1401.specs.declared.command.Command.TheVariants as command
 use Rattle.notation_1401.specs.declared.fault.CellsFault.{CellsFault}
 use Rattle.notation_1401.specs.declared.fault.CellsFault.TheVariants as cells_fault
 use Rattle.text_1401.specs.declared.line.Line.{Line}

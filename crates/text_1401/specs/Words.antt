@@ -6,8 +6,8 @@ use Rattle.std.specs.Option.{ok_or}
 use Rattle.std.specs.Str.{bytes_eq}
 use Rattle.bcd_1401.specs.Digits.{is_digit, value_of}
 use Rattle.core_1401.specs.Address.{addresses}
-use Rattle.cpu_1401.specs.declared.switch_name.SwitchName.{SwitchName}
-use Rattle.cpu_1401.specs.declared.switch_name.SwitchName.TheVariants.{A, B, C, D, E, F, G}
+use Rattle.panel_1401.specs.declared.switch_name.SwitchName.{SwitchName}
+use Rattle.panel_1401.specs.declared.switch_name.SwitchName.TheVariants.{A, B, C, D, E, F, G}
 use Rattle.text_1401.specs.declared.line.LineFault.{LineFault}
 use Rattle.text_1401.specs.declared.line.LineFault.TheVariants.{Word, Number}
 use Rattle.text_1401.specs.declared.words.Keyword.{Keyword}

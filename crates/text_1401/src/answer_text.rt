@@ -10,11 +10,11 @@ ghost use Rattle.text_1401.specs.AnswerText.{line_text, card_text, fault_text, g
 use crate::line::LineFault;
 use crate::words::letter;
 use bcd_1401::Cell;
-use command_1401::Answer;
 use core_1401::Cells;
-use cpu_1401::{Regs, Stop, SwitchName};
 use devices_1401::{Card, PrintLine};
 use notation_1401::{put_cell, put_cells, put_characters, put_digits};
+use operator_1401::Answer;
+use panel_1401::{Regs, Stop, SwitchName};
 use std::alloc::{AllocError, Global};
 
 /// The text of an answer.

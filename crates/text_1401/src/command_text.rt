@@ -6,11 +6,11 @@ ghost use Rattle.text_1401.specs.Words.{letter_of};
 
 use crate::answer_text::put_number;
 use crate::words::letter;
-use command_1401::Command;
 use core_1401::Cells;
-use cpu_1401::SwitchName;
 use devices_1401::Card;
 use notation_1401::{put_cells, put_characters};
+use operator_1401::Command;
+use panel_1401::SwitchName;
 use std::alloc::AllocError;
 
 /// Adds the text of a command, the line by which it is typed (own). `parse_line` reads it as that command, if a line

@@ -1,6 +1,6 @@
 //! What a line at the console says.
 ghost use Rattle.std.specs.Prelude.{◌≡◌, ℕ, IfOk};
-ghost use Rattle.command_1401.specs.declared.command.Command.{Command};
+ghost use Rattle.operator_1401.specs.declared.command.Command.{Command};
 ghost use Rattle.text_1401.specs.declared.line.Line.{Line};
 ghost use Rattle.text_1401.specs.CommandText.{command_text};
 ghost use Rattle.notation_1401.specs.Cells.{cells_of, spelled};
@@ -12,10 +12,10 @@ ghost use Rattle.text_1401.specs.LineText.{CanBeSaid, IsLineOf, IsExamineOf, one
 
 use crate::card_text::card;
 use crate::words::{Keyword, address, count, number, setting, split_word, switch};
-use command_1401::Command;
 use core_1401::Cells;
 use devices_1401::Card;
 use notation_1401::{CellsFault, read_cells};
+use operator_1401::Command;
 use thiserror::Error;
 
 /// The most bytes that a line has.

@@ -6,8 +6,8 @@ ghost use Rattle.text_1401.specs.Words.{address_of, count_of, letter_of, switch_
 
 use crate::line::LineFault;
 use core_1401::ADDRESSES;
-use cpu_1401::SwitchName;
 use notation_1401::read_digits;
+use panel_1401::SwitchName;
 
 /// The most digits that a number has.
 const MOST_DIGITS: usize = 7;

@@ -3,11 +3,11 @@ use Rattle.std.specs.Prelude.{ℕ, ◌-◌, ◌==◌, ◌&&◌, nat_lt, Bool, fa
 use Rattle.std.specs.Prelude.{Option, None, Some, codes, replicate}
 use Rattle.bcd_1401.specs.declared.cell.Cell.{Cell}
 use Rattle.core_1401.specs.Storage.{Storage}
-use Rattle.cpu_1401.specs.declared.stop.Stop.{Stop}
+use Rattle.panel_1401.specs.declared.stop.Stop.{Stop}
 use Rattle.cpu_1401.specs.Fetched.{instruction_at}
 use Rattle.cpu_1401.specs.State.{State}
 use Rattle.cpu_1401.specs.Stepped.{Stepped}
-use Rattle.cpu_1401.specs.Stop.{stop_name}
+use Rattle.panel_1401.specs.Stop.{stop_name}
 use Rattle.devices_1401.specs.Carriage.{form_of as form_at, line_of as line_at}
 use Rattle.devices_1401.specs.Control.{Control, Space, Skip}
 use Rattle.instruction_text_1401.specs.InstructionText.{instruction_text}

@@ -3,7 +3,7 @@ use Rattle.std.proofs.Common.{◌≡◌, ℕ, Option, drop, length, min, subst, 
 use Rattle.std.specs.Prelude.{is_some, nat_lt, option_and_then}
 use Rattle.std.specs.Io.KnownBytes.{Appends}
 use Rattle.streams_1401.specs.Sink.{AppendsPart}
-use Rattle.cpu_1401.specs.declared.regs.Regs.{Regs}
+use Rattle.panel_1401.specs.declared.regs.Regs.{Regs}
 use Rattle.trace_1401.specs.TraceLine.{Seen}
 use Rattle.running_1401.specs.TraceText.{trace_text}
 use Rattle.running_1401.specs.RunTrace.{lines_after, most_at_once, seen_if, traced}

@@ -1,7 +1,7 @@
 -- One command more of the seat's, which has seen all others.
 use Rattle.std.proofs.Common.{◌≡◌, ◌+◌, ◌≤◌, ap, sym, ◌∙◌, subst, arith, ℕ, List, [], ◌∷◌, ◌++◌, length, length-append}
-use Rattle.command_1401.specs.declared.answer.Answer.{Answer}
-use Rattle.command_1401.specs.declared.command.Command.{Command}
+use Rattle.operator_1401.specs.declared.answer.Answer.{Answer}
+use Rattle.operator_1401.specs.declared.command.Command.{Command}
 use Rattle.lone_room_1401.specs.Account.{Account}
 use Rattle.lone_room_1401.specs.Journal.{entry, pairs_of}
 use Rattle.lone_room_1401.specs.Replay.{pair, reply_to}

@@ -1,15 +1,13 @@
 //! A session at the console of a room whose journal is kept.
 ghost use Rattle.std.specs.Prelude.{◌≡◌, ◌≢◌, true, false, IsTrue};
 ghost use Rattle.lone_room_1401.specs.Kept.{IsKeptAs};
-ghost use Rattle.answering_1401.specs.Turns.{AnsweredKept, KeptResponds};
+ghost use Rattle.lone_room_1401.specs.Turns.{AnsweredKept, KeptResponds};
 ghost use Rattle.answering_1401.specs.Session.{SessionDid};
 
-use crate::answering::answer_lines;
-use crate::reply::Reply;
-use crate::responder::Responder;
-use crate::session_end::SessionEnd;
+use crate::keeper::Keeper;
+use crate::kept_room::KeptRoom;
 use crate::sessions::{OWN_SEAT, glance_at};
-use lone_room_1401::{Keeper, KeptRoom};
+use answering_1401::{Reply, Responder, SessionEnd, answer_lines};
 use std::alloc::Global;
 use streams_1401::{Sink, Source};
 use text_1401::{Line, LineFault};

@@ -1,7 +1,7 @@
 -- The texts of refusals, as the console replies them (own).
 use Rattle.std.specs.Prelude.{ℕ, List, codes}
-use Rattle.command_1401.specs.declared.answer.Refusal.{Refusal}
-use Rattle.command_1401.specs.declared.answer.Refusal.TheVariants.{Address, Hopper, Reader, Empty, Limit, Count}
+use Rattle.operator_1401.specs.declared.answer.Refusal.{Refusal}
+use Rattle.operator_1401.specs.declared.answer.Refusal.TheVariants.{Address, Hopper, Reader, Empty, Limit, Count}
 
 -- a refusal by number and name
 abbrev pub refusal_text : Refusal → List ℕ

@@ -1,10 +1,10 @@
 //! What the machine answers.
 ghost use Rattle.std.specs.Prelude.{◌≡◌};
-ghost use Rattle.command_1401.specs.RefusalText.{refusal_text};
+ghost use Rattle.operator_1401.specs.RefusalText.{refusal_text};
 
 use core_1401::Cells;
-use cpu_1401::{Regs, Stop};
 use devices_1401::{Card, PrintLine};
+use panel_1401::{Regs, Stop};
 use thiserror::Error;
 
 /// What a command is answered.

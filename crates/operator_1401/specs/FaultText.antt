@@ -1,9 +1,9 @@
 -- The texts of faults, as the console replies them (own).
 use Rattle.std.specs.Prelude.{ℕ, List, codes}
-use Rattle.lone_room_1401.specs.declared.fault.GlanceFault.{GlanceFault}
-use Rattle.lone_room_1401.specs.declared.fault.GlanceFault.TheVariants as glance_fault
-use Rattle.lone_room_1401.specs.declared.fault.RoomFault.{RoomFault}
-use Rattle.lone_room_1401.specs.declared.fault.RoomFault.TheVariants as room_fault
+use Rattle.operator_1401.specs.declared.fault.GlanceFault.{GlanceFault}
+use Rattle.operator_1401.specs.declared.fault.GlanceFault.TheVariants as glance_fault
+use Rattle.operator_1401.specs.declared.fault.RoomFault.{RoomFault}
+use Rattle.operator_1401.specs.declared.fault.RoomFault.TheVariants as room_fault
 
 -- a room that can't carry a command out
 abbrev pub room_fault_text : RoomFault → List ℕ

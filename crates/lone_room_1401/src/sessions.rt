@@ -1,13 +1,11 @@
 //! A session at the console of a room.
 ghost use Rattle.std.specs.Prelude.{◌≡◌, ◌≢◌, false, IsTrue};
-ghost use Rattle.answering_1401.specs.Turns.{Answered, RoomResponds, glance_reply};
+ghost use Rattle.lone_room_1401.specs.Turns.{Answered, RoomResponds, glance_reply};
 ghost use Rattle.answering_1401.specs.Session.{SessionDid};
 
-use crate::answering::answer_lines;
-use crate::reply::Reply;
-use crate::responder::Responder;
-use crate::session_end::SessionEnd;
-use lone_room_1401::{Glance, GlanceFault, Room};
+use crate::room::Room;
+use answering_1401::{Reply, Responder, SessionEnd, answer_lines};
+use operator_1401::{Glance, GlanceFault};
 use std::alloc::Global;
 use streams_1401::{Sink, Source};
 use text_1401::{Line, LineFault};

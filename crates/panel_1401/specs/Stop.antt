@@ -1,10 +1,8 @@
--- The numbers and the names of the stops, and the stop of an operation on fields (own).
+-- The numbers and the names of the stops (own).
 use Rattle.std.specs.Prelude.{ℕ, List, codes}
-use Rattle.fields_1401.specs.declared.done.FieldStop.{FieldStop}
-use Rattle.fields_1401.specs.declared.done.FieldStop.TheVariants as field
-use Rattle.cpu_1401.specs.declared.stop.Stop.{Stop}
-use Rattle.cpu_1401.specs.declared.stop.Stop.TheVariants.{Limit, Halt, Reader, Forms, Stacker, NoMark, OpCode, Length}
-use Rattle.cpu_1401.specs.declared.stop.Stop.TheVariants.{Address, Overlap, Carriage, NotFitted, DChar}
+use Rattle.panel_1401.specs.declared.stop.Stop.{Stop}
+use Rattle.panel_1401.specs.declared.stop.Stop.TheVariants.{Limit, Halt, Reader, Forms, Stacker, NoMark, OpCode, Length}
+use Rattle.panel_1401.specs.declared.stop.Stop.TheVariants.{Address, Overlap, Carriage, NotFitted, DChar}
 
 -- the number of a stop
 abbrev pub stop_number : Stop → ℕ
@@ -37,8 +35,3 @@ stop_name Overlap = codes "OVERLAP"
 stop_name Carriage = codes "CARRIAGE"
 stop_name NotFitted = codes "NOTFITTED"
 stop_name DChar = codes "DCHAR"
-
--- the stop of an operation on fields that can't be carried out: the one of the same name
-abbrev pub stop_of : FieldStop → Stop
-stop_of field.Address = Address
-stop_of field.Overlap = Overlap

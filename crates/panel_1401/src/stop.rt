@@ -1,8 +1,7 @@
 //! Why the machine stops.
 ghost use Rattle.std.specs.Prelude.{◌≡◌, Some};
-ghost use Rattle.cpu_1401.specs.Stop.{stop_number, stop_name};
+ghost use Rattle.panel_1401.specs.Stop.{stop_number, stop_name};
 
-use fields_1401::FieldStop;
 use std::fmt;
 use thiserror::Error;
 
@@ -72,18 +71,5 @@ impl fmt::Display for Stop {
 
     fn fmt<W: fmt::Write>(&self, f: &mut fmt::Formatter<W>) -> fmt::Result {
         f.write_str(self.name())
-    }
-}
-
-impl From<FieldStop> for Stop {
-    ghost use Rattle.cpu_1401.specs.Stop.{stop_of};
-
-    ghost from_gives = { λ stop why. why ≡ stop_of stop };
-
-    fn from(stop: FieldStop) -> Stop {
-        match stop {
-            FieldStop::Address => Stop::Address,
-            FieldStop::Overlap => Stop::Overlap,
-        }
     }
 }

@@ -1,10 +1,10 @@
 -- What a line is answered at the console of a room, and what it leaves (own).
 use Rattle.std.specs.Prelude.{◌≡◌, ℕ, ◌+◌, ◌<◌, ◌≤◌, Bool, false, All, List, [], ◌∷◌, ◌++◌, ◌||◌, length, take, map}
 use Rattle.std.specs.Prelude.{nat_lt, if◌then◌else◌, Option, None, Some, Ok, Err}
-use Rattle.command_1401.specs.declared.command.Command.{Command}
+use Rattle.operator_1401.specs.declared.command.Command.{Command}
 use Rattle.lone_room_1401.specs.declared.entry.Entry.{Entry}
-use Rattle.lone_room_1401.specs.declared.fault.GlanceFault.TheVariants.{Range}
-use Rattle.lone_room_1401.specs.declared.fault.RoomFault.TheVariants.{Memory, JournalFull}
+use Rattle.operator_1401.specs.declared.fault.GlanceFault.TheVariants.{Range}
+use Rattle.operator_1401.specs.declared.fault.RoomFault.TheVariants.{Memory, JournalFull}
 use Rattle.lone_room_1401.specs.Account.{Account}
 use Rattle.lone_room_1401.specs.Kept.{KeptAccount}
 use Rattle.lone_room_1401.specs.Journal.{entry, answer_to, is_full, pairs_of}

@@ -4,8 +4,8 @@ use Rattle.std.specs.Fmt.{digits}
 use Rattle.std.specs.Prelude.{Ok, Err, codes}
 use Rattle.bcd_1401.specs.declared.cell.Cell.{Cell}
 use Rattle.bcd_1401.specs.Graphic.{graphics}
-use Rattle.command_1401.specs.declared.command.Command.TheVariants.{Deposit, Examine}
-use Rattle.lone_room_1401.specs.declared.fault.GlanceFault.TheVariants.{Range, Gone}
+use Rattle.operator_1401.specs.declared.command.Command.TheVariants.{Deposit, Examine}
+use Rattle.operator_1401.specs.declared.fault.GlanceFault.TheVariants.{Range, Gone}
 use Rattle.command_1401.specs.CarryOut.{carry_out}
 use Rattle.text_1401.specs.declared.line.Line.TheVariants.{Command, Glance}
 use Rattle.text_1401.specs.declared.line.LineFault.TheVariants.{Number, Extra, Word}
@@ -17,7 +17,7 @@ use Rattle.text_1401.specs.LineText.{IsLineOf}
 use Rattle.text_1401.specs.AnswerText.{answer_text, glance_text}
 use Rattle.notation_1401.specs.Cells.{cells_text}
 use Rattle.answering_1401.specs.ReplyText.{text_of_reply}
-use Rattle.answering_1401.specs.Turns.{Turn, replies_to, journal_after}
+use Rattle.lone_room_1401.specs.Turns.{Turn, replies_to, journal_after}
 
 -- what a line says, with all that its grammar consists of open
 says : List ℕ → Said

@@ -5,8 +5,8 @@ use Rattle.std.proofs.lemmas.List.{length-replicate}
 use Rattle.std.proofs.lemmas.List.Elements.{All-nil, All-cons}
 use Rattle.std.specs.Prelude.{Some, Ok, codes}
 use Rattle.core_1401.specs.Storage.{blank}
-use Rattle.command_1401.specs.declared.answer.Answer.TheVariants.{Cells}
-use Rattle.command_1401.specs.declared.command.Command.TheVariants.{Examine}
+use Rattle.operator_1401.specs.declared.answer.Answer.TheVariants.{Cells}
+use Rattle.operator_1401.specs.declared.command.Command.TheVariants.{Examine}
 use Rattle.lone_room_1401.specs.declared.entry.Entry.{Entry}
 use Rattle.lone_room_1401.specs.Account.{Account}
 use Rattle.lone_room_1401.specs.Journal.{entry}
@@ -15,10 +15,10 @@ use Rattle.text_1401.specs.ConsoleLine.{Said}
 use Rattle.answering_1401.specs.declared.session_end.SessionEnd.TheVariants as end
 use Rattle.notation_1401.specs.Bytes.{line_feed}
 use Rattle.answering_1401.specs.Session.{NoQuit, SessionDid}
-use Rattle.answering_1401.specs.Turns.{Turn, Answered, NoneRefused}
+use Rattle.lone_room_1401.specs.Turns.{Turn, Answered, NoneRefused}
 use Rattle.answering_1401.specs.Limits.{most_bytes}
 use Rattle.answering_1401.specs.Text.{Cut, in_front, cut_of, said_finished, lines_of}
-use Rattle.answering_1401.proofs.SessionExamples.{lines_in, replies_in, good}
+use Rattle.lone_room_1401.proofs.SessionExamples.{lines_in, replies_in, good}
 
 -- a text and a line feed
 abbrev with_feed : List ℕ → List ℕ

@@ -1,8 +1,8 @@
 //! What an operator asks of the machine.
 
 use core_1401::Cells;
-use cpu_1401::SwitchName;
 use devices_1401::Card;
+use panel_1401::SwitchName;
 
 /// What an operator asks of the machine. An address may be any number; one that isn't in core is refused.
 #[derive(Clone, Copy, Debug, PartialEq, Eq)]

@@ -1,7 +1,7 @@
 -- The sense switches by their letters (A24-1403, "Sense Switches").
 use Rattle.std.specs.Prelude.{ℕ}
-use Rattle.cpu_1401.specs.declared.switch_name.SwitchName.{SwitchName}
-use Rattle.cpu_1401.specs.declared.switch_name.SwitchName.TheVariants.{A, B, C, D, E, F, G}
+use Rattle.panel_1401.specs.declared.switch_name.SwitchName.{SwitchName}
+use Rattle.panel_1401.specs.declared.switch_name.SwitchName.TheVariants.{A, B, C, D, E, F, G}
 
 -- which of the machine's switches it is
 abbrev pub switch_number : SwitchName → ℕ

@@ -1,6 +1,6 @@
 //! The sense switches by their letters.
 ghost use Rattle.std.specs.Prelude.{◌≡◌, ◌<◌};
-ghost use Rattle.cpu_1401.specs.SwitchName.{switch_number};
+ghost use Rattle.panel_1401.specs.SwitchName.{switch_number};
 
 /// A sense switch (A24-1403, "Sense Switches").
 #[derive(Clone, Copy, Debug, PartialEq, Eq)]

@@ -1,6 +1,6 @@
 //! Why a room can't take a command, and a glance shows nothing.
 ghost use Rattle.std.specs.Prelude.{◌≡◌};
-ghost use Rattle.lone_room_1401.specs.FaultText.{glance_fault_text, room_fault_text};
+ghost use Rattle.operator_1401.specs.FaultText.{glance_fault_text, room_fault_text};
 
 use thiserror::Error;
 

@@ -2,11 +2,12 @@
 use Rattle.std.proofs.Common.{ℕ, List, Option}
 use Rattle.lone_room_1401.specs.Kept.{KeptAccount}
 use Rattle.answering_1401.specs.declared.session_end.SessionEnd.{SessionEnd}
-use Rattle.answering_1401.specs.Turns.{AnsweredKept, KeptResponds}
+use Rattle.lone_room_1401.specs.Turns.{AnsweredKept, KeptResponds}
 use Rattle.answering_1401.specs.Session.{SessionDid}
 use Rattle.answering_1401.specs.Answering.{AnsweredAll}
-use Rattle.answering_1401.proofs.SessionLemmas.{session_as, answered_at_kept, kept_size_stays}
-use Rattle.answering_1401.proofs.kept_sessions.session_kept.Goals as goal
+use Rattle.answering_1401.proofs.SessionLemmas.{session_as}
+use Rattle.lone_room_1401.proofs.TurnsLemmas.{answered_at_kept, kept_size_stays}
+use Rattle.lone_room_1401.proofs.kept_sessions.session_kept.Goals as goal
 
 at_kept : (last : SessionEnd) (l0 l1 t0 t1 : Option (List ℕ)) (before after : KeptAccount)
     → SessionDid (AnsweredAll KeptResponds) last l0 l1 t0 t1 before after

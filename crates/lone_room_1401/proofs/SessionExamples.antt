@@ -3,7 +3,7 @@ use Rattle.std.proofs.Common.{◌≡◌, ℕ, Bool, true, false, List, [], ◌�
 use Rattle.std.specs.Prelude.{Ok, Err, codes}
 use Rattle.bcd_1401.specs.declared.cell.Cell.{Cell}
 use Rattle.bcd_1401.specs.Graphic.{graphics}
-use Rattle.command_1401.specs.declared.command.Command.TheVariants.{Deposit, Examine}
+use Rattle.operator_1401.specs.declared.command.Command.TheVariants.{Deposit, Examine}
 use Rattle.command_1401.specs.CarryOut.{carry_out}
 use Rattle.text_1401.specs.declared.line.Line.TheVariants.{Empty, Command, Quit}
 use Rattle.text_1401.specs.declared.line.LineFault.TheVariants.{Word, Length}
@@ -12,7 +12,7 @@ use Rattle.text_1401.specs.ConsoleLine.{Said, said_by, said_in_words, said_with,
 use Rattle.text_1401.specs.AnswerText.{answer_text}
 use Rattle.notation_1401.specs.Cells.{cells_text}
 use Rattle.answering_1401.specs.ReplyText.{text_of_reply}
-use Rattle.answering_1401.specs.Turns.{Turn, replies_to, journal_after}
+use Rattle.lone_room_1401.specs.Turns.{Turn, replies_to, journal_after}
 use Rattle.answering_1401.specs.Text.{cut_of, without_return, lines_of}
 
 -- the lines of a text, with all that they consist of open

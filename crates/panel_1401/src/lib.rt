@@ -1,0 +1,20 @@
+//! What the console panel of the IBM 1401 shows: the registers and indicators, the sense switches, and why the machine
+//! stopped.
+//!
+//! ```text
+//! Stop::Halt.number()                     // 2
+//! Stop::Halt.name()                       // "HALT"
+//! SwitchName::G.number()                  // 6: the last of seven
+//! ```
+#![tactic(auto)]
+
+// what an operator reads, and turns
+pub mod regs;
+pub mod switch_name;
+
+// why the machine stopped
+pub mod stop;
+
+pub use regs::Regs;
+pub use stop::Stop;
+pub use switch_name::SwitchName;
