@@ -7,10 +7,10 @@ use Rattle.source_1401.specs.declared.statement.Line.{Line}
 use Rattle.symbols_1401.specs.Known.{declared_at}
 use Rattle.symbols_1401.specs.Symbols.{sites_anywhere}
 use Rattle.symbols_1401.specs.declared.fault.AsmFault.{AsmFault}
-use Rattle.faults_1401.specs.ToldFaults.{line_faults, first_in, IsThere}
-use Rattle.faults_1401.specs.OwnFault.{told, nothing_before}
+use Rattle.explanations_1401.specs.ToldFaults.{line_faults, first_in, IsThere}
+use Rattle.explanations_1401.specs.OwnFault.{told, nothing_before}
 use Rattle.faults_1401.specs.FirstFault.{first_fault}
-use Rattle.faults_1401.proofs.ToldFaultsLemmas.{first_of_lines, each_from}
+use Rattle.explanations_1401.proofs.ToldFaultsLemmas.{first_of_lines, each_from}
 use Rattle.placing_1401.specs.Values.{first_outside}
 use Rattle.placing_1401.proofs.LawLemmas.{found_outside}
 use Rattle.autocoder_1401.specs.AllFaults.{or_outside, all_faults, fault_in, IsTold}

@@ -31,11 +31,11 @@ use Rattle.symbols_1401.specs.declared.fault.AsmKind.{AsmKind}
 use Rattle.symbols_1401.specs.declared.fault.AsmKind.TheVariants as kinds
 use Rattle.symbols_1401.specs.declared.known.Known.{Known}
 use Rattle.symbols_1401.specs.declared.known.Known.TheVariants as known
-use Rattle.faults_1401.specs.ToldFaults.{line_faults}
-use Rattle.faults_1401.specs.Explanation.{explained_lines}
-use Rattle.faults_1401.specs.declared.explanation.Cause.{Cause}
-use Rattle.faults_1401.specs.declared.explanation.Cause.TheVariants as causes
-use Rattle.faults_1401.specs.declared.explanation.Explanation.{Explanation}
+use Rattle.explanations_1401.specs.ToldFaults.{line_faults}
+use Rattle.explanations_1401.specs.Explanation.{explained_lines}
+use Rattle.explanations_1401.specs.declared.explanation.Cause.{Cause}
+use Rattle.explanations_1401.specs.declared.explanation.Cause.TheVariants as causes
+use Rattle.explanations_1401.specs.declared.explanation.Explanation.{Explanation}
 
 -- what the lines of a source say, with all tables open
 said : List ℕ → List Line

@@ -3,11 +3,11 @@ use Rattle.std.proofs.Common.{◌≡◌, ℕ, List, [], ◌∷◌, ◌++◌, Opt
 use Rattle.source_1401.specs.Context.{lines_said}
 use Rattle.source_1401.specs.declared.language.Language.{Language}
 use Rattle.symbols_1401.specs.declared.fault.AsmFault.{AsmFault}
-use Rattle.faults_1401.specs.Explanation.{whole_line, explained_lines, faults_of}
-use Rattle.faults_1401.specs.OwnFault.{told}
-use Rattle.faults_1401.specs.declared.explanation.Cause.TheVariants as causes
-use Rattle.faults_1401.specs.declared.explanation.Explanation.{Explanation}
-use Rattle.faults_1401.proofs.ExplanationLemmas.{told_lines, none_told}
+use Rattle.explanations_1401.specs.Explanation.{whole_line, explained_lines, faults_of}
+use Rattle.explanations_1401.specs.OwnFault.{told}
+use Rattle.explanations_1401.specs.declared.explanation.Cause.TheVariants as causes
+use Rattle.explanations_1401.specs.declared.explanation.Explanation.{Explanation}
+use Rattle.explanations_1401.proofs.ExplanationLemmas.{told_lines, none_told}
 use Rattle.placing_1401.specs.Values.{first_outside}
 use Rattle.autocoder_1401.specs.AllFaults.{or_outside, all_faults, fault_in}
 use Rattle.autocoder_1401.specs.Assembly.{unless_fault}

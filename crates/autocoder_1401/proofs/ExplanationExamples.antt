@@ -8,9 +8,9 @@ use Rattle.source_1401.specs.SourceLine.{columns_of, lines_of}
 use Rattle.source_1401.specs.declared.language.Language.TheVariants.{Plain}
 use Rattle.symbols_1401.specs.declared.fault.AsmKind.{AsmKind}
 use Rattle.symbols_1401.specs.declared.fault.AsmKind.TheVariants as kinds
-use Rattle.faults_1401.specs.declared.explanation.Cause.{Cause}
-use Rattle.faults_1401.specs.declared.explanation.Cause.TheVariants as causes
-use Rattle.faults_1401.specs.declared.explanation.Explanation.{Explanation}
+use Rattle.explanations_1401.specs.declared.explanation.Cause.{Cause}
+use Rattle.explanations_1401.specs.declared.explanation.Cause.TheVariants as causes
+use Rattle.explanations_1401.specs.declared.explanation.Explanation.{Explanation}
 use Rattle.autocoder_1401.specs.Explaining.{all_explained}
 
 -- the faults of a source in 4,000 places, each with what is wrong, with all tables open

@@ -20,8 +20,8 @@ use Rattle.source_1401.specs.declared.language.Language.TheVariants.{Ibm}
 use Rattle.symbols_1401.specs.Reading.{lines_in}
 use Rattle.symbols_1401.specs.declared.fault.AsmFault.{AsmFault}
 use Rattle.symbols_1401.specs.declared.fault.AsmKind.TheVariants as kinds
-use Rattle.faults_1401.specs.declared.explanation.Cause.TheVariants as causes
-use Rattle.faults_1401.specs.declared.explanation.Explanation.{Explanation}
+use Rattle.explanations_1401.specs.declared.explanation.Cause.TheVariants as causes
+use Rattle.explanations_1401.specs.declared.explanation.Explanation.{Explanation}
 use Rattle.placing_1401.specs.Placement.{next_hundred}
 use Rattle.autocoder_1401.specs.Assembly.{assembly_in}
 use Rattle.autocoder_1401.specs.CrossReference.{reference_line, references_text}

@@ -17,7 +17,7 @@ use Rattle.source_1401.specs.declared.statement.Statement.{Statement}
 use Rattle.symbols_1401.specs.Reading.{lines_in}
 use Rattle.symbols_1401.specs.Known.{declared_at}
 use Rattle.faults_1401.specs.FirstFault.{first_place}
-use Rattle.faults_1401.specs.Notes.{Known, known_in}
+use Rattle.explanations_1401.specs.Notes.{Known, known_in}
 use Rattle.faults_1401.proofs.SoundLemmas.{all_sound, lines_alike}
 use Rattle.placing_1401.specs.Filling.{addresses_of, filled}
 use Rattle.autocoder_1401.specs.Warnings.{is_not_fitted, is_unused, branches_unset, compares_unlike, read_on, warned_if}

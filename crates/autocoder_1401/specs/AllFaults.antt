@@ -5,7 +5,7 @@ use Rattle.source_1401.specs.declared.statement.Line.{Line}
 use Rattle.symbols_1401.specs.Known.{declared_at}
 use Rattle.symbols_1401.specs.declared.fault.AsmFault.{AsmFault}
 use Rattle.faults_1401.specs.FirstFault.{first_fault}
-use Rattle.faults_1401.specs.ToldFaults.{line_faults, IsThere}
+use Rattle.explanations_1401.specs.ToldFaults.{line_faults, IsThere}
 use Rattle.placing_1401.specs.Laws.{IsFirstOutside}
 use Rattle.placing_1401.specs.Values.{first_outside}
 

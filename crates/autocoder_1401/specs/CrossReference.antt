@@ -4,7 +4,7 @@ use Rattle.std.specs.List.{flat_map}
 use Rattle.notation_1401.specs.Digits.{digits_in}
 use Rattle.source_1401.specs.declared.label.Label.{Label}
 use Rattle.source_1401.specs.declared.statement.Line.{Line}
-use Rattle.faults_1401.specs.Notes.{is_named_in}
+use Rattle.explanations_1401.specs.Notes.{is_named_in}
 use Rattle.autocoder_1401.specs.SymbolTable.{symbols_in}
 use Rattle.autocoder_1401.specs.declared.symbol_table.Symbol.{Symbol}
 

@@ -3,9 +3,9 @@ use Rattle.std.specs.Prelude.{ℕ, List, [], ◌∷◌, Option, None, Some}
 use Rattle.source_1401.specs.Context.{lines_said}
 use Rattle.source_1401.specs.declared.language.Language.{Language}
 use Rattle.symbols_1401.specs.declared.fault.AsmFault.{AsmFault}
-use Rattle.faults_1401.specs.Explanation.{whole_line, explained_lines}
-use Rattle.faults_1401.specs.declared.explanation.Cause.TheVariants as causes
-use Rattle.faults_1401.specs.declared.explanation.Explanation.{Explanation}
+use Rattle.explanations_1401.specs.Explanation.{whole_line, explained_lines}
+use Rattle.explanations_1401.specs.declared.explanation.Cause.TheVariants as causes
+use Rattle.explanations_1401.specs.declared.explanation.Explanation.{Explanation}
 use Rattle.placing_1401.specs.Values.{first_outside}
 
 -- the faults of lines; of lines without any, the first of which something isn't in core

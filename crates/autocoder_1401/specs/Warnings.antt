@@ -27,7 +27,7 @@ use Rattle.source_1401.specs.declared.statement.Line.{Line}
 use Rattle.source_1401.specs.declared.statement.Statement.{Statement}
 use Rattle.symbols_1401.specs.Reading.{lines_in}
 use Rattle.faults_1401.specs.FirstFault.{first_fault, symbol_in_base}
-use Rattle.faults_1401.specs.Notes.{Known, known_in}
+use Rattle.explanations_1401.specs.Notes.{Known, known_in}
 use Rattle.placing_1401.specs.Filling.{filled, addresses_of}
 use Rattle.placing_1401.specs.Placement.{instruction_length, chain_length}
 use Rattle.placing_1401.specs.Fitted.{is_fitted}

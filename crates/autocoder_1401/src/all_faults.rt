@@ -2,13 +2,13 @@
 ghost use Rattle.std.specs.Prelude.{◌≡◌, ◌<◌, All, IfOk, IfErr, OnOk};
 ghost use Rattle.symbols_1401.specs.Reading.{lines_in};
 ghost use Rattle.symbols_1401.specs.Fault.{IsMemory};
-ghost use Rattle.faults_1401.specs.ToldFaults.{line_faults, first_in};
+ghost use Rattle.explanations_1401.specs.ToldFaults.{line_faults, first_in};
 ghost use Rattle.autocoder_1401.specs.AllFaults.{all_faults, fault_in, IsTold};
 ghost use Rattle.autocoder_1401.specs.Assembly.{assembly_in};
 ghost use Rattle.autocoder_1401.specs.Languages.{AgreesWithPlain};
 
 use crate::assembly::assemble_image;
-use faults_1401::source_faults;
+use explanations_1401::source_faults;
 use source_1401::Language;
 use std::alloc::Global;
 use symbols_1401::{AsmFault, AsmKind};

@@ -4,7 +4,7 @@ ghost use Rattle.std.specs.List.{flat_map};
 ghost use Rattle.source_1401.specs.declared.label.Label.{Label as ALabel};
 ghost use Rattle.symbols_1401.specs.Fault.{IsMemory};
 ghost use Rattle.symbols_1401.specs.Symbols.{has_label, same_label};
-ghost use Rattle.faults_1401.specs.Notes.{is_named_in};
+ghost use Rattle.explanations_1401.specs.Notes.{is_named_in};
 ghost use Rattle.autocoder_1401.specs.CrossReference.{number_if, uses_of, use_text, reference_line};
 ghost use Rattle.autocoder_1401.specs.View.{lines_naming};
 

@@ -25,8 +25,8 @@ pub mod warning; // what a source without a fault says and hardly means
 pub use all_faults::faults;
 pub use assembly::{Assembly, assemble, assemble_image};
 pub use explaining::explained_faults;
-pub use faults_1401::explanation;
-pub use faults_1401::explanation::{Cause, Explanation};
+pub use explanations_1401::explanation;
+pub use explanations_1401::explanation::{Cause, Explanation};
 pub use listing::{Listing, ListingLine};
 pub use symbols_1401::fault;
 pub use symbols_1401::fault::{AsmFault, AsmKind};

@@ -3,7 +3,7 @@ ghost use Rattle.std.specs.Prelude.{◌≡◌, ◌+◌, ◌<◌, ◌^◌, ◌++�
 ghost use Rattle.source_1401.specs.Statement.{well_formed};
 ghost use Rattle.symbols_1401.specs.Reading.{lines_in};
 ghost use Rattle.symbols_1401.specs.Fault.{IsMemory};
-ghost use Rattle.faults_1401.specs.Noted.{known_of};
+ghost use Rattle.explanations_1401.specs.Noted.{known_of};
 ghost use Rattle.placing_1401.specs.Placement.{instruction_length};
 ghost use Rattle.autocoder_1401.specs.Languages.{AgreesWithPlain};
 ghost use Rattle.autocoder_1401.specs.Warnings.{is_unit, is_unfitted, is_unfitted_chain, is_not_fitted, is_unused};
@@ -14,7 +14,7 @@ ghost use Rattle.autocoder_1401.specs.Warnings.{statement_warnings, line_warning
 ghost use Rattle.autocoder_1401.specs.Warnings.{PlainIsCarriedOut};
 
 use bcd_1401::{Cell, Char};
-use faults_1401::Notes;
+use explanations_1401::Notes;
 use placing_1401::{Filling, chain_length, fill, instruction_length, is_fitted};
 use source_1401::{
     Base, Chain, Constant, Contents, Instruction, Label, LabelField, Language, Literal, Operand,

@@ -1,6 +1,4 @@
 pub mod ChainsLemmas
-pub mod ExplanationLemmas
 pub mod FirstFaultLemmas
 pub mod LowestLemmas
 pub mod SoundLemmas
-pub mod ToldFaultsLemmas

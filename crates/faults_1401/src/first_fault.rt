@@ -21,7 +21,7 @@ use symbols_1401::{
 
 /// What the lines before a line tell of it.
 #[derive(Clone, Copy)]
-pub(crate) struct LineContext {
+pub struct LineContext {
     /// The line's number.
     pub number: u64,
     /// Whether there is an END before it.
@@ -32,14 +32,14 @@ pub(crate) struct LineContext {
 
 impl LineContext {
     /// The place of the first line.
-    pub(crate) const FIRST: LineContext = LineContext {
+    pub const FIRST: LineContext = LineContext {
         number: 1,
         is_ended: false,
         areas: None,
     };
 
     /// The place after a line.
-    pub(crate) fn behind(self, line: &KeptLine) -> LineContext
+    pub fn behind(self, line: &KeptLine) -> LineContext
         requires { self.number < 2 ^ 33 }
         ensures { result ≡ place_behind self line.now }
     {
@@ -72,7 +72,7 @@ impl LineContext {
     }
 
     /// Whether the label is bad, or a field of areas lacks one, of a statement with this row.
-    pub(crate) fn has_bad_label(self, statement: &Statement, row: &Description) -> bool
+    pub fn has_bad_label(self, statement: &Statement, row: &Description) -> bool
         requires { row.now ≡ describe statement.now.body }
         ensures { result ≡ bad_label self.areas statement.now }
     {
@@ -80,7 +80,7 @@ impl LineContext {
     }
 
     /// Whether the operation isn't known, or is a field under no areas, of a statement with this row.
-    pub(crate) fn has_bad_operation(self, row: &Description) -> bool
+    pub fn has_bad_operation(self, row: &Description) -> bool
         ensures { result ≡ (not row.now.is_known || (is_field row.now.areas && is_none self.areas)) }
     {
         !row.is_known || (matches!(row.areas, AreaRole::Divides(_)) && self.areas.is_none())
@@ -101,7 +101,7 @@ impl LineContext {
     }
 
     /// Whether the operands aren't as the operation asks, of a statement with this row.
-    pub(crate) fn has_bad_operands(self, row: &Description) -> bool
+    pub fn has_bad_operands(self, row: &Description) -> bool
         ensures { result ≡ (not row.now.is_well_formed || is_past_by self.areas row.now.areas) }
     {
         !row.is_well_formed || self.is_past_areas(row.areas)
@@ -109,7 +109,7 @@ impl LineContext {
 }
 
 /// Whether an earlier line declares the label.
-pub(crate) fn has_double_label(sites: &Sites, number: u64, field: LabelField) -> bool
+pub fn has_double_label(sites: &Sites, number: u64, field: LabelField) -> bool
     ensures { result ≡ double_label (get same_label sites.now) number field }
 {
     match field {
@@ -134,7 +134,7 @@ fn is_area(places: u8, declared: Option<Declaration>) -> bool
 }
 
 /// Whether an area literal's symbol is declared already, and not as the same area.
-pub(crate) fn is_double_area(sites: &Sites, area: Option<AreaLiteral>) -> bool
+pub fn is_double_area(sites: &Sites, area: Option<AreaLiteral>) -> bool
     ensures { result ≡ double_area (get same_label sites.now) area }
 {
     match area {
@@ -144,12 +144,7 @@ pub(crate) fn is_double_area(sites: &Sites, area: Option<AreaLiteral>) -> bool
 }
 
 /// Whether a label or an area literal of a line has a symbol that is declared already.
-pub(crate) fn has_double(
-    sites: &Sites,
-    number: u64,
-    areas: DeclaredAreas,
-    field: LabelField,
-) -> bool
+pub fn has_double(sites: &Sites, number: u64, areas: DeclaredAreas, field: LabelField) -> bool
     ensures { result ≡ is_double (get same_label sites.now) number areas field }
 {
     has_double_label(sites, number, field)
@@ -191,7 +186,7 @@ pub fn symbol_in(field: OperandField) -> Option<Label>
 }
 
 /// Whether an operand's symbol is declared by no line.
-pub(crate) fn is_undefined(sites: &Sites, field: OperandField) -> bool
+pub fn is_undefined(sites: &Sites, field: OperandField) -> bool
     ensures { result ≡ is_undefined (get same_label sites.now) field }
 {
     match symbol_in(field) {
@@ -231,7 +226,7 @@ fn is_unequal(symbols: &Symbols, number: u64, field: OperandField) -> bool
 }
 
 /// Whether a line here with these operands names a symbol that it can't.
-pub(crate) fn has_undefined(symbols: &Symbols, number: u64, addressing: &Addressing) -> bool
+pub fn has_undefined(symbols: &Symbols, number: u64, addressing: &Addressing) -> bool
     ensures { result ≡ undefined_in (symbols_view symbols.now) number addressing.now }
 {
     let sites = &symbols.sites;
@@ -292,7 +287,7 @@ fn lowest_of(symbols: &Symbols, at: LineContext, line: &KeptLine) -> Option<AsmK
 }
 
 /// The lowest kind of a line's faults.
-pub(crate) fn lowest_kind(symbols: &Symbols, at: LineContext, line: &KeptLine) -> Option<AsmKind>
+pub fn lowest_kind(symbols: &Symbols, at: LineContext, line: &KeptLine) -> Option<AsmKind>
     ensures value { result ≡ lowest (symbols_view symbols.now) at line.now }
     ensures clean { IfNone result (IsClean (symbols_view symbols.now) at line.now) }
     ensures lowest { IfSome result (λ kind. IsLowest (symbols_view symbols.now) at line.now kind) }

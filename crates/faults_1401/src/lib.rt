@@ -1,25 +1,14 @@
-//! Which lines of a source have a fault, which faults only follow from others, and what is wrong at each.
+//! The first line of a source with a fault, and the lowest kind of fault on it.
 //!
 //! ```text
-//! let first = first_fault(&symbols, &lines);                  // what the assembler tells, of kinds 2 to 8, 10 and 11
-//! source_faults(alloc, language, source)?                     // all that don't only follow from one told before
-//! source_explanations(alloc, language, source)?               // each with what is wrong, and in which columns
+//! let symbols = declared(alloc, hashing, language, &lines)?;  // what the lines declare, by `symbols_1401`
+//! first_fault(&symbols, &lines)                               // what the assembler tells, of kinds 2 to 8, 10 and 11
 //! ```
 //!
-//! Kind 9, what isn't in core, shows only once all is placed: see `placing_1401`. `notes` collects what the lines say
-//! of labels, for warnings of sources without a fault.
+//! Kind 9, what isn't in core, shows only once all is placed: see `placing_1401`. All faults of a source, and what is
+//! wrong at each: see `explanations_1401`.
 #![tactic(auto)]
 
-mod declarations; // what is declared, by the lines up to END and by all
 pub mod first_fault; // faults of kinds 2 to 8, 10 and 11
-pub mod own_fault; // which faults only follow from one told before
-pub mod told_faults; // all faults of lines but those
-pub mod explanation; // what is wrong at a fault, and in which columns
-pub mod explained_lines; // the same faults, each with what is wrong
-pub mod notes; // what lines say of labels, and which indicators they can set
 
-pub use explained_lines::source_explanations;
-pub use explanation::{Cause, Explanation, WHOLE_LINE};
 pub use first_fault::symbol_in;
-pub use notes::{LabelSet, Notes};
-pub use told_faults::source_faults;

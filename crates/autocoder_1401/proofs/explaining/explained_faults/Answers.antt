@@ -3,8 +3,8 @@ use Rattle.std.proofs.Common.{ap, sym, subst, ◌∙◌, List, All}
 use Rattle.source_1401.specs.SourceLine.{lines_of}
 use Rattle.symbols_1401.specs.Reading.{lines_in}
 use Rattle.symbols_1401.specs.declared.fault.AsmFault.{AsmFault}
-use Rattle.faults_1401.specs.ToldFaults.{first_in}
-use Rattle.faults_1401.specs.Explanation.{faults_of}
+use Rattle.explanations_1401.specs.ToldFaults.{first_in}
+use Rattle.explanations_1401.specs.Explanation.{faults_of}
 use Rattle.autocoder_1401.specs.AllFaults.{IsTold}
 use Rattle.autocoder_1401.specs.Assembly.{assembly_of}
 use Rattle.autocoder_1401.proofs.AllFaultsLemmas.{first_of_all, each_of_all}

@@ -1,7 +1,7 @@
 -- The warnings are those of the lines, and so of the source.
 use Rattle.std.proofs.Common.{ℕ, List, ◌∙◌, sym, ap, subst}
 use Rattle.bcd_1401.specs.declared.cell.Cell.{Cell}
-use Rattle.faults_1401.specs.Notes.{Known, known_in}
+use Rattle.explanations_1401.specs.Notes.{Known, known_in}
 use Rattle.placing_1401.specs.Filling.{filled}
 use Rattle.autocoder_1401.specs.Warnings.{warnings_from, all_warnings, PlainIsCarriedOut}
 use Rattle.autocoder_1401.proofs.PlainWarningsLemmas.{plain_is_carried_out}

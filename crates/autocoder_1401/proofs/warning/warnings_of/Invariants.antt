@@ -1,6 +1,6 @@
 -- The warnings so far, with those of the lines that are left, are those of all lines.
 use Rattle.std.proofs.Common.{◌≡◌, ◌+◌, ◌++◌, drop}
-use Rattle.faults_1401.specs.Noted.{known_of}
+use Rattle.explanations_1401.specs.Noted.{known_of}
 use Rattle.autocoder_1401.specs.Warnings.{warnings_from}
 use Rattle.autocoder_1401.proofs.warning.warnings_of.Given as goal
 

@@ -1,0 +1,21 @@
+-- What is explained, with what is explained of the lines that are left, is what is explained of all lines.
+use Rattle.std.proofs.Common.{◌≡◌, ◌+◌, ◌++◌, drop, length}
+use Rattle.indexmap.specs.IndexMap.{get}
+use Rattle.source_1401.specs.SourceLine.{lines_of}
+use Rattle.symbols_1401.specs.Symbols.{same_label}
+use Rattle.symbols_1401.specs.View.{symbols_view}
+use Rattle.explanations_1401.specs.Explanation.{explained_from}
+use Rattle.explanations_1401.specs.OwnFault.{nothing_before}
+use Rattle.explanations_1401.proofs.explained_lines.put_all_explained.Given as goal
+
+abbrev pub invariant-loop-line : goal.invariant-loop-line
+invariant-loop-line l = record {
+  explained : l.explanations.items
+      ++ explained_from l.language (symbols_view l.this.symbols) (get same_label l.this.anywhere) l.lines l.before
+      (drop l.line-index l.lines) (lines_of l.sources)
+      ≡ l.initial.explanations.items
+      ++ explained_from l.language (symbols_view l.this.symbols) (get same_label l.this.anywhere) l.lines nothing_before
+      l.lines (lines_of l.source);
+  number : l.before.at.number ≡ l.line-index + 1;
+  left : length (drop l.line-index l.lines) ≡ length (lines_of l.sources);
+}

@@ -1,0 +1,14 @@
+-- The labels so far, with those in the lines that are left, are those in all lines.
+use Rattle.std.proofs.Common.{◌≡◌, drop}
+use Rattle.std.specs.Prelude.{◌||◌}
+use Rattle.std.specs.List.{list_any}
+use Rattle.indexmap.specs.IndexSet.{contains}
+use Rattle.source_1401.specs.declared.label.Label.{Label}
+use Rattle.symbols_1401.specs.Symbols.{same_label}
+use Rattle.explanations_1401.specs.Notes.{is_number_in}
+use Rattle.explanations_1401.proofs.notes.number_labels.Given as goal
+
+abbrev pub invariant-loop-line : goal.invariant-loop-line
+invariant-loop-line l =
+    (label : Label) → (contains same_label l.labels label || list_any (is_number_in label) (drop l.line-index l.lines))
+    ≡ list_any (is_number_in label) l.lines

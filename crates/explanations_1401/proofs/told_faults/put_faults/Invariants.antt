@@ -1,0 +1,17 @@
+-- What is told, with what is told of the lines that are left, is what is told of all lines.
+use Rattle.std.proofs.Common.{◌≡◌, ◌+◌, ◌++◌, drop}
+use Rattle.indexmap.specs.IndexMap.{get}
+use Rattle.symbols_1401.specs.Symbols.{same_label}
+use Rattle.symbols_1401.specs.View.{symbols_view}
+use Rattle.explanations_1401.specs.ToldFaults.{faults_from}
+use Rattle.explanations_1401.specs.OwnFault.{nothing_before}
+use Rattle.explanations_1401.proofs.told_faults.put_faults.Given as goal
+
+abbrev pub invariant-loop-line : goal.invariant-loop-line
+invariant-loop-line l = record {
+  told : l.faults.items
+      ++ faults_from (symbols_view l.symbols) (get same_label l.anywhere) l.before (drop l.line-index l.lines)
+      ≡ l.initial.faults.items
+      ++ faults_from (symbols_view l.symbols) (get same_label l.anywhere) nothing_before l.lines;
+  number : l.before.at.number ≡ l.line-index + 1;
+}

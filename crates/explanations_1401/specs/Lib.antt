@@ -1,0 +1,5 @@
+pub mod Explanation
+pub mod Noted
+pub mod Notes
+pub mod OwnFault
+pub mod ToldFaults

@@ -1,9 +1,0 @@
--- What the lines that are left have is what all have.
-use Rattle.std.proofs.Common.{◌≡◌, drop}
-use Rattle.std.specs.List.{list_any}
-use Rattle.faults_1401.specs.Notes.{has_operation}
-use Rattle.faults_1401.proofs.notes.have_operation.Given as goal
-
-abbrev pub invariant-loop-line : goal.invariant-loop-line
-invariant-loop-line l =
-    list_any (has_operation l.operation) (drop l.line-index l.lines) ≡ list_any (has_operation l.operation) l.lines
