@@ -26,10 +26,6 @@ from pathlib import Path
 from checks.report import PROGRAM, TOP, count, difference, run, tell
 
 SESSIONS = TOP / "checks/sessions"
-REGISTERS = (
-    "I={i:05} A={a:05} B={b:05} UNEQUAL=0 LOW=0 HIGH=0 OVERFLOW=0 SWITCHES=------- "
-    "HOPPER=000 STACKER=000 PAPER=000 FORM=0001 LINE={line:02}"
-)
 # The graphics by code, sixteen of each zone.
 GRAPHICS = " 1234567890#@:>(^/STUVWXYZ',%=\\+-JKLMNOPQR!$*];_&ABCDEFGHI?.)[<\""
 # What a character does as an instruction of 1 to 8 characters, with 7007102 behind it: a letter of OUTCOMES each. An
@@ -100,6 +96,13 @@ class Session:
         else:
             return False
         return True
+
+
+def registers(i, a, b, line=1, on=()):
+    """The reply to REGS where these indicators are on."""
+    indicators = " ".join(f"{name}={int(name in on)}" for name in ("UNEQUAL", "LOW", "HIGH", "OVERFLOW"))
+    devices = f"HOPPER=000 STACKER=000 PAPER=000 FORM=0001 LINE={line:02}"
+    return f"I={i:05} A={a:05} B={b:05} {indicators} SWITCHES=------- {devices}"
 
 
 def bare(text):
@@ -176,7 +179,7 @@ def channels():
     """A branch by channel 9, one by channel 12, and a space, at each line of a form."""
     given, i, a, b = [("DEPOSIT 0600 ~B7009~B700@~FJ~.", "OK")], 0, 0, 0
     for line in range(1, 67):
-        given.append(("REGS", REGISTERS.format(i=i, a=a, b=b, line=line)))
+        given.append(("REGS", registers(i, a, b, line)))
         for at, behind, is_taken in (600, 605, line == 60), (605, 610, line == 63), (610, 612, False):
             i = 700 if is_taken else behind
             b = behind if is_taken else b
@@ -188,17 +191,22 @@ def channels():
 def sessions():
     """The sessions of the files, each by its name, and those of the tables."""
     files = sorted(SESSIONS.glob("*.txt"))
-    count("files of sessions", len(files), 11)
+    count("files of sessions", len(files), 12)
     named = []
     for file in files:
         try:
             named += [(f"{file.name}: {each.name}", [each]) for each in read_sessions(file.read_text())]
         except ValueError as fault:
             tell(f"checks/sessions/{file.name}", str(fault))
-    count("sessions as texts", len(named), 125)
+    count("sessions as texts", len(named), 140)
     named.append((channels().name, [channels()]))
     named += [(f"{char!r} as an instruction of each length", list(outcomes(char))) for char in GRAPHICS]
     count("characters at each length", len(GRAPHICS), 64)
+    hold(named)
+
+
+def hold(named):
+    """Holds sessions that go together under one name, and tells of each name what is wrong."""
     with ThreadPoolExecutor() as pool:
         told = pool.map(wrong_in, [each for _, together in named for each in together])
         for name, together in named:

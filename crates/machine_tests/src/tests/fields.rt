@@ -1,11 +1,6 @@
-//! Operations worked out by hand from the manual's rules. Cells are written as on the console: `~` before a graphic is
-//! its word mark.
-
-mod arithmetic;
-mod comparison;
-mod editing;
-mod moves;
-mod suppression;
+//! Operations on fields by their own calls, worked out by hand from the manual's rules. Cells are written as on the
+//! console: `~` before a graphic is its word mark. What each leaves and refuses of all kinds of fields is shown at the
+//! console, in `checks/fields.py` and in `checks/sessions/fields.txt`.
 
 use super::characters::char_of;
 use super::expecting::expect_same_at;
@@ -69,9 +64,8 @@ fn put(rt: &impl Abort, core: &mut Core, at: u16, graphic: u8, mark: bool) {
     core.put_mark(at, mark);
 }
 
-/// Puts cells into core storage from a place on, and gives the last place.
-fn deposit(rt: &impl Abort, core: &mut Core, from: u16, text: &str) -> u16 {
-    let mut last = from;
+/// Puts cells into core storage from a place on.
+fn deposit(rt: &impl Abort, core: &mut Core, from: u16, text: &str) {
     let mut next = from;
     let mut mark = false;
     for graphic in text.as_bytes() {
@@ -80,11 +74,9 @@ fn deposit(rt: &impl Abort, core: &mut Core, from: u16, text: &str) -> u16 {
         } else {
             put(rt, core, next, *graphic, mark);
             mark = false;
-            last = next;
             next = next.saturating_add(1);
         }
     }
-    last
 }
 
 /// Whether this cell stands at a place.
@@ -112,102 +104,214 @@ fn stands(rt: &impl Abort, core: &Core, from: u16, text: &str) -> bool {
     true
 }
 
-/// Expects these cells in core storage from a place on.
-fn expect_cells(rt: &impl Abort, core: &Core, from: u16, text: &str) {
-    expect_same_at(rt, stands(rt, core, from, text), true, text);
-}
-
-/// Carried out, with these registers, and with a sum that is too large or not.
-fn done(a: u16, b: u16, overflow: bool) -> Result<Done, FieldStop> {
-    Ok(Done {
-        a,
-        b,
-        overflow,
-        unequal: false,
-        low: false,
-        high: false,
-    })
-}
-
-/// Compares what an operation leaves, or why it can't be carried out.
-fn expect_outcome(
-    rt: &impl Abort,
-    core: &mut Core,
-    operation: Operation,
-    (a, b): (u16, u16),
-    outcome: Result<Done, FieldStop>,
-) {
-    let found = operation.perform(rt, core, a, b);
-    expect_same_at(rt, found, outcome, (operation, a, b));
-}
-
-/// One step of a test.
+/// How an operation ends.
 #[derive(Clone, Copy)]
-enum Step {
-    /// Cells are put into core storage from a place on.
-    Put(u16, &'static str),
-    /// An operation at two addresses leaves these registers.
-    Leaves(Operation, (u16, u16), (u16, u16)),
+enum End {
+    /// It leaves these registers.
+    At(u16, u16),
     /// The same, with a sum that is too large.
-    Overflows(Operation, (u16, u16), (u16, u16)),
-    /// An operation at two addresses is carried out.
-    Works(Operation, (u16, u16)),
-    /// An operation at two addresses can't be carried out.
-    Fails(Operation, (u16, u16), FieldStop),
-    /// Core storage has these cells from a place on.
-    Has(u16, &'static str),
+    Overflow(u16, u16),
+    /// The same, with a B field that is found to be high.
+    High(u16, u16),
+    /// It can't be carried out.
+    Stop(FieldStop),
 }
 
-impl Step {
-    /// Takes the step.
-    fn take(self, rt: &impl Abort, core: &mut Core) {
-        match self {
-            Step::Put(from, text) => {
-                deposit(rt, core, from, text);
-            }
-            Step::Leaves(operation, at, (a, b)) => {
-                expect_outcome(rt, core, operation, at, done(a, b, false));
-            }
-            Step::Overflows(operation, at, (a, b)) => {
-                expect_outcome(rt, core, operation, at, done(a, b, true));
-            }
-            Step::Works(operation, (a, b)) => {
-                assert!(rt; operation.perform(rt, core, a, b).is_ok());
-            }
-            Step::Fails(operation, at, why) => {
-                expect_outcome(rt, core, operation, at, Err(why));
-            }
-            Step::Has(from, text) => expect_cells(rt, core, from, text),
-        }
+impl End {
+    /// The same as its call says it.
+    fn said(self) -> Result<Done, FieldStop> {
+        let (a, b, overflow, high) = match self {
+            End::At(a, b) => (a, b, false, false),
+            End::Overflow(a, b) => (a, b, true, false),
+            End::High(a, b) => (a, b, false, true),
+            End::Stop(why) => return Err(why),
+        };
+        Ok(Done {
+            a,
+            b,
+            overflow,
+            unequal: high,
+            low: false,
+            high,
+        })
     }
 }
 
-/// Takes steps one after the other, over core storage of this size that is blank at first.
-fn take_steps(rt: &impl Abort, alloc: Global, size: u16, steps: &[Step]) {
-    let mut core = core_of(rt, alloc, size);
-    for step in steps {
-        step.take(rt, &mut core);
+/// An operation at an A and a B address: the cells from place 700 on before it and after it, and how it ends.
+type Row = (Operation, (u16, u16), &'static str, &'static str, End);
+
+/// Compares how an operation ends, and the cells that it leaves, in core storage of 1,400 places.
+fn expect_row(rt: &impl Abort, alloc: Global, row: &Row) {
+    let (operation, (a, b), before, after, end) = *row;
+    let mut core = core_of(rt, alloc, 1_400);
+    deposit(rt, &mut core, 700, before);
+    let found = operation.perform(rt, &mut core, a, b);
+    let has_cells = stands(rt, &core, 700, after);
+    expect_same_at(
+        rt,
+        (found, has_cells),
+        (end.said(), true),
+        (operation, a, b),
+    );
+}
+
+/// The same for each of these.
+fn expect_rows(rt: &impl Abort, alloc: Global, rows: &[Row]) {
+    for row in rows {
+        expect_row(rt, alloc, row);
     }
 }
 
-/// Expects that an operation at each of these addresses can't be carried out, and leaves the cells from a place on.
-fn expect_refusals(
-    rt: &impl Abort,
-    alloc: Global,
-    operation: Operation,
-    size: u16,
-    (from, text): (u16, &str),
-    refusals: &[(u16, u16, FieldStop)],
-) {
-    let mut core = core_of(rt, alloc, size);
-    deposit(rt, &mut core, from, text);
-    for (a, b, why) in refusals {
-        expect_outcome(rt, &mut core, operation, (*a, *b), Err(*why));
-        expect_cells(rt, &core, from, text);
-    }
+#[test]
+fn each_operation_is_carried_out(rt: HostRuntime) {
+    expect_rows(
+        &rt,
+        rt.alloc(),
+        &[
+            (
+                Operation::Add,
+                (701, 703),
+                "~12~34",
+                "~12~46",
+                End::At(699, 701),
+            ),
+            (
+                Operation::Add,
+                (701, 703),
+                "~12~99",
+                "~12~/1",
+                End::Overflow(699, 701),
+            ),
+            (
+                Operation::Subtract,
+                (701, 703),
+                "~12~34",
+                "~12~2B",
+                End::At(699, 701),
+            ),
+            (
+                Operation::ZeroAdd,
+                (701, 703),
+                "~12~34",
+                "~12~1B",
+                End::At(699, 701),
+            ),
+            (
+                Operation::ZeroSubtract,
+                (701, 703),
+                "~12~34",
+                "~12~1K",
+                End::At(699, 701),
+            ),
+            (
+                Operation::Compare,
+                (701, 703),
+                "~12~34",
+                "~12~34",
+                End::High(699, 701),
+            ),
+            (
+                Operation::Compare,
+                (701, 703),
+                "~12~12",
+                "~12~12",
+                End::At(699, 701),
+            ),
+            (
+                Operation::Edit,
+                (704, 708),
+                "~12345~  .0",
+                "~1234534.5",
+                End::At(701, 704),
+            ),
+            (
+                Operation::Suppress,
+                (702, 702),
+                "~012~3",
+                " 12~3",
+                End::At(699, 703),
+            ),
+            (
+                Operation::MoveChars,
+                (701, 703),
+                "~12~34",
+                "~12~12",
+                End::At(699, 701),
+            ),
+            (
+                Operation::LoadChars,
+                (701, 703),
+                "~1234",
+                "~12~12",
+                End::At(699, 701),
+            ),
+            (
+                Operation::MoveDigit,
+                (700, 702),
+                "AA~N~N",
+                "AA~J~N",
+                End::At(699, 701),
+            ),
+            (
+                Operation::MoveZone,
+                (701, 703),
+                "AA~N~N",
+                "AA~N~E",
+                End::At(700, 702),
+            ),
+            (
+                Operation::SetMarks,
+                (700, 702),
+                "ABC",
+                "~AB~C",
+                End::At(699, 701),
+            ),
+            (
+                Operation::ClearMarks,
+                (702, 701),
+                "~AB~C",
+                "~ABC",
+                End::At(701, 700),
+            ),
+            (
+                Operation::ClearDown,
+                (0, 701),
+                "~Y~Z~!",
+                "  ~!",
+                End::At(701, 699),
+            ),
+        ],
+    );
 }
 
-/// A part of a line of a table, by its number from 0.
-fn part(line: &str, number: usize) -> Option<&str> {
-    line.split('|').nth(number)
+#[test]
+fn each_operation_needs_its_places(rt: HostRuntime) {
+    let address = End::Stop(FieldStop::Address);
+    let overlap = End::Stop(FieldStop::Overlap);
+    expect_rows(
+        &rt,
+        rt.alloc(),
+        &[
+            (Operation::Add, (701, 1_400), "~12", "~12", address),
+            (Operation::Subtract, (701, 1_400), "~12", "~12", address),
+            (Operation::ZeroAdd, (701, 1_400), "~12", "~12", address),
+            (Operation::ZeroSubtract, (701, 1_400), "~12", "~12", address),
+            (Operation::Compare, (701, 1_400), "~12", "~12", address),
+            (Operation::Edit, (701, 1_400), "~12", "~12", address),
+            (Operation::Suppress, (701, 1_400), "~12", "~12", address),
+            (Operation::MoveChars, (701, 1_400), "~12", "~12", address),
+            (Operation::LoadChars, (701, 1_400), "~12", "~12", address),
+            (Operation::MoveDigit, (701, 1_400), "~12", "~12", address),
+            (Operation::MoveZone, (701, 1_400), "~12", "~12", address),
+            (Operation::SetMarks, (701, 1_400), "~12", "~12", address),
+            (Operation::ClearMarks, (700, 15_999), "~12", "~12", address),
+            (Operation::ClearDown, (0, 1_400), "~12", "~12", address),
+            (Operation::Add, (702, 701), "~123", "~123", overlap),
+            (Operation::Subtract, (702, 701), "~123", "~123", overlap),
+            (Operation::ZeroAdd, (702, 701), "~123", "~123", overlap),
+            (Operation::ZeroSubtract, (702, 701), "~123", "~123", overlap),
+            (Operation::Edit, (702, 702), "~123", "~123", overlap),
+            (Operation::Suppress, (702, 701), "~123", "~123", overlap),
+        ],
+    );
 }
