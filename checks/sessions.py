@@ -198,7 +198,7 @@ def sessions():
             named += [(f"{file.name}: {each.name}", [each]) for each in read_sessions(file.read_text())]
         except ValueError as fault:
             tell(f"checks/sessions/{file.name}", str(fault))
-    count("sessions as texts", len(named), 140)
+    count("sessions as texts", len(named), 142)
     named.append((channels().name, [channels()]))
     named += [(f"{char!r} as an instruction of each length", list(outcomes(char))) for char in GRAPHICS]
     count("characters at each length", len(GRAPHICS), 64)

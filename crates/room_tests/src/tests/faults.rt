@@ -1,16 +1,14 @@
 //! The texts of faults.
 
-use super::expect_same;
+use super::is_told;
 use room_1401::{CloseFault, GlanceFault, RoomFault, StartFault};
 use std::fmt::Display;
 use std::process::Abort;
 
-/// Compares the texts of faults. If one differs, both are told.
+/// Compares the texts of faults.
 fn expect_told<T: Display>(rt: &(impl Abort + AllocGlobal), rows: &[(T, &str)]) {
     for (fault, text) in rows {
-        let told = format!(in rt.alloc(); "{fault}").expect(rt, text);
-        let is_same = told.as_str() == *text;
-        expect_same(rt, &(told.as_str(), *text), &is_same, &true);
+        is_told(rt, text, fault, text);
     }
 }
 

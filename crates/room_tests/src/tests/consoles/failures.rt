@@ -1,7 +1,8 @@
 //! Reads and writes that fail.
 ghost use Rattle.std.specs.Prelude.{Some};
 
-use super::{expect_answers, expect_bytes, expect_end_at_new, expect_same, is_told};
+use super::{expect_answers, expect_end_at_new};
+use crate::tests::{expect_bytes, expect_same, is_told};
 use console_1401::{Failed, FromReader, ServeFault, SessionEnd, Sink, Source, ToWriter};
 use std::process::Abort;
 

@@ -8,33 +8,12 @@ mod order;
 mod serving;
 mod sessions;
 
+use super::{expect_bytes, expect_same, new_room};
 use console_1401::{FromReader, SessionEnd, Sink, Source, ToWriter, session};
 use room_1401::Room;
 use std::cell::RefCell;
-use std::fmt::{Debug, Display};
+use std::fmt::Debug;
 use std::process::Abort;
-
-/// Compares what a row gives with what it should. If they differ, the row is told.
-fn expect_same<T: PartialEq + Debug>(rt: &impl Abort, row: &impl Debug, found: &T, wanted: &T) {
-    assert_eq!(rt; *found, *wanted, "{row:?}");
-}
-
-/// Compares the bytes that a row gives with those that it should. If they differ, the row is told.
-fn expect_bytes(rt: &impl Abort, row: &impl Debug, found: &[u8], wanted: &[u8]) {
-    let is_same = found == wanted;
-    assert!(rt;
-        is_same,
-        "{row:?}: {} in place of {}",
-        found.escape_ascii(),
-        wanted.escape_ascii()
-    );
-}
-
-/// Compares how something is shown with a text. If they differ, the row is told.
-fn is_told(rt: &(impl Abort + AllocGlobal), row: &impl Debug, shown: &impl Display, wanted: &str) {
-    let told = format!(in rt.alloc(); "{shown}").expect(rt, wanted);
-    expect_bytes(rt, row, told.as_bytes(), wanted.as_bytes());
-}
 
 /// Has a session, and compares how it ends, and how many commands are then in the journal.
 fn expect_end<R: Source, W: Sink>(
@@ -57,7 +36,7 @@ fn expect_end_at_new<R: Source, W: Sink>(
     writer: &mut W,
     wanted: (SessionEnd, usize),
 ) {
-    let mut room = Room::power_on(rt.alloc(), 4_000).expect(rt, "a room");
+    let mut room = new_room(rt, 4_000);
     expect_end(rt, row, &mut room, reader, writer, wanted);
 }
 

@@ -1,7 +1,7 @@
-//! Glances, in lines and at a room.
+//! Lines that ask for a glance. What they are answered is a session, in `checks/sessions/glances.txt`.
 
-use super::{expect_sessions, is_told};
-use console_1401::{SessionEnd, parse_line};
+use crate::tests::is_told;
+use console_1401::parse_line;
 use std::process::Abort;
 
 /// Compares what lines say.
@@ -24,19 +24,5 @@ fn a_glance_has_an_address(rt: HostRuntime) {
             ("GLANCE 500 1", "Err(Extra)"),
             ("glance 500", "Err(Word)"),
         ],
-    );
-}
-
-#[test]
-fn a_glance_counts_the_commands_and_is_none(rt: HostRuntime) {
-    expect_sessions(
-        &rt,
-        &[(
-            "GLANCE 0500\nDEPOSIT 0500 ~K\nGLANCE 0500\nEXAMINE 0500\nGLANCE 0501\nGLANCE 3999\nGLANCE 4000\n\
-             GLANCE 16000\nQUIT\n",
-            "AFTER 0  \nOK\nAFTER 1 ~K\n~K\nAFTER 2  \nAFTER 2  \nGLANCE FAULT 1 RANGE\nERROR 2 NUMBER\nBYE\n",
-            SessionEnd::Quit,
-            2,
-        )],
     );
 }

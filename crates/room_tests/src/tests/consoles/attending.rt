@@ -1,7 +1,8 @@
 //! Consoles at the seats of a shared room.
 ghost use Rattle.std.specs.Prelude.{◌≡◌};
 
-use super::{Record, expect_bytes, expect_record, expect_same, note};
+use super::{Record, expect_record, note};
+use crate::tests::{expect_bytes, expect_same};
 use console_1401::{Door, FromReader, OpenDoor, SessionEnd, ToWriter, attend};
 use room_1401::{Command, Entry, Opened, Room, RoomId, Seat, SharedRoom};
 use std::cell::RefCell;

@@ -1,5 +1,5 @@
 -- The room's names are those of what was opened.
-use Rattle.console_tests.proofs.tests.attending.expect_operated.Given as goal
+use Rattle.room_tests.proofs.tests.consoles.attending.expect_operated.Given as goal
 
 abbrev pub ghosts-operated-J-Ledger : goal.ghosts-operated-J-Ledger
 ghosts-operated-J-Ledger g a = record { name = a.opened.ledger; parts = a.opened.parts }

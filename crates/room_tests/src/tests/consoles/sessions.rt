@@ -59,23 +59,6 @@ fn a_line_has_200_bytes_at_the_most(rt: HostRuntime) {
 }
 
 #[test]
-fn forty_marked_cells_are_shown(rt: HostRuntime) {
-    expect_sessions(
-        &rt,
-        &[(
-            "DEPOSIT 0500 \
-             ~A~B~C~D~E~F~G~H~I~J~K~L~M~N~O~P~Q~R~S~T~U~V~W~X~Y~Z~0~1~2~3~4~5~6~7~8~9~,~.~-~ \n\
-             EXAMINE 0500 40\nQUIT\n",
-            "OK\n\
-             ~A~B~C~D~E~F~G~H~I~J~K~L~M~N~O~P~Q~R~S~T~U~V~W~X~Y~Z~0~1~2~3~4~5~6~7~8~9~,~.~-~ \n\
-             BYE\n",
-            SessionEnd::Quit,
-            2,
-        )],
-    );
-}
-
-#[test]
 fn a_full_journal_takes_no_command(rt: HostRuntime) {
     let replies = repeated(
         &rt,

@@ -1,5 +1,5 @@
 -- The room's names are those of what was opened.
-use Rattle.console_tests.proofs.tests.attending.the_door_is_told_before_a_line_is_carried_out.Given as goal
+use Rattle.room_tests.proofs.tests.consoles.attending.the_door_is_told_before_a_line_is_carried_out.Given as goal
 
 abbrev pub ghosts-interrupted-J-Ledger : goal.ghosts-interrupted-J-Ledger
 ghosts-interrupted-J-Ledger g a = record { name = a.opened.ledger; parts = a.opened.parts }

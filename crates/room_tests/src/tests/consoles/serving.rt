@@ -1,7 +1,7 @@
 //! Rooms that listen on the loopback.
 ghost use Rattle.std.specs.Prelude.{◌≡◌, ◌<◌};
 
-use super::{expect_bytes, expect_same};
+use crate::tests::{expect_bytes, expect_same};
 use console_1401::{Door, OpenDoor, ServeFault, Served, serve};
 use room_1401::{Command, Opened, RoomId, SharedRoom};
 use std::io::{Read, Write};

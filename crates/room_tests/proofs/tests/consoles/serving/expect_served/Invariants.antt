@@ -1,5 +1,5 @@
 -- The room's names are those of what was opened.
-use Rattle.console_tests.proofs.tests.serving.expect_served.Given as goal
+use Rattle.room_tests.proofs.tests.consoles.serving.expect_served.Given as goal
 
 abbrev pub ghosts-serve_room-J-Ledger : goal.ghosts-serve_room-J-Ledger
 ghosts-serve_room-J-Ledger g a = record { name = a.opened.ledger; parts = a.opened.parts }

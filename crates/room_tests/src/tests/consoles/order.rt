@@ -1,6 +1,7 @@
 //! The order of reads and writes.
 
 use super::{Record, expect_end, expect_record, note};
+use crate::tests::new_room;
 use console_1401::{FromReader, SessionEnd, Sink, Source, ToWriter};
 use room_1401::Room;
 use std::cell::RefCell;
@@ -91,7 +92,7 @@ fn expect_turns(
     (width, write_fails_at): (usize, usize),
     rows: &[(bool, &str, SessionEnd, usize)],
 ) {
-    let mut room = Room::power_on(rt.alloc(), 4_000).expect(rt, "a room");
+    let mut room = new_room(rt, 4_000);
     let record = RefCell::new(Vec::new(rt.alloc()));
     let mut reader = FromReader::new(Typed {
         bytes: lines.as_bytes(),
