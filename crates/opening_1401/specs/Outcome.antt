@@ -6,10 +6,10 @@ use Rattle.console_1401.specs.declared.serving.ServeFault.{ServeFault}
 use Rattle.console_1401.specs.declared.serving.ServeFault.TheVariants as serve
 use Rattle.operator_1401.specs.declared.fault.RoomFault.{RoomFault}
 use Rattle.operator_1401.specs.declared.fault.RoomFault.TheVariants as room
-use Rattle.serving_1401.specs.declared.fault.SeatsFault.{SeatsFault}
-use Rattle.serving_1401.specs.declared.fault.SeatsFault.TheVariants as seats
-use Rattle.serving_1401.specs.declared.giving.GiveFault.{GiveFault}
-use Rattle.serving_1401.specs.declared.giving.GiveFault.TheVariants as give
+use Rattle.desk_1401.specs.declared.fault.SeatsFault.{SeatsFault}
+use Rattle.desk_1401.specs.declared.fault.SeatsFault.TheVariants as seats
+use Rattle.desk_1401.specs.declared.giving.GiveFault.{GiveFault}
+use Rattle.desk_1401.specs.declared.giving.GiveFault.TheVariants as give
 use Rattle.terminal_1401.specs.declared.fault.SessionFault.TheVariants as session
 use Rattle.holding_1401.specs.declared.fault.HoldFault.TheVariants as hold
 use Rattle.opening_1401.specs.declared.fault.OpenFault.{OpenFault}

@@ -1,3 +1,1 @@
-pub mod Giving
-pub mod Input
-pub mod Places
+pub mod Accounted

@@ -1,9 +1,8 @@
 //! The connections that come to a page. Each waits for its first byte in a thread of its own, so that one which sends
 //! nothing, as browsers open ahead, delays no other.
 
-use crate::fault::SeatsFault;
-use crate::service::Service;
 use crossbeam_channel::{Receiver, Sender};
+use desk_1401::{SeatsFault, Service};
 use page_1401::{Connections, has_begun};
 use room_1401::RoomId;
 use std::net::{TcpListener, TcpStream};

@@ -8,34 +8,13 @@
 //! ```
 #![tactic(auto)]
 
-// why not everybody was served
-pub mod fault;
-
-// the input that closes the room, and what a console reads until then
-mod input;
-mod until_closing;
-
-// the places of the seats, what the lock of a service keeps, and what its threads share
-mod desk;
-mod place;
-mod service;
-
-// who comes to a seat: consoles, and the connections of a page
+// the connections of a page, and the pages that come to their seats
 mod arrivals;
-mod consoles;
 pub mod paging;
-
-// at which operators take turns at the machine
-mod taking_turns;
 
 // the service
 pub mod serving;
 
-// what the seats of a room do before its operators come
-pub mod giving;
-
-pub use fault::SeatsFault;
-pub use giving::{GiveFault, foreign_seat, give, give_entries};
+pub use desk_1401::{GiveFault, SeatsFault, TakingTurns, foreign_seat, give, give_entries};
 pub use paging::PagePort;
 pub use serving::{SeatsServed, serve_pages, serve_seats};
-pub use taking_turns::TakingTurns;

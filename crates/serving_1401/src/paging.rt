@@ -2,9 +2,8 @@
 ghost use Rattle.std.specs.Prelude.{◌≡◌, ◌<◌, ◌≤◌, ◌^◌, length};
 
 use crate::arrivals::{Arrivals, MOST_WAITING, accept_arrivals};
-use crate::fault::SeatsFault;
-use crate::service::Service;
 use crossbeam_channel::{Sender, bounded};
+use desk_1401::{SeatsFault, Service};
 use page_1401::document::{PAGE, POLICY};
 use page_1401::{Connections, SeatPage, TakenSeat, answer_connection, answer_page};
 use room_1401::{Keeper, RoomId, Seat, SharedRoom};
@@ -33,7 +32,6 @@ pub(crate) fn start_pages<'s, E: 's, J, H, K, R>(
     rt: &'s R,
     room: &'s SharedRoom<J, H, K>,
     service: &'s Service<J>,
-    seats: u8,
     pages: &'s [PagePort],
 )
 where
@@ -47,7 +45,7 @@ where
     let mut number = 0;
     for page in pages {
         number += 1;
-        start_page(scope, alloc, rt, room, service, seats, page, number);
+        start_page(scope, alloc, rt, room, service, page, number);
     }
 }
 
@@ -58,7 +56,6 @@ fn start_page<'s, E: 's, J, H, K, R>(
     rt: &'s R,
     room: &'s SharedRoom<J, H, K>,
     service: &'s Service<J>,
-    seats: u8,
     page: &'s PagePort,
     number: u8,
 )
@@ -72,7 +69,7 @@ where
     let started = scope.spawn(
         move ||
             requires { (0 < number) × (number ≤ J.seats) }
-        { serve_page(alloc, rt, room, service, seats, page, number) },
+        { serve_page(alloc, rt, room, service, page, number) },
     );
     if started.is_err() {
         service.note(rt, SeatsFault::Thread);
@@ -85,7 +82,6 @@ fn serve_page<J, H, K, R>(
     rt: &R,
     room: &SharedRoom<J, H, K>,
     service: &Service<J>,
-    seats: u8,
     page: &PagePort,
     number: u8,
 )
@@ -103,7 +99,7 @@ where
     let waiting = AtomicU64::new(0);
     let arrivals = Arrivals::new(rt, receiver, &waiting, &service.is_closing);
     answer_all(
-        alloc, rt, room, service, seats, page, number, begun, &waiting, arrivals,
+        alloc, rt, room, service, page, number, begun, &waiting, arrivals,
     );
 }
 
@@ -113,7 +109,6 @@ fn answer_all<'a, J, H, K, R>(
     rt: &'a R,
     room: &'a SharedRoom<J, H, K>,
     service: &'a Service<J>,
-    seats: u8,
     page: &'a PagePort,
     number: u8,
     begun: Sender<TcpStream>,
@@ -134,7 +129,7 @@ where
             requires { (0 < number) × (number ≤ J.seats) }
         {
             accept_and_answer(
-                scope, alloc, rt, room, service, seats, page, number, begun, waiting, arrivals,
+                scope, alloc, rt, room, service, page, number, begun, waiting, arrivals,
             )
         },
     );
@@ -147,7 +142,6 @@ fn accept_and_answer<'s, E: 's, J, H, K, R>(
     rt: &'s R,
     room: &'s SharedRoom<J, H, K>,
     service: &'s Service<J>,
-    seats: u8,
     page: &'s PagePort,
     number: u8,
     begun: Sender<TcpStream>,
@@ -167,7 +161,7 @@ where
         service.note(rt, SeatsFault::Thread);
         return;
     }
-    answer_arrivals(alloc, rt, room, service, seats, page.port, number, arrivals);
+    answer_arrivals(alloc, rt, room, service, page.port, number, arrivals);
 }
 
 /// Answers the connections of a page one after the other. While a console sits at its seat they are refused; the
@@ -177,7 +171,6 @@ fn answer_arrivals<J, H, K, R>(
     rt: &R,
     room: &SharedRoom<J, H, K>,
     service: &Service<J>,
-    seats: u8,
     port: u16,
     number: u8,
     arrivals: Arrivals<'_, R>,
@@ -194,11 +187,19 @@ where
         let Some(stream) = arrivals.next_connection() else {
             return;
         };
-        let seat = service.desk.lock(rt).take_free(number);
-        match seat {
+        match service.take_free(rt, number) {
             Some(seat) => {
-                let seat = answer_at(alloc, rt, room, seat, seats, port, stream, &mut arrivals);
-                service.desk.lock(rt).put_back(seat);
+                let seat = answer_at(
+                    alloc,
+                    rt,
+                    room,
+                    seat,
+                    service.seats,
+                    port,
+                    stream,
+                    &mut arrivals,
+                );
+                service.put_back(rt, seat);
             }
             None => {
                 let _failed = answer_connection(rt, &mut TakenSeat, &stream);

@@ -3,22 +3,17 @@ ghost use Rattle.std.specs.Prelude.{◌≡◌, ◌≢◌, ◌<◌, ◌≤◌, �
 ghost use Rattle.lone_room_1401.specs.Journal.{IsLegal};
 ghost use Rattle.lone_room_1401.specs.Kept.{IsKeptAs};
 ghost use Rattle.console_1401.specs.Served.{AreAllSeats};
-ghost use Rattle.serving_1401.specs.Places.{IsAccounted};
+ghost use Rattle.serving_1401.specs.Accounted.{IsAccounted};
 
-use crate::consoles::accept_each;
-use crate::desk::Desk;
-use crate::fault::SeatsFault;
-use crate::input::{InputEnd, read_to_quit};
 use crate::paging::{PagePort, start_pages};
-use crate::service::Service;
 use console_1401::Door;
+use desk_1401::{SeatsFault, Service, accept_each};
 use room_1401::{Keeper, Room, RoomId, Seat, SharedRoom};
 use std::alloc::{AllocGlobal, Global};
 use std::net::TcpListener;
 use std::os::fd::AsRawFd;
 use std::random::RandomSource;
 use std::sync::Wait;
-use std::sync::atomic::Ordering::SeqCst;
 use std::thread;
 use std::thread::{Scope, Threads};
 use std::time::Clock;
@@ -118,30 +113,13 @@ where
     // Whatever was refused, the room is closed with all of its seats.
     ensures accounted { result.fault ≢ Some SeatsFault.Unreturned → IsAccounted J.seats result.room.journal }
 {
-    let total = seats.len();
-    let (Ok(places), Ok(back)) = (
-        Vec::with_capacity(alloc, total),
-        Vec::with_capacity(alloc, total),
-    ) else {
-        return end_service(room, Some(seats), Some(SeatsFault::Memory));
+    let (seats, fault) = match Service::new(alloc, seats) {
+        Ok(service) => {
+            serve_connections(alloc, rt, &room, &service, consoles, pages, input, door);
+            service.into_seats()
+        }
+        Err(seats) => (Some(seats), Some(SeatsFault::Memory)),
     };
-    let service = Service::new(Desk::new(seats, places));
-    serve_connections(
-        alloc,
-        rt,
-        &room,
-        &service,
-        total as u8,
-        consoles,
-        pages,
-        input,
-        door,
-    );
-    let Service {
-        desk,
-        is_closing: _,
-    } = service;
-    let (seats, fault) = desk.into_inner().into_seats(back);
     end_service(room, seats, fault)
 }
 
@@ -186,7 +164,6 @@ fn serve_connections<J, H, K, R, S, D>(
     rt: &R,
     room: &SharedRoom<J, H, K>,
     service: &Service<J>,
-    seats: u8,
     consoles: Option<&TcpListener>,
     pages: &[PagePort],
     input: S,
@@ -209,7 +186,7 @@ where
             requires { (length pages.now ≤ J.seats) × (J.seats < 2 ^ 8) }
         {
             listen(
-                scope, alloc, rt, room, service, seats, consoles, pages, input, door,
+                scope, alloc, rt, room, service, consoles, pages, input, door,
             )
         },
     );
@@ -222,7 +199,6 @@ fn listen<'s, E: 's, J, H, K, R, S, D>(
     rt: &'s R,
     room: &'s SharedRoom<J, H, K>,
     service: &'s Service<J>,
-    seats: u8,
     consoles: Option<&'s TcpListener>,
     pages: &'s [PagePort],
     input: S,
@@ -243,13 +219,13 @@ where
         service.note(rt, SeatsFault::Thread);
         return;
     }
-    start_pages(scope, alloc, rt, room, service, seats, pages);
+    start_pages(scope, alloc, rt, room, service, pages);
     if let Some(listener) = consoles {
         accept_each(scope, alloc, rt, room, service, listener, door);
     }
 }
 
-/// Waits until the input closes the room, ends the input of each console, and shuts the listeners down.
+/// Waits until the input closes the room, and shuts the listeners down.
 fn close_by_input<J: RoomId, R: Wait, S: Source + Drop>(
     rt: &R,
     service: &Service<J>,
@@ -258,14 +234,7 @@ fn close_by_input<J: RoomId, R: Wait, S: Source + Drop>(
     input: S,
 ) {
     let mut input = input;
-    let end = read_to_quit(rt, &mut input);
-    let mut desk = service.desk.lock(rt);
-    if end == InputEnd::Failed {
-        desk.note(SeatsFault::Input);
-    }
-    service.is_closing.store(true, SeqCst);
-    desk.end_inputs();
-    drop(desk);
+    service.close_by(rt, &mut input);
     if let Some(listener) = consoles {
         shut_down(listener);
     }

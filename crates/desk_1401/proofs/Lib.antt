@@ -1,0 +1,3 @@
+pub mod GivingLemmas
+pub mod InputLemmas
+pub mod PlacesLemmas

@@ -1,0 +1,13 @@
+-- A byte can count the seats.
+use Rattle.std.proofs.Common.{arith}
+use Rattle.desk_1401.proofs.PlacesLemmas.{length_seats}
+use Rattle.desk_1401.proofs.service.Service.new.Goals as goal
+
+pub overflow_cast-count : goal.overflow_cast-count
+overflow_cast-count g c =
+    omega (
+      arith,
+      c.requires.count,
+      c.len-count.ensures,
+      length_seats g.J.RoomId.seats c.args.seats.items c.requires.seats,
+    )

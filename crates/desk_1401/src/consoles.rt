@@ -1,0 +1,155 @@
+//! The consoles of a service: a connection has the lowest free seat, and a thread of its own.
+ghost use Rattle.std.specs.Prelude.{◌≡◌, ◌<◌, ◌≤◌};
+ghost use Rattle.desk_1401.specs.Places.{IsAdmission};
+
+use crate::fault::SeatsFault;
+use crate::service::Service;
+use crate::until_closing::UntilClosing;
+use console_1401::{Door, ahead_of, attend};
+use room_1401::{Keeper, RoomId, Seat, SharedRoom};
+use std::alloc::Global;
+use std::net::{TcpListener, TcpStream};
+use std::sync::Wait;
+use std::sync::atomic::AtomicBool;
+use std::thread::{Scope, Threads};
+use streams_1401::{FromReader, ToWriter, put_all};
+
+/// Accepts connections until the room is being closed, or one couldn't be accepted.
+pub fn accept_each<'s, E: 's, J, H, K, R, D>(
+    scope: &Scope<'s, E>,
+    alloc: Global,
+    rt: &'s R,
+    room: &'s SharedRoom<J, H, K>,
+    service: &'s Service<J>,
+    listener: &TcpListener,
+    door: &'s D,
+)
+where
+    J: RoomId + Send + Sync + 's,
+    H: Wait + Drop + Send + Sync + 's,
+    K: Keeper + Drop + Send + Sync + 's,
+    R: Threads + Wait + Sync + 's,
+    D: Door + Sync + 's,
+{
+    for _ in rt.forever() {
+        let Some(stream) = service.accept(rt, listener) else {
+            return;
+        };
+        match admit(rt, service, &stream) {
+            Admission::Given(number) => {
+                start_console(scope, alloc, rt, room, service, stream, number, door);
+            }
+            Admission::Full => refuse(&stream),
+            Admission::Fault => service.note(rt, SeatsFault::Thread),
+            Admission::Closing => return,
+        }
+    }
+}
+
+/// Attends the console of a connection at the seat of this number.
+fn attend_connection<J: RoomId, H: Wait + Drop, K: Keeper + Drop, R: Wait, D: Door>(
+    alloc: Global,
+    rt: &R,
+    room: &SharedRoom<J, H, K>,
+    service: &Service<J>,
+    stream: TcpStream,
+    number: u8,
+    door: &D,
+)
+    requires { (0 < number) × (number ≤ J.seats) }
+{
+    let Some(seat) = service.desk.lock(rt).take_seat(number) else {
+        return;
+    };
+    let seat = attend_stream(alloc, rt, room, seat, &stream, &service.is_closing, door);
+
+    // The peer sees the end of the connection only when the seat is free.
+    service.desk.lock(rt).put_back(seat);
+}
+
+/// Attends the console of a stream until its input ends, or the service closes.
+fn attend_stream<'a, J: RoomId, H: Wait + Drop, K: Keeper + Drop, R: Wait, D: Door>(
+    alloc: Global,
+    rt: &R,
+    room: &SharedRoom<J, H, K>,
+    seat: Seat<J>,
+    stream: &'a TcpStream,
+    is_closing: &'a AtomicBool,
+    door: &D,
+) -> Seat<J>
+    ensures { result.number ≡ seat.number }
+{
+    // Replies are sent at once. If the system refuses this, they only come later.
+    let _sent_at_once = stream.set_nodelay(true);
+    let mut reader = UntilClosing::new(FromReader::new(ahead_of(alloc, stream)), is_closing);
+    let mut writer = ToWriter::new(stream);
+    let (seat, _) = attend(alloc, rt, room, seat, &mut reader, &mut writer, door);
+    seat
+}
+
+/// What becomes of a connection.
+enum Admission {
+    /// It has the seat of this number.
+    Given(u8),
+    /// No seat is free.
+    Full,
+    /// The system gives no second handle of it.
+    Fault,
+    /// The room is being closed.
+    Closing,
+}
+
+/// Gives a connection the lowest free seat, unless the room is being closed.
+fn admit<J: RoomId, R: Wait>(rt: &R, service: &Service<J>, stream: &TcpStream) -> Admission
+    ensures { IsAdmission J.seats result }
+{
+    let mut desk = service.desk.lock(rt);
+    if service.is_closing() {
+        return Admission::Closing;
+    }
+    let Ok(second) = stream.try_clone() else {
+        return Admission::Fault;
+    };
+    match desk.give(second) {
+        Ok(number) => Admission::Given(number),
+        Err(_) => Admission::Full,
+    }
+}
+
+/// Starts the thread of a connection's console; if it is refused, the seat is free again.
+fn start_console<'s, E: 's, J, H, K, R, D>(
+    scope: &Scope<'s, E>,
+    alloc: Global,
+    rt: &'s R,
+    room: &'s SharedRoom<J, H, K>,
+    service: &'s Service<J>,
+    stream: TcpStream,
+    number: u8,
+    door: &'s D,
+)
+where
+    J: RoomId + Send + Sync + 's,
+    H: Wait + Drop + Send + Sync + 's,
+    K: Keeper + Drop + Send + Sync + 's,
+    R: Threads + Wait + Sync + 's,
+    D: Door + Sync + 's,
+    requires { (0 < number) × (number ≤ J.seats) }
+{
+    let started = scope.spawn(
+        move ||
+            requires { (0 < number) × (number ≤ J.seats) }
+        { attend_connection(alloc, rt, room, service, stream, number, door) },
+    );
+    if started.is_err() {
+        let mut desk = service.desk.lock(rt);
+        desk.take_back(number);
+        desk.note(SeatsFault::Thread);
+    }
+}
+
+/// Tells a connection that no seat is free. The write doesn't wait for the peer.
+fn refuse(stream: &TcpStream) {
+    if stream.set_nonblocking(true).is_ok() {
+        let _told = put_all(&mut ToWriter::new(stream), b"FULL\n");
+    }
+}
