@@ -1,11 +1,10 @@
--- What requests ask for, computed.
+-- Which pictures queries ask for, computed.
 use Rattle.std.proofs.Common.{◌≡◌, ℕ, List, refl}
 use Rattle.std.specs.Prelude.{codes, Option, None, Some}
 use Rattle.notation_1401.specs.Digits.{number_in}
+use Rattle.exchange_1401.specs.Numbers.{number_of}
 use Rattle.page_1401.specs.declared.asked.Asked.{Asked}
-use Rattle.page_1401.specs.declared.route.Route.TheVariants.{Page, Picture, Line, WrongMethod, Unknown}
-use Rattle.page_1401.specs.Asked.{asked_by, number_behind, number_of}
-use Rattle.page_1401.specs.Route.{route_of}
+use Rattle.page_1401.specs.Asked.{asked_by, number_behind}
 
 -- the picture that a query asks for, with all that it consists of open
 asked : List ℕ → Option Asked
@@ -62,18 +61,3 @@ a_field_more = refl
 an_ampersand_more : asked_by (codes "core=400&paper=0&") ≡ None
 unfolding asked
 an_ampersand_more = refl
-
-the_page : route_of (codes "GET") (codes "/") ≡ Page
-the_page = refl
-
-a_picture : route_of (codes "GET") (codes "/picture") ≡ Picture
-a_picture = refl
-
-a_line : route_of (codes "POST") (codes "/line") ≡ Line
-a_line = refl
-
-a_line_by_get : route_of (codes "GET") (codes "/line") ≡ WrongMethod
-a_line_by_get = refl
-
-another_path : route_of (codes "POST") (codes "/lines") ≡ Unknown
-another_path = refl

@@ -12,14 +12,14 @@ use Rattle.http_server.specs.Exchange.{Call, Chain}
 use Rattle.lone_room_1401.specs.declared.entry.SeatedCommand.{SeatedCommand}
 use Rattle.room_1401.specs.Seen.{SeatView}
 use Rattle.page_1401.specs.declared.asked.Asked.{Asked}
-use Rattle.page_1401.specs.declared.route.Route.{Route}
-use Rattle.page_1401.specs.declared.route.Route.TheVariants.{Page, Picture, Line, WrongMethod, Unknown}
+use Rattle.exchange_1401.specs.declared.route.Route.{Route}
+use Rattle.exchange_1401.specs.declared.route.Route.TheVariants.{Page, Picture, Line, WrongMethod, Unknown}
 use Rattle.page_1401.specs.declared.showing.Sight.{Sight}
 use Rattle.page_1401.specs.declared.showing.Sight.TheVariants.{Text, Same, NotInCore, Gone, NoMemory}
-use Rattle.page_1401.specs.Fields.{count_in, is_next}
-use Rattle.page_1401.specs.Exchange.{Follows}
-use Rattle.page_1401.specs.Responses.{IsRefused}
-use Rattle.page_1401.specs.Route.{route_of}
+use Rattle.exchange_1401.specs.Fields.{count_in, is_next}
+use Rattle.exchange_1401.specs.Exchange.{Follows}
+use Rattle.exchange_1401.specs.Responses.{IsRefused}
+use Rattle.exchange_1401.specs.Route.{route_of}
 use Rattle.page_1401.specs.SeatPage.{Answers, AnswersRoute, GoesOn, PageView}
 use Rattle.page_1401.specs.Showing.{HasLooked, Sees, ShowsPicture}
 use Rattle.page_1401.specs.Taking.{AnswersLine, TakesLine}

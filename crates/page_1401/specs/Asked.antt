@@ -5,13 +5,9 @@ use Rattle.std.specs.List.{slice_split}
 use Rattle.std.specs.Str.{bytes_eq}
 use Rattle.core_1401.specs.Address.{addresses}
 use Rattle.devices_1401.specs.Devices.{most_held}
-use Rattle.notation_1401.specs.Digits.{most_read, number_in}
+use Rattle.exchange_1401.specs.Numbers.{number_of}
 use Rattle.room_1401.specs.declared.picture.Window.{Window}
 use Rattle.page_1401.specs.declared.asked.Asked.{Asked}
-
--- a number is one to nine digits
-unfoldable pub number_of : List ℕ → Option ℕ
-number_of text = if nat_le 1 (length text) && nat_le (length text) most_read then number_in text else None
 
 -- the number after a name, if the field begins with the name
 unfoldable pub number_behind : List ℕ → List ℕ → Option ℕ

@@ -1,9 +1,5 @@
 pub mod Asked
-pub mod Exchange
-pub mod Fields
 pub mod PictureLines
-pub mod Responses
-pub mod Route
 pub mod SeatPage
 pub mod Showing
 pub mod Taking

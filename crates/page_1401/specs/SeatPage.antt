@@ -7,12 +7,12 @@ use Rattle.http.specs.Request.{body_of, head_of}
 use Rattle.http_server.specs.declared.response.Response.{Response}
 use Rattle.http_server.specs.Response.{IsResponse}
 use Rattle.room_1401.specs.Seen.{SeatView}
-use Rattle.page_1401.specs.declared.route.Route.{Route}
-use Rattle.page_1401.specs.declared.route.Route.TheVariants.{Page, Picture, Line, WrongMethod, Unknown}
+use Rattle.exchange_1401.specs.declared.route.Route.{Route}
+use Rattle.exchange_1401.specs.declared.route.Route.TheVariants.{Page, Picture, Line, WrongMethod, Unknown}
 use Rattle.page_1401.specs.Asked.{asked_in}
-use Rattle.page_1401.specs.Fields.{host_of, is_for, origin_of}
-use Rattle.page_1401.specs.Responses.{IsRefused, page_fields}
-use Rattle.page_1401.specs.Route.{route_of}
+use Rattle.exchange_1401.specs.Fields.{host_of, is_for, origin_of}
+use Rattle.exchange_1401.specs.Responses.{IsRefused, page_fields}
+use Rattle.exchange_1401.specs.Route.{route_of}
 use Rattle.page_1401.specs.Showing.{ShowsPicture}
 use Rattle.page_1401.specs.Taking.{TakesLine}
 

@@ -9,7 +9,7 @@ use Rattle.page_1401.specs.declared.asked.Asked.{Asked}
 use Rattle.page_1401.specs.declared.showing.Sight.{Sight}
 use Rattle.page_1401.specs.declared.showing.Sight.TheVariants.{Text, Same, NotInCore, Gone, NoMemory}
 use Rattle.page_1401.specs.PictureLines.{picture_text}
-use Rattle.page_1401.specs.Responses.{IsRefused, IsText, text_fields}
+use Rattle.exchange_1401.specs.Responses.{IsRefused, IsText, text_fields}
 
 -- whether the picture that a page has is after this number of commands
 abbrev pub has_seen : Option ℕ → ℕ → Bool

@@ -7,8 +7,8 @@ use Rattle.http_server.specs.Response.{IsResponse}
 use Rattle.room_1401.specs.Seen.{SeatView}
 use Rattle.text_1401.specs.ConsoleLine.{said_by}
 use Rattle.console_1401.specs.SeatTurns.{AnswersAtSeat, IsUnanswered}
-use Rattle.page_1401.specs.Fields.{count_in, has_field, is_next}
-use Rattle.page_1401.specs.Responses.{IsRefused, IsText, text_fields}
+use Rattle.exchange_1401.specs.Fields.{count_in, has_field, is_next}
+use Rattle.exchange_1401.specs.Responses.{IsRefused, IsText, text_fields}
 
 -- it was carried out, but its reply isn't told: 507 for want of memory, 500 if its entry wasn't kept
 abbrev pub IsUntold : Response → Type 0

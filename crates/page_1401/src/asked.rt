@@ -2,15 +2,12 @@
 ghost use Rattle.std.specs.Prelude.{◌≡◌, ◌≤◌, ◌∷◌, length, option_copied};
 ghost use Rattle.std.specs.List.{position_or_len};
 ghost use Rattle.page_1401.specs.Asked.{asked_after, asked_at, asked_by, fields_in, fields_of, is_ampersand};
-ghost use Rattle.page_1401.specs.Asked.{number_behind, number_of, window_by, window_of};
+ghost use Rattle.page_1401.specs.Asked.{number_behind, window_by, window_of};
 
 use core_1401::ADDRESSES;
 use devices_1401::MOST_HELD;
-use notation_1401::read_digits;
+use exchange_1401::number;
 use room_1401::Window;
-
-/// The most digits of a number in a query or a field.
-const MOST_DIGITS: usize = 9;
 
 /// A picture that is asked for.
 #[derive(Clone, Copy, Debug, PartialEq, Eq)]
@@ -19,17 +16,6 @@ pub struct Asked {
     pub window: Window,
     /// The count of commands of the picture that the page has, if it has one of this window.
     pub after: Option<u32>,
-}
-
-/// The number that a text is: one to nine digits.
-#[tactic(auto, unfolding(crate::specs::Asked::number_of))]
-pub(crate) fn number(text: &[u8]) -> Option<u32>
-    ensures { result ≡ number_of text.now }
-{
-    if text.is_empty() || text.len() > MOST_DIGITS {
-        return None;
-    }
-    read_digits(text)
 }
 
 /// The number after a name, if the field begins with the name.

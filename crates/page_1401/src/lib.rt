@@ -7,34 +7,26 @@
 //! ```
 #![tactic(auto)]
 
-// what a request asks for
+// which picture a request asks for
 pub mod asked;
-mod fields;
-pub mod route;
 
-// what it is answered
+// what requests are answered at a seat
 pub mod picture_lines;
-mod responses;
 pub mod showing;
 mod taking;
 
 // the page's own text, and the policy under which a browser runs it
 pub mod document;
 
-// the page of a seat, and one of a seat that is taken
-pub mod seat_page;
-pub mod taken;
-
-// a connection that asks for it, and all its connections
-pub mod exchange;
+// the page of a seat, and all its connections
 pub mod listening;
-pub mod patience;
+pub mod seat_page;
 
 pub use asked::{Asked, asked_by};
-pub use exchange::answer;
-pub use listening::{Connections, answer_connection, answer_each, answer_page, page_config};
-pub use patience::has_begun;
+pub use exchange_1401::{
+    Connections, Route, TakenSeat, answer, answer_connection, answer_each, has_begun, page_config,
+    route_of,
+};
+pub use listening::answer_page;
 pub use picture_lines::picture_text;
-pub use route::{Route, route_of};
 pub use seat_page::SeatPage;
-pub use taken::TakenSeat;

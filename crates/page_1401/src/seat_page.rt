@@ -1,14 +1,12 @@
 //! The page of a seat: a service of HTTP over the seat.
 ghost use Rattle.std.specs.Prelude.{◌≡◌, ◌++◌, codes, IsTrue, IfErr, IfOk};
 ghost use Rattle.http_header.specs.FieldValue.{is_visible_text};
-ghost use Rattle.page_1401.specs.Fields.{host_of};
+ghost use Rattle.exchange_1401.specs.Fields.{host_of};
 
-use crate::fields::is_for;
-use crate::responses::{put_page, refuse};
-use crate::route::{Route, route_of};
 use crate::showing::show_picture;
 use crate::taking::take_line;
 use bytes::Bytes;
+use exchange_1401::{Route, is_for, put_page, refuse, route_of};
 use http::{Request, StatusCode};
 use http_server::{Response, Service};
 use notation_1401::put_digits;
@@ -36,7 +34,7 @@ pub struct SeatPage<'a, J: RoomId, R: Wait + Drop, P: Keeper + Drop, W: Wait> {
 impl<'a, J: RoomId, R: Wait + Drop, P: Keeper + Drop, W: Wait> Model for SeatPage<'a, J, R, P, W> {
     ghost use Rattle.std.specs.Prelude.{◌≡◌, IsTrue};
     ghost use Rattle.http_header.specs.FieldValue.{is_visible_text};
-    ghost use Rattle.page_1401.specs.Fields.{host_of, origin_of};
+    ghost use Rattle.exchange_1401.specs.Fields.{host_of, origin_of};
     ghost use Rattle.page_1401.specs.SeatPage.{PageView};
 
     ghost Value = { PageView };

@@ -2,12 +2,12 @@
 ghost use Rattle.std.specs.Prelude.{◌≡◌, [], OnOk, OnErr, option_copied};
 ghost use Rattle.http_server.specs.Response.{IsBlank, IsResponse};
 ghost use Rattle.page_1401.specs.Asked.{asked_in};
-ghost use Rattle.page_1401.specs.Responses.{text_fields};
+ghost use Rattle.exchange_1401.specs.Responses.{text_fields};
 ghost use Rattle.page_1401.specs.Showing.{IsSightTold, Sees, ShowsPicture, has_seen};
 
 use crate::asked::{Asked, asked_by};
 use crate::picture_lines::picture_text;
-use crate::responses::{begin_text, end_with, end_without, refuse};
+use exchange_1401::{begin_text, end_with, end_without, refuse};
 use http::StatusCode;
 use http_server::Response;
 use room_1401::{GlanceFault, RoomId, Seat};

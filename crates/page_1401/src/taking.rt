@@ -2,13 +2,12 @@
 ghost use Rattle.std.specs.Prelude.{◌≡◌, [], OnOk, OnErr};
 ghost use Rattle.http.specs.Request.{body_of, head_of};
 ghost use Rattle.http_server.specs.Response.{IsBlank, IsResponse};
-ghost use Rattle.page_1401.specs.Responses.{text_fields};
+ghost use Rattle.exchange_1401.specs.Responses.{text_fields};
 ghost use Rattle.page_1401.specs.Taking.{AnswersLine, TakesLine};
 
-use crate::fields::{has_field, is_next};
-use crate::responses::{begin_text, end_with, end_without, refuse};
 use bytes::Bytes;
 use console_1401::{Unanswered, answer_line};
+use exchange_1401::{begin_text, end_with, end_without, has_field, is_next, refuse};
 use http::{Request, StatusCode};
 use http_server::Response;
 use room_1401::{Keeper, RoomId, Seat, SharedRoom};

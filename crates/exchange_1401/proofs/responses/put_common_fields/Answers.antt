@@ -1,6 +1,6 @@
 -- Three fields, one after another.
 use Rattle.std.proofs.Common.{append_assoc}
-use Rattle.page_1401.proofs.responses.put_common_fields.Goals as goal
+use Rattle.exchange_1401.proofs.responses.put_common_fields.Goals as goal
 
 pub returns-clause-fields : goal.returns-clause-fields
 returns-clause-fields c =

@@ -1,6 +1,6 @@
 -- A connection leads on from where the ones before it led.
-use Rattle.page_1401.proofs.FollowLemmas.{follows_then}
-use Rattle.page_1401.proofs.listening.answer_each.Goals as goal
+use Rattle.exchange_1401.proofs.FollowLemmas.{follows_then}
+use Rattle.exchange_1401.proofs.listening.answer_each.Goals as goal
 
 pub loop-preserved : goal.loop-preserved
 loop-preserved g c =

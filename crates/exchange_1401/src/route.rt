@@ -1,6 +1,6 @@
 //! What a request asks for, by its method and its path.
 ghost use Rattle.std.specs.Prelude.{◌≡◌};
-ghost use Rattle.page_1401.specs.Route.{by_method, route_of};
+ghost use Rattle.exchange_1401.specs.Route.{by_method, route_of};
 
 /// What a request asks for.
 #[derive(Clone, Copy, Debug, PartialEq, Eq)]

@@ -1,14 +1,14 @@
 //! The fields of a request that say where it comes from, and what it goes on from.
 ghost use Rattle.std.specs.Prelude.{◌≡◌};
 ghost use Rattle.http.specs.Request.{head_of};
-ghost use Rattle.page_1401.specs.Fields.{count_in, has_field, is_for, is_next};
+ghost use Rattle.exchange_1401.specs.Fields.{count_in, has_field, is_for, is_next};
 
-use crate::asked::number;
+use crate::numbers::number;
 use bytes::Bytes;
 use http::Request;
 
 /// Whether the first value of a field is this one, byte for byte.
-pub(crate) fn has_field(request: &Request<Bytes>, name: &str, value: &[u8]) -> bool
+pub fn has_field(request: &Request<Bytes>, name: &str, value: &[u8]) -> bool
     ensures { result ≡ has_field (head_of request.now) name.now value.now }
 {
     match request.headers().get(name) {
@@ -18,7 +18,7 @@ pub(crate) fn has_field(request: &Request<Bytes>, name: &str, value: &[u8]) -> b
 }
 
 /// Whether a request is for this host and port: its target has none of its own, and its Host names it.
-pub(crate) fn is_for(request: &Request<Bytes>, host: &[u8]) -> bool
+pub fn is_for(request: &Request<Bytes>, host: &[u8]) -> bool
     ensures { result ≡ is_for (head_of request.now) host.now }
 {
     if request.uri().authority().is_some() {
@@ -38,7 +38,7 @@ fn count_in(request: &Request<Bytes>) -> Option<u32>
 }
 
 /// Whether a line goes on from this number of commands.
-pub(crate) fn is_next(request: &Request<Bytes>, made: u64) -> bool
+pub fn is_next(request: &Request<Bytes>, made: u64) -> bool
     ensures { result ≡ is_next (count_in (head_of request.now)) made }
 {
     match count_in(request) {

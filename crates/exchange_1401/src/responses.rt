@@ -3,7 +3,7 @@ ghost use Rattle.std.specs.Prelude.{◌≡◌, ◌≢◌, ◌∷◌, [], ◌++�
 ghost use Rattle.http_header.specs.FieldName.{is_header_name};
 ghost use Rattle.http_header.specs.FieldValue.{is_visible_text};
 ghost use Rattle.http_server.specs.Response.{fields_of, IsBlank, IsResponse};
-ghost use Rattle.page_1401.specs.Responses.{common_fields, page_fields, text_fields, IsRefused, IsText};
+ghost use Rattle.exchange_1401.specs.Responses.{common_fields, page_fields, text_fields, IsRefused, IsText};
 
 use bytes::{BufMut, Bytes};
 use http::{HeaderName, HeaderValue, StatusCode};
@@ -41,7 +41,7 @@ fn put_common_fields(response: &mut Response) -> Result<(), AllocError>
 }
 
 /// Refuses a request by a status.
-pub(crate) fn refuse(response: &mut Response, status: StatusCode) -> Result<(), AllocError>
+pub fn refuse(response: &mut Response, status: StatusCode) -> Result<(), AllocError>
     requires { IsBlank response.old }
     ensures { OnOk result (IsRefused status response.new) }
 {
@@ -51,7 +51,7 @@ pub(crate) fn refuse(response: &mut Response, status: StatusCode) -> Result<(), 
 }
 
 /// Fills in the page and what its browser may do with it.
-pub(crate) fn put_page(
+pub fn put_page(
     response: &mut Response,
     page: &'static [u8],
     policy: &'static str,
@@ -67,7 +67,7 @@ pub(crate) fn put_page(
 }
 
 /// Adds the fields of a text, before it is known.
-pub(crate) fn begin_text(response: &mut Response) -> Result<(), AllocError>
+pub fn begin_text(response: &mut Response) -> Result<(), AllocError>
     requires { IsBlank response.old }
     ensures { OnOk result (IsResponse 200 text_fields [] response.new) }
 {
@@ -76,7 +76,7 @@ pub(crate) fn begin_text(response: &mut Response) -> Result<(), AllocError>
 }
 
 /// Ends a response without a text.
-pub(crate) fn end_without(response: &mut Response, status: StatusCode)
+pub fn end_without(response: &mut Response, status: StatusCode)
     requires { IsResponse 200 text_fields [] response.old }
     ensures { IsResponse status text_fields [] response.new }
 {
@@ -84,7 +84,7 @@ pub(crate) fn end_without(response: &mut Response, status: StatusCode)
 }
 
 /// Ends a response with its text; or with 507 and none, if the memory for it is refused.
-pub(crate) fn end_with(response: &mut Response, text: &[u8])
+pub fn end_with(response: &mut Response, text: &[u8])
     requires { IsResponse 200 text_fields [] response.old }
     ensures { IsText text.now response.new }
 {

@@ -2,7 +2,7 @@
 ghost use Rattle.std.specs.Prelude.{◌≡◌, OnOk};
 ghost use Rattle.http_server.specs.Connection.{config_of, history};
 ghost use Rattle.http_server.specs.History.{new_history};
-ghost use Rattle.page_1401.specs.Exchange.{Follows, IsWholeConnection};
+ghost use Rattle.exchange_1401.specs.Exchange.{Follows, IsWholeConnection};
 
 use http_server::{Config, Connection, Service, serve};
 use std::alloc::Global;

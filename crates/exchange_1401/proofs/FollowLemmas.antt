@@ -1,7 +1,7 @@
 -- Requests answered one after the other.
 use Rattle.std.proofs.Common.{List, [], ◌∷◌, ◌++◌, subst}
 use Rattle.http_server.specs.Exchange.{Call, Chain}
-use Rattle.page_1401.specs.Exchange.{Answering, Follows}
+use Rattle.exchange_1401.specs.Exchange.{Answering, Follows}
 
 chain-append : {S : Type 0} (answers : Answering S) (calls more : List Call) (old middle new : S)
     → Chain answers old calls middle → Chain answers middle more new → Chain answers old (calls ++ more) new

@@ -8,7 +8,7 @@ use Rattle.http_header.specs.Token.{lowercase}
 use Rattle.http_uri.specs.Uri.{uri_authority}
 use Rattle.http.specs.declared.request.Parts.{Parts}
 use Rattle.notation_1401.specs.Digits.{digits_in}
-use Rattle.page_1401.specs.Asked.{number_of}
+use Rattle.exchange_1401.specs.Numbers.{number_of}
 
 -- there is a field, and it has this value
 abbrev pub is_value : Option FieldValue → List ℕ → Bool

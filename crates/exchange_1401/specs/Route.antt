@@ -1,8 +1,8 @@
 -- What a request asks for, by its method and its path (own).
 use Rattle.std.specs.Prelude.{ℕ, List, codes, if◌then◌else◌}
 use Rattle.std.specs.Str.{bytes_eq}
-use Rattle.page_1401.specs.declared.route.Route.{Route}
-use Rattle.page_1401.specs.declared.route.Route.TheVariants.{Page, Picture, Line, WrongMethod, Unknown}
+use Rattle.exchange_1401.specs.declared.route.Route.{Route}
+use Rattle.exchange_1401.specs.declared.route.Route.TheVariants.{Page, Picture, Line, WrongMethod, Unknown}
 
 -- the route, if its one method is the one that was used
 abbrev pub by_method : List ℕ → List ℕ → Route → Route

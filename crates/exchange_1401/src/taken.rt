@@ -14,7 +14,7 @@ const TAKEN: &[u8] = b"a console sits at this seat\n";
 pub struct TakenSeat;
 
 impl Service for TakenSeat {
-    ghost use Rattle.page_1401.specs.Responses.{TellsTaken};
+    ghost use Rattle.exchange_1401.specs.Responses.{TellsTaken};
 
     ghost answers = { TellsTaken };
 

@@ -1,0 +1,2 @@
+pub mod FollowLemmas
+mod RouteExamples

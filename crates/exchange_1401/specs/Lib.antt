@@ -1,0 +1,5 @@
+pub mod Exchange
+pub mod Fields
+pub mod Numbers
+pub mod Responses
+pub mod Route

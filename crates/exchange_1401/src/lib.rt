@@ -1,0 +1,32 @@
+//! Exchanges with a browser: the requests of HTTP that a page's connections bring, what they ask for, and what they are
+//! answered.
+//!
+//! ```text
+//! answer_each(rt, &mut service, &mut connections);       // a page's connections in turn, to the last one
+//! route_of("GET", "/picture")                            // Route::Picture
+//! put_page(&mut response, html, policy)?;                // 200, with the page
+//! ```
+#![tactic(auto)]
+
+// the connections of a page, how long each is waited for, and one as a whole
+pub mod exchange;
+pub mod listening;
+pub mod patience;
+
+// what a request asks for, where it comes from, and what it goes on from
+pub mod fields;
+pub mod numbers;
+pub mod route;
+
+// what it is answered, also while a console sits at the seat
+pub mod responses;
+pub mod taken;
+
+pub use exchange::answer;
+pub use fields::{has_field, is_for, is_next};
+pub use listening::{Connections, answer_connection, answer_each, page_config};
+pub use numbers::number;
+pub use patience::has_begun;
+pub use responses::{begin_text, end_with, end_without, put_page, refuse};
+pub use route::{Route, route_of};
+pub use taken::TakenSeat;
