@@ -3,11 +3,11 @@ use Rattle.std.specs.Prelude.{◌≡◌, ◌⊎◌, ℕ, ⊤, Bool, IsTrue, if�
 use Rattle.std.specs.Prelude.{Ok, Err, IsOk, codes}
 use Rattle.std.specs.Io.KnownBytes.{Appends}
 use Rattle.std.specs.List.{flat_map}
-use Rattle.autocoder_1401.specs.Assembly.{assembly_in}
-use Rattle.symbols_1401.specs.Reading.{lines_in}
-use Rattle.autocoder_1401.specs.CrossReference.{references_text}
 use Rattle.symbols_1401.specs.Fault.{IsMemory}
-use Rattle.autocoder_1401.specs.SymbolTable.{symbols_text}
+use Rattle.symbols_1401.specs.Reading.{lines_in}
+use Rattle.listing_1401.specs.CrossReference.{references_text}
+use Rattle.listing_1401.specs.SymbolTable.{symbols_text}
+use Rattle.autocoder_1401.specs.Assembly.{assembly_in}
 use Rattle.autocoder_1401.specs.declared.assembly.Assembly.{Assembly}
 use Rattle.deck_1401.specs.Contents.{first_taken, storage_of}
 use Rattle.deck_1401.specs.Deck.{deck_text}

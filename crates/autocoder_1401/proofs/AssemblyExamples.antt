@@ -11,9 +11,9 @@ use Rattle.symbols_1401.specs.declared.fault.AsmFault.{AsmFault}
 use Rattle.symbols_1401.specs.declared.fault.AsmKind.TheVariants as kinds
 use Rattle.placing_1401.specs.Cells.{plain, marked}
 use Rattle.placing_1401.specs.Segments.{cut}
+use Rattle.listing_1401.specs.Listing.{number_text, address_text, characters_text, without_last_blanks, listing_line}
+use Rattle.listing_1401.specs.Listing.{spelling, literal_spelling, base_spelling, adjustment_spelling, index_spelling}
 use Rattle.autocoder_1401.specs.Assembly.{assembly_in}
-use Rattle.autocoder_1401.specs.Listing.{number_text, address_text, characters_text, without_last_blanks, listing_line}
-use Rattle.autocoder_1401.specs.Listing.{spelling, literal_spelling, base_spelling, adjustment_spelling, index_spelling}
 use Rattle.autocoder_1401.specs.declared.assembly.Assembly.{Assembly}
 
 -- what a source is in so many places, with all tables open

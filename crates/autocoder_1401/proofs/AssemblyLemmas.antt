@@ -12,8 +12,8 @@ use Rattle.placing_1401.specs.PlacedImage.{image_of}
 use Rattle.placing_1401.specs.Values.{first_outside}
 use Rattle.placing_1401.specs.PlacementLaws.{IsPlacedInTurn}
 use Rattle.placing_1401.proofs.PlacementLawLemmas
+use Rattle.listing_1401.specs.Listing.{listing_with}
 use Rattle.autocoder_1401.specs.Assembly.{assembly_with, assembly_in, with_listing, fault_or, unless_fault}
-use Rattle.autocoder_1401.specs.Listing.{listing_with}
 use Rattle.autocoder_1401.specs.declared.assembly.Assembly.{Assembly}
 
 -- lines without a fault, of which nothing is outside or this is the first that is, are answered so

@@ -1,4 +1,4 @@
--- Sources in the wider language, and the images, tables, faults and warnings worked out for them by hand.
+-- Sources in the wider language, and the images, listings and faults worked out for them by hand.
 use Rattle.std.proofs.Common.{◌≡◌, ℕ, List, [], ◌∷◌, ◌++◌, map, pos, Result, Ok, Err, refl}
 use Rattle.std.specs.Prelude.{codes, if◌then◌else◌}
 use Rattle.std.specs.Fmt.{digits}
@@ -17,23 +17,17 @@ use Rattle.source_1401.specs.WideMnemonic.{wide_instructions}
 use Rattle.source_1401.specs.WideOperation.{wide_operations}
 use Rattle.source_1401.specs.WideStatement.{wide_line_with}
 use Rattle.source_1401.specs.declared.language.Language.TheVariants.{Ibm}
-use Rattle.symbols_1401.specs.Reading.{lines_in}
 use Rattle.symbols_1401.specs.declared.fault.AsmFault.{AsmFault}
 use Rattle.symbols_1401.specs.declared.fault.AsmKind.TheVariants as kinds
 use Rattle.explanations_1401.specs.declared.explanation.Cause.TheVariants as causes
 use Rattle.explanations_1401.specs.declared.explanation.Explanation.{Explanation}
 use Rattle.placing_1401.specs.Placement.{next_hundred}
+use Rattle.listing_1401.specs.Listing.{graphic_of, number_text, address_text, characters_text, without_last_blanks}
+use Rattle.listing_1401.specs.Listing.{listing_line, spelling, literal_spelling, base_spelling, adjustment_spelling}
+use Rattle.listing_1401.specs.Listing.{index_spelling}
 use Rattle.autocoder_1401.specs.Assembly.{assembly_in}
-use Rattle.autocoder_1401.specs.CrossReference.{reference_line, references_text}
 use Rattle.autocoder_1401.specs.Explaining.{all_explained}
-use Rattle.autocoder_1401.specs.Listing.{graphic_of, number_text, address_text, characters_text, without_last_blanks}
-use Rattle.autocoder_1401.specs.Listing.{listing_line, spelling, literal_spelling, base_spelling, adjustment_spelling}
-use Rattle.autocoder_1401.specs.Listing.{index_spelling}
-use Rattle.autocoder_1401.specs.SymbolTable.{length_text, symbol_line, symbols_text}
-use Rattle.autocoder_1401.specs.Warnings.{all_warnings}
 use Rattle.autocoder_1401.specs.declared.assembly.Assembly.{Assembly}
-use Rattle.autocoder_1401.specs.declared.warning.Warning.{Warning}
-use Rattle.autocoder_1401.specs.declared.warning.WarningKind.TheVariants as warnings
 
 -- what a source is in 4,000 places, with all tables open
 stands_for : List ℕ → Result Assembly AsmFault
@@ -191,47 +185,3 @@ a_heading_below_lost_areas : map (λ (this : Explanation). this.fault)
     ≡ record { line = 1; kind = kinds.Operand } ∷ []
 unfolding wrong_in
 a_heading_below_lost_areas = refl
-
--- the symbol table and the cross-reference of a source
-symbols_of : List ℕ → List ℕ
-unfolding columns_of instructions assembler_operations wide_instructions wide_operations graphics wider_line
-    wide_line_with address_text length_text symbol_line digits
-symbols_of source = symbols_text (lines_in Ibm source)
-
-references_of : List ℕ → List ℕ
-unfolding columns_of instructions assembler_operations wide_instructions wide_operations graphics wider_line
-    wide_line_with reference_line digits
-references_of source = references_text (lines_in Ibm source)
-
--- a chain's label is its first place, and its length the number of its instructions; X1 is a label here, X2 isn't
-labelled : List ℕ
-labelled =
-    codes "               SFX  A\n     GO        MCW  X1,X2\n     MORE      CHAIN3\n     X1        EQU  MORE+1\n"
-    ++ codes "               END  GO\n"
-
-symbols_of_a_chain : symbols_of labelled
-    ≡ codes "GO   A 00333 00007 0002\n" ++ codes "MORE A 00340 00003 0003\n" ++ codes "X1     00341       0004\n"
-unfolding symbols_of labelled
-symbols_of_a_chain = refl
-
-references_to_x1 : references_of labelled
-    ≡ codes "GO   A 0002 0005\n" ++ codes "MORE A 0003 0004\n" ++ codes "X1     0004 0002\n"
-unfolding references_of labelled
-references_to_x1 = refl
-
--- the warnings of a source in 4,000 places
-warned_of : List ℕ → List Warning
-unfolding columns_of instructions assembler_operations wide_instructions wide_operations graphics wider_line
-    wide_line_with
-warned_of source = all_warnings 4000 (lines_in Ibm source)
-
--- WTM needs a unit, which the machine hasn't got; C alone is an instruction, but no word mark ends the last one
-compared : List ℕ
-compared =
-    codes "     GO        WTM  2\n               C\n               CHAIN3\n               DC   @X@\n               END  GO\n"
-
-a_chain_is_warned_of : warned_of compared
-    ≡ record { line = 1; kind = warnings.NotFitted }
-    ∷ record { line = 3; kind = warnings.ReadOn 342 } ∷ []
-unfolding warned_of compared
-a_chain_is_warned_of = refl

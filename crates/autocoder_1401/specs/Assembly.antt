@@ -11,7 +11,7 @@ use Rattle.faults_1401.specs.FirstFault.{first_fault, IsFaultless, IsFirstFault}
 use Rattle.placing_1401.specs.Laws.{IsFirstOutside}
 use Rattle.placing_1401.specs.Values.{first_outside}
 use Rattle.placing_1401.specs.PlacedImage.{image_of}
-use Rattle.autocoder_1401.specs.Listing.{listing_with, listing_of}
+use Rattle.listing_1401.specs.Listing.{listing_with, listing_of}
 use Rattle.autocoder_1401.specs.declared.assembly.Assembly.{Assembly}
 
 -- the image and the listing of lines without a fault, of which this is the source

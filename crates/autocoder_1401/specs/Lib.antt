@@ -1,9 +1,4 @@
 pub mod AllFaults
 pub mod Assembly
-pub mod CrossReference
 pub mod Explaining
 pub mod Languages
-pub mod Listing
-pub mod SymbolTable
-pub mod View
-pub mod Warnings

@@ -1,5 +1,5 @@
 //! The passes of the assembler, in their order.
-ghost use Rattle.std.specs.Prelude.{◌≡◌, ◌<◌, ◌^◌, ◌⊎◌, length, None, Some, true, IfOk, IfErr, OnOk, IfNone, IfSome};
+ghost use Rattle.std.specs.Prelude.{◌≡◌, ◌<◌, ◌^◌, ◌⊎◌, length, None, Some, true, IfOk, IfErr, OnOk};
 ghost use Rattle.core_1401.specs.Storage.{is_core_size};
 ghost use Rattle.image_1401.specs.Image.{IsInCore};
 ghost use Rattle.source_1401.specs.SourceLine.{lines_of};
@@ -8,79 +8,25 @@ ghost use Rattle.symbols_1401.specs.Fault.{IsMemory, Gives};
 ghost use Rattle.symbols_1401.specs.Known.{declared_at};
 ghost use Rattle.symbols_1401.specs.Reading.{lines_in};
 ghost use Rattle.symbols_1401.specs.Symbols.{sites_of};
-ghost use Rattle.symbols_1401.specs.View.{chains_view, symbols_view};
-ghost use Rattle.faults_1401.specs.FirstFault.{first_fault, IsFaultless, IsFirstFault};
+ghost use Rattle.symbols_1401.specs.View.{chains_view};
+ghost use Rattle.faults_1401.specs.FirstFault.{IsFaultless};
 ghost use Rattle.placing_1401.specs.Placement.{placed};
 ghost use Rattle.placing_1401.specs.Values.{first_outside};
-ghost use Rattle.placing_1401.specs.PlacedImage.{entry_in, image_of, placed_cells};
+ghost use Rattle.placing_1401.specs.PlacedImage.{image_of, placed_cells};
 ghost use Rattle.placing_1401.specs.Laws.{IsFirstOutside, IsCutOf};
 ghost use Rattle.placing_1401.specs.PlacementLaws.{IsPlacedInTurn};
 ghost use Rattle.placing_1401.specs.View.{places_of};
 ghost use Rattle.autocoder_1401.specs.Assembly.{assembly_with, assembly_in, with_listing, IsFaultOf};
 ghost use Rattle.autocoder_1401.specs.Languages.{AgreesWithPlain};
 
-use crate::listing::Listing;
-use crate::outputs::{make_listing, make_segments};
-use faults_1401::first_fault::first_fault;
-use image_1401::{Image, Segments};
-use placing_1401::{Placing, address_or_zero, place_all};
-use source_1401::{Addressing, Language, Statement};
+use faults_1401::FaultlessLines;
+use image_1401::Image;
+use listing_1401::{Listing, make_listing};
+use placed_image_1401::make_image;
+use placing_1401::{Placing, place_all};
+use source_1401::Language;
 use std::alloc::Global;
-use symbols_1401::{AsmFault, Chains, KeptLine, SourceHashing, Symbols, declared, read_lines};
-
-/// The first line with a fault, and its lowest kind.
-fn scan(symbols: &Symbols, language: Language, lines: &[KeptLine]) -> Option<AsmFault>
-    requires few { length lines.now < 2 ^ 32 }
-    requires declared { symbols_view symbols.now ≡ declared_at language lines.now }
-    ensures fault { result ≡ first_fault language lines.now }
-    ensures faultless { IfNone result (IsFaultless (declared_at language lines.now) lines.now) }
-    ensures first { IfSome result (λ f. IsFirstFault (declared_at language lines.now) lines.now f) }
-{
-    first_fault(symbols, lines)
-}
-
-/// Where the first END lets the program begin.
-fn entry(all: &Placing<'_>, lines: &[KeptLine]) -> Result<i64, AsmFault>
-    ensures value { IfOk result (λ value. value ≡ entry_in (places_of all.now) lines.now) }
-    ensures err { IfErr result IsMemory }
-{
-    for line in lines {
-        let Some(Statement { body, .. }) = line.line().statement else {
-            continue;
-        };
-        match body.describe().addressing {
-            Addressing::Entry(operands) => return all.entry_value(operands.a),
-            Addressing::Nothing
-            | Addressing::Addresses(_)
-            | Addressing::EarlierValue(_)
-            | Addressing::Equal(_)
-            | Addressing::Value(_) => {},
-        }
-    }
-    Ok(0)
-}
-
-/// The chains of EQUs of lines without a fault, or the first line with one.
-pub(crate) fn faultless_chains(
-    alloc: Global,
-    hashing: SourceHashing,
-    language: Language,
-    lines: &[KeptLine],
-) -> Result<Chains, AsmFault>
-    requires { length lines.now < 2 ^ 32 }
-    ensures ok { IfOk result (λ chains. chains_view chains ≡ chains_of (sites_of lines.now) lines.now) }
-    ensures none { OnOk result (first_fault language lines.now ≡ None) }
-    ensures faultless { OnOk result (IsFaultless (declared_at language lines.now) lines.now) }
-    ensures first { IfErr result (λ fault. IsMemory fault
-        ⊎ ((first_fault language lines.now ≡ Some fault)
-        × IsFirstFault (declared_at language lines.now) lines.now fault)) }
-{
-    let symbols = declared(alloc, hashing, language, lines)?;
-    if let Some(fault) = scan(&symbols, language, lines) {
-        return Err(fault);
-    }
-    Ok(symbols.chains)
-}
+use symbols_1401::{AsmFault, Chains, KeptLine, SourceHashing};
 
 /// The image and the listing of a source.
 #[derive(Debug, Drop)]
@@ -89,33 +35,6 @@ pub struct Assembly {
     pub image: Image,
     /// The source with the addresses and the cells that its lines stand for.
     pub listing: Listing,
-}
-
-/// The image of lines, once all is placed.
-///
-/// # Errors
-///
-/// `OutOfCore` for the first line of which something isn't in core; `Memory` if there is no room.
-fn make_image(
-    alloc: Global,
-    all: &Placing<'_>,
-    lines: &[KeptLine],
-    size: u16,
-) -> Result<Image, AsmFault>
-    requires few { length lines.now < 2 ^ 32 }
-    requires placed { places_of all.now ≡ placed lines.now }
-    ensures ok { IfOk result (λ image. image ≡ image_of size lines.now) }
-    ensures inside { OnOk result (first_outside size lines.now ≡ None) }
-    ensures outside { IfErr result (λ fault. IsMemory fault
-        ⊎ ((first_outside size lines.now ≡ Some fault) × IsFirstOutside size lines.now fault)) }
-{
-    let start = address_or_zero(entry(all, lines)?);
-    let segments = make_segments(alloc, all, size, lines)?;
-    Ok(Image {
-        size,
-        segments: Segments::from_vec(segments),
-        start,
-    })
 }
 
 /// The image and the listing of lines, of which this is the source, once all is placed.
@@ -141,6 +60,27 @@ pub(crate) fn make_assembly(
     let image = make_image(alloc, all, lines, size)?;
     let listing = make_listing(alloc, all, source, lines)?;
     Ok(Assembly { image, listing })
+}
+
+/// The image and the listing of lines without a fault, of which this is the source.
+fn faultless_assembly(
+    alloc: Global,
+    hashing: SourceHashing,
+    chains: &Chains,
+    source: &[u8],
+    lines: &[KeptLine],
+    size: u16,
+) -> Result<Assembly, AsmFault>
+    requires as_many { length lines.now ≡ length (lines_of source.now) }
+    requires few { length lines.now < 2 ^ 32 }
+    requires chains { chains_view chains.now ≡ chains_of (sites_of lines.now) lines.now }
+    ensures ok { IfOk result (λ assembly. assembly ≡ assembly_with size lines.now source.now) }
+    ensures inside { OnOk result (first_outside size lines.now ≡ None) }
+    ensures outside { IfErr result (λ fault. IsMemory fault
+        ⊎ ((first_outside size lines.now ≡ Some fault) × IsFirstOutside size lines.now fault)) }
+{
+    let all = place_all(alloc, hashing, chains, lines)?;
+    make_assembly(alloc, &all, source, lines, size)
 }
 
 /// The core image and the listing of a source, in core storage of this size. Its lines are read in this language: the
@@ -184,13 +124,29 @@ pub fn assemble(
     ensures first { IfErr result
         (λ fault. IsMemory fault ⊎ IsFaultOf language size (lines_in language source.now) fault) }
 {
-    let kept = read_lines(alloc, language, source)?;
-    let lines = kept.as_slice();
-    let hashing = SourceHashing::from_source(source);
-    let chains = faultless_chains(alloc, hashing, language, lines)?;
-    let all = place_all(alloc, hashing, &chains, lines)?;
-    let assembly = make_assembly(alloc, &all, source, lines, size)?;
+    let read = FaultlessLines::read(alloc, language, source)?;
+    let lines = read.lines.as_slice();
+    let assembly = faultless_assembly(alloc, read.hashing, &read.chains, source, lines, size)?;
     Ok(assembly)
+}
+
+/// The image of lines without a fault.
+fn faultless_image(
+    alloc: Global,
+    hashing: SourceHashing,
+    chains: &Chains,
+    lines: &[KeptLine],
+    size: u16,
+) -> Result<Image, AsmFault>
+    requires few { length lines.now < 2 ^ 32 }
+    requires chains { chains_view chains.now ≡ chains_of (sites_of lines.now) lines.now }
+    ensures ok { IfOk result (λ image. image ≡ image_of size lines.now) }
+    ensures inside { OnOk result (first_outside size lines.now ≡ None) }
+    ensures outside { IfErr result (λ fault. IsMemory fault
+        ⊎ ((first_outside size lines.now ≡ Some fault) × IsFirstOutside size lines.now fault)) }
+{
+    let all = place_all(alloc, hashing, chains, lines)?;
+    make_image(alloc, &all, lines, size)
 }
 
 /// The core image of a source in this language, in core storage of this size: that of `assemble`, in less time and
@@ -230,11 +186,8 @@ pub fn assemble_image(
     ensures first { IfErr result
         (λ fault. IsMemory fault ⊎ IsFaultOf language size (lines_in language source.now) fault) }
 {
-    let kept = read_lines(alloc, language, source)?;
-    let lines = kept.as_slice();
-    let hashing = SourceHashing::from_source(source);
-    let chains = faultless_chains(alloc, hashing, language, lines)?;
-    let all = place_all(alloc, hashing, &chains, lines)?;
-    let image = make_image(alloc, &all, lines, size)?;
+    let read = FaultlessLines::read(alloc, language, source)?;
+    let lines = read.lines.as_slice();
+    let image = faultless_image(alloc, read.hashing, &read.chains, lines, size)?;
     Ok(image)
 }

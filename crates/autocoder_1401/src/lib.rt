@@ -7,16 +7,13 @@
 //! ```
 //!
 //! The passes are in `assembly`. What they are made of is in crates of its own: `symbols_1401` reads the lines and
-//! follows the chains of EQUs, `faults_1401` looks for faults, and `placing_1401` places lines and makes their cells.
-//! What a source is refused for, and what is wrong at a fault, is handed on from there.
+//! follows the chains of EQUs, `faults_1401` looks for the first fault, `explanations_1401` for all of them,
+//! `placing_1401` places lines and makes their cells, `placed_image_1401` makes the image, `listing_1401` what is
+//! printed, and `warnings_1401` says what a good source hardly means. What a source is refused for, and what is wrong
+//! at a fault, is handed on from there.
 #![tactic(auto)]
 
-mod printing; // the parts of a line of the listing
-pub mod listing; // the source with its addresses and cells
-mod outputs; // the segments, and the listing, line by line
 pub mod assembly; // the passes, in their order
-mod symbol_table; // each label with its address, its length and its line
-mod cross_reference; // the lines that name each label
 pub mod tables; // an assembly with its symbol table and its cross-reference
 pub mod all_faults; // all faults of a source
 pub mod explaining; // all faults of a source, each with what is wrong
@@ -27,7 +24,8 @@ pub use assembly::{Assembly, assemble, assemble_image};
 pub use explaining::explained_faults;
 pub use explanations_1401::explanation;
 pub use explanations_1401::explanation::{Cause, Explanation};
-pub use listing::{Listing, ListingLine};
+pub use listing_1401::listing;
+pub use listing_1401::listing::{Listing, ListingLine};
 pub use symbols_1401::fault;
 pub use symbols_1401::fault::{AsmFault, AsmKind};
 pub use tables::{AssemblyTables, assemble_with_tables};

@@ -1,22 +1,28 @@
 //! An assembly with the tables that its listing may end with.
-ghost use Rattle.std.specs.Prelude.{◌≡◌, ◌<◌, ◌^◌, length, IfOk, IfErr};
-ghost use Rattle.symbols_1401.specs.Reading.{lines_in};
+ghost use Rattle.std.specs.Prelude.{◌≡◌, ◌<◌, ◌^◌, ◌⊎◌, length, None, Some, IfOk, IfErr, OnOk};
+ghost use Rattle.source_1401.specs.SourceLine.{lines_of};
+ghost use Rattle.symbols_1401.specs.Chains.{chains_of};
 ghost use Rattle.symbols_1401.specs.Fault.{IsMemory, Gives};
+ghost use Rattle.symbols_1401.specs.Reading.{lines_in};
+ghost use Rattle.symbols_1401.specs.Symbols.{sites_of};
+ghost use Rattle.symbols_1401.specs.View.{chains_view};
+ghost use Rattle.placing_1401.specs.Laws.{IsFirstOutside};
 ghost use Rattle.placing_1401.specs.Placement.{placed};
+ghost use Rattle.placing_1401.specs.Values.{first_outside};
 ghost use Rattle.placing_1401.specs.View.{places_of};
-ghost use Rattle.autocoder_1401.specs.Assembly.{assembly_in};
-ghost use Rattle.autocoder_1401.specs.CrossReference.{references_text};
+ghost use Rattle.listing_1401.specs.CrossReference.{references_text};
+ghost use Rattle.listing_1401.specs.SymbolTable.{symbols_text};
+ghost use Rattle.autocoder_1401.specs.Assembly.{assembly_in, assembly_with};
 ghost use Rattle.autocoder_1401.specs.Languages.{AgreesWithPlain};
-ghost use Rattle.autocoder_1401.specs.SymbolTable.{symbols_text};
 ghost use Rattle.autocoder_1401.specs.declared.tables.AssemblyTables.{AssemblyTables as Made};
 
-use crate::assembly::{Assembly, faultless_chains, make_assembly};
-use crate::cross_reference::{references_text, uses_of};
-use crate::symbol_table::{symbols_of, symbols_text};
+use crate::assembly::{Assembly, make_assembly};
+use faults_1401::FaultlessLines;
+use listing_1401::{Tables, make_tables};
 use placing_1401::{Placing, place_all};
 use source_1401::Language;
 use std::alloc::Global;
-use symbols_1401::{AsmFault, KeptLine, SourceHashing, read_lines};
+use symbols_1401::{AsmFault, Chains, KeptLine, SourceHashing};
 
 /// An assembly, with its symbol table and its cross-reference as texts.
 #[derive(Debug, Drop)]
@@ -29,30 +35,58 @@ pub struct AssemblyTables {
     pub references: Vec<u8>,
 }
 
-/// The symbol table and the cross-reference of lines, once all is placed.
-fn make_tables(
+/// The image, the listing and the tables of lines, of which this is the source, once all is placed.
+fn make_assembly_tables(
     alloc: Global,
     hashing: SourceHashing,
     all: &Placing<'_>,
+    source: &[u8],
     lines: &[KeptLine],
-    assembly: Assembly,
+    size: u16,
 ) -> Result<AssemblyTables, AsmFault>
+    requires as_many { length lines.now ≡ length (lines_of source.now) }
     requires few { length lines.now < 2 ^ 32 }
     requires placed { places_of all.now ≡ placed lines.now }
-    ensures assembly { IfOk result (λ made. made.assembly ≡ assembly) }
+    ensures ok { IfOk result (λ made. made.assembly ≡ assembly_with size lines.now source.now) }
     ensures symbols { IfOk result (λ made. made.symbols.items ≡ symbols_text lines.now) }
     ensures references { IfOk result (λ made. made.references.items ≡ references_text lines.now) }
-    ensures err { IfErr result IsMemory }
+    ensures inside { OnOk result (first_outside size lines.now ≡ None) }
+    ensures outside { IfErr result (λ fault. IsMemory fault
+        ⊎ ((first_outside size lines.now ≡ Some fault) × IsFirstOutside size lines.now fault)) }
 {
-    let symbols = symbols_of(alloc, hashing, all, lines)?;
-    let uses = uses_of(alloc, hashing, lines)?;
-    let references = references_text(alloc, &uses, &symbols)?;
-    let symbols = symbols_text(alloc, &symbols)?;
+    let assembly = make_assembly(alloc, all, source, lines, size)?;
+    let Tables {
+        symbols,
+        references,
+    } = make_tables(alloc, hashing, all, lines)?;
     Ok(AssemblyTables {
         assembly,
         symbols,
         references,
     })
+}
+
+/// The image, the listing and the tables of lines without a fault, of which this is the source.
+fn faultless_tables(
+    alloc: Global,
+    hashing: SourceHashing,
+    chains: &Chains,
+    source: &[u8],
+    lines: &[KeptLine],
+    size: u16,
+) -> Result<AssemblyTables, AsmFault>
+    requires as_many { length lines.now ≡ length (lines_of source.now) }
+    requires few { length lines.now < 2 ^ 32 }
+    requires chains { chains_view chains.now ≡ chains_of (sites_of lines.now) lines.now }
+    ensures ok { IfOk result (λ made. made.assembly ≡ assembly_with size lines.now source.now) }
+    ensures symbols { IfOk result (λ made. made.symbols.items ≡ symbols_text lines.now) }
+    ensures references { IfOk result (λ made. made.references.items ≡ references_text lines.now) }
+    ensures inside { OnOk result (first_outside size lines.now ≡ None) }
+    ensures outside { IfErr result (λ fault. IsMemory fault
+        ⊎ ((first_outside size lines.now ≡ Some fault) × IsFirstOutside size lines.now fault)) }
+{
+    let all = place_all(alloc, hashing, chains, lines)?;
+    make_assembly_tables(alloc, hashing, &all, source, lines, size)
 }
 
 /// The core image and the listing of a source in this language, as `assemble` answers them, with its symbol table and
@@ -80,12 +114,8 @@ pub fn assemble_with_tables(
     ensures symbols { IfOk result (λ made. made.symbols.items ≡ symbols_text (lines_in language source.now)) }
     ensures references { IfOk result (λ made. made.references.items ≡ references_text (lines_in language source.now)) }
 {
-    let kept = read_lines(alloc, language, source)?;
-    let lines = kept.as_slice();
-    let hashing = SourceHashing::from_source(source);
-    let chains = faultless_chains(alloc, hashing, language, lines)?;
-    let all = place_all(alloc, hashing, &chains, lines)?;
-    let assembly = make_assembly(alloc, &all, source, lines, size)?;
-    let tables = make_tables(alloc, hashing, &all, lines, assembly)?;
+    let read = FaultlessLines::read(alloc, language, source)?;
+    let lines = read.lines.as_slice();
+    let tables = faultless_tables(alloc, read.hashing, &read.chains, source, lines, size)?;
     Ok(tables)
 }

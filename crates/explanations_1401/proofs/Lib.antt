@@ -1,2 +1,3 @@
+mod ChainsExamples
 pub mod ExplanationLemmas
 pub mod ToldFaultsLemmas

@@ -3,6 +3,7 @@
 //! ```text
 //! let symbols = declared(alloc, hashing, language, &lines)?;  // what the lines declare, by `symbols_1401`
 //! first_fault(&symbols, &lines)                               // what the assembler tells, of kinds 2 to 8, 10 and 11
+//! FaultlessLines::read(alloc, language, source)?              // the lines of a source that has none of these
 //! ```
 //!
 //! Kind 9, what isn't in core, shows only once all is placed: see `placing_1401`. All faults of a source, and what is
@@ -10,5 +11,7 @@
 #![tactic(auto)]
 
 pub mod first_fault; // faults of kinds 2 to 8, 10 and 11
+pub mod faultless; // the lines of a source without any of them
 
+pub use faultless::FaultlessLines;
 pub use first_fault::symbol_in;

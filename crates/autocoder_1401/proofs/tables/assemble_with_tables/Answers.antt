@@ -1,31 +1,40 @@
 -- The answer is that of the passes, and the tables are those of the lines.
-use Rattle.std.proofs.Common.{◌∙◌, ap}
+use Rattle.std.proofs.Common.{List, ◌∙◌, sym, ap}
 use Rattle.std.proofs.lemmas.Result.{err_from_is_err_and}
-use Rattle.autocoder_1401.specs.CrossReference.{references_text}
-use Rattle.autocoder_1401.specs.SymbolTable.{symbols_text}
+use Rattle.source_1401.specs.declared.statement.Line.{Line}
+use Rattle.symbols_1401.specs.Chains.{chains_of}
+use Rattle.symbols_1401.specs.Symbols.{sites_of}
+use Rattle.faults_1401.specs.FirstFault.{first_fault}
+use Rattle.listing_1401.specs.CrossReference.{references_text}
+use Rattle.listing_1401.specs.SymbolTable.{symbols_text}
 use Rattle.autocoder_1401.proofs.AssemblyLemmas.{assembled, not_assembled}
 use Rattle.autocoder_1401.proofs.tables.assemble_with_tables.Goals as goal
 
-pub returns-in_err-assembly-clause-exact : goal.returns-in_err-assembly-clause-exact
-returns-in_err-assembly-clause-exact c =
+pub faultless_tables-requires-clause-chains : goal.faultless_tables-requires-clause-chains
+faultless_tables-requires-clause-chains c =
+    c.in_ok-read.ensures.chains
+    ∙ ap (λ (lines : List Line). chains_of (sites_of lines) lines) (sym c.as_slice-lines.ensures.value)
+
+pub returns-in_err-tables-clause-exact : goal.returns-in_err-tables-clause-exact
+returns-in_err-tables-clause-exact c =
     let p =
-    err_from_is_err_and c.from_residual-in_err-assembly.result c.from_residual-in_err-assembly.ensures.1 in
+    err_from_is_err_and c.from_residual-in_err-tables.result c.from_residual-in_err-tables.ensures.1 in
     rw (p.1, p.2) (not_assembled c.args.language c.args.size c.args.source.now c.as_slice-lines.result.now _
-    (c.as_slice-lines.ensures.value ∙ c.in_ok-kept.ensures.lines) c.in_ok-chains.ensures.none
-    c.in_err-assembly.ensures.outside)
+    (c.as_slice-lines.ensures.value ∙ c.in_ok-read.ensures.lines)
+    (ap (first_fault c.args.language) c.as_slice-lines.ensures.value ∙ c.in_ok-read.ensures.none)
+    c.in_err-tables.ensures.outside)
 
 pub returns-clause-exact : goal.returns-clause-exact
 returns-clause-exact c =
     assembled c.args.language c.args.size c.args.source.now c.as_slice-lines.result.now c.in_ok-tables.tables.assembly
-    (c.as_slice-lines.ensures.value ∙ c.in_ok-kept.ensures.lines) c.in_ok-chains.ensures.none
-    c.in_ok-assembly.ensures.inside (c.in_ok-tables.ensures.assembly ∙ c.in_ok-assembly.ensures.ok)
+    (c.as_slice-lines.ensures.value ∙ c.in_ok-read.ensures.lines)
+    (ap (first_fault c.args.language) c.as_slice-lines.ensures.value ∙ c.in_ok-read.ensures.none)
+    c.in_ok-tables.ensures.inside c.in_ok-tables.ensures.ok
 
 pub returns-clause-symbols : goal.returns-clause-symbols
 returns-clause-symbols c =
-    c.in_ok-tables.ensures.symbols
-    ∙ ap symbols_text (c.as_slice-lines.ensures.value ∙ c.in_ok-kept.ensures.lines)
+    c.in_ok-tables.ensures.symbols ∙ ap symbols_text (c.as_slice-lines.ensures.value ∙ c.in_ok-read.ensures.lines)
 
 pub returns-clause-references : goal.returns-clause-references
 returns-clause-references c =
-    c.in_ok-tables.ensures.references
-    ∙ ap references_text (c.as_slice-lines.ensures.value ∙ c.in_ok-kept.ensures.lines)
+    c.in_ok-tables.ensures.references ∙ ap references_text (c.as_slice-lines.ensures.value ∙ c.in_ok-read.ensures.lines)

@@ -1,0 +1,3 @@
+pub mod CrossReferenceLemmas
+mod PlacingExamples
+mod TablesExamples

@@ -1,0 +1,4 @@
+pub mod CrossReference
+pub mod Listing
+pub mod SymbolTable
+pub mod View

@@ -1,0 +1,3 @@
+pub mod FittedLemmas
+pub mod PlainWarningsLemmas
+mod WarningsExamples

@@ -1,0 +1,73 @@
+-- Sources without a fault, and their warnings, worked out by hand.
+use Rattle.std.proofs.Common.{◌≡◌, ℕ, List, [], ◌∷◌, ◌++◌, refl}
+use Rattle.std.specs.Prelude.{codes}
+use Rattle.bcd_1401.specs.Graphic.{graphics}
+use Rattle.source_1401.specs.Language.{wider_line}
+use Rattle.source_1401.specs.Mnemonic.{instructions, assembler_operations}
+use Rattle.source_1401.specs.SourceLine.{columns_of}
+use Rattle.source_1401.specs.WideMnemonic.{wide_instructions}
+use Rattle.source_1401.specs.WideOperation.{wide_operations}
+use Rattle.source_1401.specs.WideStatement.{wide_line_with}
+use Rattle.source_1401.specs.declared.language.Language.TheVariants.{Ibm, Plain}
+use Rattle.symbols_1401.specs.Reading.{lines_in}
+use Rattle.warnings_1401.specs.Warnings.{all_warnings}
+use Rattle.warnings_1401.specs.declared.warning.Warning.{Warning}
+use Rattle.warnings_1401.specs.declared.warning.WarningKind.{WarningKind}
+use Rattle.warnings_1401.specs.declared.warning.WarningKind.TheVariants as kinds
+
+-- the warnings of a source in 350 places, with all tables open
+warned_of : List ℕ → List Warning
+unfolding columns_of instructions assembler_operations graphics
+warned_of source = all_warnings 350 (lines_in Plain source)
+
+warned : ℕ → WarningKind → Warning
+warned line kind = record { line = line; kind = kind }
+
+-- A is named by END alone, and B by no line
+unused : warned_of (codes "     A         DCW  1\n     B         DCW  1\n               END  A\n")
+    ≡ warned 2 kinds.UnusedLabel ∷ []
+unfolding warned_of warned
+unused = refl
+
+-- the branch is taken or not whatever the program does; it takes five places, and the next has no mark
+unset : warned_of (codes "     A         BE   A\n               END  A\n")
+    ≡ warned 1 kinds.UnsetIndicator ∷ warned 1 (kinds.ReadOn 338) ∷ []
+unfolding warned_of warned
+unset = refl
+
+-- a plus sign is a zone over the literal's units; ZA brings one into the field
+unlike : warned_of (codes "     A         C    +5,B\n               H    A\n     B         DCW  0\n               END  A\n")
+    ≡ warned 1 kinds.UnlikeSigns ∷ []
+unfolding warned_of warned
+unlike = refl
+
+like : warned_of (codes "     A         ZA   +0,B\n               C    +5,B\n     B         DCW  0\n               END  A\n") ≡ []
+unfolding warned_of warned
+like = refl
+
+-- the warnings of a source in the wider language, in 4,000 places
+wide_warned_of : List ℕ → List Warning
+unfolding columns_of instructions assembler_operations wide_instructions wide_operations graphics wider_line
+    wide_line_with
+wide_warned_of source = all_warnings 4000 (lines_in Ibm source)
+
+-- a label that only a literal names is used, and its number may get a sign by way of the literal
+named : List ℕ
+named =
+    codes "     GO        MCW  +TAG,X1\n               C    +5,TAG\n               H\n     TAG       DCW  25\n"
+    ++ codes "               END  GO\n"
+
+a_literal_uses_a_label : wide_warned_of named ≡ []
+unfolding wide_warned_of named
+a_literal_uses_a_label = refl
+
+-- WTM needs a unit, which the machine hasn't got; C alone is an instruction, but no word mark ends the last one
+compared : List ℕ
+compared =
+    codes "     GO        WTM  2\n               C\n               CHAIN3\n               DC   @X@\n               END  GO\n"
+
+a_chain_is_warned_of : wide_warned_of compared
+    ≡ warned 1 kinds.NotFitted
+    ∷ warned 3 (kinds.ReadOn 342) ∷ []
+unfolding wide_warned_of compared warned
+a_chain_is_warned_of = refl

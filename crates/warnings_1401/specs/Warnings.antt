@@ -1,0 +1,217 @@
+-- What a source without a fault says and hardly means (own).
+use Rattle.std.specs.Prelude.{◌≡◌, ◌≢◌, ℕ, ◌+◌, ◌==◌, Bool, true, false, not, ◌&&◌, ◌||◌, if◌then◌else◌, List, [], ◌∷◌}
+use Rattle.std.specs.Prelude.{◌++◌, pos, nat_le, slice_get, All, Option, Some, None, unwrap_or}
+use Rattle.std.specs.Option.{option_map_or, option_and_then}
+use Rattle.std.specs.Ordering.{int_eq}
+use Rattle.std.specs.Str.{byte}
+use Rattle.bcd_1401.specs.declared.cell.Cell.{Cell}
+use Rattle.source_1401.specs.Description.{describe}
+use Rattle.source_1401.specs.Operands.{count_of}
+use Rattle.source_1401.specs.Statement.{well_formed}
+use Rattle.source_1401.specs.declared.address.Address.{Address}
+use Rattle.source_1401.specs.declared.constant.Constant.{Constant}
+use Rattle.source_1401.specs.declared.constant.Constant.TheVariants as constants
+use Rattle.source_1401.specs.declared.description.Contents.{Contents}
+use Rattle.source_1401.specs.declared.description.Contents.TheVariants as contents
+use Rattle.source_1401.specs.declared.label.Label.{Label}
+use Rattle.source_1401.specs.declared.language.Language.TheVariants.{Plain}
+use Rattle.source_1401.specs.declared.literal.Literal.{Literal}
+use Rattle.source_1401.specs.declared.literal.Literal.TheVariants as literals
+use Rattle.source_1401.specs.declared.mnemonic.Instruction.{Instruction}
+use Rattle.source_1401.specs.declared.operands.Operand.TheVariants as operands
+use Rattle.source_1401.specs.declared.operands.OperandField.{OperandField}
+use Rattle.source_1401.specs.declared.operands.OperandField.TheVariants as fields
+use Rattle.source_1401.specs.declared.operands.Operands.{Operands}
+use Rattle.source_1401.specs.declared.statement.Chain.{Chain}
+use Rattle.source_1401.specs.declared.statement.Line.{Line}
+use Rattle.source_1401.specs.declared.statement.Statement.{Statement}
+use Rattle.symbols_1401.specs.Reading.{lines_in}
+use Rattle.faults_1401.specs.FirstFault.{first_fault, symbol_in_base}
+use Rattle.explanations_1401.specs.Notes.{Known, known_in}
+use Rattle.placing_1401.specs.Filling.{filled, addresses_of}
+use Rattle.placing_1401.specs.Placement.{instruction_length, chain_length}
+use Rattle.placing_1401.specs.Fitted.{is_fitted}
+use Rattle.warnings_1401.specs.declared.warning.Warning.{Warning}
+use Rattle.warnings_1401.specs.declared.warning.WarningKind.{WarningKind}
+use Rattle.warnings_1401.specs.declared.warning.WarningKind.TheVariants as warnings
+
+-- an input-output unit
+abbrev pub is_unit : OperandField → Bool
+is_unit fields.Absent = false
+is_unit fields.Malformed = false
+is_unit (fields.Operand (operands.Address address)) = false
+is_unit (fields.Operand (operands.Literal literal)) = false
+is_unit (fields.Operand (operands.Unit unit)) = true
+
+-- an instruction that the machine never carries out: one of another length, or one with a unit, which it hasn't got
+abbrev pub is_unfitted : Instruction → Operands → Bool
+is_unfitted instruction of =
+    is_unit of.a || is_unit of.b || not (is_fitted instruction.operation (instruction_length of))
+
+-- a chain of instructions that can't be one character alone
+abbrev pub is_unfitted_chain : Chain → Bool
+is_unfitted_chain chain = option_map_or (λ operation. not (is_fitted operation 1)) chain.operation false
+
+-- an instruction, or a chain of such, that the machine never carries out
+abbrev pub is_not_fitted : Contents → Bool
+is_not_fitted contents.Nothing = false
+is_not_fitted (contents.Instruction instruction of) = is_unfitted instruction of
+is_not_fitted (contents.MarkedConstant constant) = false
+is_not_fitted (contents.Constant constant) = false
+is_not_fitted (contents.Space places) = false
+is_not_fitted (contents.Areas areas) = false
+is_not_fitted (contents.Chain chain) = is_unfitted_chain chain
+is_not_fitted (contents.AddressConstant constant) = false
+
+-- a label that no operand names
+abbrev pub is_unused : Known → Option Label → Bool
+is_unused known None = false
+is_unused known (Some label) = not (known.is_named label)
+
+-- the d-characters of a branch by the last comparison: unequal, equal, low, high
+abbrev pub tests_comparison : ℕ → Bool
+tests_comparison d = (d == byte "/") || (d == byte "S") || (d == byte "T") || (d == byte "U")
+
+-- the d-character of a branch by an indicator that nothing sets; Z is that of an overflow
+abbrev pub is_unset : Known → ℕ → Bool
+is_unset known d = (tests_comparison d && not known.compares) || ((d == byte "Z") && not known.adds)
+
+-- a branch by such an indicator; one with two addresses tests a character
+abbrev pub branches_unset : Known → Contents → Bool
+branches_unset known contents.Nothing = false
+branches_unset known (contents.Instruction instruction of) =
+    (instruction.operation == byte "B") && (count_of of.b == 0) && option_map_or (is_unset known) of.d false
+branches_unset known (contents.MarkedConstant constant) = false
+branches_unset known (contents.Constant constant) = false
+branches_unset known (contents.Space places) = false
+branches_unset known (contents.Areas areas) = false
+branches_unset known (contents.Chain chain) = false
+branches_unset known (contents.AddressConstant constant) = false
+
+-- a number with a sign, as a literal
+abbrev pub has_sign : Constant → Bool
+has_sign (constants.Text text) = false
+has_sign (constants.Number digits) = false
+has_sign (constants.Plus digits) = true
+has_sign (constants.Minus digits) = true
+has_sign (constants.Blanks count) = false
+
+abbrev pub has_sign_in : Literal → Bool
+has_sign_in (literals.Constant constant) = has_sign constant
+has_sign_in (literals.Address literal) = false
+has_sign_in (literals.Area literal) = false
+
+abbrev pub is_signed_literal : OperandField → Bool
+is_signed_literal fields.Absent = false
+is_signed_literal fields.Malformed = false
+is_signed_literal (fields.Operand (operands.Address address)) = false
+is_signed_literal (fields.Operand (operands.Literal literal)) = has_sign_in literal
+is_signed_literal (fields.Operand (operands.Unit unit)) = false
+
+-- a symbol alone, without an adjustment and an index register
+abbrev pub is_lone : Address → Bool
+is_lone address = int_eq address.adjustment (pos 0) && (unwrap_or address.index 0 == 0)
+
+abbrev pub lone_symbol : OperandField → Option Label
+lone_symbol fields.Absent = None
+lone_symbol fields.Malformed = None
+lone_symbol (fields.Operand (operands.Address address)) = if is_lone address then symbol_in_base address.base else None
+lone_symbol (fields.Operand (operands.Literal literal)) = None
+lone_symbol (fields.Operand (operands.Unit unit)) = None
+
+-- the label of a number without a sign, into which no line brings one
+abbrev pub stays_unsigned : Known → Label → Bool
+stays_unsigned known label = known.is_number label && not (known.is_signed label)
+
+-- a literal with a sign, and a field that has none: the zone over the literal's units makes them unequal
+abbrev pub are_unlike : Known → OperandField → OperandField → Bool
+are_unlike known literal field =
+    is_signed_literal literal && option_map_or (stays_unsigned known) (lone_symbol field) false
+
+abbrev pub compares_unlike : Known → Contents → Bool
+compares_unlike known contents.Nothing = false
+compares_unlike known (contents.Instruction instruction of) =
+    (instruction.operation == byte "C") && (are_unlike known of.a of.b || are_unlike known of.b of.a)
+compares_unlike known (contents.MarkedConstant constant) = false
+compares_unlike known (contents.Constant constant) = false
+compares_unlike known (contents.Space places) = false
+compares_unlike known (contents.Areas areas) = false
+compares_unlike known (contents.Chain chain) = false
+compares_unlike known (contents.AddressConstant constant) = false
+
+-- the most characters that an instruction has
+abbrev pub longest : ℕ → ℕ
+longest operation = if (operation == byte ",") || (operation == byte "/") then 7 else 8
+
+-- the cell after an instruction ends it: by its word mark, or because nothing longer is an instruction, or since a
+-- branch of four characters ends before a blank
+abbrev pub ends : ℕ → ℕ → Cell → Bool
+ends operation length cell =
+    cell.mark || nat_le (longest operation) length
+    || ((operation == byte "B") && (length == 4) && (cell.char == 0))
+
+-- the place after an instruction whose cell doesn't end it; the end of core storage ends any
+abbrev pub open_place : List Cell → ℕ → ℕ → ℕ → Option ℕ
+open_place storage operation length place =
+    option_and_then (λ cell. if ends operation length cell then None else Some place) (slice_get storage place)
+
+-- that of the last instruction of a chain which begins at this address
+abbrev pub chain_read_on : List Cell → ℕ → Chain → Option ℕ
+chain_read_on storage address chain =
+    option_and_then (λ operation. open_place storage operation 1 (address + chain_length chain)) chain.operation
+
+-- that of a statement which begins at this address
+abbrev pub read_on : List Cell → ℕ → Contents → Option ℕ
+read_on storage address contents.Nothing = None
+read_on storage address (contents.Instruction instruction of) =
+    open_place storage instruction.operation (instruction_length of) (address + instruction_length of)
+read_on storage address (contents.MarkedConstant constant) = None
+read_on storage address (contents.Constant constant) = None
+read_on storage address (contents.Space places) = None
+read_on storage address (contents.Areas areas) = None
+read_on storage address (contents.Chain chain) = chain_read_on storage address chain
+read_on storage address (contents.AddressConstant constant) = None
+
+-- a warning of this kind at this line, if there is one
+abbrev pub warned_if : Bool → ℕ → WarningKind → List Warning
+warned_if is number kind = if is then record { line = number; kind = kind } ∷ [] else []
+
+abbrev pub warned_of : Option ℕ → ℕ → List Warning
+warned_of None number = []
+warned_of (Some place) number = record { line = number; kind = warnings.ReadOn place } ∷ []
+
+-- the warnings of a statement on the line of this number, which begins at this address
+abbrev pub statement_warnings : Known → List Cell → ℕ → ℕ → Statement → List Warning
+statement_warnings known storage number address this =
+    warned_if (is_not_fitted (describe this.body).contents) number warnings.NotFitted
+    ++ warned_if (is_unused known (well_formed this.label)) number warnings.UnusedLabel
+    ++ warned_if (branches_unset known (describe this.body).contents) number warnings.UnsetIndicator
+    ++ warned_if (compares_unlike known (describe this.body).contents) number warnings.UnlikeSigns
+    ++ warned_of (read_on storage address (describe this.body).contents) number
+
+abbrev pub line_warnings : Known → List Cell → ℕ → ℕ → Line → List Warning
+line_warnings known storage number address line =
+    option_map_or (statement_warnings known storage number address) line.statement []
+
+-- the warnings of lines, counting them from this number, each of which begins at its address
+abbrev pub warnings_from : Known → List Cell → ℕ → List ℕ → List Line → List Warning
+warnings_from known storage number addresses [] = []
+warnings_from known storage number [] (line ∷ lines) = []
+warnings_from known storage number (address ∷ addresses) (line ∷ lines) =
+    line_warnings known storage number address line ++ warnings_from known storage (number + 1) addresses lines
+
+-- the warnings of a source's lines, in their order, for core storage of this size
+abbrev pub all_warnings : ℕ → List Line → List Warning
+all_warnings size lines = warnings_from (known_in lines) (filled size lines) 1 (addresses_of lines) lines
+
+-- a source whose lines have no fault in the plain language, whatever the size of core storage
+abbrev pub IsTakenPlain : List ℕ → Type 0
+IsTakenPlain source = first_fault Plain (lines_in Plain source) ≡ None
+
+-- no warning tells that the machine never carries out an instruction
+abbrev pub AllFitted : List Warning → Type 0
+AllFitted told = All (λ (this : Warning). this.kind ≢ warnings.NotFitted) told
+
+-- if the plain language takes a source, none of its warnings tells so
+abbrev pub PlainIsCarriedOut : List ℕ → List Warning → Type 0
+PlainIsCarriedOut source told = IsTakenPlain source → AllFitted told

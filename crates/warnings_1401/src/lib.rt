@@ -1,0 +1,13 @@
+//! What a source says and hardly means, though its lines have no fault.
+//!
+//! ```text
+//! source_warnings(alloc, language, source, 4_000)?            // a line each, with what it is about
+//! ```
+//!
+//! What the lines say of labels is collected by `explanations_1401`, and core storage is filled with their cells by
+//! `placing_1401`.
+#![tactic(auto)]
+
+pub mod warning; // what a source without a fault says and hardly means
+
+pub use warning::{Warning, WarningKind, source_warnings};
