@@ -2,9 +2,5 @@
 
 mod assembly;
 mod expecting;
-mod faults;
 mod images;
-mod languages;
 mod lines;
-mod tables;
-mod warnings;

@@ -1,103 +1,35 @@
-//! Sources, and the images or the faults that they stand for.
+//! Each call of the assembler on a source, worked out by hand. What it makes of others, and what it refuses and why, is
+//! shown by the program: the texts in `checks/sources/`, and the tables of `checks/sources.py` and `checks/assembling.py`.
 
-use super::expecting::{
-    assembly_of, expect_bytes, expect_faults_of_images, expect_listing, expect_same, image_beside,
-    lines_listed, put_bytes,
+use super::expecting::{expect_bytes, expect_same, put_bytes};
+use autocoder_1401::{
+    AsmFault, AsmKind, Assembly, AssemblyTables, Cause, Explanation, Listing, Warning, WarningKind,
+    assemble, assemble_image, assemble_with_tables, explained_faults, faults, warnings,
 };
-use autocoder_1401::{AsmFault, AsmKind, Assembly, assemble, assemble_image};
-use bcd_1401::Cell;
-use core_1401::Cells;
-use image_1401::{Image, Segment};
-use source_1401::Language;
+use image_1401::{Image, write_image};
+use source_1401::{Language, Stretch, size_asked};
 use std::process::Abort;
 
-/// The fault of a source.
-fn fault(rt: &impl AllocGlobal, source: &[u8], size: u16) -> Option<(u64, AsmKind)> {
-    match assemble(rt.alloc(), Language::Plain, source, size) {
-        Ok(_) => None,
-        Err(AsmFault { line, kind }) => Some((line, kind)),
-    }
+/// The image and the listing of a plain source in 4,000 places.
+fn assembly_of(rt: &(impl Abort + AllocGlobal), source: &[u8]) -> Assembly {
+    assemble(rt.alloc(), Language::Plain, source, 4_000).expect(rt, "an assembly")
 }
 
-/// Compares the fault of a source.
-fn expect_fault(
-    rt: &(impl Abort + AllocGlobal),
-    source: &[u8],
-    size: u16,
-    wanted: Option<(u64, AsmKind)>,
-) {
-    expect_same(rt, &fault(rt, source, size), &wanted, source);
+/// The image of a plain source, made beside the listing.
+fn image_beside(rt: &(impl Abort + AllocGlobal), source: &[u8]) -> Image {
+    let Assembly { image, .. } = assembly_of(rt, source);
+    image
 }
 
-/// Compares the faults of sources in 4,000 places.
-fn expect_first_faults(rt: &(impl Abort + AllocGlobal), rows: &[(&[u8], u64, AsmKind)]) {
-    for (source, line, kind) in rows {
-        expect_fault(rt, source, 4_000, Some((*line, *kind)));
-    }
-}
-
-/// Compares the faults of sources in core storage of different sizes.
-fn expect_each_fault(
-    rt: &(impl Abort + AllocGlobal),
-    rows: &[(&[u8], u16, Option<(u64, AsmKind)>)],
-) {
-    for (source, size, wanted) in rows {
-        expect_fault(rt, source, *size, *wanted);
-    }
-}
-
-/// The segment of an image that has one.
-fn only_segment(rt: &impl Abort, image: &Image) -> Segment {
-    let [segment] = image.segments.as_slice() else {
-        panic!(rt; "not one segment");
-    };
-    *segment
-}
-
-/// Compares the cells of a segment with graphics.
-fn expect_graphics(rt: &(impl Abort + AllocGlobal), cells: &[Cell], wanted: &[u8]) {
-    let mut graphics = Vec::new(rt.alloc());
-    for cell in cells {
-        put_bytes(rt, &mut graphics, &[cell.char.graphic()]);
-    }
-    expect_bytes(rt, graphics.as_slice(), wanted, b"graphics");
-}
-
-/// Compares the cells of a segment with word marks, of which each is a 1.
-fn expect_marks(rt: &(impl Abort + AllocGlobal), cells: &[Cell], wanted: &[u8]) {
-    let mut marks = Vec::new(rt.alloc());
-    for cell in cells {
-        let mark = if cell.mark { b'1' } else { b'0' };
-        put_bytes(rt, &mut marks, &[mark]);
-    }
-    expect_bytes(rt, marks.as_slice(), wanted, b"marks");
-}
-
-/// Compares the address and the graphics of an image's only segment, and returns its cells.
-fn expect_only(
-    rt: &(impl Abort + AllocGlobal),
-    image: &Image,
-    address: u16,
-    graphics: &[u8],
-    source: &[u8],
-) -> Cells {
-    let segment = only_segment(rt, image);
-    expect_same(rt, &segment.address, &address, source);
-    expect_graphics(rt, segment.cells.as_slice(), graphics);
-    segment.cells
-}
-
-/// Compares the size and the entry of an image.
-fn expect_bounds(rt: &impl Abort, image: &Image, wanted: (u16, u16), source: &[u8]) {
-    expect_same(rt, &(image.size, image.start), &wanted, source);
-}
-
-/// Compares the image of a source that is made alone with the one beside its listing.
-fn expect_alone(rt: &(impl Abort + AllocGlobal), source: &[u8], beside: &Image) {
+/// Compares the image of a plain source that is made alone with a text, and with the one beside its listing.
+fn expect_image(rt: &(impl Abort + AllocGlobal), source: &[u8], beside: &Image, wanted: &[u8]) {
     let alone = assemble_image(rt.alloc(), Language::Plain, source, 4_000).expect(rt, "an image");
-    expect_bounds(rt, &alone, (4_000, 400), source);
+    let text = write_image(rt.alloc(), &alone).expect(rt, "room");
+    expect_bytes(rt, text.as_slice(), wanted, source);
+    let bounds = (alone.size, alone.start);
+    expect_same(rt, &(beside.size, beside.start), &bounds, source);
     let segments = alone.segments.as_slice();
-    expect_same(rt, &segments, &beside.segments.as_slice(), source);
+    expect_same(rt, &beside.segments.as_slice(), &segments, source);
 }
 
 #[test]
@@ -111,11 +43,30 @@ fn one_literal_is_placed_for_two_uses(rt: HostRuntime) {
      * ONE LITERAL, TWO USES
                END  START
 ";
-    let image = image_beside(&rt, source, 4_000);
-    expect_alone(&rt, source, &image);
-    expect_bounds(&rt, &image, (4_000, 400), source);
-    let cells = expect_only(&rt, &image, 400, b"?423420A423420.414   HIE", source);
-    expect_marks(&rt, cells.as_slice(), b"100000010000001000100101");
+    let wanted = b"IMAGE2 04000\n00400 24 ~?423420~A423420~.414~   ~HI~E\nEND 00400\n";
+    expect_image(&rt, source, &image_beside(&rt, source), wanted);
+}
+
+/// The listing of a plain source.
+fn listing_of(rt: &(impl Abort + AllocGlobal), source: &[u8]) -> Listing {
+    let Assembly { listing, .. } = assembly_of(rt, source);
+    listing
+}
+
+/// Adds the lines of a listing to a text, each with a line feed.
+fn put_listing(rt: &impl Abort, text: &mut Vec<u8>, listing: &Listing) {
+    for line in listing.as_slice() {
+        put_bytes(rt, text, line.as_slice());
+        put_bytes(rt, text, b"\n");
+    }
+}
+
+/// Compares the listing of a plain source with a text.
+fn expect_listing(rt: &(impl Abort + AllocGlobal), source: &[u8], wanted: &[u8]) {
+    let listing = listing_of(rt, source);
+    let mut text = Vec::new(rt.alloc());
+    put_listing(rt, &mut text, &listing);
+    expect_bytes(rt, text.as_slice(), wanted, source);
 }
 
 #[test]
@@ -137,218 +88,202 @@ fn a_listing_has_the_source_beside_its_addresses(rt: HostRuntime) {
 0006 00400                         END  START
 0007                     * BEHIND END
 ";
-    expect_listing(&rt, Language::Plain, source, wanted);
+    expect_listing(&rt, source, wanted);
+}
+
+/// The tables of a source in 4,000 places, and its image and listing.
+fn tables_of(rt: &(impl Abort + AllocGlobal), source: &[u8]) -> AssemblyTables {
+    assemble_with_tables(rt.alloc(), Language::Plain, source, 4_000).expect(rt, "tables")
+}
+
+/// Compares the tables of a source in 4,000 places.
+fn expect_tables(
+    rt: &(impl Abort + AllocGlobal),
+    source: &[u8],
+    symbols: &[u8],
+    references: &[u8],
+) {
+    let made = tables_of(rt, source);
+    expect_bytes(rt, made.symbols.as_slice(), symbols, source);
+    expect_bytes(rt, made.references.as_slice(), references, source);
 }
 
 #[test]
-fn areas_are_blanks_with_the_marks_of_their_fields(rt: HostRuntime) {
-    let source = b"               ORG  500
-     REC       DA   2X4
-     * A COMMENT BETWEEN
-     KEY            3,4
-               END  KEY
+fn labels_are_in_the_order_of_their_lines(rt: HostRuntime) {
+    let source = b"               ORG  400
+     START     ZA   +5,TOTAL
+     LOOP      A    +5,TOTAL
+               B    LOOP
+     TOTAL     DCW  #3
+     HIGH      EQU  TOTAL-2
+     NAME      DC   @HI@
+     * TOTAL IS NO USE HERE
+               END  START
 ";
-    let image = image_beside(&rt, source, 4_000);
-    expect_same(&rt, &image.start, &503, source);
-    let cells = expect_only(&rt, &image, 500, &[b' '; 8], source);
-    expect_marks(&rt, cells.as_slice(), b"10101010");
+    expect_tables(
+        &rt,
+        source,
+        b"\
+START  00400 00007 0002
+LOOP   00407 00007 0003
+TOTAL  00420 00003 0005
+HIGH   00418       0006
+NAME   00422 00002 0007
+",
+        b"\
+START  0002 0009
+LOOP   0003 0004
+TOTAL  0005 0002 0003 0006
+HIGH   0006
+NAME   0007
+",
+    );
 }
 
-/// Compares the segments of an image with addresses and numbers of cells.
-fn expect_segments(
+/// The entry of an image, and how many segments it has.
+fn entry_and_count(image: &Image) -> (u16, usize) {
+    (image.start, image.segments.as_slice().len())
+}
+
+/// Compares an image and the number of lines of a listing with those beside the tables of a source.
+fn expect_beside(rt: &(impl Abort + AllocGlobal), source: &[u8], start: u16, lines: usize) {
+    let made = tables_of(rt, source);
+    let found = entry_and_count(&made.assembly.image);
+    expect_same(rt, &found, &(start, 1), source);
+    let listed = made.assembly.listing.as_slice().len();
+    expect_same(rt, &listed, &lines, source);
+}
+
+#[test]
+fn the_assembly_beside_them_is_that_of_the_source(rt: HostRuntime) {
+    let source = b"     A         MLC  +5,A\n               END  A\n";
+    let Image { start, .. } = image_beside(&rt, source);
+    let lines = listing_of(&rt, source).as_slice().len();
+    expect_beside(&rt, source, start, lines);
+}
+
+/// Adds a row to those that are told.
+fn put_row<T: Drop>(rt: &impl Abort, told: &mut Vec<T>, row: T) {
+    told.push(row).expect(rt, "room");
+}
+
+/// Compares faults with lines, and kinds of fault.
+fn expect_told(
     rt: &(impl Abort + AllocGlobal),
-    image: &Image,
-    wanted: &[(u16, usize)],
+    found: &[AsmFault],
+    wanted: &[(u64, AsmKind)],
     source: &[u8],
 ) {
-    let mut found = Vec::new(rt.alloc());
-    for segment in image.segments.as_slice() {
-        let count = segment.cells.as_slice().len();
-        found.push((segment.address, count)).expect(rt, "room");
+    let mut told = Vec::new(rt.alloc());
+    for fault in found {
+        put_row(rt, &mut told, (fault.line, fault.kind));
     }
-    expect_same(rt, &found.as_slice(), &wanted, source);
+    expect_same(rt, &told.as_slice(), &wanted, source);
+}
+
+/// Compares what is told of a plain source: lines, and kinds of fault.
+fn expect_faults(rt: &(impl Abort + AllocGlobal), source: &[u8], wanted: &[(u64, AsmKind)]) {
+    let found = faults(rt.alloc(), Language::Plain, source, 4_000).expect(rt, "room");
+    expect_told(rt, found.as_slice(), wanted, source);
 }
 
 #[test]
-fn a_segment_has_at_most_forty_cells(rt: HostRuntime) {
-    let source = b"               DCW  #41
-               ORG  374
-               DCW  @A@
-               DS   2
-               DCW  @B@
-               END  0
+fn each_faulty_line_is_told(rt: HostRuntime) {
+    let source = b"     A         QQ   1
+     B         MLC  Q,B
+     C         MLC  A,B
+     D         MLC  A,@X
+               END  A
 ";
-    let image = image_beside(&rt, source, 1_400);
-    expect_segments(&rt, &image, &[(333, 40), (373, 2), (377, 1)], source);
-}
-
-#[test]
-fn an_index_register_is_a_zone_over_the_tens(rt: HostRuntime) {
-    let source = b"     A         MLC  15+X2,A+1000+X1\n               END  A\n";
-    let image = image_beside(&rt, source, 4_000);
-    expect_only(&rt, &image, 333, b"M0J5TT3", source);
-}
-
-#[test]
-fn the_first_line_with_a_fault_is_named(rt: HostRuntime) {
-    let long = [b' '; 81];
-    expect_fault(&rt, &long, 4_000, Some((1, AsmKind::LongLine)));
-    expect_first_faults(
+    expect_faults(
         &rt,
+        source,
         &[
-            (b"", 1, AsmKind::NoEnd),
-            (b"               a", 1, AsmKind::Graphic),
-            (b"     X1        DCW  #1", 1, AsmKind::Label),
-            (
-                b"     A         DCW  #1\n     A         DCW  #1",
-                2,
-                AsmKind::DoubleLabel,
-            ),
-            (b"               MU   1", 1, AsmKind::Operation),
-            (b"     A              1,1", 1, AsmKind::Operation),
-            (b"               B    Q", 1, AsmKind::Undefined),
-            (
-                b"     A         EQU  B\n     B         NOP",
-                1,
-                AsmKind::Undefined,
-            ),
-            (b"               BCE  Q", 1, AsmKind::Undefined),
-            (b"               NOP  Q", 1, AsmKind::Operand),
-            (b"               DS   0", 1, AsmKind::Operand),
-            (
-                b"               DA   2X4\n                    1,1",
-                2,
-                AsmKind::Label,
-            ),
-            (
-                b"               DA   2X4\n     F              1,5",
-                2,
-                AsmKind::Operand,
-            ),
-            (
-                b"               END  0\n               H",
-                2,
-                AsmKind::AfterEnd,
-            ),
-            (b"               END  9999", 1, AsmKind::OutOfCore),
-            (
-                b"               ORG  4001\n               END  0",
-                1,
-                AsmKind::OutOfCore,
-            ),
-            (
-                b"               ORG  4000\n               NOP\n               END  0",
-                2,
-                AsmKind::OutOfCore,
-            ),
-            (
-                b"     A         EQU  10-20\n               B    A\n               END  0",
-                1,
-                AsmKind::OutOfCore,
-            ),
+            (1, AsmKind::Operation),
+            (2, AsmKind::Undefined),
+            (4, AsmKind::Operand),
         ],
     );
-    let literal = b"               ORG  1393\n               A    +5,0\n               END  0";
-    expect_fault(&rt, literal, 1_400, Some((3, AsmKind::OutOfCore)));
-    expect_fault(&rt, literal, 2_000, None);
-    let core = b"               ORG  4000\n               END  0\n     * A COMMENT";
-    expect_fault(&rt, core, 4_000, None);
+    expect_faults(&rt, b"     A         H\n               END  A\n", &[]);
+}
+
+/// Compares warnings with lines, and what they are about.
+fn expect_warned(
+    rt: &(impl Abort + AllocGlobal),
+    found: &[Warning],
+    wanted: &[(u64, WarningKind)],
+    source: &[u8],
+) {
+    let mut told = Vec::new(rt.alloc());
+    for warning in found {
+        put_row(rt, &mut told, (warning.line, warning.kind));
+    }
+    expect_same(rt, &told.as_slice(), &wanted, source);
+}
+
+/// Compares the warnings of a plain source: lines, and what they are about.
+fn expect_warnings(rt: &(impl Abort + AllocGlobal), source: &[u8], wanted: &[(u64, WarningKind)]) {
+    let found = warnings(rt.alloc(), Language::Plain, source, 4_000).expect(rt, "warnings");
+    expect_warned(rt, found.as_slice(), wanted, source);
 }
 
 #[test]
-fn an_image_alone_is_refused_by_line_and_kind(rt: HostRuntime) {
-    let undefined = b"               ORG  400\n               B    NONE\n               END  400\n";
-    let far = b"               END  3999\n";
-    expect_faults_of_images(
+fn a_label_that_no_operand_names(rt: HostRuntime) {
+    let source = b"     ENTRY     ZA   FIRST,SECOND
+     SELF      B    SELF
+     LONE      H    BEYOND+3
+     FIRST     DCW  #2
+     SECOND    DCW  #2
+     SPARE     DCW  #2
+     BEYOND    EQU  SECOND
+               END  ENTRY
+";
+    expect_warnings(
         &rt,
-        &[
-            (undefined, 4_000, Some((2, AsmKind::Undefined))),
-            (far, 4_000, None),
-            (far, 2_000, Some((1, AsmKind::OutOfCore))),
-            (b"", 4_000, Some((1, AsmKind::NoEnd))),
-        ],
+        source,
+        &[(3, WarningKind::UnusedLabel), (6, WarningKind::UnusedLabel)],
     );
 }
 
-#[test]
-fn a_sum_beyond_any_core_is_out_of_core(rt: HostRuntime) {
-    let source = b"               B    99999+99999\n               END  0";
-    expect_fault(&rt, source, 1_400, Some((1, AsmKind::OutOfCore)));
-    expect_fault(&rt, source, 16_000, Some((1, AsmKind::OutOfCore)));
-}
-
-/// Adds a line to a source, as many times as asked for.
-fn put_lines(rt: &impl Abort, source: &mut Vec<u8>, count: u32, line: &[u8]) {
-    for _ in 0..count {
-        put_bytes(rt, source, line);
+/// The first of what is told, if there is no other.
+fn only_one(found: &[Explanation]) -> Option<Explanation> {
+    match found {
+        [explanation] => Some(*explanation),
+        _ => None,
     }
 }
 
-/// Compares the number of lines of a long listing.
-fn expect_count(rt: &(impl Abort + AllocGlobal), source: &[u8], wanted: usize) {
-    expect_same(rt, &lines_listed(rt, source), &wanted, b"lines");
-}
-
-/// Compares the fault of a long source in 4,000 places.
-fn expect_fault_of_many(rt: &(impl Abort + AllocGlobal), source: &[u8], wanted: (u64, AsmKind)) {
-    expect_same(rt, &fault(rt, source, 4_000), &Some(wanted), b"many lines");
+/// What is told of the only fault of a source in the wider language.
+fn only_fault(rt: &(impl Abort + AllocGlobal), source: &[u8]) -> Explanation {
+    let found = explained_faults(rt.alloc(), Language::Ibm, source, 4_000).expect(rt, "room");
+    only_one(found.as_slice()).expect(rt, "not one fault")
 }
 
 #[test]
-fn a_source_may_have_70_000_lines(rt: HostRuntime) {
-    let mut source = Vec::new(rt.alloc());
-    put_lines(&rt, &mut source, 70_000 - 1, b"     * A COMMENT\n");
-    let comments = source.len();
-    put_bytes(&rt, &mut source, b"               END  0\n");
-    expect_count(&rt, source.as_slice(), 70_000);
-    source.truncate(comments);
-    put_bytes(&rt, &mut source, b"               ZZZ\n");
-    expect_fault_of_many(&rt, source.as_slice(), (70_000, AsmKind::Operation));
+fn a_fault_in_small_letters_is_explained(rt: HostRuntime) {
+    let source = b"     start     mcw  tab&2,totax
+     total     dcw  #3
+     tab       dcw  #3
+               end  start
+";
+    let explanation = only_fault(&rt, source);
+    let AsmFault { line, kind } = explanation.fault;
+    expect_same(&rt, &(line, kind), &(1, AsmKind::Undefined), source);
+    let Stretch { column, length } = explanation.columns;
+    expect_same(&rt, &(column, length), &(27, 5), source);
+    assert!(rt; matches!(explanation.cause, Cause::Undeclared(Some(_))));
 }
 
 #[test]
-fn the_place_behind_the_last_takes_an_end_alone(rt: HostRuntime) {
-    expect_each_fault(
+fn the_first_ctl_says_the_size(rt: HostRuntime) {
+    let source =
+        b"               job  Wages, March 1962\n               ctl  66\n               end\n";
+    expect_same(&rt, &size_asked(Language::Plain, source), &None, source);
+    expect_same(
         &rt,
-        &[
-            (
-                b"               END  9999",
-                8_000,
-                Some((1, AsmKind::OutOfCore)),
-            ),
-            (b"               END  9999", 12_000, None),
-            (b"               END  15999", 16_000, None),
-            (
-                b"               END  16000",
-                16_000,
-                Some((1, AsmKind::OutOfCore)),
-            ),
-            (
-                b"               ORG  16000\n               END  0",
-                16_000,
-                None,
-            ),
-            (
-                b"               ORG  16001\n               END  0",
-                16_000,
-                Some((1, AsmKind::OutOfCore)),
-            ),
-            (
-                b"               ORG  16000\n               NOP\n               END  0",
-                16_000,
-                Some((2, AsmKind::OutOfCore)),
-            ),
-            (
-                b"               ORG  15999\n               DCW  @AB@\n               END  0",
-                16_000,
-                Some((2, AsmKind::OutOfCore)),
-            ),
-            (
-                b"     A         EQU  16000\n               END  A",
-                16_000,
-                Some((1, AsmKind::OutOfCore)),
-            ),
-        ],
+        &size_asked(Language::Ibm, source),
+        &Some(16_000),
+        source,
     );
 }
 
@@ -390,27 +325,4 @@ fn a_fault_shows_its_line_its_number_and_its_name(rt: HostRuntime) {
             (AsmKind::AfterEnd, "line 7: 11 AFTER END"),
         ],
     );
-}
-
-/// Compares what is made of 10,000 empty lines and an end: the image's entry, its segments, and the listing's lines.
-fn expect_empty_lines(rt: &impl Abort, made: &Assembly) {
-    let Assembly { image, listing } = made;
-    let found = (image.start, image.segments.as_slice().len());
-    expect_same(rt, &found, &(400, 0), b"image");
-    let lines = listing.as_slice();
-    expect_same(rt, &lines.len(), &10_001, b"lines");
-    let last = lines.get(9_999).expect(rt, "a line");
-    expect_bytes(rt, last.as_slice(), b"10000", b"last line");
-}
-
-#[test]
-fn comments_are_numbered_and_searched(rt: HostRuntime) {
-    let source = b"     * GOOD\n\n     * BAD \x01\n               END  0\n";
-    expect_fault(&rt, source, 4_000, Some((3, AsmKind::Graphic)));
-    let mut empty = Vec::new(rt.alloc());
-    put_lines(&rt, &mut empty, 10_000, b"\n");
-    expect_fault_of_many(&rt, &empty, (10_001, AsmKind::NoEnd));
-    put_bytes(&rt, &mut empty, b"               END  400");
-    let made = assembly_of(&rt, Language::Plain, &empty, 4_000);
-    expect_empty_lines(&rt, &made);
 }
