@@ -1,5 +1,5 @@
 -- The symbols are those of the lines, with what is placed by them.
-use Rattle.std.proofs.Common.{◌≡◌, ℕ, List, IfOk, ◌∙◌, ap, subst}
+use Rattle.std.proofs.Common.{◌≡◌, List, IfOk, ◌∙◌, ap, subst}
 use Rattle.std.specs.List.{flat_map}
 use Rattle.placing_1401.specs.Placement.{Placement, unplaced}
 use Rattle.listing_1401.specs.CrossReference.{reference_line, uses_of}
