@@ -1,6 +1,6 @@
 """The calls of the crates that take memory, each with each growth of memory refused in turn.
 
-The program growth_trial makes each call, tells a refusal, and makes the call again: what it tells besides must be what
+The program of crates/trials makes each call, tells a refusal, and makes the call again: what it tells besides must be what
 it tells where nothing is refused. Its trials end with the whole journal and the whole machine."""
 import os
 import shutil
@@ -12,7 +12,7 @@ from pathlib import Path
 from checks.growth import LINES, Refusing, without
 from checks.report import TOP, difference, run, tell
 
-TRIAL = TOP / "crates/growth_trial/out/growth_trial"
+TRIAL = TOP / "crates/trials/out/trials"
 SESSION = (*LINES, b"QUIT\n")
 QUESTION = (b"DEPOSIT 0500 ~0K\n", b"EXAMINE 0500 2\n", b"QUIT\n")
 PROGRAM_RUN = (b"RUN 10\n", b"EXAMINE 0418 3\n")
@@ -174,10 +174,10 @@ def calls():
         print("LEFT OUT  there is no C compiler cc: growths of the crates' calls aren't refused one by one")
         return
     if not is_built():
-        folder = TOP / "crates/growth_trial"
+        folder = TOP / "crates/trials"
         built = subprocess.run(["rt", "run"], cwd=folder, stdin=subprocess.DEVNULL, capture_output=True)
         if built.returncode != 0 or not TRIAL.exists():
-            tell("growth_trial is proved and built", built.stderr.decode(errors="replace")[-300:])
+            tell("the trials are proved and built", built.stderr.decode(errors="replace")[-300:])
             return
     with tempfile.TemporaryDirectory() as folder:
         refusing = Refusing(Path(folder))

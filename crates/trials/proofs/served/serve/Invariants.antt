@@ -1,5 +1,5 @@
 -- The room's names are those of what was opened.
-use Rattle.growth_trial.proofs.served.serve.Given as goal
+use Rattle.trials.proofs.served.serve.Given as goal
 
 abbrev pub ghosts-operate-J-Ledger : goal.ghosts-operate-J-Ledger
 ghosts-operate-J-Ledger g a = record { name = a.opened.ledger; parts = a.opened.parts }

@@ -1,5 +1,7 @@
 //! The trials, and the words that name them.
 
+use crate::image_speed::time_images;
+use crate::room_speed::time_rooms;
 use crate::started::AT_POWER_ON;
 use crate::telling::Teller;
 use crate::written::{IMAGES, Kind, SOURCES, tell_texts};
@@ -9,6 +11,7 @@ use std::io::Stdin;
 use std::net::{Net, TcpListener, TcpStream};
 use std::sync::Wait;
 use std::thread::Threads;
+use std::time::Clock;
 
 /// A trial.
 #[derive(Clone, Copy)]
@@ -45,6 +48,10 @@ pub enum Trial {
     Work(rooms::Work),
     /// Work in a new room with two seats.
     Share(shared::Work),
+    /// How fast rooms are.
+    TimeRooms,
+    /// How fast images are read and written.
+    TimeImages,
 }
 
 /// Each trial by its word.
@@ -68,6 +75,8 @@ const TRIALS: &[(&str, Trial)] = &[
     ("program", Trial::Program),
     ("attend", Trial::Share(shared::Work::Attend)),
     ("serve", Trial::Serve),
+    ("time_rooms", Trial::TimeRooms),
+    ("time_images", Trial::TimeImages),
 ];
 
 /// The trial that a word names.
@@ -80,26 +89,24 @@ pub fn trial_of(word: &str) -> Option<Trial> {
     None
 }
 
-/// Tells what the word is for.
+/// Tells what each word is for.
 pub fn tell_usage(teller: &mut Teller) {
-    teller.tell("growth_trial CALL: what a call answers where memory is refused");
+    teller.tell("trials CALL: what a call answers where memory is refused");
+    teller.tell("trials time_rooms: commands a second by seats, and the time of a glance");
+    teller.tell("trials time_images: segments of images read and written a second");
 }
 
 /// Makes a trial, and makes it a second time if what it begins with was refused.
-pub fn make_trial<R: Threads + Wait + Sync + Net<Listener = TcpListener, Stream = TcpStream>>(
-    rt: &R,
-    teller: &mut Teller,
-    input: Stdin,
-    alloc: Global,
-    trial: Trial,
-) {
+pub fn make_trial<
+    R: Threads + Wait + Clock + Sync + Net<Listener = TcpListener, Stream = TcpStream>,
+>(rt: &R, teller: &mut Teller, input: Stdin, alloc: Global, trial: Trial) {
     if !begin(rt, teller, input, alloc, trial) {
         begin(rt, teller, input, alloc, trial);
     }
 }
 
 /// Makes a trial. False if what it begins with was refused.
-fn begin<R: Threads + Wait + Sync + Net<Listener = TcpListener, Stream = TcpStream>>(
+fn begin<R: Threads + Wait + Clock + Sync + Net<Listener = TcpListener, Stream = TcpStream>>(
     rt: &R,
     teller: &mut Teller,
     input: Stdin,
@@ -123,6 +130,8 @@ fn begin<R: Threads + Wait + Sync + Net<Listener = TcpListener, Stream = TcpStre
         Trial::ReadImage => tell_texts(teller, alloc, IMAGES, Kind::Text),
         Trial::Notes => shared::notes(rt, teller, input, alloc),
         Trial::Serve => served::serve(rt, teller, alloc),
+        Trial::TimeRooms => time_rooms(rt, teller, alloc),
+        Trial::TimeImages => time_images(rt, teller, alloc),
     }
     true
 }

@@ -1,5 +1,5 @@
 -- Each room's names are those of what was opened for it.
-use Rattle.bench_1401.proofs.rooms.time_rooms.Given as goal
+use Rattle.trials.proofs.room_speed.time_rooms.Given as goal
 
 abbrev pub ghosts-time_seats-J-Ledger : goal.ghosts-time_seats-J-Ledger
 ghosts-time_seats-J-Ledger g a = record { name = a.opened.ledger; parts = a.opened.parts }

@@ -1,5 +1,5 @@
 -- The room's names are those of what was opened.
-use Rattle.growth_trial.proofs.shared.ask.Given as goal
+use Rattle.trials.proofs.shared.ask.Given as goal
 
 abbrev pub ghosts-fault_of-J-Ledger : goal.ghosts-fault_of-J-Ledger
 ghosts-fault_of-J-Ledger g a = record { name = a.opened.ledger; parts = a.opened.parts }
