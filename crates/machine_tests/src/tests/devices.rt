@@ -191,23 +191,33 @@ fn lines_stand_where_the_carriage_was_brought(rt: HostRuntime) {
     }
 }
 
+/// Compares the graphics of a card's first two columns and of its last one.
+fn expect_graphics(rt: &impl Abort, card: &Card, graphics: [u8; 3]) {
+    let Card(chars) = card;
+    let found = [chars[0].graphic(), chars[1].graphic(), chars[79].graphic()];
+    expect_same(rt, found, graphics);
+}
+
+/// Compares the columns of a card, and the graphics of the first two and of the last one.
+fn expect_columns(rt: &impl Abort, columns: [u16; 80], graphics: [u8; 3]) {
+    let card = Card::from_columns(&columns).expect(rt, "no card");
+    expect_graphics(rt, &card, graphics);
+    expect_same(rt, card.columns(), columns);
+}
+
+/// Expects that columns are no card's.
+fn expect_no_card(rt: &impl Abort, columns: [u16; 80]) {
+    expect_same(rt, Card::from_columns(&columns), None);
+}
+
 #[test]
 fn a_card_has_its_columns(rt: HostRuntime) {
     let mut columns = [0; 80];
     columns[0] = 2_304;
     columns[79] = 512;
-    let Some(card) = Card::from_columns(&columns) else {
-        panic!(rt; "no card");
-    };
-    let graphics = [
-        card.0[0].graphic(),
-        card.0[1].graphic(),
-        card.0[79].graphic(),
-    ];
-    assert_eq!(rt; graphics, *b"A 0");
-    assert_eq!(rt; card.columns(), columns);
+    expect_columns(&rt, columns, *b"A 0");
     columns[40] = 3_072;
-    assert_eq!(rt; Card::from_columns(&columns), None);
+    expect_no_card(&rt, columns);
 }
 
 #[test]

@@ -284,34 +284,60 @@ fn each_operation_is_carried_out(rt: HostRuntime) {
     );
 }
 
+/// Expects that an operation at each of these addresses can't be carried out, and leaves these cells from place 700 on.
+fn expect_refusals(
+    rt: &impl Abort,
+    alloc: Global,
+    why: FieldStop,
+    cells: &'static str,
+    refusals: &[(Operation, u16, u16)],
+) {
+    for (operation, a, b) in refusals {
+        let row = (*operation, (*a, *b), cells, cells, End::Stop(why));
+        expect_row(rt, alloc, &row);
+    }
+}
+
 #[test]
 fn each_operation_needs_its_places(rt: HostRuntime) {
-    let address = End::Stop(FieldStop::Address);
-    let overlap = End::Stop(FieldStop::Overlap);
-    expect_rows(
+    expect_refusals(
         &rt,
         rt.alloc(),
+        FieldStop::Address,
+        "~12",
         &[
-            (Operation::Add, (701, 1_400), "~12", "~12", address),
-            (Operation::Subtract, (701, 1_400), "~12", "~12", address),
-            (Operation::ZeroAdd, (701, 1_400), "~12", "~12", address),
-            (Operation::ZeroSubtract, (701, 1_400), "~12", "~12", address),
-            (Operation::Compare, (701, 1_400), "~12", "~12", address),
-            (Operation::Edit, (701, 1_400), "~12", "~12", address),
-            (Operation::Suppress, (701, 1_400), "~12", "~12", address),
-            (Operation::MoveChars, (701, 1_400), "~12", "~12", address),
-            (Operation::LoadChars, (701, 1_400), "~12", "~12", address),
-            (Operation::MoveDigit, (701, 1_400), "~12", "~12", address),
-            (Operation::MoveZone, (701, 1_400), "~12", "~12", address),
-            (Operation::SetMarks, (701, 1_400), "~12", "~12", address),
-            (Operation::ClearMarks, (700, 15_999), "~12", "~12", address),
-            (Operation::ClearDown, (0, 1_400), "~12", "~12", address),
-            (Operation::Add, (702, 701), "~123", "~123", overlap),
-            (Operation::Subtract, (702, 701), "~123", "~123", overlap),
-            (Operation::ZeroAdd, (702, 701), "~123", "~123", overlap),
-            (Operation::ZeroSubtract, (702, 701), "~123", "~123", overlap),
-            (Operation::Edit, (702, 702), "~123", "~123", overlap),
-            (Operation::Suppress, (702, 701), "~123", "~123", overlap),
+            (Operation::Add, 701, 1_400),
+            (Operation::Subtract, 701, 1_400),
+            (Operation::ZeroAdd, 701, 1_400),
+            (Operation::ZeroSubtract, 701, 1_400),
+            (Operation::Compare, 701, 1_400),
+            (Operation::Edit, 701, 1_400),
+            (Operation::Suppress, 701, 1_400),
+            (Operation::MoveChars, 701, 1_400),
+            (Operation::LoadChars, 701, 1_400),
+            (Operation::MoveDigit, 701, 1_400),
+            (Operation::MoveZone, 701, 1_400),
+            (Operation::SetMarks, 701, 1_400),
+            (Operation::ClearMarks, 700, 15_999),
+            (Operation::ClearDown, 0, 1_400),
+        ],
+    );
+}
+
+#[test]
+fn fields_that_share_a_place_are_refused(rt: HostRuntime) {
+    expect_refusals(
+        &rt,
+        rt.alloc(),
+        FieldStop::Overlap,
+        "~123",
+        &[
+            (Operation::Add, 702, 701),
+            (Operation::Subtract, 702, 701),
+            (Operation::ZeroAdd, 702, 701),
+            (Operation::ZeroSubtract, 702, 701),
+            (Operation::Edit, 702, 702),
+            (Operation::Suppress, 702, 701),
         ],
     );
 }
