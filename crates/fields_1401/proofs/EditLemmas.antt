@@ -11,7 +11,7 @@ use Rattle.std.proofs.lemmas.List.FromFn.{get_or-map-range_with_len, length-map-
 use Rattle.std.proofs.lemmas.List.Sums.{sum_by-drop_more, position_or_len_is, suffix_len_is, fails_before_first}
 use Rattle.bcd_1401.specs.declared.cell.Cell.{Cell}
 use Rattle.core_1401.specs.Storage.{Storage, cell_at, with_char}
-use Rattle.fields_1401.specs.Across.{chars_across, units_unzoned, char_to}
+use Rattle.fields_1401.specs.Across.{chars_across, units_unzoned, char_to, with_across, IsSameOutside, IsUnmarked}
 use Rattle.fields_1401.specs.Edit.{is_replaceable, taken_from, taken_by, replaceable_behind}
 use Rattle.fields_1401.specs.Edit.{is_significant, before_significant, limit_of, is_suppressed, is_shared, shown}
 use Rattle.fields_1401.specs.Edit.{shown_at, edited, taken_down, unsuppressed_at, unsuppressed, without_zero}
@@ -21,6 +21,7 @@ use Rattle.fields_1401.specs.declared.editing.Rules.{Rules}
 use Rattle.fields_1401.specs.Places.{is_within, with_chars, with_all_chars, chars_of}
 use Rattle.fields_1401.specs.declared.sign.Sign.{Sign}
 use Rattle.fields_1401.specs.Suppress.{zero_char}
+use Rattle.fields_1401.proofs.AcrossLemmas.{across_again, across_outside, across_unmarked, length-across}
 use Rattle.fields_1401.proofs.AcrossLemmas.{length-unzoned_across, unzoned_down_is}
 use Rattle.fields_1401.proofs.LendingLemmas.{lent_at_first, char_lent, lent-set}
 use Rattle.fields_1401.proofs.PlacesLemmas.{cell_at-with_chars, length-with_chars, with_chars_changed, with_chars_same}
@@ -96,6 +97,26 @@ not_shared a t b m i k apart above within le = grind (arith, nat_tests)
 pub length-edited : (word digits : List ℕ) (sign : Sign) → length (edited word digits sign) ≡ length word
 unfolding edited
 length-edited word digits sign = length-map-range_with_len (shown_at word digits sign) 0 (length word)
+
+-- the places of a control word have what it shows, without word marks, and each other place is as it was
+pub record IsPut (s t : Storage) (a b taken n : ℕ) : Type 0 where
+  pub unmarked : IsUnmarked t b n
+  pub outside : IsSameOutside s t b n
+  pub read : chars_across t b n ≡ edited (chars_across s b n) (units_unzoned (chars_across s a taken)) (sign_at s a)
+
+pub edited_put : (s t : Storage) (a b taken n : ℕ)
+    → t ≡ with_across s b (edited (chars_across s b n) (units_unzoned (chars_across s a taken)) (sign_at s a))
+    → b < length s → n ≤ b + 1 → IsPut s t a b taken n
+edited_put s t a b taken n put b_in above =
+    let word = chars_across s b n in
+    let digits = units_unzoned (chars_across s a taken) in
+    let shows = edited word digits (sign_at s a) in
+    let size : length shows ≡ n = length-edited word digits (sign_at s a) ∙ length-across s b n b_in above in
+    record {
+      unmarked = across_unmarked s t b n shows put size b_in above;
+      outside = across_outside s t b n shows put size;
+      read = across_again s t b n shows put size b_in above;
+    }
 
 -- what a place shows before anything is suppressed, by what the rules go by
 pub shown_place : (word digits : List ℕ) (sign : Sign) (j : ℕ) (rules : Rules) (behind : ℕ) (taken : Option ℕ) (own : ℕ)

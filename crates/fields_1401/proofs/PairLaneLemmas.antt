@@ -1,7 +1,7 @@
 -- Pairs compared at once: the bit of a lane tells whether its pair differs.
 use Rattle.std.proofs.Common.{◌≡◌, ◌≢◌, ℕ, ◌+◌, ◌-◌, ◌/◌, ◌%◌, ◌^◌, ◌==◌, ◌<◌, ◌≤◌, Bool, true, false, List, [], ◌∷◌}
-use Rattle.std.proofs.Common.{Some, None, length, drop, get_or, not, ap, sym, refl, ◌∙◌, inl, inr, arith, zero, suc}
-use Rattle.std.proofs.Common.{cond}
+use Rattle.std.proofs.Common.{Some, None, length, drop, get_or, not, ap, sym, subst, refl, ◌∙◌, inl, inr, arith}
+use Rattle.std.proofs.Common.{cond, zero, suc}
 use Rattle.std.specs.Simd.Lanes.{chunk, mask_l, zip2}
 use Rattle.std.specs.Int.{trailing_zeros, w64}
 use Rattle.std.proofs.lemmas.Bool.{cases_lt}
@@ -16,7 +16,7 @@ use Rattle.core_1401.specs.Storage.{Storage, blank, cell_at}
 use Rattle.fields_1401.specs.Compare.{highest_difference}
 use Rattle.fields_1401.specs.Places.{chars_of}
 use Rattle.fields_1401.proofs.CompareLemmas.{highest_none, highest_some}
-use Rattle.fields_1401.proofs.LaneLemmas.{mask_drop}
+use Rattle.fields_1401.proofs.LaneLemmas.{lanes_lent, mask_drop}
 use Rattle.fields_1401.proofs.LendingLemmas.{length-chars_of}
 
 -- whether two codes differ
@@ -24,16 +24,16 @@ abbrev pub differ : ℕ → ℕ → Bool
 differ x y = not (x == y)
 
 -- the sixteen characters that end at an address, from left to right
-abbrev pub lanes_at : Storage → ℕ → List ℕ
+abbrev lanes_at : Storage → ℕ → List ℕ
 lanes_at s at = chunk (at - 15) 16 (chars_of s)
 
 -- two addresses at which sixteen places end
-pub record HaveLanes (s : Storage) (a b n : ℕ) : Type 0 where
-  pub few : n ≤ 16
-  pub a_least : 15 ≤ a
-  pub b_least : 15 ≤ b
-  pub a_in : a < length s
-  pub b_in : b < length s
+record HaveLanes (s : Storage) (a b n : ℕ) : Type 0 where
+  few : n ≤ 16
+  a_least : 15 ≤ a
+  b_least : 15 ≤ b
+  a_in : a < length s
+  b_in : b < length s
 
 zip_bit : (f : ℕ → ℕ → Bool) (xs ys : List ℕ) (i : ℕ) → i < length xs → i < length ys
     → get_or (zip2 f xs ys) i false ≡ f (get_or xs i 0) (get_or ys i 0)
@@ -97,7 +97,7 @@ pairs_below s a b n d have is =
     omega (arith, are, small)
 
 -- where no bit is set, all pairs agree
-pub no_lane : (s : Storage) (a b n d : ℕ) → HaveLanes s a b n → d ≡ mask_l (zip2 differ (lanes_at s a) (lanes_at s b))
+no_lane : (s : Storage) (a b n d : ℕ) → HaveLanes s a b n → d ≡ mask_l (zip2 differ (lanes_at s a) (lanes_at s b))
     → d / 2 ^ (16 - n) ≡ 0 → highest_difference s a b n ≡ None
 no_lane s a b n d have is none =
     highest_none s a b n (λ i lt.
@@ -117,7 +117,7 @@ pub record IsHighest (s : Storage) (a b n t : ℕ) : Type 0 where
   pub differs : is_unequal_pair s a b (n - 1 - t) ≡ true
   pub highest : highest_difference s a b n ≡ Some (n - 1 - t)
 
-pub lowest_lane : (s : Storage) (a b n d : ℕ) → HaveLanes s a b n
+lowest_lane : (s : Storage) (a b n d : ℕ) → HaveLanes s a b n
     → d ≡ mask_l (zip2 differ (lanes_at s a) (lanes_at s b)) → d / 2 ^ (16 - n) ≢ 0
     → IsHighest s a b n (trailing_zeros w64 (d / 2 ^ (16 - n)))
 lowest_lane s a b n d have is some =
@@ -145,6 +145,33 @@ lowest_lane s a b n d have is some =
           ∙ sym (pair_bit s a b n d k have is (omega (arith, lt)))
           ∙ lowest.2 k (omega (arith, above, lt, within))));
     }
+
+-- what the bits of n pairs tell
+pub record Told (s : Storage) (a b n bits : ℕ) : Type 0 where
+  pub none : bits ≡ 0 → highest_difference s a b n ≡ None
+  pub some : bits ≢ 0 → IsHighest s a b n (trailing_zeros w64 bits)
+
+-- the pairs of the lanes read of what core lends, the others shifted out
+pub pairs_told : {of_a of_b chars : List ℕ} {place_a place_b d k : ℕ} (s : Storage) (a b n : ℕ) → n ≤ 16
+    → (15 ≤ a) × (15 ≤ b) → a < length s → b < length s → chars ≡ chars_of s
+    → of_a ≡ chunk (place_a - 15) 16 chars → place_a ≡ a → of_b ≡ chunk (place_b - 15) 16 chars → place_b ≡ b
+    → d ≡ mask_l (zip2 differ of_a of_b) → k ≡ 16 - n → Told s a b n (d / 2 ^ k)
+pairs_told {of_a} {of_b} {chars} {place_a} {place_b} {d} {k} s a b n few least a_in b_in lent read_a here_a read_b here_b
+    bits shift =
+    let have : HaveLanes s a b n = record {
+      few = few;
+      a_least = least.0;
+      b_least = least.1;
+      a_in = a_in;
+      b_in = b_in;
+    } in
+    let is : d ≡ mask_l (zip2 differ (lanes_at s a) (lanes_at s b)) =
+    bits
+    ∙ ap (λ (codes : List ℕ). mask_l (zip2 differ codes of_b)) (lanes_lent s of_a chars place_a a read_a here_a lent)
+    ∙ ap (λ (codes : List ℕ). mask_l (zip2 differ (lanes_at s a) codes))
+    (lanes_lent s of_b chars place_b b read_b here_b lent) in
+    subst (λ (shifted : ℕ). Told s a b n (d / 2 ^ shifted)) (sym shift)
+    (record { none = no_lane s a b n d have is; some = lowest_lane s a b n d have is })
 
 -- characters that differ aren't equal
 pub differ_apart : (x y : ℕ) → differ x y ≡ true → x ≢ y

@@ -1,12 +1,11 @@
 -- The places written are those of the B field.
-use Rattle.std.proofs.Common.{◌≡◌, ◌<◌, ◌≤◌, ℕ, List, Option, IfSome, length, ap, sym, ◌∙◌, subst, arith}
+use Rattle.std.proofs.Common.{◌≡◌, ℕ, List, Option, IfSome, length, ap, sym, ◌∙◌, ◌≤◌, subst, arith}
 use Rattle.fields_1401.specs.Across.{chars_across, units_unzoned, IsUnmarked, IsSameOutside, IsSameBeside}
-use Rattle.fields_1401.specs.Edit.{edited, sign_at, IsPlain, ShowsWithBlanks}
+use Rattle.fields_1401.specs.Edit.{sign_at, IsPlain, ShowsWithBlanks}
 use Rattle.fields_1401.specs.Outcome.{below_by}
 use Rattle.fields_1401.specs.declared.done.Done.{Done}
-use Rattle.fields_1401.proofs.AcrossLemmas.{length-across, length-unzoned_across, across_unmarked, across_outside}
-use Rattle.fields_1401.proofs.AcrossLemmas.{across_again, same_beside}
-use Rattle.fields_1401.proofs.EditLemmas.{length-edited}
+use Rattle.fields_1401.proofs.AcrossLemmas.{length-across, length-unzoned_across, same_beside}
+use Rattle.fields_1401.proofs.EditLemmas.{edited_put}
 use Rattle.fields_1401.proofs.PlainLemmas.{plain_shows}
 use Rattle.fields_1401.proofs.editing.edit.Goals as goal
 
@@ -16,14 +15,9 @@ returns-clause-marks c =
     let new = c.put_edited.new.core in
     let o = c.in_ok-word.word in
     let at_b = c.in_ok-word.ensures.at_b in
-    let control = chars_across old o.b o.len in
-    let digits = units_unzoned (chars_across old o.a o.taken) in
-    let b_in : o.b < length old = omega (arith, at_b.0, at_b.1) in
-    let size = length-edited control digits (sign_at old o.a) ∙ length-across old o.b o.len b_in o.b_above in
-    let unmarked : IsUnmarked new o.b o.len = across_unmarked old new o.b o.len
-    (edited control digits (sign_at old o.a)) c.put_edited.ensures.put size b_in o.b_above in
-    let at_b_unmarked = subst (λ (b : ℕ). IsUnmarked new b o.len) at_b.0 unmarked in
-    subst (λ (n : Option ℕ). IfSome n (λ k. IsUnmarked new c.args.b k)) (sym c.in_ok-word.ensures.field) at_b_unmarked
+    let put = edited_put old new o.a o.b o.taken o.len c.put_edited.ensures.put (omega (arith, at_b)) o.b_above in
+    let unmarked = subst (λ (b : ℕ). IsUnmarked new b o.len) at_b.0 put.unmarked in
+    subst (λ (n : Option ℕ). IfSome n (λ k. IsUnmarked new c.args.b k)) (sym c.in_ok-word.ensures.field) unmarked
 
 pub returns-clause-outside : goal.returns-clause-outside
 returns-clause-outside c =
@@ -31,15 +25,9 @@ returns-clause-outside c =
     let new = c.put_edited.new.core in
     let o = c.in_ok-word.word in
     let at_b = c.in_ok-word.ensures.at_b in
-    let control = chars_across old o.b o.len in
-    let digits = units_unzoned (chars_across old o.a o.taken) in
-    let b_in : o.b < length old = omega (arith, at_b.0, at_b.1) in
-    let size = length-edited control digits (sign_at old o.a) ∙ length-across old o.b o.len b_in o.b_above in
-    let outside : IsSameOutside old new o.b o.len = across_outside old new o.b o.len
-    (edited control digits (sign_at old o.a)) c.put_edited.ensures.put size in
-    let at_b_outside = subst (λ (b : ℕ). IsSameOutside old new b o.len) at_b.0 outside in
-    subst (λ (n : Option ℕ). IfSome n (λ k. IsSameOutside old new c.args.b k))
-    (sym c.in_ok-word.ensures.field) at_b_outside
+    let put = edited_put old new o.a o.b o.taken o.len c.put_edited.ensures.put (omega (arith, at_b)) o.b_above in
+    let outside = subst (λ (b : ℕ). IsSameOutside old new b o.len) at_b.0 put.outside in
+    subst (λ (n : Option ℕ). IfSome n (λ k. IsSameOutside old new c.args.b k)) (sym c.in_ok-word.ensures.field) outside
 
 pub returns-clause-beside : goal.returns-clause-beside
 returns-clause-beside c =
@@ -47,17 +35,12 @@ returns-clause-beside c =
     let new = c.put_edited.new.core in
     let o = c.in_ok-word.word in
     let at_b = c.in_ok-word.ensures.at_b in
-    let control = chars_across old o.b o.len in
-    let digits = units_unzoned (chars_across old o.a o.taken) in
-    let b_in : o.b < length old = omega (arith, at_b.0, at_b.1) in
-    let size = length-edited control digits (sign_at old o.a) ∙ length-across old o.b o.len b_in o.b_above in
-    let outside : IsSameOutside old new o.b o.len = across_outside old new o.b o.len
-    (edited control digits (sign_at old o.a)) c.put_edited.ensures.put size in
-    let at_b_outside = subst (λ (b : ℕ). IsSameOutside old new b o.len) at_b.0 outside in
+    let put = edited_put old new o.a o.b o.taken o.len c.put_edited.ensures.put (omega (arith, at_b)) o.b_above in
+    let outside = subst (λ (b : ℕ). IsSameOutside old new b o.len) at_b.0 put.outside in
     let is : below_by c.args.b o.len ≡ c.registers.result.b =
     sym (ap (λ (done : Done). done.b) c.registers.ensures ∙ c.below_field-2.ensures.value) in
     subst (λ below. IsSameBeside old new c.args.b below) is
-    (same_beside old new c.args.b o.len at_b_outside o.some (omega (arith, o.b_above, at_b.0)) c.requires.b)
+    (same_beside old new c.args.b o.len outside o.some (omega (arith, o.b_above, at_b.0)) c.requires.b)
 
 -- a control word of blanks and zeros
 pub returns-clause-plain : goal.returns-clause-plain
@@ -65,22 +48,17 @@ returns-clause-plain c =
     let old = c.args.core.now in
     let new = c.put_edited.new.core in
     let o = c.in_ok-word.word in
-    let at_a = c.in_ok-word.ensures.at_a in
     let at_b = c.in_ok-word.ensures.at_b in
+    let put = edited_put old new o.a o.b o.taken o.len c.put_edited.ensures.put (omega (arith, at_b)) o.b_above in
+    let at_a = c.in_ok-word.ensures.at_a in
     let control = chars_across old o.b o.len in
     let digits = units_unzoned (chars_across old o.a o.taken) in
-    let sign = sign_at old o.a in
-    let a_in : o.a < length old = omega (arith, at_a.0, at_a.1) in
-    let b_in : o.b < length old = omega (arith, at_b.0, at_b.1) in
-    let control_size = length-across old o.b o.len b_in o.b_above in
-    let size = length-edited control digits sign ∙ control_size in
-    let fewer : length digits ≤ length control = let taken = o.fewer in let some = o.within in omega
-    (arith, length-unzoned_across old o.a o.taken a_in o.a_above) in
-    let read =
-    across_again old new o.b o.len (edited control digits sign) c.put_edited.ensures.put size b_in o.b_above in
+    let control_size = length-across old o.b o.len (omega (arith, at_b)) o.b_above in
+    let digits_size = length-unzoned_across old o.a o.taken (omega (arith, at_a)) o.a_above in
+    let fewer : length digits ≤ length control = omega (arith, digits_size, control_size, o.fewer, o.within) in
     let shows : IsPlain control → ShowsWithBlanks (chars_across new o.b o.len) digits =
-    λ plain. subst (λ (cs : List ℕ). ShowsWithBlanks cs digits) (sym read)
-    (plain_shows control digits sign plain fewer) in
+    λ plain. subst (λ (cs : List ℕ). ShowsWithBlanks cs digits) (sym put.read)
+    (plain_shows control digits (sign_at old o.a) plain fewer) in
     let at_b_shows =
     subst (λ (b : ℕ). IsPlain (chars_across old b o.len)
     → ShowsWithBlanks (chars_across new b o.len) digits) at_b.0 shows in
