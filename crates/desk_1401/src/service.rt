@@ -7,20 +7,30 @@ use crate::fault::SeatsFault;
 use crate::input::{InputEnd, read_to_quit};
 use room_1401::{RoomId, Seat};
 use std::alloc::Global;
+use std::marker::Model;
 use std::net::{TcpListener, TcpStream};
 use std::sync::atomic::AtomicBool;
 use std::sync::atomic::Ordering::SeqCst;
 use std::sync::{Mutex, Wait};
 use streams_1401::Source;
 
-/// The places of a room's seats, and whether the room is being closed.
+/// The places of a room's seats, and whether the room is being closed. Contracts see how many seats the room has.
 #[derive(Drop)]
 pub struct Service<J: RoomId> {
-    /// How many seats the room has.
-    pub seats: u8,
+    seats: u8,
     /// Whether the room is being closed, which is written under the lock alone.
     pub is_closing: AtomicBool,
     pub(crate) desk: Mutex<Desk<J>>,
+}
+
+impl<J: RoomId> Model for Service<J> {
+    ghost use Rattle.std.specs.Prelude.{◌≡◌, ℕ};
+
+    ghost Value = { ℕ };
+
+    ghost view = { λ service. service.seats };
+
+    ghost invariant = { λ service. service.seats ≡ J.seats };
 }
 
 impl<J: RoomId> Service<J> {
@@ -41,6 +51,13 @@ impl<J: RoomId> Service<J> {
             is_closing: AtomicBool::new(false),
             desk: Mutex::new(desk),
         })
+    }
+
+    /// How many seats the room has.
+    pub fn seats(&self) -> u8
+        ensures { result ≡ J.seats }
+    {
+        self.seats
     }
 
     /// Whether the room is being closed.

@@ -194,7 +194,7 @@ where
                     rt,
                     room,
                     seat,
-                    service.seats,
+                    service.seats(),
                     port,
                     stream,
                     &mut arrivals,
@@ -224,6 +224,7 @@ where
     H: Wait + Drop,
     K: Keeper + Drop,
     R: Wait + Clock + AllocGlobal + RandomSource,
+    requires { seats ≡ J.seats }
     ensures { result.number ≡ seat.number }
 {
     match SeatPage::new(alloc, rt, room, seat, seats, port, PAGE, POLICY) {

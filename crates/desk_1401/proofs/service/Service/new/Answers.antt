@@ -1,4 +1,4 @@
--- A byte can count the seats.
+-- A byte can count the seats, and counts all of them.
 use Rattle.std.proofs.Common.{arith}
 use Rattle.desk_1401.proofs.PlacesLemmas.{length_seats}
 use Rattle.desk_1401.proofs.service.Service.new.Goals as goal
@@ -11,3 +11,7 @@ overflow_cast-count g c =
       c.len-count.ensures,
       length_seats g.J.RoomId.seats c.args.seats.items c.requires.seats,
     )
+
+pub invariant_of-result : goal.invariant_of-result
+invariant_of-result g c =
+    omega (arith, c.len-count.ensures, length_seats g.J.RoomId.seats c.args.seats.items c.requires.seats)
