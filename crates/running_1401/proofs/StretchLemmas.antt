@@ -40,11 +40,11 @@ collected job all lines cards no_lines no_cards e =
     ∙ e
 
 -- the same with the output as slices see it
-pub ran_part : (job : Job) (lines0 lines : List PrintLine) (cards0 cards : List Card) (items : List PrintLine)
-    (others : List Card) (now : State) (steps : ℕ) (why : Stop) → lines0 ≡ [] → cards0 ≡ []
+pub ran_part : {lines0 lines : List PrintLine} {cards0 cards : List Card} {items : List PrintLine} {others : List Card}
+    (job : Job) (now : State) (steps : ℕ) (why : Stop) → lines0 ≡ [] → cards0 ≡ []
     → after_output lines0 cards0 0 job ≡ job_of now steps why items others → lines ≡ items → cards ≡ others
     → job ≡ job_of now steps why lines cards
-ran_part job lines0 lines cards0 cards items others now steps why no_lines no_cards e e_lines e_cards =
+ran_part {lines0} {lines} {cards0} {cards} {items} {others} job now steps why no_lines no_cards e e_lines e_cards =
     collected job (job_of now steps why items others) lines0 cards0 no_lines no_cards e
     ∙ same_job now why steps steps items lines others cards refl (sym e_lines) (sym e_cards)
 
@@ -151,11 +151,11 @@ counts_add : (X : Type 0) (xs ys : List X) (so_far more : ℕ) → so_far ≡ mi
     → min (so_far + more) most_counted ≡ min (length (xs ++ ys)) most_counted
 counts_add X xs ys so_far more e e_more = rw (e, e_more) (simp length-append (omega arith))
 
-pub grown : (limit left : ℕ) (start now after : State) (first at new : Received) (place : Place) (printed punched : ℕ)
-    (stretch : Stretch) → SoFar limit left start now first at place printed punched
+pub grown : {limit left : ℕ} {start now after : State} {first at new : Received} {place : Place} {printed punched : ℕ}
+    {stretch : Stretch} → SoFar limit left start now first at place printed punched
     → RanStretch left place now after at new stretch → stretch.steps ≤ left
     → Grown limit left start after first new stretch printed punched
-grown limit left start now after first at new place printed punched stretch before ran most =
+grown {limit} {left} {start} {now} {after} {first} {at} {new} {place} {printed} {punched} {stretch} before ran most =
     let within = before.within in
     let count : (limit - left) + stretch.steps ≡ limit - (left - stretch.steps) = omega arith in
     let lines = before.lines ++ ran.lines in
@@ -180,12 +180,12 @@ grown limit left start now after first at new place printed punched stretch befo
     }
 
 -- the job goes on
-pub goes_on_so_far : (limit left : ℕ) (start after : State) (first new : Received) (stretch : Stretch)
-    (printed punched printed' punched' : ℕ) → Grown limit left start after first new stretch printed punched
+pub goes_on_so_far : {limit left : ℕ} {start after : State} {first new : Received} {stretch : Stretch}
+    {printed punched printed' punched' : ℕ} → Grown limit left start after first new stretch printed punched
     → stretch.stop ≡ None → left ≤ limit → printed' ≡ min (printed + stretch.printed) most_counted
     → punched' ≡ min (punched + stretch.punched) most_counted
     → SoFar limit (left - stretch.steps) start after first new stretch.place printed' punched'
-goes_on_so_far limit left start after first new stretch printed punched printed' punched' g more within e e' = record {
+goes_on_so_far {limit} {left} {after = after} {stretch = stretch} g more within e e' = record {
   lines = g.lines;
   cards = g.cards;
   written = g.written;
@@ -199,26 +199,25 @@ goes_on_so_far limit left start after first new stretch printed punched printed'
 }
 
 -- the job is at its end
-pub whole_job : (limit left : ℕ) (start after : State) (first new : Received) (stretch : Stretch)
-    (printed punched : ℕ) (why : Stop) (g : Grown limit left start after first new stretch printed punched)
+pub whole_job : {limit left : ℕ} {start after : State} {first new : Received} {stretch : Stretch}
+    {printed punched : ℕ} {why : Stop} (g : Grown limit left start after first new stretch printed punched)
     → stretch.stop ≡ Some why
     → unattended limit start ≡ job_of after (limit - (left - stretch.steps)) why g.lines g.cards
-whole_job limit left start after first new stretch printed punched why g is =
+whole_job {limit} {left} {after = after} {stretch = stretch} {why = why} g is =
     g.job
     ∙ ap (λ (end : Option Stop). after_output g.lines g.cards (limit - (left - stretch.steps))
     (rest_of end (left - stretch.steps) after)) is
     ∙ sym (nothing_left after (limit - (left - stretch.steps)) (left - stretch.steps) why g.lines g.cards)
 
-pub all_written : (limit left : ℕ) (start after : State) (first new : Received) (stretch : Stretch)
-    (printed punched : ℕ) (why : Stop) → Grown limit left start after first new stretch printed punched
+pub all_written : {limit left : ℕ} {start after : State} {first new : Received} {stretch : Stretch}
+    {printed punched : ℕ} {why : Stop} → Grown limit left start after first new stretch printed punched
     → stretch.stop ≡ Some why
     → HasWritten first_place (unattended limit start).lines (unattended limit start).cards first new
-all_written limit left start after first new stretch printed punched why g is =
-    subst (λ (job : Job). HasWritten first_place job.lines job.cards first new)
-    (sym (whole_job limit left start after first new stretch printed punched why g is)) g.written
+all_written {first = first} {new = new} g is =
+    subst (λ (job : Job). HasWritten first_place job.lines job.cards first new) (sym (whole_job g is)) g.written
 
-pub all_told : (held limit left : ℕ) (start after : State) (first new : Received) (stretch : Stretch)
-    (printed punched : ℕ) (why : Stop) → Grown limit left start after first new stretch printed punched
+pub all_told : {limit left : ℕ} {start after : State} {first new : Received} {stretch : Stretch}
+    {printed punched : ℕ} {why : Stop} (held : ℕ) → Grown limit left start after first new stretch printed punched
     → stretch.stop ≡ Some why
     → (let report : JobReport = record {
       stop = why;
@@ -228,15 +227,14 @@ pub all_told : (held limit left : ℕ) (start after : State) (first new : Receiv
       printed = min (printed + stretch.printed) most_counted;
       punched = min (punched + stretch.punched) most_counted;
     } in report) ≡ report_of held (unattended limit start)
-all_told held limit left start after first new stretch printed punched why g is =
-    rw (whole_job limit left start after first new stretch printed punched why g is, g.printed_is, g.punched_is) refl
+all_told held g is = rw (whole_job g is, g.printed_is, g.punched_is) refl
 
 -- a stretch that broke off
-pub part_so_far : (limit left : ℕ) (start now : State) (first at new : Received) (place : Place)
-    (printed punched : ℕ) → SoFar limit left start now first at place printed punched
+pub part_so_far : {limit left : ℕ} {start now : State} {first at new : Received} {place : Place}
+    {printed punched : ℕ} → SoFar limit left start now first at place printed punched
     → HasWrittenPart place (unattended left now).lines (unattended left now).cards at new
     → HasWrittenPart first_place (unattended limit start).lines (unattended limit start).cards first new
-part_so_far limit left start now first at new place printed punched before part =
+part_so_far {left = left} {now = now} {first = first} {at = at} {new = new} before part =
     let rest = unattended left now in
     subst (λ (job : Job). HasWrittenPart first_place job.lines job.cards first new) (sym before.job)
     (part_written_behind first_place before.lines rest.lines before.cards rest.cards first at new before.written

@@ -14,7 +14,7 @@ use Rattle.cpu_1401.specs.CardsAndPrinter.{load}
 use Rattle.cpu_1401.specs.Run.{carried_out_by}
 use Rattle.cpu_1401.specs.State.{State}
 use Rattle.cpu_1401.specs.Step.{step}
-use Rattle.job_1401.specs.Unattended.{Job, emptied, go_on, taken_first, unattended, with_deck}
+use Rattle.job_1401.specs.Unattended.{Job, after_output, emptied, go_on, taken_first, unattended, with_deck}
 use Rattle.trace_1401.specs.declared.work.Work.{Work}
 use Rattle.trace_1401.specs.TraceLine.{Seen, line_of, seen_of, trace_line, work_of}
 use Rattle.running_1401.specs.TraceText.{trace_on, trace_text}
@@ -27,6 +27,7 @@ use Rattle.running_1401.specs.RunTrace.{IsWhyUntraced, TracedStretch, line_if, l
 use Rattle.running_1401.specs.RunTrace.{seen_if, started_trace, traced}
 use Rattle.running_1401.specs.declared.deck_running.Broken.{Broken}
 use Rattle.running_1401.specs.declared.deck_running.Broken.TheVariants as broken
+use Rattle.running_1401.proofs.StretchLemmas.{ran_part}
 use Rattle.running_1401.proofs.WrittenLemmas.{part_behind, part_of_longer}
 
 abbrev pub job_of : State → ℕ → Stop → List PrintLine → List Card → Job
@@ -84,7 +85,7 @@ more_lie n (suc k) = search arith
 abbrev pub work_by : Bool → Bool → Bool → Work
 work_by printed read punched = record { printed = printed; read = read; punched = punched }
 
-pub same_work : (a b c a' b' c' : Bool) → a ≡ a' → b ≡ b' → c ≡ c' → work_by a b c ≡ work_by a' b' c'
+same_work : (a b c a' b' c' : Bool) → a ≡ a' → b ≡ b' → c ≡ c' → work_by a b c ≡ work_by a' b' c'
 same_work a b c a' b' c' e f g = rw (e, f, g) refl
 
 lies_more : (X : Type 0) (before after all : List X) → before ++ after ≡ all
@@ -199,7 +200,7 @@ one_step : (n left : ℕ) → suc n ≡ min left 1 → (suc n ≡ 1) × (left �
 one_step n left e = (omega (arith, e), omega (arith, e))
 
 -- a stretch, and what is left of the trace
-pub stretch_whole : (is : Bool) (deck deck' : List Card) (m m' : State) (n left steps : ℕ) (why : Stop)
+stretch_whole : (is : Bool) (deck deck' : List Card) (m m' : State) (n left steps : ℕ) (why : Stop)
     (told found : Option Stop) (lines : List PrintLine) (cards : List Card) (work : Work)
     → n ≡ min left (most_at_once is)
     → unattended n (with_deck deck m) ≡ job_of (with_deck deck' m') steps why lines cards
@@ -234,6 +235,33 @@ stretch_whole true deck deck' m m' (suc n) left steps why told found lines cards
     ∙ ap (λ (text : List ℕ). text ++ rest_traced found (left - steps) (with_deck deck' m'))
     (sym (line_after n (Some (seen_of m)) work told m'))
 
+-- the same by what is collected of the stretch and told of it
+pub stretch_told : {n most steps paper still held stacker : ℕ} {why : Stop} {told found : Option Stop}
+    {lines0 lines items : List PrintLine} {cards0 cards others : List Card} (is : Bool) (deck deck' : List Card)
+    (m m' : State) (left : ℕ) → n ≡ min left most → most ≡ most_at_once is → lines0 ≡ [] → cards0 ≡ []
+    → after_output lines0 cards0 0 (unattended n (with_deck deck m)) ≡ job_of (with_deck deck' m') steps why items others
+    → lines ≡ items → cards ≡ others → (why ≡ stop.Limit → steps ≡ n) → (told ≡ None → why ≡ stop.Limit)
+    → ((w : Stop) → told ≡ Some w → (w ≡ why) × (why ≢ stop.Limit))
+    → (found ≡ None → (why ≡ stop.Limit) × (n < left))
+    → ((w : Stop) → found ≡ Some w → (w ≡ why) × ((why ≢ stop.Limit) ⊎ (left ≤ n)))
+    → paper ≡ length m.devices.paper → still ≡ length (with_deck deck' m').devices.hopper
+    → held ≡ length (with_deck deck m).devices.hopper → stacker ≡ length m.devices.stacker
+    → traced is (trace_text left (with_deck deck m))
+    ≡ lines_after n (seen_if is m)
+    (work_by (nat_lt paper (length lines)) (nat_lt still held) (nat_lt stacker (length cards))) told m'
+    ++ traced is (rest_traced found (left - steps) (with_deck deck' m'))
+stretch_told {n} {most} {steps} {paper} {still} {held} {stacker} {why} {told} {found} {lines = lines} {cards = cards} is
+    deck deck' m m' left few most_is no_lines no_cards job lines_are cards_are counted none some more ended paper_is
+    still_is held_is stacker_is =
+    stretch_whole is deck deck' m m' n left steps why told found lines cards _
+    (few ∙ ap (λ (k : ℕ). min left k) most_is)
+    (ran_part (unattended n (with_deck deck m)) (with_deck deck' m') steps why no_lines no_cards job lines_are cards_are)
+    counted none some more ended
+    (same_work _ _ _ _ _ _ (ap (λ (k : ℕ). nat_lt k (length lines)) paper_is)
+    (ap (λ (k : ℕ). nat_lt k held) still_is
+    ∙ ap (λ (k : ℕ). nat_lt (length (with_deck deck' m').devices.hopper) k) held_is)
+    (ap (λ (k : ℕ). nat_lt k (length cards)) stacker_is))
+
 -- a write to another file hasn't touched the trace
 pub untraced : (why : Broken) (failed : Bool) → why ≢ broken.Trace → IsWhyUntraced why failed failed
 untraced broken.Memory failed other = refl
@@ -241,9 +269,13 @@ untraced broken.Paper failed other = refl
 untraced broken.Punch failed other = refl
 untraced broken.Trace failed other = absurd (other refl)
 
-pub seen_is : (is : Bool) (s : State) → is_some (seen_if is s) ≡ is
+seen_is : (is : Bool) (s : State) → is_some (seen_if is s) ≡ is
 seen_is true s = refl
 seen_is false s = refl
+
+-- whether there is a trace, by what was seen of the machine
+pub is_seen : {seen : Option Seen} (is : Bool) (s : State) → seen ≡ seen_if is s → is_some seen ≡ is
+is_seen is s e = ap (λ (before : Option Seen). is_some before) e ∙ seen_is is s
 
 -- how far the trace is
 pub record TraceSoFar (is : Bool) (limit left : ℕ) (start now : State) (first at : Option (List ℕ)) : Type 0 where
@@ -259,49 +291,63 @@ trace_at_first is limit start first at e = record {
   whole = refl;
 }
 
--- a stretch after it
-grown_by : (is : Bool) (limit left steps : ℕ) (found : Option Stop) (start now after : State)
-    (first at new : Option (List ℕ)) (so_far : TraceSoFar is limit left start now first at)
-    (stretch : TracedStretch is left steps found now after at new)
-    → traced is (trace_text limit start)
-    ≡ (so_far.lines ++ stretch.lines) ++ traced is (rest_traced found (left - steps) after)
-grown_by is limit left steps found start now after first at new so_far stretch =
-    so_far.whole
-    ∙ ap (λ (text : List ℕ). so_far.lines ++ text) stretch.whole
-    ∙ sym (append_assoc so_far.lines stretch.lines (traced is (rest_traced found (left - steps) after)))
+-- how far it is after a stretch
+record TraceGrown (is : Bool) (limit left steps : ℕ) (found : Option Stop) (start after : State)
+    (first new : Option (List ℕ)) : Type 0 where
+  lines : List ℕ
+  written : Appends first new lines
+  whole : traced is (trace_text limit start) ≡ lines ++ traced is (rest_traced found (left - steps) after)
 
-pub trace_goes_on : (is : Bool) (limit left steps : ℕ) (found : Option Stop) (start now after : State)
-    (first at new : Option (List ℕ)) → TraceSoFar is limit left start now first at
-    → TracedStretch is left steps found now after at new → found ≡ None
-    → TraceSoFar is limit (left - steps) start after first new
-trace_goes_on is limit left steps found start now after first at new so_far stretch none = record {
-  lines = so_far.lines ++ stretch.lines;
-  written = Appends-trans first at new so_far.lines stretch.lines so_far.written stretch.written;
-  whole = grown_by is limit left steps found start now after first at new so_far stretch
-      ∙ ap (λ (end : Option Stop). (so_far.lines ++ stretch.lines) ++ traced is (rest_traced end (left - steps) after)) none;
-}
+trace_grown : {seen : Option Seen} {is : Bool} {limit left steps : ℕ} {found : Option Stop} {start now after : State}
+    {first at new : Option (List ℕ)} (s : State) → seen ≡ seen_if is s
+    → TraceSoFar is limit left start now first at → TracedStretch (is_some seen) left steps found now after at new
+    → TraceGrown is limit left steps found start after first new
+trace_grown {is = is} {left = left} {steps} {found} {now = now} {after} {first} {at} {new} s e so_far traced_stretch =
+    let stretch : TracedStretch is left steps found now after at new =
+    subst (λ (each : Bool). TracedStretch each left steps found now after at new) (is_seen is s e) traced_stretch in
+    record {
+      lines = so_far.lines ++ stretch.lines;
+      written = Appends-trans first at new so_far.lines stretch.lines so_far.written stretch.written;
+      whole = so_far.whole
+          ∙ ap (λ (text : List ℕ). so_far.lines ++ text) stretch.whole
+          ∙ sym (append_assoc so_far.lines stretch.lines (traced is (rest_traced found (left - steps) after)));
+    }
 
-pub all_traced : (is : Bool) (limit left steps : ℕ) (found : Option Stop) (why : Stop) (start now after : State)
-    (first at new : Option (List ℕ)) → TraceSoFar is limit left start now first at
-    → TracedStretch is left steps found now after at new → found ≡ Some why
-    → Appends first new (traced is (trace_text limit start))
-all_traced is limit left steps found why start now after first at new so_far stretch some =
-    let both = so_far.lines ++ stretch.lines in
-    let whole : traced is (trace_text limit start) ≡ both =
-    grown_by is limit left steps found start now after first at new so_far stretch
-    ∙ ap (λ (end : Option Stop). both ++ traced is (rest_traced end (left - steps) after)) some
-    ∙ ap (λ (text : List ℕ). both ++ text) (none_traced is)
-    ∙ append-nil both in
-    subst (Appends first new) (sym whole)
-    (Appends-trans first at new so_far.lines stretch.lines so_far.written stretch.written)
+pub trace_goes_on : {seen : Option Seen} {is : Bool} {limit left steps : ℕ} {found : Option Stop}
+    {start now after : State} {first at new : Option (List ℕ)} (s : State) → seen ≡ seen_if is s
+    → TraceSoFar is limit left start now first at → TracedStretch (is_some seen) left steps found now after at new
+    → found ≡ None → TraceSoFar is limit (left - steps) start after first new
+trace_goes_on {is = is} {left = left} {steps} {after = after} s e so_far stretch none =
+    let all = trace_grown s e so_far stretch in
+    record {
+      lines = all.lines;
+      written = all.written;
+      whole = all.whole
+          ∙ ap (λ (end : Option Stop). all.lines ++ traced is (rest_traced end (left - steps) after)) none;
+    }
+
+pub all_traced : {seen : Option Seen} {is : Bool} {limit left steps : ℕ} {found : Option Stop} {why : Stop}
+    {start now after : State} {first at new : Option (List ℕ)} (s : State) → seen ≡ seen_if is s
+    → TraceSoFar is limit left start now first at → TracedStretch (is_some seen) left steps found now after at new
+    → found ≡ Some why → Appends first new (traced is (trace_text limit start))
+all_traced {is = is} {limit} {left} {steps} {start = start} {after = after} {first} {new = new} s e so_far stretch some =
+    let all = trace_grown s e so_far stretch in
+    let whole : traced is (trace_text limit start) ≡ all.lines =
+    all.whole
+    ∙ ap (λ (end : Option Stop). all.lines ++ traced is (rest_traced end (left - steps) after)) some
+    ∙ ap (λ (text : List ℕ). all.lines ++ text) (none_traced is)
+    ∙ append-nil all.lines in
+    subst (Appends first new) (sym whole) all.written
 
 -- a stretch that broke off
-pub trace_part : (is : Bool) (limit left : ℕ) (start now : State) (first at new : Option (List ℕ))
-    → TraceSoFar is limit left start now first at → AppendsPart at new (traced is (trace_text left now))
+pub trace_part : {seen : Option Seen} {is : Bool} {limit left : ℕ} {start now : State} {first at : Option (List ℕ)}
+    (s : State) (new : Option (List ℕ)) → seen ≡ seen_if is s
+    → TraceSoFar is limit left start now first at → AppendsPart at new (traced (is_some seen) (trace_text left now))
     → AppendsPart first new (traced is (trace_text limit start))
-trace_part is limit left start now first at new so_far part =
+trace_part {is = is} {limit} {left} {start} {now} {first} {at} s new e so_far part =
     part_behind first at new so_far.lines (traced is (trace_text left now)) (traced is (trace_text limit start))
-    so_far.whole so_far.written part
+    so_far.whole so_far.written
+    (subst (λ (each : Bool). AppendsPart at new (traced each (trace_text left now))) (is_seen is s e) part)
 
 -- a line that wasn't written whole
 pub line_part : (is : Bool) (limit steps : ℕ) (found : Option Stop) (s now : State) (old new : Option (List ℕ))

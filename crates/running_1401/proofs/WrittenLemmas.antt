@@ -79,10 +79,10 @@ no_part_written place a lines cards = record {
 }
 
 -- a part of what a job writes was written, where it is one of its first lines and cards
-pub first_part_written : (place : Place) (lines : List PrintLine) (cards : List Card) (job : Job) (a b : Received)
+pub first_part_written : {lines : List PrintLine} {cards : List Card} {job : Job} (place : Place) (a b : Received)
     → IsPartOf lines cards job → AppendsPart a.paper b.paper (paper_text place lines)
     → AppendsPart a.punch b.punch (cards_text cards) → HasWrittenPart place job.lines job.cards a b
-first_part_written place lines cards job a b first paper punch = record {
+first_part_written {lines} {cards} {job} place a b first paper punch = record {
   paper =
       part_of_longer a.paper b.paper (paper_text place lines) (paper_text (place_behind place lines) first.lines.rest)
       (paper_text place job.lines)
@@ -93,11 +93,11 @@ first_part_written place lines cards job a b first paper punch = record {
 }
 
 -- the same if the paper has all these lines
-pub paper_and_part_written : (place : Place) (lines : List PrintLine) (cards : List Card) (job : Job) (a b : Received)
+pub paper_and_part_written : {lines : List PrintLine} {cards : List Card} {job : Job} (place : Place) (a b : Received)
     → IsPartOf lines cards job → Appends a.paper b.paper (paper_text place lines)
     → AppendsPart a.punch b.punch (cards_text cards) → HasWrittenPart place job.lines job.cards a b
-paper_and_part_written place lines cards job a b first paper punch =
-    first_part_written place lines cards job a b first (all_of_it a.paper b.paper (paper_text place lines) paper) punch
+paper_and_part_written {lines} place a b first paper punch =
+    first_part_written place a b first (all_of_it a.paper b.paper (paper_text place lines) paper) punch
 
 -- a part after lines and cards that were written
 pub part_written_behind : (place : Place) (lines more : List PrintLine) (cards others : List Card) (a b c : Received)
