@@ -11,9 +11,8 @@ use Rattle.job_1401.specs.declared.paper.Place.{Place}
 use Rattle.job_1401.specs.Paper.{place_behind}
 use Rattle.job_1401.specs.Unattended.{AtEnd, Begins, GoesOn, IsPartOf, Job, after_job, after_output, unattended}
 use Rattle.running_1401.specs.declared.deck_running.Stretch.{Stretch}
-use Rattle.running_1401.specs.declared.job_report.JobReport.{JobReport}
 use Rattle.running_1401.specs.RunDeck.{HasWritten, HasWrittenPart, RanStretch, Received, first_place, most_counted}
-use Rattle.running_1401.specs.RunDeck.{report_of, rest_of}
+use Rattle.running_1401.specs.RunDeck.{rest_of}
 use Rattle.running_1401.proofs.WrittenLemmas.{both_written, none_written, part_written_behind, place_behind_both}
 
 -- a job with these ends
@@ -199,7 +198,7 @@ goes_on_so_far {limit} {left} {after = after} {stretch = stretch} g more within 
 }
 
 -- the job is at its end
-pub whole_job : {limit left : ℕ} {start after : State} {first new : Received} {stretch : Stretch}
+whole_job : {limit left : ℕ} {start after : State} {first new : Received} {stretch : Stretch}
     {printed punched : ℕ} {why : Stop} (g : Grown limit left start after first new stretch printed punched)
     → stretch.stop ≡ Some why
     → unattended limit start ≡ job_of after (limit - (left - stretch.steps)) why g.lines g.cards
@@ -215,19 +214,6 @@ pub all_written : {limit left : ℕ} {start after : State} {first new : Received
     → HasWritten first_place (unattended limit start).lines (unattended limit start).cards first new
 all_written {first = first} {new = new} g is =
     subst (λ (job : Job). HasWritten first_place job.lines job.cards first new) (sym (whole_job g is)) g.written
-
-pub all_told : {limit left : ℕ} {start after : State} {first new : Received} {stretch : Stretch}
-    {printed punched : ℕ} {why : Stop} (held : ℕ) → Grown limit left start after first new stretch printed punched
-    → stretch.stop ≡ Some why
-    → (let report : JobReport = record {
-      stop = why;
-      i = after.i;
-      steps = limit - (left - stretch.steps);
-      read = held - length after.devices.hopper;
-      printed = min (printed + stretch.printed) most_counted;
-      punched = min (punched + stretch.punched) most_counted;
-    } in report) ≡ report_of held (unattended limit start)
-all_told held g is = rw (whole_job g is, g.printed_is, g.punched_is) refl
 
 -- a stretch that broke off
 pub part_so_far : {limit left : ℕ} {start now : State} {first at new : Received} {place : Place}
