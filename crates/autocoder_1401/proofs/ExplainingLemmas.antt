@@ -38,14 +38,3 @@ outside_explained {X} language size sources answer told fault same empty tells =
     let outside : first_outside size (lines_said language sources) ≡ Some fault =
     sym (only_outside language size (lines_said language sources) answer (none_told language sources none)) ∙ sym tells in
     rw (empty, none, outside) refl
-
--- and that it tells nothing
-pub nothing_explained : {X : Type 0} (language : Language) (size : ℕ) (sources : List (List ℕ)) (answer : X)
-    (told : List Explanation) → told ≡ explained_lines language sources → told ≡ []
-    → None ≡ fault_in (unless_fault language size (lines_said language sources) answer)
-    → told ≡ all_explained language size sources
-nothing_explained {X} language size sources answer told same empty tells =
-    let none : explained_lines language sources ≡ [] = sym same ∙ empty in
-    let inside : first_outside size (lines_said language sources) ≡ None =
-    sym (only_outside language size (lines_said language sources) answer (none_told language sources none)) ∙ sym tells in
-    rw (empty, none, inside) refl

@@ -1,10 +1,9 @@
 -- Each of the 64 characters has a place of its own in the collating order.
-use Rattle.std.proofs.Common.{◌≡◌, ℕ, ◌<◌, ◌==◌, Bool, true, List, get_or, length, refl, arith, ap, sym, ◌∙◌}
+use Rattle.std.proofs.Common.{◌≡◌, ℕ, ◌<◌, ◌==◌, Bool, true, List, get_or, refl, arith, ap, sym, ◌∙◌}
 use Rattle.std.specs.List.{position_or_len, range_with_len, list_all}
 use Rattle.std.specs.Prelude.{nat_lt, slice_index_or}
 use Rattle.std.proofs.lemmas.Bool.{eqb-true, ltb-true}
 use Rattle.std.proofs.lemmas.List.FromFn.{get_or-map-range_with_len}
-use Rattle.std.proofs.lemmas.List.FromFn.{length-map-range_with_len}
 use Rattle.bcd_1401.specs.Collation.{collation, order_of, orders}
 use Rattle.bcd_1401.specs.Graphic.{graphics}
 use Rattle.bcd_1401.proofs.CardCodeLemmas.{of_each}
@@ -48,8 +47,3 @@ unfolding orders
 order_read table at char e_table e_at h =
     ap (λ each. get_or each at 0) e_table ∙ ap (λ k. get_or orders k 0) e_at
     ∙ get_or-map-range_with_len order_of 0 64 char char 0 h (omega arith)
-
--- there are as many places as characters
-pub length-orders : length orders ≡ 64
-unfolding orders
-length-orders = length-map-range_with_len order_of 0 64

@@ -1,18 +1,10 @@
 -- Cells put at an address, and cells taken from one, one by one.
 use Rattle.std.proofs.Common.{◌≡◌, ℕ, ◌+◌, ◌<◌, ◌≤◌, List, [], ◌∷◌, ◌++◌, length, take, drop, get_or, slice_set}
 use Rattle.std.proofs.Common.{ap, sym, ◌∙◌, arith, append_assoc, length-take, length-append}
-use Rattle.std.proofs.lemmas.List.{append-nil, take-append-drop, take_more, drop_more, set_at}
+use Rattle.std.proofs.lemmas.List.{take_more, drop_more, set_at}
 use Rattle.bcd_1401.specs.declared.cell.Cell.{Cell}
 use Rattle.core_1401.specs.Storage.{Storage, blank}
 use Rattle.command_1401.specs.CarryOut.{deposited}
-
--- none of them leaves storage as it was
-pub deposited-none : (storage : Storage) (address : ℕ) → deposited storage address [] ≡ storage
-deposited-none storage address =
-    let here : address + 0 ≡ address = omega arith in
-    ap (λ n. take address storage ++ [] ++ drop n storage) here
-    ∙ ap (λ (front : Storage). front ++ drop address storage) (append-nil (take address storage))
-    ∙ take-append-drop address storage
 
 -- one cell more
 pub deposited-more : (storage : Storage) (address : ℕ) (cells : List Cell) (i : ℕ)

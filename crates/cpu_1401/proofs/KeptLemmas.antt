@@ -147,18 +147,6 @@ apart_uncovered entries covered low high all order none =
       ]
     ]
 
--- what is left is still covered
-pub covered_emptied : (old new : List CacheEntry) (before covered : List ℕ) (low high : ℕ) → AreCovered old before
-    → IsPart old new → IsApart new low high
-    → ((q : ℕ) → q < low → has_place covered q ≡ has_place before q)
-    → ((q : ℕ) → high < q → has_place covered q ≡ has_place before q)
-    → AreCovered new covered
-covered_emptied old new before covered low high all part apart below above =
-    λ at entry kept i lt. elim (apart at entry kept) [
-      | inl under ↦ below (at + i) (omega (arith, under, lt)) ∙ all at entry (part at entry kept) i lt
-      | inr over ↦ above (at + i) (omega (arith, over)) ∙ all at entry (part at entry kept) i lt
-    ]
-
 -- what is kept is current as long as no word mark of its cells changes
 pub current_apart : (old new : List CacheEntry) (s t : Storage) (low high : ℕ) → IsCurrent old (marks_of s)
     → IsPart old new → IsApart new low high
@@ -177,11 +165,6 @@ pub current_part : (old new : List CacheEntry) (s t : Storage) → IsCurrent old
     → IsCurrent new (marks_of t)
 current_part old new s t current part e =
     subst (λ (u : Storage). IsCurrent new (marks_of u)) (sym e) (λ at entry kept. current at entry (part at entry kept))
-
--- an operation that changes no word mark leaves it so
-pub current_same : (entries : List CacheEntry) (s t : Storage) → IsCurrent entries (marks_of s)
-    → marks_of t ≡ marks_of s → IsCurrent entries (marks_of t)
-current_same entries s t current same = subst (λ (marks : List Bool). IsCurrent entries marks) (sym same) current
 
 -- two places
 pub current_two : (old between new : List CacheEntry) (s t : Storage) (a b : ℕ) → IsCurrent old (marks_of s)

@@ -1,5 +1,5 @@
 -- The card of a line, and the cards of lines.
-use Rattle.std.proofs.Common.{◌≡◌, ℕ, ◌+◌, ◌<◌, ◌≤◌, ◌==◌, true, false, List, [], ◌++◌, length}
+use Rattle.std.proofs.Common.{◌≡◌, ℕ, ◌+◌, ◌<◌, ◌≤◌, ◌==◌, true, false, List, ◌++◌, length}
 use Rattle.std.proofs.Common.{Option, None, Some, refl, ◌∙◌, ap, arith}
 use Rattle.std.proofs.lemmas.Bool.Decides.{nat_tests}
 use Rattle.std.specs.List.{prefix_len}
@@ -46,7 +46,3 @@ no_char char is = rw is refl
 abbrev pub behind : List Card → Result (List Card) DeckFault → Result (List Card) DeckFault
 behind so_far (Ok cards) = Ok (so_far ++ cards)
 behind so_far (Err fault) = Err fault
-
-pub behind_none : (deck : Result (List Card) DeckFault) → deck ≡ behind [] deck
-behind_none (Ok cards) = refl
-behind_none (Err fault) = refl

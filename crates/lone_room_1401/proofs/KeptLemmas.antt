@@ -2,7 +2,6 @@
 use Rattle.std.proofs.Common.{◌≡◌, ℕ, ◌+◌, Bool, true, false, List, [], ◌∷◌, ◌++◌, length}
 use Rattle.std.proofs.Common.{refl, ap, sym, ◌∙◌, subst, arith, append_assoc, append-nil, length-append}
 use Rattle.std.specs.Prelude.{Option, Result, Ok, Err, OnOk, OnErr}
-use Rattle.core.specs.Result.{is_ok}
 use Rattle.std.proofs.KnownBytes.{Appends-trans}
 use Rattle.std.specs.Io.KnownBytes.{Appends}
 use Rattle.lone_room_1401.specs.declared.entry.Entry.{Entry}
@@ -93,8 +92,3 @@ pub kept_before : (form : Form) (size : ℕ) (journal : List Entry) (failed : Bo
     → Appends first kept (kept_text form size journal)
 kept_before form size journal failed first kept held good =
     subst (λ f. IsKeptAs form size journal f first kept) good held
-
--- what a keeper says of an entry that it kept
-pub on_ok : {A E : Type 0} (result : Result A E) (P : Type 0) → is_ok result ≡ true → OnOk result P → P
-on_ok (Ok done) P is holds = holds
-on_ok (Err why) P is holds = absurd (cc (is))

@@ -70,14 +70,6 @@ both_written place lines more cards others a b c first then_more = record {
 pub none_written : (place : Place) (a : Received) → HasWritten place [] [] a a
 none_written place a = record { paper = Appends-nil a.paper; punch = Appends-nil a.punch }
 
--- nothing was written, whatever a job writes
-pub no_part_written : (place : Place) (a : Received) (lines : List PrintLine) (cards : List Card)
-    → HasWrittenPart place lines cards a a
-no_part_written place a lines cards = record {
-  paper = nothing_yet a.paper (paper_text place lines);
-  punch = nothing_yet a.punch (cards_text cards);
-}
-
 -- a part of what a job writes was written, where it is one of its first lines and cards
 pub first_part_written : {lines : List PrintLine} {cards : List Card} {job : Job} (place : Place) (a b : Received)
     → IsPartOf lines cards job → AppendsPart a.paper b.paper (paper_text place lines)

@@ -1,5 +1,5 @@
 -- Each stretch adds what it writes, and leaves the rest.
-use Rattle.std.proofs.Common.{◌≡◌, drop, refl, sym, subst, ap, ◌∙◌, rules}
+use Rattle.std.proofs.Common.{drop, refl, sym, subst, ap, ◌∙◌, rules}
 use Rattle.streams_1401.specs.Sink.{AppendsPart}
 use Rattle.running_1401.specs.TraceText.{trace_text}
 use Rattle.running_1401.specs.RunTrace.{seen_if, traced}
