@@ -98,7 +98,7 @@ pub length-edited : (word digits : List ℕ) (sign : Sign) → length (edited wo
 unfolding edited
 length-edited word digits sign = length-map-range_with_len (shown_at word digits sign) 0 (length word)
 
--- the places of a control word have what it shows, without word marks, and each other place is as it was
+-- an edit writes what its control word shows, clears the word marks there, and leaves every other place as it was
 pub record IsPut (s t : Storage) (a b taken n : ℕ) : Type 0 where
   pub unmarked : IsUnmarked t b n
   pub outside : IsSameOutside s t b n

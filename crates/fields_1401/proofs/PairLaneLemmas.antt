@@ -151,7 +151,7 @@ pub record Told (s : Storage) (a b n bits : ℕ) : Type 0 where
   pub none : bits ≡ 0 → highest_difference s a b n ≡ None
   pub some : bits ≢ 0 → IsHighest s a b n (trailing_zeros w64 bits)
 
--- the pairs of the lanes read of what core lends, the others shifted out
+-- what the lanes that core lends tell of n pairs, once the bits of the others are shifted out
 pub pairs_told : {of_a of_b chars : List ℕ} {place_a place_b d k : ℕ} (s : Storage) (a b n : ℕ) → n ≤ 16
     → (15 ≤ a) × (15 ≤ b) → a < length s → b < length s → chars ≡ chars_of s
     → of_a ≡ chunk (place_a - 15) 16 chars → place_a ≡ a → of_b ≡ chunk (place_b - 15) 16 chars → place_b ≡ b

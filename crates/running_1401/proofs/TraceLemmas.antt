@@ -235,7 +235,7 @@ stretch_whole true deck deck' m m' (suc n) left steps why told found lines cards
     ∙ ap (λ (text : List ℕ). text ++ rest_traced found (left - steps) (with_deck deck' m'))
     (sym (line_after n (Some (seen_of m)) work told m'))
 
--- the same by what is collected of the stretch and told of it
+-- the same, from what the stretch collected and what is told of it
 pub stretch_told : {n most steps paper still held stacker : ℕ} {why : Stop} {told found : Option Stop}
     {lines0 lines items : List PrintLine} {cards0 cards others : List Card} (is : Bool) (deck deck' : List Card)
     (m m' : State) (left : ℕ) → n ≡ min left most → most ≡ most_at_once is → lines0 ≡ [] → cards0 ≡ []
@@ -273,7 +273,7 @@ seen_is : (is : Bool) (s : State) → is_some (seen_if is s) ≡ is
 seen_is true s = refl
 seen_is false s = refl
 
--- whether there is a trace, by what was seen of the machine
+-- something was seen of the machine exactly if there is a trace
 pub is_seen : {seen : Option Seen} (is : Bool) (s : State) → seen ≡ seen_if is s → is_some seen ≡ is
 is_seen is s e = ap (λ (before : Option Seen). is_some before) e ∙ seen_is is s
 
