@@ -1,7 +1,7 @@
 -- How the text of a journal is read (own). Commands are read, the machine answers, and the answers' texts are compared:
 -- cells can spell what a refusal's text says, so an answer can't be read from its text alone.
 use Rattle.std.specs.Prelude.{◌≡◌, ℕ, ◌+◌, ◌<◌, nat_le, nat_lt, ◌==◌, Bool, true, false, if◌then◌else◌}
-use Rattle.std.specs.Prelude.{List, [], ◌∷◌, ◌++◌, length, take, drop, find, Option, None, Some, is_some, Result}
+use Rattle.std.specs.Prelude.{List, [], ◌∷◌, ◌++◌, length, find, Option, None, Some, is_some, Result}
 use Rattle.std.specs.Prelude.{Ok, Err}
 use Rattle.std.specs.List.{before_first, list_any}
 use Rattle.std.specs.Option.{ok_or}

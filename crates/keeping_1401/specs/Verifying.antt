@@ -1,5 +1,5 @@
 -- What a sink that verifies a text has received (own).
-use Rattle.std.specs.Prelude.{◌≡◌, ℕ, nat_lt, if◌then◌else◌, List, [], length, take, Option, None, Some}
+use Rattle.std.specs.Prelude.{ℕ, nat_lt, if◌then◌else◌, List, [], length, take, Option, None, Some}
 
 -- of the text that the sink beneath has, what was put again so far; after that, all that the sink has
 abbrev pub verified : List ℕ → ℕ → Option (List ℕ) → Option (List ℕ)

@@ -1,7 +1,7 @@
 -- Labels, mnemonics, constants, addresses and operands, computed.
 use Rattle.std.proofs.Common.{◌≡◌, ℕ, true, false, List, [], ◌∷◌, ◌++◌, map, replicate, Option, None, Some, pos, negsuc}
 use Rattle.std.proofs.Common.{refl}
-use Rattle.std.specs.Prelude.{Bool, codes}
+use Rattle.std.specs.Prelude.{codes}
 use Rattle.std.specs.Str.{byte}
 use Rattle.source_1401.specs.SourceLine.{padded}
 use Rattle.source_1401.specs.Label.{label_in, label_of}
