@@ -44,29 +44,29 @@ abbrev pub lines_to : ℕ → ℕ → ℕ
 lines_to position line = 1 + position_or_len (λ k. is_at_line line (position + k)) (range_with_len 1 lines_of_form)
 
 -- the position to which a movement brings the carriage
-unfoldable pub moved : Control → ℕ → ℕ
-moved (Space k) position = (position + k) % positions
-moved (Skip line) position = (position + lines_to position line) % positions
+unfoldable pub position_after : Control → ℕ → ℕ
+position_after (Space k) position = (position + k) % positions
+position_after (Skip line) position = (position + lines_to position line) % positions
 
 -- the carriage after a print: the pending movement is done and cleared, or one space if none is pending
 abbrev pub after_print : Carriage → Carriage
 after_print carriage =
-    record { position = moved (unwrap_or carriage.pending (Space 1)) carriage.position; pending = None }
+    record { position = position_after (unwrap_or carriage.pending (Space 1)) carriage.position; pending = None }
 
 -- the carriage once it was asked for a movement: an immediate one leaves the pending one, another takes its place
-abbrev pub asked : Bool → Control → Carriage → Carriage
-asked immediate control carriage =
-    if immediate then record carriage { position = moved control carriage.position }
+abbrev pub with_movement : Bool → Control → Carriage → Carriage
+with_movement immediate control carriage =
+    if immediate then record carriage { position = position_after control carriage.position }
     else record carriage { pending = Some control }
 
 -- the same, if there is a movement
-abbrev pub asked_for : Bool → Carriage → Result Control ControlFault → Result Carriage ControlFault
-asked_for immediate carriage (Ok control) = Ok (asked immediate control carriage)
-asked_for immediate carriage (Err fault) = Err fault
+abbrev pub with_movement_of : Bool → Carriage → Result Control ControlFault → Result Carriage ControlFault
+with_movement_of immediate carriage (Ok control) = Ok (with_movement immediate control carriage)
+with_movement_of immediate carriage (Err fault) = Err fault
 
 -- what a d-character does to the carriage
 unfoldable pub controlled : Carriage → ℕ → Result Carriage ControlFault
-controlled carriage char = asked_for (is_immediate char) carriage (movement_of char)
+controlled carriage char = with_movement_of (is_immediate char) carriage (movement_of char)
 
 -- whether the carriage is at a line, if there is one
 abbrev pub stands_at : Carriage → Option ℕ → Bool

@@ -1,6 +1,6 @@
 //! The movement of the carriage: forms of 66 lines, spaces and skips.
 ghost use Rattle.std.specs.Prelude.{◌≡◌, ◌+◌, ◌<◌, ◌≤◌};
-ghost use Rattle.devices_1401.specs.Carriage.{lines_of_form, positions, lines_to, moved, IsMovedOn};
+ghost use Rattle.devices_1401.specs.Carriage.{lines_of_form, positions, lines_to, position_after, IsMovedOn};
 ghost use Rattle.devices_1401.specs.Movement.{control_of};
 
 use crate::control::Movement;
@@ -30,10 +30,10 @@ fn lines_to(position: u32, line: u32) -> u32
 }
 
 /// How far a movement brings the carriage: 1 to 66 lines.
-#[tactic(auto, unfolding(crate::specs::Carriage::moved))]
-pub(crate) fn moved(position: u32, movement: Movement) -> u32
+#[tactic(auto, unfolding(crate::specs::Carriage::position_after))]
+pub(crate) fn position_after(position: u32, movement: Movement) -> u32
     requires { position < positions }
-    ensures value { result ≡ moved (control_of movement) position }
+    ensures value { result ≡ position_after (control_of movement) position }
     ensures range { result < positions }
     ensures on { IsMovedOn position result }
 {

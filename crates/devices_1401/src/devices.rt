@@ -9,7 +9,7 @@ ghost use Rattle.devices_1401.specs.Devices.{next_card, last_punched};
 ghost use Rattle.devices_1401.specs.Movement.{pending_of};
 
 use crate::card::Card;
-use crate::carriage::{LINES_OF_FORM, POSITIONS, moved};
+use crate::carriage::{LINES_OF_FORM, POSITIONS, position_after};
 use crate::control::{Control, Hole, Movement, Spaces};
 use crate::fault::{ControlFault, FormsFull, HopperFull, ReaderEmpty, StackerFull};
 use crate::print_line::PrintLine;
@@ -141,7 +141,7 @@ impl Devices {
         match self.paper.try_push_back(line) {
             Ok(()) => {
                 let movement = self.pending.unwrap_or(Movement::SpaceBy(Spaces::One));
-                self.position = moved(self.position, movement);
+                self.position = position_after(self.position, movement);
                 self.pending = None;
                 Ok(())
             }
@@ -180,7 +180,7 @@ impl Devices {
     {
         let control = Control::of(char)?;
         if control.immediate {
-            self.position = moved(self.position, control.movement);
+            self.position = position_after(self.position, control.movement);
         } else {
             self.pending = Some(control.movement);
         }

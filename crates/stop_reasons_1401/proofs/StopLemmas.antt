@@ -3,7 +3,7 @@ use Rattle.std.proofs.Common.{◌≡◌, ℕ, ◌==◌, Bool, true, false, refl}
 use Rattle.std.specs.Prelude.{Option, None, Some, Result, Ok, Err, if◌then◌else◌}
 use Rattle.std.specs.Option.{option_map}
 use Rattle.std.specs.Result.{result_err}
-use Rattle.devices_1401.specs.Carriage.{Carriage, asked_for, controlled}
+use Rattle.devices_1401.specs.Carriage.{Carriage, with_movement_of, controlled}
 use Rattle.devices_1401.specs.Control.{Control, is_immediate, movement_of}
 use Rattle.devices_1401.specs.declared.fault.ControlFault.{ControlFault}
 use Rattle.fields_1401.specs.declared.done.Done.{Done}
@@ -50,7 +50,7 @@ clear_stops this s (Ok done) = either_stops (this.len == 7) (branch_to this (rec
 -- the carriage controlled
 moved_stops : (this : Instruction) (s : State) (immediate : Bool) (carriage : Carriage)
     (movement : Result Control ControlFault)
-    → (after_control this s (asked_for immediate carriage movement)).stop
+    → (after_control this s (with_movement_of immediate carriage movement)).stop
     ≡ option_map control_stop (result_err movement)
 moved_stops this s immediate carriage (Ok control) = refl
 moved_stops this s immediate carriage (Err why) = refl
