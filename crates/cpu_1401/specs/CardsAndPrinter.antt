@@ -180,8 +180,8 @@ abbrev pub lozenge : ℕ
 lozenge = 60
 
 -- a line written: the lozenge as d-character asks for word marks, and any other is a stop
-abbrev pub after_line : Instruction → State → Stepped
-after_line this s =
+abbrev pub after_write : Instruction → State → Stepped
+after_write this s =
     if has_d this.len && not (this.d == lozenge) then stopped stop.DChar s
     else after_cards (line_alone (has_d this.len) s.storage) behind_print_area this s
 

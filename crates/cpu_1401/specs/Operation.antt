@@ -53,25 +53,30 @@ abbrev pub operation_of : ℕ → Option Operation
 operation_of char = meaning_in operations (slice_index graphics char)
 
 -- the graphics of the operations that belong to features that this machine hasn't got
-abbrev pub unfitted : List ℕ
-unfitted = codes "@%U89PXW#"
+abbrev pub unfitted_operations : List ℕ
+unfitted_operations = codes "@%U89PXW#"
 
 -- whether a character is such an operation
 abbrev pub is_unfitted : ℕ → Bool
-is_unfitted char = list_any (λ each. each == slice_index graphics char) unfitted
+is_unfitted char = list_any (λ each. each == slice_index graphics char) unfitted_operations
 
 -- What the instructions of an operation look like: the lengths that they may have; the lengths that belong to features
 -- that this machine hasn't got; how many characters are looked at, by the fifth; and whether their one address goes
 -- into both registers, or into the A register alone.
 pub record Form : Type 0 where
   pub lengths : List ℕ
-  pub unfitted : List ℕ
+  pub unfitted_lengths : List ℕ
   pub longest : ℕ → ℕ
   pub loads_both : Bool
 
 abbrev form : List ℕ → List ℕ → (ℕ → ℕ) → Bool → Form
-form lengths unfitted longest loads_both =
-    record { lengths = lengths; unfitted = unfitted; longest = longest; loads_both = loads_both }
+form lengths unfitted_lengths longest loads_both =
+    record {
+      lengths = lengths;
+      unfitted_lengths = unfitted_lengths;
+      longest = longest;
+      loads_both = loads_both;
+    }
 
 abbrev eight : ℕ → ℕ
 eight fifth = 8
@@ -120,4 +125,4 @@ has_length operation len = list_any (λ each. each == len) (form_of operation).l
 
 -- whether this length belongs to a feature that this machine hasn't got
 abbrev pub is_unfitted_length : Operation → ℕ → Bool
-is_unfitted_length operation len = list_any (λ each. each == len) (form_of operation).unfitted
+is_unfitted_length operation len = list_any (λ each. each == len) (form_of operation).unfitted_lengths

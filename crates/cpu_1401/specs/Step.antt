@@ -16,7 +16,7 @@ use Rattle.cpu_1401.specs.declared.operation.Operation.{Operation}
 use Rattle.cpu_1401.specs.declared.operation.Operation.TheVariants as op
 use Rattle.panel_1401.specs.declared.stop.Stop.TheVariants as stop
 use Rattle.cpu_1401.specs.Branch.{after_branch, branch_on_cell, go_on, passes}
-use Rattle.cpu_1401.specs.CardsAndPrinter.{after_line, after_control, after_work}
+use Rattle.cpu_1401.specs.CardsAndPrinter.{after_write, after_control, after_work}
 use Rattle.cpu_1401.specs.CardsAndPrinter.{punching, reading, reading_and_punching}
 use Rattle.cpu_1401.specs.CardsAndPrinter.{writing_and_punching, writing_and_reading, all_three}
 use Rattle.cpu_1401.specs.FieldStep.{after_field, after_comparison, after_clear}
@@ -50,7 +50,7 @@ perform op.NoOperation this s = step_to (go_on false this s)
 perform op.Halt this s = record { state = go_on (this.len == 4) this s; stop = Some stop.Halt }
 perform op.SelectStacker this s = step_to (go_on (this.len == 5) this s)
 perform op.ReadCard this s = after_work reading this s
-perform op.WriteLine this s = after_line this s
+perform op.WriteLine this s = after_write this s
 perform op.WriteAndRead this s = after_work writing_and_reading this s
 perform op.PunchCard this s = after_work punching this s
 perform op.ReadAndPunch this s = after_work reading_and_punching this s

@@ -4,7 +4,7 @@ ghost use Rattle.core_1401.specs.Address.{addresses};
 ghost use Rattle.core_1401.specs.Storage.{cell_at};
 ghost use Rattle.devices_1401.specs.Carriage.{controlled};
 ghost use Rattle.devices_1401.specs.Devices.{is_full};
-ghost use Rattle.cpu_1401.specs.CardsAndPrinter.{after_cards, after_control, after_line, after_work, has_d};
+ghost use Rattle.cpu_1401.specs.CardsAndPrinter.{after_cards, after_control, after_write, after_work, has_d};
 ghost use Rattle.cpu_1401.specs.CardsAndPrinter.{first_io_stop};
 ghost use Rattle.cpu_1401.specs.CardsAndPrinter.{behind_print_area, line_alone};
 ghost use Rattle.fields_1401.specs.Places.{marks_of};
@@ -40,8 +40,8 @@ impl Machine {
     pub(crate) fn write_line(&mut self, this: Instruction) -> Option<Stop>
         requires a { this.a < addresses }
         requires next { this.next < addresses }
-        ensures stop { result ≡ (after_line this self.old).stop }
-        ensures state { self.new ≡ (after_line this self.old).state }
+        ensures stop { result ≡ (after_write this self.old).stop }
+        ensures state { self.new ≡ (after_write this self.old).state }
         ensures size { length self.new.storage ≡ length self.old.storage }
     {
         let d = this.d;

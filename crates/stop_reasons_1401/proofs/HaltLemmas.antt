@@ -35,7 +35,7 @@ use Rattle.cpu_1401.specs.declared.operation.Operation.TheVariants as op
 use Rattle.panel_1401.specs.declared.stop.Stop.{Stop}
 use Rattle.panel_1401.specs.declared.stop.Stop.TheVariants as stop
 use Rattle.cpu_1401.specs.Branch.{after_branch, branch_on_cell, go_on, has_char, passes}
-use Rattle.cpu_1401.specs.CardsAndPrinter.{after_cards, after_control, after_line, all_three, asks, behind_last}
+use Rattle.cpu_1401.specs.CardsAndPrinter.{after_cards, after_control, after_write, all_three, asks, behind_last}
 use Rattle.cpu_1401.specs.CardsAndPrinter.{behind_print_area, has_d, line_alone}
 use Rattle.cpu_1401.specs.CardsAndPrinter.{lozenge}
 use Rattle.cpu_1401.specs.CardsAndPrinter.{first_io_stop, move_on, punching, reading, reading_and_punching, with_all}
@@ -125,7 +125,7 @@ cards_go request b this s =
     (record { no = refl }))) in
     record { no = ap is_halt (card_stops (first_io_stop request s.devices) s after) ∙ free.no }
 
-line_goes : (this : Instruction) (s : State) → GoesOn (after_line this s)
+line_goes : (this : Instruction) (s : State) → GoesOn (after_write this s)
 line_goes this s =
     either (has_d this.len && not (this.d == lozenge)) (stopped stop.DChar s) _ (record { no = refl }) (cards_go (line_alone (has_d this.len) s.storage) behind_print_area this s)
 

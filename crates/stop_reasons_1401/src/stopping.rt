@@ -5,7 +5,7 @@ ghost use Rattle.std.specs.Option.{option_map};
 ghost use Rattle.core_1401.specs.Address.{addresses};
 ghost use Rattle.core_1401.specs.Storage.{cell_at};
 ghost use Rattle.cpu_1401.specs.declared.operation.Operation.TheVariants as op;
-ghost use Rattle.cpu_1401.specs.CardsAndPrinter.{after_line};
+ghost use Rattle.cpu_1401.specs.CardsAndPrinter.{after_write};
 ghost use Rattle.cpu_1401.specs.Instruction.{instruction_of};
 ghost use Rattle.cpu_1401.specs.Operation.{operation_of};
 ghost use Rattle.cpu_1401.specs.Step.{check_operation, step};
@@ -269,7 +269,7 @@ fn write_reason(machine: &Machine, char: Char, len: u16) -> Option<Reason>
     requires some { 0 < len }
     requires inside { machine.now.i + len ≤ length machine.now.storage }
     ensures stop { option_map stop_named result
-        ≡ (after_line (instruction_of op.WriteLine len machine.now) machine.now).stop }
+        ≡ (after_write (instruction_of op.WriteLine len machine.now) machine.now).stop }
     ensures so { IfSome result (IsSoOf (instruction_of op.WriteLine len machine.now) machine.now) }
 {
     let d = last_char(machine, len);
