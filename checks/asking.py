@@ -57,7 +57,7 @@ class PageRoom:
 
 
 def free_ports(many):
-    """The first of so many ports in a row that nobody has, below those that the system gives to whoever connects."""
+    """The first of this many ports in a row that nobody has, below those that the system gives to whoever connects."""
     while True:
         first = random.randrange(20_000, 32_000)
         taken = []
@@ -160,13 +160,13 @@ def made(room, seat=1):
 
 
 def expect_made(name, room, seat, wanted):
-    """Tells whether a seat has made so many commands."""
+    """Tells whether a seat has made this many commands."""
     is_it = made(room, seat)
     tell(name, "" if is_it == wanted else f"{is_it} commands, not {wanted}")
 
 
 def expect_unchanged(name, room, before):
-    """Tells whether the machine is still after so many commands."""
+    """Tells whether the machine is still after this many commands."""
     now = after(room)
     tell(name, "" if now == before else f"after {before} commands, and now {now}")
 

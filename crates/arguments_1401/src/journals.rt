@@ -23,7 +23,7 @@ const SYNC: Argument = Argument {
     ..FREE
 };
 
-/// The same where a journal is kept in a new file or not at all.
+/// The same if a journal is kept in a new file or not at all.
 pub(crate) const NEW_SYNC: Argument = Argument {
     needs: &["journal"],
     ..SYNC
@@ -218,7 +218,7 @@ pub(crate) fn resume_call(
     }
 }
 
-/// What the options of `resume` ask for, where they can be met.
+/// What the options of `resume` ask for, if they can be met.
 fn resumed_call(alloc: Global, matches: &ArgMatches<'_>, file: &str) -> Result<Call, AllocError> {
     let resuming = resuming_in(alloc, matches, file)?;
     Ok(match operators_in(matches) {

@@ -87,7 +87,7 @@ abbrev pub IsWhyNoDeckOf : Language → ℕ → List ℕ → AssembleFault → T
 IsWhyNoDeckOf language size source told =
     IsWhyNotAssembled language size source told ⊎ HasNoDeck language size source told
 
--- what an output received of a text: all of it, or a beginning where a write to it has failed
+-- what an output received of a text: all of it, or a beginning if a write to it has failed
 abbrev pub Wrote : List ℕ → Option (List ℕ) → Option (List ℕ) → Bool → Result ⊤ AssembleFault → Type 0
 Wrote text old new failed outcome =
     ((outcome ≡ Ok tt) × Appends old new text)

@@ -16,7 +16,7 @@ use Rattle.listing_1401.specs.Listing.{spelling, literal_spelling, base_spelling
 use Rattle.autocoder_1401.specs.Assembly.{assembly_in}
 use Rattle.autocoder_1401.specs.declared.assembly.Assembly.{Assembly}
 
--- what a source is in so many places, with all tables open
+-- what a source is in core storage of this size, with all tables open
 in_places : ℕ → List ℕ → Result Assembly AsmFault
 unfolding columns_of instructions assembler_operations graphics number_text address_text characters_text
     without_last_blanks listing_line spelling literal_spelling base_spelling adjustment_spelling

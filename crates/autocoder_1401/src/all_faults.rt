@@ -53,7 +53,7 @@ fn add_outside(
 
 /// All faults of a source in this language for core storage of this size, in the order of its lines. A fault that only
 /// follows from one told before isn't told: fields under a DA that can't be read, a symbol that only lines after END
-/// declare, the second line after END and those below it, and that there is no END where the last statement's operation
+/// declare, the second line after END and those below it, and that there is no END if the last statement's operation
 /// isn't known. What isn't in core is looked for in a source without other faults, and its first line told.
 ///
 /// # Errors

@@ -29,7 +29,7 @@ written_beside : (storage : Storage) (at n : ℕ) (cell_of : ℕ → Cell) (q : 
 written_beside storage at n cell_of q beside = ap (λ (b : Bool). if b then cell_of (at - q) else cell_at storage q)
     (beside_field at n q beside)
 
--- what is held is the storage with these cells, where each of them is held and what is beside the field is as it was
+-- what is held is the storage with these cells, if each of them is held and what is beside the field is as it was
 pub held-with_cells : (chars words new marks : List ℕ) (at n : ℕ) (cell_of : ℕ → Cell) → at < length chars
     → length new ≡ length chars
     → ((q : ℕ) → q ≤ at → at < q + n → held_cell new marks q ≡ cell_of (at - q))

@@ -1,5 +1,5 @@
 //! Stretches of characters copied. Short ones are copied without a loop: as two parts of one length, which overlap
-//! where the stretch is shorter than both together.
+//! if the stretch is shorter than both together.
 ghost use Rattle.std.specs.Prelude.{◌≡◌, ℕ, ◌+◌, ◌<◌, ◌≤◌, length, slice_index_or};
 
 use bcd_1401::Char;

@@ -128,7 +128,7 @@ between_kept entries first last from to place new own from_is to_is all =
           (omega (arith, h.0, from_is), omega (arith, h.1, to_is))
     ]
 
--- where no place is covered no instruction is kept
+-- if no place is covered no instruction is kept
 pub apart_uncovered : (entries : List CacheEntry) (covered : List ℕ) (low high : ℕ) → AreCovered entries covered
     → low ≤ high → ((q : ℕ) → low ≤ q → q ≤ high → has_place covered q ≡ false) → IsApart entries low high
 apart_uncovered entries covered low high all order none =

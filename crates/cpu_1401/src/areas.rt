@@ -48,7 +48,7 @@ pub(crate) fn card_at(core: &Core, area: u16) -> Card
 }
 
 impl Machine {
-    /// The characters of the read area, places 001 to 080, where a card is put that is read.
+    /// The characters of the read area, places 001 to 080, into which a card is read.
     pub fn read_area(&self) -> Card
         ensures { result ≡ card_at self.now.storage read_area }
     {

@@ -10,7 +10,7 @@ use bcd_1401::Char;
 pub(crate) const NO_PLACE: u16 = u16::MAX;
 
 /// The codes and the word marks of eight cells, the instruction that they are, and the place at which it was decoded,
-/// once more where its addresses are ready: 32 bytes.
+/// once more if its addresses are ready: 32 bytes.
 #[derive(Clone, Copy)]
 pub(crate) struct CacheEntry {
     pub(crate) codes: u64,

@@ -52,7 +52,7 @@ impl Machine {
     }
 
     /// The operation and the instruction at the I register, kept or decoded anew, or why it can't be carried out: what
-    /// is asked where no addresses are ready.
+    /// is asked if no addresses are ready.
     #[inline(always)]
     #[tactic(auto, using(crate::proofs::DecodedLemmas::says_step))]
     fn fetch(&mut self) -> Result<(Operation, Instruction), Stop>
@@ -78,7 +78,7 @@ impl Machine {
     }
 
     /// The operation and the instruction at the I register, decoded anew, or why it can't be carried out. It stands
-    /// between a step and the decoding so that a step makes room for the result only where it decodes.
+    /// between a step and the decoding so that a step makes room for the result only if it decodes.
     #[inline(always)]
     fn fetch_anew(&mut self) -> Result<(Operation, Instruction), Stop>
         ensures ok { IfOk result (λ fetched. step self.old ≡ perform fetched.0 fetched.1 self.old) }
@@ -163,7 +163,7 @@ impl Machine {
         self.core.in_core(a) && self.core.in_core(b)
     }
 
-    /// What is carried out for the instruction at the I register where its addresses are ready.
+    /// What is carried out for the instruction at the I register if its addresses are ready.
     #[inline(always)]
     fn ready_instruction(&self, said: &Decoded, next: u16) -> Instruction
         requires says { Says self.now.storage self.now.i said.now }
@@ -237,7 +237,7 @@ impl Machine {
         (said.a.value, self.b)
     }
 
-    /// The addresses by index registers or none, and the registers as they stand where it has none.
+    /// The addresses by index registers or none, and the registers as they are if it has none.
     #[inline(always)]
     #[tactic(auto, using(crate::proofs::DecodedLemmas::own_serve))]
     fn addresses(&self, said: &Decoded) -> (u16, u16)

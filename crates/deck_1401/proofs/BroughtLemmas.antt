@@ -14,7 +14,7 @@ use Rattle.deck_1401.specs.Card.{cards_from, fitting, more_columns, most_marks, 
 use Rattle.deck_1401.specs.Contents.{card_places, first_from, first_taken, is_blank}
 use Rattle.deck_1401.specs.Deck.{AreBrought}
 
--- storage that has these cells, so many of the next ones, and blanks
+-- storage that has these cells, this many of the next ones, and blanks
 abbrev pub part_filled : List Cell → ℕ → List Cell → Storage
 part_filled done covered cells = (done ++ take covered cells) ++ blanks (length cells - covered)
 

@@ -58,7 +58,7 @@ seated_by most entry entries zero d (inr high) more none less = high
 seated_by most entry entries (suc i) d (inr high) more none less =
     more i (sym (own_first 0 most entry entries (omega arith) high) ∙ none) (omega arith)
 
--- where no seat is foreign, each entry's is one of them
+-- if no seat is foreign, each entry's is one of them
 pub seated : (most : ℕ) (entries : List Entry) (i : ℕ) (d : Entry) → foreign_in 0 most entries ≡ None
     → i < length entries → (get_or entries i d).seat ≤ most
 seated most [] i d none less = absurd (omega arith)
@@ -76,7 +76,7 @@ seated_first least most entry entries (inr low) (inl high) more none =
 seated_first least most entry entries (inr low) (inr high) more none =
     All-cons (IsSeated least most) entry entries (low, high) (more (sym (own_first least most entry entries low high) ∙ none))
 
--- where no seat is foreign, each entry is of one of these seats
+-- if no seat is foreign, each entry is of one of these seats
 pub all_seated : (least most : ℕ) (entries : List Entry) → foreign_in least most entries ≡ None
     → All (IsSeated least most) entries
 all_seated least most [] none = All-nil (IsSeated least most)
@@ -84,7 +84,7 @@ all_seated least most (entry ∷ entries) none =
     seated_first least most entry entries (cases_lt entry.seat least) (cases_lt most entry.seat)
     (all_seated least most entries) none
 
--- where each entry is of one of these seats, no seat is foreign
+-- if each entry is of one of these seats, no seat is foreign
 pub none_foreign : (least most : ℕ) (entries : List Entry) → All (IsSeated least most) entries
     → foreign_in least most entries ≡ None
 none_foreign least most [] all = refl
@@ -108,7 +108,7 @@ seat_number n seats at seat all less is =
     ∙ ap (λ numbers. get_or numbers at 0) all
     ∙ number_at n at less
 
--- all seats are there where one of them has changed, and kept its number
+-- all seats are there after one of them has changed, and kept its number
 pub seats_stay : (n : ℕ) (seats : List SeatView) (at : ℕ) (before after : SeatView) → AreAllSeats n seats
     → before ≡ get_or seats at before → after.number ≡ before.number → AreAllSeats n (slice_set seats at after)
 seats_stay n seats at before after all is same =

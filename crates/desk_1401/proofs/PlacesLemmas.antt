@@ -55,7 +55,7 @@ pub indexed_number : (n : ℕ) (places : List PlaceView) (k : ℕ) (place : Plac
 indexed_number n places k place all less is =
     ap (λ (it : PlaceView). it.number) is ∙ place_number n places k place all less
 
--- the numbers stay where a place changes that keeps its number
+-- the numbers stay if a place changes and keeps its number
 pub numbers_stay : (places : List PlaceView) (k : ℕ) (new d : PlaceView) → new.number ≡ (get_or places k d).number
     → numbers_in (slice_set places k new) ≡ numbers_in places
 numbers_stay places k new d same = map-set_same (λ (place : PlaceView). place.number) places k new d same
@@ -68,7 +68,7 @@ free_at n places number place all some most is =
     get_or-map (λ (it : PlaceView). it.is_free) places (number - 1) place false (omega (arith, length_places n places all))
     ∙ sym (ap (λ (it : PlaceView). it.is_free) is)
 
--- and so where its place has changed
+-- and so if its place has changed
 pub free_at_new : (n : ℕ) (places : List PlaceView) (number : ℕ) (new : PlaceView)
     → numbers_in places ≡ numbers_of (newcomers n) → 0 < number → number ≤ n
     → is_free_at number (slice_set places (number - 1) new) ≡ new.is_free

@@ -17,7 +17,7 @@ foreign_in least most (entry ∷ entries) =
 abbrev pub IsSeated : ℕ → ℕ → Entry → Type 0
 IsSeated least most entry = (least ≤ entry.seat) × (entry.seat ≤ most)
 
--- why commands aren't given again, where this seat is the first that the room hasn't
+-- why commands aren't given again, if this seat is the first that the room hasn't
 abbrev pub IsWhyNotGiven : Option ℕ → GiveFault → Type 0
 IsWhyNotGiven foreign (fault.NoSeat seat) = foreign ≡ Some seat
 IsWhyNotGiven foreign (fault.Refused why) = foreign ≡ None

@@ -22,7 +22,7 @@ abbrev pub first_free : List PlaceView → ℕ
 first_free [] = 0
 first_free (place ∷ places) = cond place.is_free 0 (suc (first_free places))
 
--- whether the seat of this number is free, where the places are in the order of their numbers from 1 on
+-- whether the seat of this number is free, if the places are in the order of their numbers from 1 on
 abbrev pub is_free_at : ℕ → List PlaceView → Bool
 is_free_at number places = get_or (map (λ (place : PlaceView). place.is_free) places) (number - 1) false
 

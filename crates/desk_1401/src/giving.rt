@@ -40,7 +40,7 @@ pub fn foreign_seat(entries: &[Entry], least: u8, most: u8) -> Option<u8>
 ///
 /// # Errors
 ///
-/// Where the room refuses the command; `Unkept` too where its entry wasn't kept.
+/// If the room refuses the command; `Unkept` too if its entry wasn't kept.
 pub fn give<J: RoomId, H: Wait + Drop, K: Keeper + Drop, W: Wait>(
     wait: &W,
     room: &SharedRoom<J, H, K>,
@@ -63,7 +63,7 @@ pub fn give<J: RoomId, H: Wait + Drop, K: Keeper + Drop, W: Wait>(
 ///
 /// # Errors
 ///
-/// `NoSeat` exactly if an entry is of a seat that the room hasn't; `Refused` where a command is refused, or its entry
+/// `NoSeat` exactly if an entry is of a seat that the room hasn't; `Refused` if a command is refused, or its entry
 /// isn't kept.
 pub fn give_entries<J: RoomId, H: Wait + Drop, K: Keeper + Drop, W: Wait>(
     wait: &W,

@@ -38,7 +38,7 @@ impl<J: RoomId> Service<J> {
     ///
     /// # Errors
     ///
-    /// Where there is no memory for the places of the seats, which are handed back.
+    /// If there is no memory for the places of the seats, which are handed back.
     pub fn new(alloc: Global, seats: Vec<Seat<J>>) -> Result<Service<J>, Vec<Seat<J>>>
         requires seats { AreAllSeats J.seats seats.items }
         requires count { J.seats < 2 ^ 8 }

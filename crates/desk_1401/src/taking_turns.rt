@@ -13,7 +13,7 @@ const LONG: u64 = 1_000_000;
 /// How long a console sleeps before it looks again whether the others have had their turn, in microseconds.
 const NAP: u64 = 100;
 
-/// How many times it sleeps at most: for ten milliseconds, or for longer where the system wakes it late.
+/// How many times it sleeps at most: for ten milliseconds, or for longer if the system wakes it late.
 const NAPS: usize = 100;
 
 /// A line that was begun longer ago, in nanoseconds, isn't waited for: what keeps it isn't the machine, but an operator

@@ -33,7 +33,7 @@ use Rattle.disassembly_1401.proofs.OperandsLemmas.{two_operands, whole, address_
 use Rattle.disassembly_1401.proofs.PlacedLemmas.{address_codes_again, plain_again, char_again}
 use Rattle.disassembly_1401.proofs.ReadLemmas.{address_shows, address_few, graphic_shows, comma_shows}
 
--- an instruction of the assembler for an operation with so many addresses and a d-character
+-- an instruction of the assembler for an operation with this many addresses and a d-character
 pub record IsFor (says_d : Bool) (of_operation addresses : ℕ) (d : Option ℕ) (instruction : Instruction) : Type 0 where
   pub operation : instruction.operation ≡ of_operation
   pub least : nat_le instruction.form.least addresses ≡ true

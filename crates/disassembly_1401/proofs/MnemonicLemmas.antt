@@ -14,7 +14,7 @@ use Rattle.instruction_text_1401.specs.Mnemonic.{operations, operations_with_d, 
 use Rattle.instruction_text_1401.specs.declared.mnemonic.Mnemonic.{Mnemonic}
 use Rattle.disassembly_1401.specs.Assembled.{has_mnemonic}
 
--- whether a form's d-character is as a mnemonic says it, with so many addresses in front of it
+-- whether a form's d-character is as a mnemonic says it, after this many addresses
 abbrev pub says : Bool → ℕ → Option ℕ → DCharacter → Bool
 says says_d addresses None kinds.Never = not says_d
 says says_d addresses None (kinds.Fixed graphic) = false
@@ -25,7 +25,7 @@ says says_d addresses (Some d) (kinds.Fixed graphic) = says_d && (graphic == d)
 says says_d addresses (Some d) kinds.Optional = not says_d && nat_lt 0 addresses
 says says_d addresses (Some d) kinds.Required = not says_d
 
--- whether an instruction of the assembler is of an operation with so many addresses, and a d-character as the mnemonic
+-- whether an instruction of the assembler is of an operation with this many addresses, and a d-character as the mnemonic
 -- says it; one that is written follows as many addresses as there can be
 abbrev pub is_as : Mnemonic → ℕ → ℕ → Option ℕ → Instruction → Bool
 is_as mnemonic operation addresses d instruction =
@@ -33,7 +33,7 @@ is_as mnemonic operation addresses d instruction =
     && nat_le addresses instruction.form.most && says mnemonic.says_d addresses d instruction.form.d
     && option_map_or (λ d. mnemonic.says_d || (instruction.form.most == addresses)) d true
 
--- whether a mnemonic is one of the assembler's, for this operation with so many addresses and this d-character
+-- whether a mnemonic is one of the assembler's, for this operation with this many addresses and this d-character
 abbrev pub is_good : ℕ → ℕ → Option ℕ → Mnemonic → Bool
 is_good operation addresses d mnemonic =
     (length mnemonic.columns == 5) && not (is_blank (slice_index mnemonic.columns 0))

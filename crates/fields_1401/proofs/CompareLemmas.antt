@@ -62,7 +62,7 @@ pub no_pairs : (s : Storage) (a b : ℕ) → highest_difference s a b 0 ≡ None
 unfolding highest_difference
 no_pairs s a b = refl
 
--- no pair is the highest where all agree
+-- no pair is the highest if all agree
 pub highest_none : (s : Storage) (a b n : ℕ) → ((i : ℕ) → i < n → is_unequal_pair s a b i ≡ false)
     → highest_difference s a b n ≡ None
 highest_none s a b zero agree = no_pairs s a b
@@ -71,7 +71,7 @@ highest_none s a b (suc n) agree =
     ∙ ap (λ (d : Bool). if d then Some n else highest_difference s a b n) (agree n (omega arith))
     ∙ highest_none s a b n (λ i lt. agree i (omega (arith, lt)))
 
--- a pair that differs is the highest where all above it agree
+-- a pair that differs is the highest if all above it agree
 pub highest_some : (s : Storage) (a b n i : ℕ) → i < n → is_unequal_pair s a b i ≡ true
     → ((j : ℕ) → i < j → j < n → is_unequal_pair s a b j ≡ false) → highest_difference s a b n ≡ Some i
 highest_some s a b zero i lt differs agree = absurd (omega (arith, lt))
@@ -347,7 +347,7 @@ some_is n m e = cc
 pub no_end_first : (s : Storage) (a b n : ℕ) → (cell_at s (b + 1 - n)).mark ≡ true → ends_first s a b n ≡ false
 no_end_first s a b n e = rw e (and_false (cell_at s (a + 1 - n)).mark)
 
--- where one of two is so, that the second isn't is enough
+-- if one of two is so, that the second isn't is enough
 pub asked_alone : (x y : Bool) → (x || y) ≡ true → not y ≡ x && not y
 asked_alone true y e = refl
 asked_alone false true e = refl

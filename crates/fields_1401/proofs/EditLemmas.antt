@@ -234,7 +234,7 @@ replaceable_more word j own behind from within e so_far (inr is) =
     let same = is.1 in
     omega arith
 
--- what a place takes of the characters by address, where those of A are as they were
+-- what a place takes of the characters by address, if those of A are as they were
 pub taken_down_is : (s : Storage) (chars : List ℕ) (a t own behind : ℕ) → a < length s → t ≤ a + 1
     → ((k : ℕ) → k < t → get_or chars (a - k) 0 ≡ (cell_at s (a - k)).char)
     → taken_down chars a t own behind ≡ taken_from (units_unzoned (chars_across s a t)) own behind

@@ -96,7 +96,7 @@ pairs_below s a b n d have is =
     let small : mask_l (drop (16 - n) bits) < 2 ^ n = rw size at (mask_l-lt (drop (16 - n) bits)) in
     omega (arith, are, small)
 
--- where no bit is set, all pairs agree
+-- if no bit is set, all pairs agree
 no_lane : (s : Storage) (a b n d : ℕ) → HaveLanes s a b n → d ≡ mask_l (zip2 differ (lanes_at s a) (lanes_at s b))
     → d / 2 ^ (16 - n) ≡ 0 → highest_difference s a b n ≡ None
 no_lane s a b n d have is none =

@@ -17,7 +17,7 @@ use core_1401::Core;
 /// How many pairs of a longer field are compared at once.
 const BLOCK: u16 = 8;
 
-/// How many pairs are compared at once, or one by one where sixteen places don't end at either address.
+/// How many pairs are compared at once, or one by one if sixteen places don't end at either address.
 const FEW: u16 = 16;
 
 /// Compares the fields at both addresses, up to and including the first word mark in either: they are unequal if two
@@ -48,7 +48,7 @@ pub fn compare(core: &Core, a: u16, b: u16) -> Result<Done, FieldStop>
     compare_within(core, a, b)
 }
 
-/// As `compare`, where both addresses are known to be those of places.
+/// As `compare`, for addresses known to be those of places.
 ///
 /// # Errors
 ///

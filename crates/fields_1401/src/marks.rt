@@ -30,7 +30,7 @@ pub fn set_marks(core: &mut Core, a: u16, b: u16) -> Result<Done, FieldStop>
     Ok(set_marks_within(core, a, b))
 }
 
-/// As `set_marks`, where both addresses are known to be those of places.
+/// As `set_marks`, for addresses known to be those of places.
 pub fn set_marks_within(core: &mut Core, a: u16, b: u16) -> Done
     requires a { a < addresses }
     requires b { b < addresses }
@@ -60,7 +60,7 @@ pub fn clear_marks(core: &mut Core, a: u16, b: u16) -> Result<Done, FieldStop>
     Ok(clear_marks_within(core, a, b))
 }
 
-/// As `clear_marks`, where both addresses are known to be those of places.
+/// As `clear_marks`, for addresses known to be those of places.
 pub fn clear_marks_within(core: &mut Core, a: u16, b: u16) -> Done
     requires a { a < addresses }
     requires b { b < addresses }

@@ -30,7 +30,7 @@ pub fn move_chars(core: &mut Core, a: u16, b: u16) -> Result<Done, FieldStop>
     move_chars_within(core, a, b)
 }
 
-/// As `move_chars`, where both addresses are known to be those of places.
+/// As `move_chars`, for addresses known to be those of places.
 ///
 /// # Errors
 ///

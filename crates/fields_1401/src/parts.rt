@@ -32,7 +32,7 @@ pub fn move_digit(core: &mut Core, a: u16, b: u16) -> Result<Done, FieldStop>
     Ok(move_digit_within(core, a, b))
 }
 
-/// As `move_digit`, where both addresses are known to be those of places.
+/// As `move_digit`, for addresses known to be those of places.
 #[tactic(auto, using(crate::proofs::PartsLemmas::part_put))]
 pub fn move_digit_within(core: &mut Core, a: u16, b: u16) -> Done
     requires a { a < addresses }
@@ -69,7 +69,7 @@ pub fn move_zone(core: &mut Core, a: u16, b: u16) -> Result<Done, FieldStop>
     Ok(move_zone_within(core, a, b))
 }
 
-/// As `move_zone`, where both addresses are known to be those of places.
+/// As `move_zone`, for addresses known to be those of places.
 #[tactic(auto, using(crate::proofs::PartsLemmas::part_put))]
 pub fn move_zone_within(core: &mut Core, a: u16, b: u16) -> Done
     requires a { a < addresses }

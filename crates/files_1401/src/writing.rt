@@ -71,7 +71,7 @@ fn put_in_place<R: Files + AllocGlobal>(rt: &R, name: &str, text: &[u8]) -> io::
 }
 
 /// Writes a text to the file of this name. It is written to a new file beside it, which then takes the name and the
-/// old file's permissions; where the name is that of a device or a pipe, it is written to that.
+/// old file's permissions; if the name is that of a device or a pipe, it is written to that.
 ///
 /// # Errors
 ///

@@ -45,7 +45,7 @@ fn folder_of(name: &str) -> &str {
     }
 }
 
-/// Forces the name of a file onto the disk where that is asked for: the file's own bytes may be there without it.
+/// Forces the name of a file onto the disk if that is asked for: the file's own bytes may be there without it.
 fn keep_name(
     rt: &impl Files<File = File>,
     name: &str,

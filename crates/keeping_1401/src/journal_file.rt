@@ -13,7 +13,7 @@ pub enum Durability {
     Disk,
 }
 
-/// Hands lines to a file, with one write each time, and forces each onto the disk where that is asked for. If that
+/// Hands lines to a file, with one write each time, and forces each onto the disk if that is asked for. If that
 /// fails, so has the write, though the line may be in the file.
 #[derive(Drop)]
 pub struct JournalFile {
@@ -35,7 +35,7 @@ impl JournalFile {
         }
     }
 
-    /// Writes these bytes by one write, and forces what was written onto the disk where that is asked for.
+    /// Writes these bytes by one write, and forces what was written onto the disk if that is asked for.
     fn write(&self, bytes: &[u8]) -> Result<usize, Failed>
         ensures most { IfOk result (λ n. n ≤ length bytes.now) }
         ensures some { IfOk result (λ n. 0 < length bytes.now → 0 < n) }

@@ -6,7 +6,7 @@ ghost use Rattle.keeping_1401.specs.Verifying.{verified};
 use streams_1401::{Failed, Sink};
 
 /// Takes a text that the sink beneath has already once more, as the verifier of punched cards does: it compares each
-/// byte and writes none. Behind the text, bytes go to that sink. At a byte that differs it has failed, and the sink
+/// byte and writes none. After the text, bytes go to that sink. At a byte that differs it has failed, and the sink
 /// beneath stays as it is.
 #[derive(Drop)]
 pub struct Verifier<S: Sink + Drop> {

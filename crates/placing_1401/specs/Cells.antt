@@ -187,7 +187,7 @@ abbrev pub repeated : ℕ → List Cell → List Cell
 repeated zero area = []
 repeated (suc n) area = area ++ repeated n area
 
--- a group mark with a word mark, where one is asked for
+-- a group mark with a word mark, if one is asked for
 abbrev pub group_mark : Bool → List Cell
 group_mark true = marked (char_of (byte "\"")) ∷ []
 group_mark false = []

@@ -210,7 +210,7 @@ impl<J: RoomId> SeenPrefix<J> {
         }
     }
 
-    /// Adds a command to all that was seen, and says whether it did: it does not if the history is longer.
+    /// Adds a command to all that was seen; false if the history is longer, and nothing is added.
     pub(crate) fn extend(&mut self, head: &Head<J>, pair: SeatedCommand) -> bool
         requires { length self.old < most_entries }
         ensures { MatchBool result (self.new ≡ self.old ++ pair ∷ []) (self.new ≡ self.old) }

@@ -64,7 +64,7 @@ impl<J: RoomId, R: Wait + Drop, K: Keeper + Drop> LockedRoom<J, R, K> {
         }
     }
 
-    /// The seat sees all that the journal has. Says whether it has then seen no more than that.
+    /// Brings the seat up to date; true if it has now seen exactly the journal.
     fn brief(&self, seat: &mut Seat<J>) -> bool
         ensures same { (seat.new.number ≡ seat.old.number) × (seat.new.made ≡ seat.old.made) }
         ensures grows { IsPrefix seat.old.list seat.new.list }

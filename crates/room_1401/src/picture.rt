@@ -32,7 +32,7 @@ pub struct Picture {
     pub regs: Regs,
     /// The instruction at the I register; `None` if no word mark is there.
     pub next: Option<InstructionCells>,
-    /// The characters of the read area, places 1 to 80, where a card is put that is read.
+    /// The characters of the read area, places 1 to 80, into which a card is read.
     pub read: Card,
     /// The card that is read next; `None` if the hopper is empty.
     pub hopper: Option<Card>,

@@ -70,7 +70,7 @@ both_written place lines more cards others a b c first then_more = record {
 pub none_written : (place : Place) (a : Received) → HasWritten place [] [] a a
 none_written place a = record { paper = Appends-nil a.paper; punch = Appends-nil a.punch }
 
--- a part of what a job writes was written, where it is one of its first lines and cards
+-- a part of what a job writes was written, if it is one of its first lines and cards
 pub first_part_written : {lines : List PrintLine} {cards : List Card} {job : Job} (place : Place) (a b : Received)
     → IsPartOf lines cards job → AppendsPart a.paper b.paper (paper_text place lines)
     → AppendsPart a.punch b.punch (cards_text cards) → HasWrittenPart place job.lines job.cards a b

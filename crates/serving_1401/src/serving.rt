@@ -73,7 +73,7 @@ where
 }
 
 /// Serves a page for each seat that has a port among these: the first is that of seat 1, the next that of seat 2, and
-/// so on; and consoles too, as `serve_seats` does, where there is a listener for them. A seat goes to whoever comes
+/// so on; and consoles too, as `serve_seats` does, if there is a listener for them. A seat goes to whoever comes
 /// first, the page or a console. A page that was opened keeps its seat until the room is closed; while a console sits
 /// there, each request of the page is refused.
 ///

@@ -123,7 +123,7 @@ a_malformed_suffix_changes_nothing : labels_said (codes "               SFX  A" 
 unfolding labels_said
 a_malformed_suffix_changes_nothing = refl
 
--- X1 to X3 have no suffix, and are index registers where they are no labels
+-- X1 to X3 have no suffix, and are index registers if they are no labels
 registers_have_no_suffix : bases_said (codes "               SFX  A" ∷ codes "               ZS   X1"
     ∷ codes "     X2        EQU  89" ∷ codes "               ZS   X2" ∷ [])
     ≡ None ∷ Some (bases.Register 1) ∷ Some (bases.Number 89) ∷ symbol (codes "X2    ") ∷ []

@@ -115,7 +115,7 @@ registers_and this line = registers_with_areas (registers_with this (label_of_li
 abbrev pub registers_of : List Line → Registers
 registers_of lines = fold registers_and no_registers lines
 
--- X1 to X3 are symbols where some line has them as its label
+-- X1 to X3 are symbols if some line has them as its label
 abbrev pub with_registers : Registers → Line → Line
 with_registers registers line = line_under (record { suffix = None; registers = registers }) line
 
@@ -123,7 +123,7 @@ with_registers registers line = line_under (record { suffix = None; registers = 
 abbrev pub registered : List Line → List Line
 registered lines = map (with_registers (registers_of lines)) lines
 
--- what lines say together, where they say this by themselves
+-- what lines say together, if they say this by themselves
 abbrev pub settled : List Line → List Line
 settled lines = registered (with_context nothing_above lines)
 

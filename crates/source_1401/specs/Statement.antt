@@ -137,7 +137,7 @@ is_unlabelled labels.Absent = true
 is_unlabelled labels.Malformed = false
 is_unlabelled (labels.Label label) = false
 
--- no label, where a field of areas needs one
+-- no label, and a field of areas needs one
 abbrev pub lacks_field_label : Statement → Bool
 lacks_field_label this = is_unlabelled this.label && is_of_field (describe this.body).label
 

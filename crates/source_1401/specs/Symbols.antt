@@ -51,7 +51,7 @@ is_any this = this.one || this.two || this.three
 abbrev pub is_labelled : Registers → ℕ → Bool
 is_labelled this number = if number == 1 then this.one else if number == 2 then this.two else this.three
 
--- X1 to X3 are index registers where they aren't labels
+-- X1 to X3 are index registers if they aren't labels
 abbrev pub base_under : SymbolRule → Base → Base
 base_under rule (bases.Number number) = bases.Number number
 base_under rule (bases.Symbol label) = bases.Symbol (suffixed rule.suffix label)

@@ -147,7 +147,7 @@ impl Context {
 }
 
 impl SuffixField {
-    /// The suffix below SFX, where there was this one above it.
+    /// The suffix below SFX, if there was this one above it.
     fn below(self, above: Option<u8>) -> Option<u8>
         ensures { result ≡ suffix_by self above }
     {
@@ -206,7 +206,7 @@ impl Registers {
         self.and_label_of(line.label()).and_areas(line.areas())
     }
 
-    /// What a line says, which has its suffix already, where these are labels.
+    /// What a line says, which has its suffix already, if these are labels.
     pub fn line(self, line: Line) -> Line
         ensures { result ≡ with_registers self line }
     {

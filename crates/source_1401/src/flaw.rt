@@ -58,7 +58,7 @@ pub enum OperandFlaw {
     NoTimes,
     /// No options of areas: G, C, 0 and one of X1 to X3, each once, with commas between them.
     NoOptions,
-    /// A literal, where the operation takes an address alone.
+    /// A literal, and the operation takes an address alone.
     Literal,
 }
 

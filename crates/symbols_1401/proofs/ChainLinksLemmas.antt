@@ -15,7 +15,7 @@ use Rattle.symbols_1401.specs.Chains.{beyond, onward, twice, twice_over, one_by_
 use Rattle.symbols_1401.specs.Symbols.{same_label}
 use Rattle.symbols_1401.specs.declared.chains.Link.{Link}
 
--- where there are no links no label has one
+-- if there are no links no label has one
 pub none_linked : (this : Chains) (label : Label) → this.links ≡ [] → link_of this label ≡ None
 none_linked this label none = by this.links (position (same_label label) this.labels) none
   where
@@ -318,7 +318,7 @@ followed_each n all [] known = tt
 followed_each n all (link ∷ links) known =
     (followed_one n all link (λ more. cc (known more)), followed_each n all links (λ more. cc (known more)))
 
--- if there are fewer links than a power of two, so many doublings follow each to the end of its chain
+-- doublings follow each link to the end of its chain, as many as the power of two that exceeds the number of links
 pub followed_by_doubling : (rounds : ℕ) (links : List Link) → length links < 2 ^ rounds
     → AllZip (IsFollowed links) links (twice_over rounds links)
 followed_by_doubling rounds links few = by (are_far rounds links)

@@ -29,7 +29,7 @@ as_label number = record { line = number; area = None }
 abbrev pub as_area : ℕ → AreaLiteral → Declaration
 as_area number area = record { line = number; area = Some area.places }
 
--- this declaration, where it is of the symbol
+-- this declaration, if it is of the symbol
 abbrev pub declared_if : Bool → Declaration → Option Declaration
 declared_if is_of_symbol declaration = if is_of_symbol then Some declaration else None
 

@@ -264,7 +264,7 @@ impl Chains {
         })
     }
 
-    /// The link that gives a label its value. Where there is none, no label is hashed.
+    /// The link that gives a label its value. If there is none, no label is hashed.
     #[tactic(auto, using(crate::proofs::ChainLinksLemmas::none_linked))]
     pub fn link_of(&self, label: Label) -> Option<Link>
         ensures { result ≡ link_of (chains_view self.now) label }

@@ -46,7 +46,7 @@ impl KeptLine {
         }
     }
 
-    /// Makes of the line what it says where these are labels.
+    /// Makes of the line what it says if these are labels.
     pub(crate) fn settle(&mut self, registers: Registers)
         ensures { self.new ≡ with_registers registers self.old }
     {

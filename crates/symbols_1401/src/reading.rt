@@ -79,7 +79,7 @@ fn read_in_context(alloc: Global, source: &[u8]) -> Result<LinesInContext, AsmFa
     Ok(LinesInContext { lines, registers })
 }
 
-/// Makes of each line what it says where these are labels.
+/// Makes of each line what it says if these are labels.
 fn settle_each(lines: &mut [KeptLine], registers: Registers)
     ensures { lines.new ≡ map (with_registers registers) lines.old }
 {
@@ -88,7 +88,7 @@ fn settle_each(lines: &mut [KeptLine], registers: Registers)
     }
 }
 
-/// Makes of each line what it says where these are labels. Where there are none, that is what it says already.
+/// Makes of each line what it says if these are labels. If there are none, that is what it says already.
 fn settle(lines: &mut [KeptLine], registers: Registers)
     ensures { lines.new ≡ map (with_registers registers) lines.old }
 {

@@ -25,7 +25,7 @@ abbrev pub telling : Result ⊤ SessionFault → Result ⊤ ConsoleFault
 telling (Ok _) = Ok tt
 telling (Err why) = Err (console.Ended why)
 
--- the bytes that a source has left and that a sink has received, where they are known
+-- the bytes that a source has left and that a sink has received, if they are known
 pub record Streams : Type 0 where
   pub left : Option (List ℕ)
   pub received : Option (List ℕ)

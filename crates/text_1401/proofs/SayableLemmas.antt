@@ -139,7 +139,7 @@ all_of {A} P (Some value ∷ all) h =
     All-cons P value (filter_map (λ each. each) all) (All-head Q (Some value) all h)
     (all_of P all (All-tail Q (Some value) all h))
 
--- whole lists of no more than so many
+-- a list of at most this length is whole if its places up to there are
 whole_if : {A : Type 0} (most : ℕ) (all : List (Option A)) → length all ≤ most
     → list_all is_some (take most all) ≡ true → list_all is_some all ≡ true
 whole_if most all few h = ap (list_all is_some) (sym (take_all most all few)) ∙ h

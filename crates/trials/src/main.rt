@@ -1,4 +1,4 @@
-//! The libraries by themselves: what a call that takes memory answers where it is refused, and how fast they are.
+//! The libraries by themselves: what a call that takes memory answers if it is refused, and how fast they are.
 //!
 //! The word names a trial. One of refused memory tells what its calls answered, and in the end the journal and the
 //! machine; a line that begins with `refused` tells of a call that was refused memory, and was then made once more.

@@ -37,7 +37,7 @@ fn command() -> Command {
     }
 }
 
-/// Times the commands of a room that isn't shared, or fewer where one is refused.
+/// Times the commands of a room that isn't shared, or fewer if one is refused.
 fn time_commands(rt: &impl Clock, teller: &mut Teller, room: &mut Room) {
     let start = Instant::now(rt);
     for _ in 0..COMMANDS {
@@ -58,7 +58,7 @@ fn time_room(rt: &impl Clock, teller: &mut Teller, alloc: Global) {
     }
 }
 
-/// Gives this many commands, or fewer where one is refused.
+/// Gives this many commands, or fewer if one is refused.
 fn give<J: RoomId, R: Wait>(rt: &R, room: &SharedRoom<J, &R>, seat: &mut Seat<J>, commands: u32) {
     for _ in 0..commands {
         if room.command(rt, seat, command()).is_err() {

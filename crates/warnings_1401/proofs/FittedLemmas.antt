@@ -63,7 +63,7 @@ zero_or_one_d : (d : Option ℕ) → (d_count d ≡ 0) ⊎ (d_count d ≡ 1)
 zero_or_one_d None = inl refl
 zero_or_one_d (Some graphic) = inr refl
 
--- a form has so many d-characters
+-- a form has this many d-characters
 abbrev has_d : DCharacter → ℕ → Bool
 has_d d.Never n = n == 0
 has_d (d.Fixed graphic) n = n == 1
@@ -81,7 +81,7 @@ d_is_had (d.Fixed graphic) most rest whole = refl
 d_is_had d.Optional most rest whole = refl
 d_is_had d.Required most rest whole = asked_is_there (d_at most rest) whole
 
--- a form has so many first and second operands, and d-characters
+-- a form has these numbers of first and second operands, and of d-characters
 abbrev has_counts : Form → ℕ → ℕ → ℕ → Bool
 has_counts form a b n =
     cond (form.most == 0) (a == 0) true
@@ -134,7 +134,7 @@ counts_of_form form columns good =
     (first_is_had form.most columns) (second_is_had form.most first.1) parts.1
     (d_is_had form.d form.most second.1 parts.0)
 
--- the machine carries out a row's instructions with so many operands and d-characters, if its form has them
+-- the machine carries out a row's instructions with these numbers of operands and d-characters, if its form has them
 abbrev fits : ARow → ℕ → ℕ → ℕ → Bool
 fits row a b n = not (has_counts (instruction_in row).form a b n) || is_fitted row.1 (1 + 3 * a + 3 * b + n)
 

@@ -239,7 +239,7 @@ fn the_largest_segment_at_the_last_places(rt: HostRuntime) {
     );
 }
 
-/// Checks that the image of a large text has so many segments, and is written as it was read.
+/// Checks that the image of a large text has this many segments, and is written as it was read.
 fn expect_many(rt: &(impl Abort + AllocGlobal), text: &[u8], count: usize) {
     let (found, again) = kept(rt, text);
     expect_same(rt, &found, &count, b"many segments");

@@ -76,7 +76,7 @@ fn expect_line(rt: &impl Abort, line: &PrintLine, number: u16) {
     expect_same(rt, line, &printed, number);
 }
 
-/// Compares printed lines with so many numbered ones.
+/// Compares printed lines with this many numbered ones.
 fn expect_lines(rt: &impl Abort, lines: &[PrintLine], count: u16) {
     expect_same(rt, &lines.len(), &usize::from(count), "lines");
     for (line, number) in lines.iter().zip(0..count) {
@@ -98,7 +98,7 @@ fn output_of(
     output
 }
 
-/// Compares what is put out with so many numbered lines, and with cards.
+/// Compares what is put out with this many numbered lines, and with cards.
 fn expect_output(rt: &impl Abort, output: &Collected, count: u16, cards: &[Card]) {
     expect_same(rt, &output.cards.as_slice(), &cards, "cards");
     expect_lines(rt, output.lines.as_slice(), count);
@@ -120,7 +120,7 @@ fn a_long_deck_is_read_printed_and_punched(rt: HostRuntime) {
     expect_long(&rt, &mut machine, cards.as_slice());
 }
 
-/// Lists and punches so many cards in at most so many steps, and compares how that ends.
+/// Lists and punches a number of cards within a limit of steps, and compares how that ends.
 fn expect_listed(rt: &(impl Abort + AllocGlobal), limit: u32, count: u16, wanted: JobEnd) {
     let mut machine = lister(rt);
     let cards = numbered(rt, count);

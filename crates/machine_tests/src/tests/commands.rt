@@ -19,7 +19,7 @@ fn expect_refused(rt: &impl Abort, machine: &mut Machine, command: Command, refu
     expect_answer(rt, machine, command, Answer::Refused(refusal));
 }
 
-/// Asks for so many cells from an address on.
+/// Asks for this many cells from an address on.
 fn examine(address: u16, count: u32) -> Command {
     Command::Examine { address, count }
 }

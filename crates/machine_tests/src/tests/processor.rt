@@ -19,7 +19,7 @@ fn a_size_that_is_none_is_refused(rt: HostRuntime) {
     expect_same(&rt, fault, Some(CoreFault::Size));
 }
 
-/// Whether threads may share what is lent, and hand it over: true, where this compiles.
+/// Whether threads may share what is lent, and hand it over: true, if this compiles.
 fn is_shared<T: Send + Sync>(_lent: &T) -> bool {
     true
 }

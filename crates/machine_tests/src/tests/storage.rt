@@ -95,7 +95,7 @@ fn a_field_ends_at_its_first_mark(rt: HostRuntime) {
     expect_pair(&rt, &core, 10, 130, None);
 }
 
-/// Compares how many places it is from one to the next above it with a word mark, but so many at most.
+/// Compares the distance from a place to the next one above it with a word mark, or the limit if that is less.
 fn expect_next_mark(rt: &impl Abort, core: &Core, at: u16, most: u16, next: u16) {
     assert!(rt; core.in_core(at) && 0 < most && most <= 64);
     expect_same_at(rt, core.next_mark(at, most), next, at);
@@ -153,7 +153,7 @@ fn expect_effective(rt: &impl Abort, core: &Core, address: u16) {
     expect_same(rt, core.effective(15_997), address);
 }
 
-/// Compares the address that these graphics name, where the first index register has those.
+/// Compares the address that these graphics name, when the first index register has those.
 fn expect_address(
     rt: &impl Abort,
     alloc: Global,
@@ -253,7 +253,7 @@ fn marked(rt: &impl Abort, alloc: Global, size: u16, at: u16) -> Core {
     core
 }
 
-/// Compares the length of the field at a place, where one place of 4,000 has a word mark.
+/// Compares the length of the field at a place, when one place of 4,000 has a word mark.
 fn expect_len_of_marked(rt: &impl Abort, alloc: Global, mark: u16, at: u16, len: Option<u16>) {
     expect_len(rt, &marked(rt, alloc, 4_000, mark), at, len);
 }
@@ -271,7 +271,7 @@ fn a_mark_is_found_across_words(rt: HostRuntime) {
     }
 }
 
-/// Compares the length of the shorter of the fields at two places, where one place of 4,000 has a word mark.
+/// Compares the length of the shorter of the fields at two places, when one place of 4,000 has a word mark.
 fn expect_pair_of_marked(
     rt: &impl Abort,
     alloc: Global,
@@ -312,7 +312,7 @@ fn expect_walked_len(rt: &impl Abort, core: &Core, at: u16) {
     expect_same_at(rt, core.field_len(at), walked_len(core, at), at);
 }
 
-/// Compares the length of each field with what a walk finds, where one place of 1,400 has a word mark.
+/// Compares the length of each field with what a walk finds, when one place of 1,400 has a word mark.
 fn expect_walked(rt: &impl Abort, alloc: Global, mark: u16) {
     let core = marked(rt, alloc, 1_400, mark);
     for at in 0..core.size() {
@@ -335,7 +335,7 @@ fn expect_one_word(rt: &impl Abort, words: &[u64], word: usize) {
     }
 }
 
-/// Expects that this word alone has a word mark, where one place of 1,400 has one.
+/// Expects that this word alone has a word mark, when one place of 1,400 has one.
 fn expect_word(rt: &impl Abort, alloc: Global, mark: u16, word: usize) {
     let core = marked(rt, alloc, 1_400, mark);
     expect_one_word(rt, core.mark_words(), word);

@@ -61,7 +61,7 @@ fn expect_sessions(rt: &(impl Abort + AllocGlobal), rows: &[(&str, &str, Session
     }
 }
 
-/// These bytes, a text so many times, and other bytes.
+/// These bytes, a text repeated, and other bytes.
 fn repeated(
     rt: &(impl Abort + AllocGlobal),
     first: &[u8],

@@ -58,7 +58,7 @@ fn consoles_go_on_after_a_refused_connection(rt: HostRuntime) {
     expect_evening(&rt, 2, &EARLY);
 }
 
-/// Two operators, one after the other. There is room for one command where the room is kept.
+/// Two operators, one after the other. There is room for one command if the room is kept.
 const TWO_VISITS: Evening = Evening {
     room_for: 1,
     acts: &[

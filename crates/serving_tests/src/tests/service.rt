@@ -31,7 +31,7 @@ pub struct Evening {
     pub holds: bool,
     /// Whether the first operator is connected before anyone is served, and nobody else is accepted.
     pub is_early: bool,
-    /// How many commands there is room for where the room is kept.
+    /// How many commands there is room for if the room is kept.
     pub room_for: u64,
     /// What the operators do. Then the input may come.
     pub acts: &'static [Act],

@@ -5,12 +5,12 @@ use notation_1401::{CellsFault, put_digits};
 use std::alloc::Global;
 use std::process::Abort;
 
-/// Adds the digits of a number, at least so many, to a text.
+/// Adds the digits of a number, and zeros before them up to the width, to a text.
 fn put(rt: &impl Abort, text: &mut Vec<u8>, digits: u8, number: u64) {
     put_digits(text, digits, number).expect(rt, "room");
 }
 
-/// Writes numbers, each of at least so many digits, which must have this text.
+/// Writes numbers, each of at least this many digits, which must have this text.
 fn are_put(rt: &impl Abort, alloc: Global, rows: &[(u8, u64)], wanted: &str) {
     let mut text = Vec::new(alloc);
     for (digits, number) in rows {

@@ -10,7 +10,7 @@ use std::marker::Brand;
 use std::process::Abort;
 use std::sync::Wait;
 
-/// The digit of a number, or a star where it has more than one.
+/// The digit of a number, or a star if it has more than one.
 fn digit(number: u64) -> u8 {
     if number < 10 {
         b'0' + number as u8

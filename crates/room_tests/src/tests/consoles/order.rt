@@ -85,7 +85,7 @@ fn expect_turn<R: Source, W: Sink>(
 }
 
 /// Has a session for each row at one room, on the same lines and paper, and compares how it ends, how many commands are
-/// then in the journal, and the record. Where a row says so, a new reader takes up what the one before it has left.
+/// then in the journal, and the record. If a row says so, a new reader takes up what the one before it has left.
 fn expect_turns(
     rt: &(impl Abort + AllocGlobal),
     (lines, read_fails_at): (&str, usize),

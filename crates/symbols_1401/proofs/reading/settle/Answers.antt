@@ -1,4 +1,4 @@
--- Where no line has X1 to X3 as its label, each says what it says already.
+-- If no line has X1 to X3 as its label, each says what it says already.
 use Rattle.std.proofs.Common.{sym, ◌∙◌}
 use Rattle.source_1401.proofs.ContextLemmas.{all_without_registers}
 use Rattle.symbols_1401.proofs.reading.settle.Goals as goal

@@ -1,4 +1,4 @@
--- The lines so far say what they say where these are labels.
+-- The lines so far say what they say if these are labels.
 use Rattle.std.proofs.Common.{◌≡◌, ◌++◌, map, take, drop}
 use Rattle.source_1401.specs.Context.{with_registers}
 use Rattle.symbols_1401.proofs.reading.settle_each.Given as goal

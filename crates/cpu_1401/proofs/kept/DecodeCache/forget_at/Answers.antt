@@ -1,4 +1,4 @@
--- Where a place isn't covered nothing is kept.
+-- If a place isn't covered nothing is kept.
 use Rattle.std.proofs.Common.{◌≡◌, ◌∙◌, ℕ, List, false, ap, sym, arith, subst}
 use Rattle.core_1401.specs.PlaceSet.{has_place}
 use Rattle.cpu_1401.specs.Kept.{Kept, IsApart}

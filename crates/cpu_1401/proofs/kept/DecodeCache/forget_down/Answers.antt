@@ -1,4 +1,4 @@
--- Where no place is covered nothing is kept; 64 places are all that were written.
+-- If no place is covered nothing is kept; 64 places are all that were written.
 use Rattle.std.proofs.Common.{◌≡◌, ◌+◌, ◌≤◌, ◌<◌, ℕ, List, ap, sym, arith, subst, inl, inr, if◌then◌else◌}
 use Rattle.std.proofs.lemmas.Bool.{cases_lt, lt-ltb, le-ltb}
 use Rattle.core_1401.specs.PlaceSet.{HasNone}

@@ -1,4 +1,4 @@
--- Where no place is covered nothing is kept.
+-- If no place is covered nothing is kept.
 use Rattle.std.proofs.Common.{◌≡◌, ◌+◌, ◌-◌, ◌≤◌, ◌<◌, ◌∙◌, ℕ, List, ap, sym, arith, subst, if◌then◌else◌}
 use Rattle.std.proofs.lemmas.Bool.{lt-ltb, le-ltb}
 use Rattle.core_1401.specs.PlaceSet.{HasNone}
