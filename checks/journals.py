@@ -77,6 +77,7 @@ def refused(room):
         path.write_bytes(text)
         told = f"ibm1401: {path}: {fault}\n"
         expect(f"{name}: checked", run([PROGRAM, "journal", "--check", path]), 1, b"", told)
+        expect(f"{name}: not shown", run([PROGRAM, "journal", path]), 1, b"", told)
         expect(f"{name}: taken up", run([PROGRAM, "resume", path]), 1, b"", told)
         holds(f"{name}: left as it is", path, text)
     path.write_bytes(TEXT[:-1])
