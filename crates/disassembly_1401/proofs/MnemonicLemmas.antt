@@ -25,8 +25,8 @@ says says_d addresses (Some d) (kinds.Fixed graphic) = says_d && (graphic == d)
 says says_d addresses (Some d) kinds.Optional = not says_d && nat_lt 0 addresses
 says says_d addresses (Some d) kinds.Required = not says_d
 
--- whether an instruction of the assembler is of an operation with this many addresses, and a d-character as the mnemonic
--- says it; one that is written follows as many addresses as there can be
+-- whether an instruction of the assembler is of an operation with this many addresses, and a d-character as the
+-- mnemonic says it; one that is written follows as many addresses as there can be
 abbrev pub is_as : Mnemonic → ℕ → ℕ → Option ℕ → Instruction → Bool
 is_as mnemonic operation addresses d instruction =
     (instruction.operation == operation) && nat_le instruction.form.least addresses

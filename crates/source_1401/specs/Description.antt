@@ -68,7 +68,7 @@ field_row rule span =
       areas = areas.Divides span;
     }
 
--- the rows of EQU, ORG, EX and END whose operands are as they ask, of ORG if it may have a label
+-- the rows of EQU, ORG, EX and END whose operands are as they ask; that of ORG is for one that may have a label
 abbrev pub equate_row : Operands → Description
 equate_row of =
     record plain {

@@ -18,7 +18,7 @@ names_autocoder columns = bytes_eq (word_in columns) (codes "AUTOCODER")
 abbrev pub is_job_line : List ℕ → Bool
 is_job_line columns = not (is_comment columns) && is_job (columns_in 16 20 columns)
 
--- what a heading says is any bytes 32 to 126, if the columns for operands of other lines hold graphics
+-- a byte can't stand in its column: JOB may have any bytes 32 to 126 outside of columns 6 to 20
 abbrev pub has_wide_foreign_bytes : List ℕ → Bool
 has_wide_foreign_bytes columns =
     if is_job_line columns

@@ -25,7 +25,7 @@ abbrev pub plus_sign_for : Bool → Bool → ℕ → List ℕ → ℕ
 plus_sign_for is_quoted begins byte more =
     if (byte == ampersand) && not is_quoted && not (begins && is_word_end more) then plus_sign else byte
 
--- operands with plus signs for `&`, if these begin within two at signs or not, and with a word or not
+-- operands with plus signs for `&`, by whether they begin between at signs, and whether a word begins there
 abbrev pub plus_signs_from : Bool → Bool → List ℕ → List ℕ
 plus_signs_from is_quoted begins [] = []
 plus_signs_from is_quoted begins (byte ∷ more) =

@@ -318,7 +318,7 @@ followed_each n all [] known = tt
 followed_each n all (link ∷ links) known =
     (followed_one n all link (λ more. cc (known more)), followed_each n all links (λ more. cc (known more)))
 
--- doublings follow each link to the end of its chain, as many as the power of two that exceeds the number of links
+-- with fewer links than 2 ^ rounds, these rounds of doubling follow each link to the end of its chain
 pub followed_by_doubling : (rounds : ℕ) (links : List Link) → length links < 2 ^ rounds
     → AllZip (IsFollowed links) links (twice_over rounds links)
 followed_by_doubling rounds links few = by (are_far rounds links)

@@ -78,7 +78,7 @@ with_link this label (Some link) =
     if list_any (same_label label) this.labels then this
     else record { labels = this.labels ++ label ∷ []; links = this.links ++ link ∷ [] }
 
--- a statement on the line of this number may be one, if its own label is declared
+-- a statement may be a link if the line of this number declares its label
 abbrev pub with_labelled : Sites → ℕ → Chains → Option Label → Addressing → Chains
 with_labelled sites number this None asked = this
 with_labelled sites number this (Some label) asked =
