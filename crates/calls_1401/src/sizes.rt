@@ -7,7 +7,7 @@ use crate::call::DEFAULT_SIZE;
 use core_1401::Core;
 use source_1401::{Language, size_asked};
 
-/// Whether a size is named of which no core storage is made.
+/// Whether a size was given that no machine has.
 pub fn is_refused(named: Option<u16>) -> bool
     ensures { result ≡ is_refused named }
 {

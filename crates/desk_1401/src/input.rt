@@ -60,7 +60,7 @@ fn is_quit(matched: Option<u8>) -> bool
     }
 }
 
-/// How much of QUIT and a carriage return a line is with one byte more, if it is a part of them.
+/// How many bytes of QUIT and a carriage return have matched after this byte, if all of the line has.
 fn match_more(matched: Option<u8>, byte: u8) -> Option<u8>
     requires { IfSome matched (λ count. count ≤ 5) }
     ensures { IfSome result (λ count. MatchesMore matched byte count) }

@@ -159,7 +159,7 @@ fn pending_spellings<'b>(so_far: &'b Placing<'_>) -> &'b [Literal]
     }
 }
 
-/// How the literals were first written that a statement here places, of which this becomes of the next place.
+/// The literals that a statement with this effect on the location counter places, as they were first written.
 fn literals_by<'b>(so_far: &'b Placing<'_>, next: Next) -> &'b [Literal]
     ensures { result.now ≡ literals_by (places_of so_far.now) next }
 {

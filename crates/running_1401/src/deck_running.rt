@@ -202,8 +202,8 @@ fn run_stretch<'d, W: Sink, P: Sink, F: Sink>(
 }
 
 /// Runs a machine with a deck until it stops or until this many instructions were carried out. What it prints and
-/// punches is written every 500 steps at the latest, and the watch is told as often how far it is. Of the
-/// cards that were held at first, as many as are said here, those that aren't left were read.
+/// punches is written every 500 steps at the latest, and the watch hears as often how far it is. `held` is how many
+/// cards there were at the start.
 fn run_deck<'d, W: Sink, P: Sink, F: Sink, T: Watch>(
     alloc: Global,
     machine: &mut Machine,

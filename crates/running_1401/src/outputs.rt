@@ -93,7 +93,7 @@ pub(crate) fn create_outputs<R: Files + AllocGlobal>(
     })
 }
 
-/// A new file, in place of one of the name, if there is a name.
+/// Creates or truncates the file, if one was named.
 fn create_if_named<R: Files + AllocGlobal>(
     rt: &R,
     name: &Option<String>,
@@ -109,7 +109,7 @@ fn create_if_named<R: Files + AllocGlobal>(
     }
 }
 
-/// A new file, in place of one of the name.
+/// Creates or truncates the file of this name.
 fn create_named<R: Files + AllocGlobal>(rt: &R, name: &str) -> Result<ToWriter<R::File>, RunFault>
     ensures { IfErr result (IsUnwrittenFile (Some name.now)) }
 {
