@@ -72,9 +72,21 @@ def of_script(text):
         yield number, found[1] if found else ""
 
 
+def of_html(text):
+    """The comments of a page in HTML, and its texts: those between quotation marks that have a blank."""
+    comments = {number for found in re.finditer(r"/\*.*?\*/|<!--.*?-->", text, re.DOTALL)
+                for number in range(text.count("\n", 0, found.start()), text.count("\n", 0, found.end()) + 1)}
+    for number, line in enumerate(text.splitlines()):
+        if number in comments:
+            yield number + 1, line
+        else:
+            for quoted in re.findall(r"'([^']* [^']*)'", line):
+                yield number + 1, quoted
+
+
 READERS = {
     ".md": of_page,
-    ".html": of_page,
+    ".html": of_html,
     ".rt": of_rattle,
     ".antt": of_definitions,
     ".py": of_python,
