@@ -60,6 +60,18 @@ class Tree(unittest.TestCase):
         twice = {name for name in listed if len(re.findall(rf"`{name}`[:,]", families)) > 1}
         self.assertEqual(twice, set())
 
+    def test_architecture_says_whose_lemmas_the_proofs_of_each_crate_use(self):
+        shown = set()
+        for row in tables(DOCS / "ARCHITECTURE.md"):
+            if len(row) == 3 and set(names_in(row[0])) & self.crates():
+                shown |= {(user, lower) for user in names_in(row[0]) for lower in names_in(row[1])}
+        found = set()
+        for crate in self.crates():
+            for path in (TOP / "crates" / crate).rglob("*.antt"):
+                lemmas = re.findall(r"^use Rattle\.(\w+)\.proofs\.", path.read_text(), re.MULTILINE)
+                found |= {(crate, lower) for lower in lemmas if lower in self.crates() - {crate}}
+        self.assertEqual(sorted(shown), sorted(found))
+
     def test_no_other_page_lists_the_crates(self):
         for page in [TOP / "README.md", *sorted(DOCS.glob("*.md"))]:
             if page.name in ("ARCHITECTURE.md", "THEOREMS.md"):
