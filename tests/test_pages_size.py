@@ -80,6 +80,10 @@ class Tree(unittest.TestCase):
                 named = set(names_in(page.read_text())) & self.crates()
                 self.assertLess(len(named), len(self.crates()) / 2)
 
+    def test_readme_leads_to_each_page(self):
+        linked = set(re.findall(r"\]\(docs/(\w+\.md)", (TOP / "README.md").read_text()))
+        self.assertEqual({page.name for page in DOCS.glob("*.md")} - linked, set())
+
     def test_each_file_that_a_page_names_is_there(self):
         for page in sorted(DOCS.glob("*.md")):
             text = page.read_text()
