@@ -114,6 +114,25 @@ class Tree(unittest.TestCase):
                     self.assertTrue(last in known, "no call, clause or definition has this name")
 
 
+    def test_the_clauses_of_a_theorem_are_those_of_its_call(self):
+        contracts, clauses = {}, set()
+        for path in (TOP / "crates").glob("*/src/**/*.rt"):
+            text = path.read_text()
+            clauses |= set(re.findall(r"\bensures\*? (\w+) \{", text))
+            for part in re.split(r"^ *(?:pub(?:\(crate\))? )?fn (?=\w)", text, flags=re.MULTILINE)[1:]:
+                name = re.match(r"\w+", part)[0]
+                contracts[name] = contracts.get(name, "") + re.split(r"^ *\{|;$", part, maxsplit=1, flags=re.MULTILINE)[0]
+        contract = ""
+        for row in tables(DOCS / "THEOREMS.md"):
+            if len(row) < 4 or row[0].startswith("---"):
+                continue
+            if row[0]:
+                contract = "".join(contracts.get(name.split("::")[-1], "") for name in names_in(row[0]))
+            for name in set(names_in(row[1])) & clauses if contract else ():
+                with self.subTest(call=row[0], clause=name):
+                    self.assertRegex(contract, rf"\b{name}\b")
+
+
 class English(unittest.TestCase):
     def test_no_file_has_more_of_our_worn_words_than_its_ceiling(self):
         most = words.ceilings()
