@@ -121,7 +121,7 @@ class Tree(unittest.TestCase):
             clauses |= set(re.findall(r"\bensures\*? (\w+) \{", text))
             for part in re.split(r"^ *(?:pub(?:\(crate\))? )?fn (?=\w)", text, flags=re.MULTILINE)[1:]:
                 name = re.match(r"\w+", part)[0]
-                contracts[name] = contracts.get(name, "") + re.split(r"^ *\{|;$", part, maxsplit=1, flags=re.MULTILINE)[0]
+                contracts[name] = contracts.get(name, "") + re.split(r"^ *\{$", part, maxsplit=1, flags=re.MULTILINE)[0]
         contract = ""
         for row in tables(DOCS / "THEOREMS.md"):
             if len(row) < 4 or row[0].startswith("---"):
