@@ -2,6 +2,7 @@
 
 The program is the built one, or the one that the environment variable IBM1401 names."""
 import http.client
+import inspect
 import os
 import random
 import re
@@ -13,6 +14,9 @@ import tempfile
 import time
 import unittest
 from pathlib import Path
+
+# unittest leaves the lines of this module out of a traceback.
+__unittest = True
 
 TOP = Path(__file__).resolve().parent.parent
 TESTS = TOP / "tests"
@@ -98,6 +102,14 @@ def misuse(error, usage=""):
     return f"error: {error}\n\n{shown}For more information, try '--help'.\n"
 
 
+def caller():
+    """The file and the line of the test that called what is here."""
+    frame = inspect.currentframe()
+    while frame.f_code.co_filename == __file__:
+        frame = frame.f_back
+    return f"{Path(frame.f_code.co_filename).name}:{frame.f_lineno}"
+
+
 class ProgramTest(unittest.TestCase):
     """A test of the program. Each assertion here is a subtest with a name, so that one failure doesn't hide another."""
 
@@ -110,11 +122,21 @@ class ProgramTest(unittest.TestCase):
             self.own_folder = Path(made.name).resolve()
         return self.own_folder
 
+    @property
+    def top(self):
+        """A folder like the top of the repository, in which ./ibm1401 is the program, and not what builds it."""
+        made = self.folder / "top"
+        if not made.exists():
+            made.mkdir()
+            for each in TOP.iterdir():
+                (made / each.name).symlink_to(PROGRAM if each == LAUNCHER else each)
+        return made
+
     def check(self, name, wrong):
         """A subtest that fails with what is wrong, a text or a list of texts, if anything is."""
         with self.subTest(name):
             if wrong:
-                self.fail(wrong if isinstance(wrong, str) else "; ".join(map(str, wrong)))
+                self.fail(f"{caller()}: {wrong if isinstance(wrong, str) else '; '.join(map(str, wrong))}")
 
     def same(self, name, found, wanted):
         """A subtest: a value is the wanted one. A wanted text that ends in '...' is its beginning."""

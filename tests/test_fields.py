@@ -1,7 +1,9 @@
 """Operations on fields as tables, worked out by hand from the manual's rules: each row is a session of its own. As on
 the console '~' before a graphic is its word mark."""
-from checks.report import count
-from checks.sessions import GRAPHICS, Session, hold, registers
+import unittest
+
+from tests.session_texts import GRAPHICS, Session, registers, wrong_in
+from tests.support import ProgramTest
 
 # The operation, the A field, the B field, the B field afterwards, and whether it overflows.
 SUMS = r"""
@@ -259,11 +261,32 @@ def refused():
             yield Session(f"{operation} {cells}", size, given)
 
 
-def fields():
+class Fields(ProgramTest):
     """The operations of the tables, each row at a machine of its own."""
-    named = []
-    for table, least in (sums, 66), (comparisons, 21), (edits, 9), (suppressed, 6), (on_itself, 7), (refused, 12):
-        held = list(table())
-        count(f"sessions: {table.__name__.replace('_', ' ')}", len(held), least)
-        named.append((f"fields: {table.__name__.replace('_', ' ')}", held))
-    hold(named)
+
+    def hold(self, sessions):
+        """A subtest for each session."""
+        for session in sessions:
+            self.check(session.name, wrong_in(session))
+
+    def test_sums_and_differences(self):
+        self.hold(sums())
+
+    def test_comparisons(self):
+        self.hold(comparisons())
+
+    def test_edits(self):
+        self.hold(edits())
+
+    def test_suppressed_zeros(self):
+        self.hold(suppressed())
+
+    def test_a_field_on_itself(self):
+        self.hold(on_itself())
+
+    def test_what_is_refused_leaves_the_cells_as_they_are(self):
+        self.hold(refused())
+
+
+if __name__ == "__main__":
+    unittest.main()
