@@ -6,6 +6,7 @@ import inspect
 import os
 import random
 import re
+import resource
 import select
 import signal
 import socket
@@ -241,6 +242,16 @@ class Console(socket.socket):
             return self.hear()
 
 
+def at_most(handles):
+    """How a process is started that may have this many handles of the system."""
+    return {"preexec_fn": lambda: resource.setrlimit(resource.RLIMIT_NOFILE, (handles, handles))}
+
+
+def a_port():
+    """A free port, as a word."""
+    return str(free_ports(1))
+
+
 def free_ports(many):
     """The first of this many ports in a row that are free, below those that the system gives to connections."""
     while True:
@@ -342,6 +353,16 @@ class Server:
     def handles(self):
         """How many handles of the system the program has open."""
         return len(os.listdir(f"/proc/{self.process.pid}/fd"))
+
+    def settle(self, handles):
+        """Waits until the program has this many handles open and each of its threads waits for something."""
+        def has_settled():
+            tasks = Path(f"/proc/{self.process.pid}/task").iterdir()
+            states = [(task / "stat").read_text().rpartition(")")[2].split()[0] for task in tasks]
+            return self.handles() == handles and set(states) == {"S"}
+
+        if not wait_until(has_settled):
+            raise TimeoutError(f"the program has {self.handles()} handles, not {handles}")
 
     def memory(self):
         """How many kilobytes the program has in memory."""
