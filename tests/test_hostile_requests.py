@@ -2,11 +2,9 @@
 them."""
 import random
 import re
+import unittest
 
-from checks.asking import PAGE, PageRoom, after, ask, exchange, expect_made, expect_refused, expect_unchanged
-from checks.asking import expect_within, get, made, status
-from checks.report import count, tell
-from checks.service import answer
+from tests.support import PAGE, ProgramTest, ask, exchange, status
 
 # What a damaged request has in place of a byte.
 DAMAGES = b"\0\t\n\r %&/09:;=a\xff"
@@ -79,19 +77,6 @@ def hostile(port):
     ]
 
 
-def hostile_requests():
-    """Each of them is refused as it should be at a new machine's page, and none is a command."""
-    room = PageRoom(3)
-    port = room.port + 1
-    answer("a request of no byte", exchange(port, b""), b"")
-    rows = hostile(port)
-    for name, request, refused in rows:
-        expect_refused(f"a hostile request: {name}", ask(port, request.encode("latin-1")), refused)
-    count("hostile requests", len(rows), 50)
-    expect_made("no hostile request is a command", room, 2, 0)
-    room.ended("a room ends after them", 0)
-
-
 def damaged_at(request):
     """A request that is cut off, or has another byte, at each of its places."""
     for place in range(len(request)):
@@ -103,33 +88,6 @@ def damaged_at(request):
 def is_answered(request, response):
     """Whether a request is answered as HTTP; or not at all, if it has no byte."""
     return response.startswith(b"HTTP/1.") if request else not response
-
-
-def damaged_everywhere(name, lines):
-    """A request with these lines, damaged at each place, is answered as HTTP; no command comes of it, and the page is
-    served after that."""
-    room = PageRoom(3)
-    port = room.port + 1
-    request = "\r\n".join(lines).format(host=f"127.0.0.1:{port}").encode()
-    requests = list(damaged_at(request))
-    answers = [ask(port, each) if each else exchange(port, each) for each in requests]
-    wrong = [f"{each!r}: {found[:80]!r}" for each, found in zip(requests, answers) if not is_answered(each, found)]
-    count(f"damaged requests {name}", len(requests), 2_000)
-    tell("each of them is answered", "; ".join(wrong[:5]))
-    expect_within("the page after them", get(port, "/"), "HTTP/1.1 200 ", PAGE)
-    expect_made("and no command of theirs", room, 2, 0)
-    room.ended("a room ends after them", 0)
-
-
-def damaged_at_each_place():
-    """A request for a picture; and a line whose number isn't the seat's, and no damage of one byte makes it so."""
-    host = ["Host: {host}", "Origin: http://{host}"]
-    damaged_everywhere("for a picture", [
-        "GET /picture?core=0400&paper=0&after=187 HTTP/1.1", *host, "Accept: text/plain", "", ""
-    ])
-    damaged_everywhere("that bring a line", [
-        "POST /line HTTP/1.1", *host, "X-1401-Line: 187", "Content-Length: 10", "", "START 0500"
-    ])
 
 
 def damaged(chance, request):
@@ -151,27 +109,71 @@ def damaged(chance, request):
     return bytes(octets)
 
 
-def damaged_by_chance(room):
-    """Requests damaged by chance, and the machine, the server and its memory after them. One that names the seat's
-    count is left out: the port's last digits can come to stand there, and then it is as good as the page's own."""
-    chance = random.Random(SEED)
-    good = re.compile(rb"\r\nX-1401-Line:[ \t]*0*%d[ \t]*\r\n" % made(room, 1), re.IGNORECASE)
-    port, before, memory = room.port, after(room), room.memory()
+class Hostile(ProgramTest):
+    """Each request is refused as it should be at a new machine's page, and none is a command."""
+
+    def pages(self, seats):
+        """A room with a page for each seat."""
+        return self.room("serve", seats=seats, pages=True, consoles=False)
+
+    def test_hostile_requests(self):
+        room = self.pages(3)
+        port = room.page + 1
+        self.same("a request of no byte", exchange(port, b""), b"")
+        for name, request, refused in hostile(port):
+            self.refused(name, ask(port, request.encode("latin-1")), refused)
+        self.same("none of them is a command", room.made(2), 0)
+        self.ended(room, "the room", 0)
+
+    def test_a_picture_damaged_at_each_place(self):
+        self.hold_damaged("GET /picture?core=0400&paper=0&after=187 HTTP/1.1", "Accept: text/plain", "", "")
+
+    def test_a_line_damaged_at_each_place(self):
+        """Its number isn't the seat's, and no damage of one byte makes it so."""
+        self.hold_damaged("POST /line HTTP/1.1", "X-1401-Line: 187", "Content-Length: 10", "", "START 0500")
+
+    def hold_damaged(self, first, *rest):
+        """Subtests: a request with these lines, damaged at each place, is answered as HTTP; no command comes of it, and
+        the page is served after that."""
+        room = self.pages(3)
+        port = room.page + 1
+        lines = [first, f"Host: 127.0.0.1:{port}", f"Origin: http://127.0.0.1:{port}", *rest]
+        requests = list(damaged_at("\r\n".join(lines).encode()))
+        answers = [ask(port, each) if each else exchange(port, each) for each in requests]
+        wrong = [f"{each!r}: {found[:80]!r}" for each, found in zip(requests, answers) if not is_answered(each, found)]
+        self.check(f"each of {len(requests)} is answered", wrong[:5])
+        self.within("the page after them", room.get(2, "/"), "HTTP/1.1 200 ", PAGE)
+        self.same("and no command of theirs", room.made(2), 0)
+        self.ended(room, "the room", 0)
+
+    def test_damaged_by_chance(self):
+        """The machine, the server and its memory stay. A request that names the seat's count is left out: the port's
+        last digits can come to be there, and then it is as good as the page's own."""
+        room, chance, found = self.pages(2), random.Random(SEED), {}
+        room.post(1, "START 2", 0)
+        before, memory, whole = room.after(), room.memory(), requests_to(room.page)
+        good = re.compile(rb"\r\nX-1401-Line:[ \t]*0*%d[ \t]*\r\n" % room.made(), re.IGNORECASE)
+        for turn in range(DAMAGED):
+            request = damaged(chance, whole[turn % len(whole)].encode())
+            if not good.search(request):
+                reply = exchange(room.page, request)
+                kind = status(reply) if reply else 0
+                found[kind] = found.get(kind, 0) + 1
+        known = {0, 200, 204, 400, 403, 404, 405, 409, 413, 414, 431, 501, 505}
+        self.same("answers of other kinds", [kind for kind in found if kind not in known], [])
+        self.unchanged("they leave the machine as it was", room, before)
+        more = room.memory() - memory
+        self.check("and the program's memory", "" if more <= MORE_KILOBYTES else f"{more} kilobytes more")
+        self.ended(room, "the room", before)
+
+
+def requests_to(port):
+    """A request of each route, with a number that isn't the seat's, the last one in chunks."""
     own = f"Host: 127.0.0.1:{port}\r\nOrigin: http://127.0.0.1:{port}\r\nX-1401-Line: 777777\r\n"
-    whole = [f"GET / HTTP/1.1\r\n{own}\r\n", f"GET /picture?core=0400&paper=0&after=7 HTTP/1.1\r\n{own}\r\n",
-             f"POST /line HTTP/1.1\r\n{own}Content-Length: 10\r\n\r\nSTART 0400",
-             f"POST /line HTTP/1.1\r\n{own}Transfer-Encoding: chunked\r\n\r\n5\r\nSTART\r\n5\r\n 0400\r\n0\r\n\r\n"]
-    found = {}
-    for turn in range(DAMAGED):
-        request = damaged(chance, whole[turn % len(whole)].encode())
-        if good.search(request):
-            continue
-        reply = exchange(port, request)
-        kind = status(reply) if reply else 0
-        found[kind] = found.get(kind, 0) + 1
-    known = {0, 200, 204, 400, 403, 404, 405, 409, 413, 414, 431, 501, 505}
-    wrong = sorted(str(kind) for kind in found if kind not in known)
-    tell(f"{sum(found.values())} damaged requests get {len(found)} kinds of answers", ", ".join(wrong))
-    expect_unchanged("they leave the machine as it was", room, before)
-    more = room.memory() - memory
-    tell("and the program's memory", "" if more <= MORE_KILOBYTES else f"{more} kilobytes more")
+    return [f"GET / HTTP/1.1\r\n{own}\r\n", f"GET /picture?core=0400&paper=0&after=7 HTTP/1.1\r\n{own}\r\n",
+            f"POST /line HTTP/1.1\r\n{own}Content-Length: 10\r\n\r\nSTART 0400",
+            f"POST /line HTTP/1.1\r\n{own}Transfer-Encoding: chunked\r\n\r\n5\r\nSTART\r\n5\r\n 0400\r\n0\r\n\r\n"]
+
+
+if __name__ == "__main__":
+    unittest.main()
