@@ -47,7 +47,7 @@ class Browser(ProgramTest):
 
     def shows(self, name, expression, wanted=True, page=None):
         """A subtest: an expression in the page comes to a value."""
-        self.same(name, (page or self.page).until(expression), wanted)
+        self.same(name, (page or self.page).until(expression, wanted), wanted)
 
 
 class Window(Browser):
@@ -220,7 +220,11 @@ class KeysAlone(Browser):
 
     def test_tab_goes_to_every_part(self):
         page = self.page
-        page.value("feedDeck(LISTING, TEXTS.fedListing)")
+        punched = "for (const line of ['DEPOSIT 0400 ~4~.', 'START 0400', 'RUN 1']) await say(line);"
+        page.value(f"(async () => {{ {punched} }})()")
+        self.shows("a card is punched", "byId('STACKER').textContent", "001")
+        page.press("k", "KeyK", 1)
+        self.shows("the keypunch is open", "document.activeElement.id", "keyed")
         page.value("document.activeElement.blur(), window.outlineOf = e => getComputedStyle(e).outlineStyle, 0")
         reached, unseen = set(), []
         for _ in range(100):

@@ -84,7 +84,7 @@ class Refused(ProgramTest):
         self.check("nothing is made", "there is a file" if self.none.exists() else "")
 
     def test_permission_denied(self):
-        """Files that may not be read, and places that may not be written. Root may do both, so a run of root is nobody's."""
+        """Files that may not be read, and places that may not be written. Root may do both, so its run is nobody's."""
         how = {"user": "nobody", "extra_groups": []} if os.geteuid() == 0 else {}
         secret, locked = self.folder / "secret", self.folder / "locked"
         secret.write_text(HALT)

@@ -1,46 +1,41 @@
 """The calls of the crates that take memory, each with each growth of memory refused in turn.
 
-The program of crates/trials makes each call, tells a refusal, and makes the call again: what it tells besides must be what
-it tells where nothing is refused. Its trials end with the whole journal and the whole machine."""
-import os
-import shutil
-import subprocess
-import tempfile
+The program of crates/trials makes each call, reports a refusal, and makes the call again: what it says besides must be
+what it says where nothing is refused. Its trials end with the whole journal and the whole machine."""
+import unittest
 from functools import cache, partial
-from pathlib import Path
 
-from checks.growth import LINES, Refusing, without
-from checks.report import TOP, difference, run, tell
+from tests.preloaded import needs_compiler
+from tests.refused_growth import LINES, each_growth, without
+from tests.support import TRIALS, ProgramTest, difference, run
 
-TRIAL = TOP / "crates/trials/out/trials"
 SESSION = (*LINES, b"QUIT\n")
 QUESTION = (b"DEPOSIT 0500 ~0K\n", b"EXAMINE 0500 2\n", b"QUIT\n")
 PROGRAM_RUN = (b"RUN 10\n", b"EXAMINE 0418 3\n")
-# Each call that is made again where it was refused, with the refusals that it must have met, and how many growths it
-# was seen to ask for.
+# Each call that is made again where it was refused, with the refusals that it must have met.
 AGAIN = [
-    ("core", {"Memory"}, 6),
-    ("devices", {"Memory"}, 8),
-    ("machine", {"Memory"}, 10),
-    ("room", {"Memory"}, 10),
-    ("shared", {"Memory"}, 215),
-    ("command", {"Memory"}, 36),
-    ("assemble", {"Memory"}, 92),
-    ("assemble_image", {"Memory"}, 53),
-    ("write_image", {"Memory"}, 10),
-    ("read_image", {"Memory"}, 7),
-    ("reply_text", {"Memory"}, 28),
-    ("carry", {"Memory"}, 15),
-    ("reserve", {"Memory"}, 26),
-    ("put_image", {"Memory"}, 16),
-    ("notes", {"Memory"}, 57),
+    ("core", {"Memory"}),
+    ("devices", {"Memory"}),
+    ("machine", {"Memory"}),
+    ("room", {"Memory"}),
+    ("shared", {"Memory"}),
+    ("command", {"Memory"}),
+    ("assemble", {"Memory"}),
+    ("assemble_image", {"Memory"}),
+    ("write_image", {"Memory"}),
+    ("read_image", {"Memory"}),
+    ("reply_text", {"Memory"}),
+    ("carry", {"Memory"}),
+    ("reserve", {"Memory"}),
+    ("put_image", {"Memory"}),
+    ("notes", {"Memory"}),
 ]
-# Each console, with its lines, the ends that it must have come to, and how many growths it was seen to ask for.
+# Each console, with its lines and the ends that it must have come to.
 CONSOLES = [
-    ("session", SESSION, {"Memory", "at the journal", "at a reply"}, 42),
-    ("session", QUESTION, {"Memory", "at the journal", "at a reply"}, 16),
-    ("program", PROGRAM_RUN, {"Memory", "at a reply"}, 61),
-    ("attend", SESSION, {"Memory", "at the journal", "at a reply"}, 65),
+    ("a session", "session", SESSION, {"Memory", "at the journal", "at a reply"}),
+    ("a question", "session", QUESTION, {"Memory", "at the journal", "at a reply"}),
+    ("a program", "program", PROGRAM_RUN, {"Memory", "at a reply"}),
+    ("an attended console", "attend", SESSION, {"Memory", "at the journal", "at a reply"}),
 ]
 BEFORE = "before the call"
 
@@ -48,12 +43,12 @@ BEFORE = "before the call"
 @cache
 def whole(call, lines=b""):
     """What a trial tells where nothing is refused."""
-    return run([TRIAL, call], lines).stdout.splitlines(keepends=True)
+    return run([TRIALS, call], lines).stdout.splitlines(keepends=True)
 
 
-def again(call, how):
+def again_outcome(call, how):
     """How a trial went whose calls are made again where they were refused."""
-    ran = run([TRIAL, call], **how)
+    ran = run([TRIALS, call], **how)
     told = ran.stdout.splitlines(keepends=True)
     if ran.returncode != 0 and not told:
         return BEFORE, ""
@@ -97,10 +92,10 @@ def carried_out(call, lines, replied, end):
     return lines, ample
 
 
-def console(call, lines, how):
+def console_outcome(call, lines, how):
     """How a session or an attended console went: what comes before it was refused, and done again, a command was
     refused, or the session ended at a reply."""
-    ran = run([TRIAL, call], b"".join(lines), **how)
+    ran = run([TRIALS, call], b"".join(lines), **how)
     told = ran.stdout.splitlines(keepends=True)
     if ran.returncode != 0 and not told:
         return BEFORE, ""
@@ -132,9 +127,9 @@ def console(call, lines, how):
     return kind or "without an effect", "; ".join(wrong)
 
 
-def service(how):
+def served_outcome(how):
     """How a room that was served went: its consoles' replies, how many there were, and what stands."""
-    ran = run([TRIAL, "serve"], **how)
+    ran = run([TRIALS, "serve"], **how)
     told = ran.stdout.splitlines(keepends=True)
     if ran.returncode != 0 and not told or told[0] != b"BEGIN\n":
         return BEFORE, ""
@@ -159,54 +154,45 @@ def service(how):
     return end, "; ".join(wrong)
 
 
-def is_built():
-    """Whether the program of the trials is there, and no source is newer: the gate builds it too."""
-    newest = (TOP / "crates.txt").stat().st_mtime
-    for place, folders, files in os.walk(TOP / "crates"):
-        folders[:] = [each for each in folders if each != "out"]
-        newest = max(newest, *(Path(place, each).stat().st_mtime for each in files if each.endswith((".rt", ".antt"))), 0)
-    return TRIAL.exists() and newest <= TRIAL.stat().st_mtime
+@unittest.skipUnless(TRIALS.exists(), "crates/trials isn't built; ./check builds it")
+class Calls(ProgramTest):
+    """Each call with ample memory, and with each growth that it asks for refused once."""
+
+    def hold_ample(self, name, call, lines=b""):
+        """A subtest: with ample memory a call isn't refused."""
+        ample = whole(call, lines)
+        refusals = b"refused", b"FAULT 1", b"END Memory"
+        refused = [line for line in ample if line.startswith(refusals) or b"Thread" in line]
+        self.check(f"{name} with ample memory", "" if ample and not refused else f"{refused}")
+
+    @needs_compiler
+    def test_calls_that_are_made_again(self):
+        for call, ends in AGAIN:
+            self.hold_ample(call, call)
+            each_growth(self, call, partial(again_outcome, call), ends)
+
+    @needs_compiler
+    def test_consoles(self):
+        for name, call, lines, ends in CONSOLES:
+            self.hold_ample(name, call, b"".join(lines))
+            each_growth(self, name, partial(console_outcome, call, lines), ends)
+
+    @needs_compiler
+    def test_a_room(self):
+        self.hold_ample("a room", "serve")
+        each_growth(self, "a room", served_outcome, {"Thread", "at a console"})
+
+    def test_a_program_that_adds_five_and_five(self):
+        consoles, journal, _ = split(whole("program", b"".join(PROGRAM_RUN)))
+        self.same("its replies", b"".join(consoles[0][0]), b"STOP 02 HALT STEPS 3 I 00414\n~01?\n")
+        self.same("its journal", len(journal), 4)
+
+    def test_one_of_two_seats_is_not_enough_to_close_their_room(self):
+        """They made two commands and one."""
+        told = [line.partition(b":")[0] for line in whole("notes")]
+        for text, times in ("Unreturned { back", 1), ("seat 1 made 2", 2), ("seat 2 made 1", 2), ("Entry { seat", 6):
+            self.same(text, told.count(text.encode()), times)
 
 
-def calls():
-    """Each call of the crates that takes memory, with each growth that it asks for refused in turn."""
-    if shutil.which("cc") is None:
-        print("LEFT OUT  there is no C compiler cc: growths of the crates' calls aren't refused one by one")
-        return
-    if not is_built():
-        folder = TOP / "crates/trials"
-        built = subprocess.run(["rt", "run"], cwd=folder, stdin=subprocess.DEVNULL, capture_output=True)
-        if built.returncode != 0 or not TRIAL.exists():
-            tell("the trials are proved and built", built.stderr.decode(errors="replace")[-300:])
-            return
-    with tempfile.TemporaryDirectory() as folder:
-        refusing = Refusing(Path(folder))
-        for call, ends, known in AGAIN:
-            least(refusing, call, lambda how, call=call: again(call, how), ends, known)
-        for call, lines, ends, known in CONSOLES:
-            attempt = partial(console, call, lines)
-            least(refusing, call, attempt, ends, known, b"".join(lines))
-        least(refusing, "serve", service, {"Thread", "at a console"}, 40)
-    worked()
-
-
-def worked():
-    """What two trials tell with ample memory: the program adds five and five; one of two seats isn't enough to close
-    their room, in which they made two commands and one."""
-    consoles, journal, _ = split(whole("program", b"".join(PROGRAM_RUN)))
-    wrong = difference("the replies", b"".join(consoles[0][0]), b"STOP 02 HALT STEPS 3 I 00414\n~01?\n")
-    tell("the trial of a program", "; ".join(wrong + ([] if len(journal) == 4 else [f"{len(journal)} entries"])))
-    told = [line.partition(b":")[0] for line in whole("notes")]
-    wanted = {b"Unreturned { back": 1, b"seat 1 made 2": 2, b"seat 2 made 1": 2, b"Entry { seat": 6}
-    wrong = [f"{told.count(text)} times {text}" for text, times in wanted.items() if told.count(text) != times]
-    tell("the trial of two seats", "; ".join(wrong))
-
-
-def least(refusing, call, attempt, ends, known, lines=b""):
-    """Makes a trial for each growth, and tells where they are fewer than were known, or where one that meets no refusal
-    tells of one."""
-    ample = whole(call, lines)
-    refused = [line for line in ample if line.startswith((b"refused", b"FAULT 1", b"END Memory")) or b"Thread" in line]
-    tell(f"the call {call} with ample memory", "" if ample and not refused else f"{refused}")
-    number = refusing.each(f"the call {call}", attempt, ends) - 1
-    tell(f"the call {call}: {number} growths", "" if number >= known else f"there are {known} at least")
+if __name__ == "__main__":
+    unittest.main()

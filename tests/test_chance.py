@@ -1,24 +1,26 @@
 """Lines, decks, images and sources of chance: whatever comes, each answer is one of those that there are.
 
-Half of what is given is a damaged copy of an example. One seed is always the same, and one is drawn anew each time and
-printed: CHANCE_SEED=n ./check --program tries that one again."""
+Half of what is given is a damaged copy of an example. One seed is always the same, and another is drawn each time and
+named where a test fails: CHANCE_SEED=n python3 -m unittest tests.test_chance tries that one again."""
 import os
 import random
 import re
 import socket
 import struct
-import tempfile
+import unittest
 
-from checks.assembling import OF_LITERALS, OF_OLD_DECKS
-from checks.report import PROGRAM, SECONDS, TOP, run, tell
-from checks.service import Service
+from tests.old_decks import OF_LITERALS, OF_OLD_DECKS
+from tests.session_texts import GRAPHICS
+from tests.support import EXAMPLES, SECONDS, ProgramTest, program
 
-GRAPHICS = " 1234567890#@:>(^/STUVWXYZ',%=\\+-JKLMNOPQR!$*];_&ABCDEFGHI?.)[<\""
+SEEDS = 1401, int(os.environ.get("CHANCE_SEED", random.SystemRandom().randrange(1 << 32)))
+
 ONE = f"[{re.escape(GRAPHICS)}]"
 STOPS = "LIMIT HALT READER FORMS STACKER NOMARK OPCODE LENGTH ADDRESS OVERLAP CARRIAGE NOTFITTED DCHAR".split()
 REFUSED = "ADDRESS HOPPER READER EMPTY LIMIT COUNT".split()
 ERRORS = "WORD NUMBER GRAPHIC LENGTH EXTRA".split()
-KINDS = "MEMORY|LONG LINE|GRAPHIC|LABEL|DOUBLE LABEL|OPERATION|UNDEFINED|OPERAND|OUT OF CORE|NO END|AFTER END".split("|")
+KINDS = ("MEMORY|LONG LINE|GRAPHIC|LABEL|DOUBLE LABEL|OPERATION|UNDEFINED|OPERAND|OUT OF CORE|NO END|"
+         "AFTER END").split("|")
 IMAGES = "MEMORY HEADER RECORD RANGE TRUNCATED".split()
 
 
@@ -41,9 +43,10 @@ JOB = re.compile(
     r" \d+ cards? read, \d+ lines? printed, \d+ cards? punched\n"
 )
 WORDS = [
-    b"DEPOSIT", b"EXAMINE", b"REGS", b"START", b"SWITCH", b"FEED", b"LOAD", b"RUN", b"LINE", b"CARD", b"GLANCE", b"QUIT ",
-    b"ON", b"OFF", b"A", b"G", b"0", b"1", b"40", b"41", b"500", b"3999", b"4000", b"15999", b"16000", b"1000", b"9999999",
-    b"00000001", b"~A", b"~.", b"~M500600~.", b"~", b"", b"\r", b"\t", b"\0", b"\xff", b"~,008015~2~.", b" ",
+    b"DEPOSIT", b"EXAMINE", b"REGS", b"START", b"SWITCH", b"FEED", b"LOAD", b"RUN", b"LINE", b"CARD", b"GLANCE",
+    b"QUIT ", b"ON", b"OFF", b"A", b"G", b"0", b"1", b"40", b"41", b"500", b"3999", b"4000", b"15999", b"16000",
+    b"1000", b"9999999", b"00000001", b"~A", b"~.", b"~M500600~.", b"~", b"", b"\r", b"\t", b"\0", b"\xff",
+    b"~,008015~2~.", b" ",
 ]
 
 
@@ -61,14 +64,15 @@ def damaged(chance, text):
         elif kind == 2:
             text[at:at] = text[at:end]
         else:
-            text[at:at] = bytes(chance.choice([chance.randrange(256), 32, 48, 126]) for _ in range(chance.randint(1, 90)))
+            count = chance.randint(1, 90)
+            text[at:at] = bytes(chance.choice([chance.randrange(256), 32, 48, 126]) for _ in range(count))
     return bytes(text)
 
 
 def lines_of_chance(chance):
     """Lines made of words of the console, of bytes, or of an example's lines."""
     if chance.random() < 0.5:
-        return damaged(chance, chance.choice(sorted((TOP / "examples").glob("*.console"))).read_bytes())
+        return damaged(chance, chance.choice(sorted(EXAMPLES.glob("*.console"))).read_bytes())
     lines = []
     for _ in range(chance.randint(0, 60)):
         words = [chance.choice(WORDS) for _ in range(chance.randint(0, 4))]
@@ -95,7 +99,8 @@ def unlike(replies):
 def session(chance):
     """A session with lines of chance."""
     lines = lines_of_chance(chance)
-    ran = run([PROGRAM, "console", "--size", chance.choice(["1400", "2000", "4000", "8000", "12000", "16000"])], lines)
+    size = chance.choice(["1400", "2000", "4000", "8000", "12000", "16000"])
+    ran = program("console", "--size", size, lines=lines)
     if (ran.returncode, ran.stderr) != (0, b"") or ran.stdout.count(b"\n") != answered(lines):
         return f"{lines!r}: status {ran.returncode}, {ran.stderr!r}, {ran.stdout!r}"
     return f"{lines!r}: {unlike(ran.stdout)}" if unlike(ran.stdout) else ""
@@ -103,10 +108,10 @@ def session(chance):
 
 def image(chance, file):
     """A session with an image of chance."""
-    text = chance.choice(sorted((TOP / "examples").glob("*.image"))).read_bytes()
+    text = chance.choice(sorted(EXAMPLES.glob("*.image"))).read_bytes()
     text = damaged(chance, text) if chance.random() < 0.9 else chance.randbytes(chance.randrange(100))
     file.write_bytes(text)
-    ran = run([PROGRAM, "load", file], b"REGS\nQUIT\n")
+    ran = program("load", file, lines=b"REGS\nQUIT\n")
     fault = rf"ibm1401: image refused: (?:{numbered(IMAGES)})\n"
     is_refused = ran.returncode == 1 and not ran.stdout and re.fullmatch(fault, ran.stderr.decode())
     is_loaded = (ran.returncode, ran.stderr, ran.stdout.count(b"\n"), unlike(ran.stdout)) == (0, b"", 2, "")
@@ -115,9 +120,9 @@ def image(chance, file):
 
 def listing(chance, file):
     """The instructions and data of an image of chance: what `load` refuses isn't listed, for the same fault."""
-    text = chance.choice(sorted((TOP / "examples").glob("*.image"))).read_bytes()
+    text = chance.choice(sorted(EXAMPLES.glob("*.image"))).read_bytes()
     file.write_bytes(damaged(chance, text) if chance.random() < 0.9 else text)
-    loaded, listed = run([PROGRAM, "load", file], b""), run([PROGRAM, "disassemble", file])
+    loaded, listed = program("load", file, lines=b""), program("disassemble", file)
     is_alike = (listed.returncode, listed.stderr) == (loaded.returncode, loaded.stderr)
     is_listing = LISTING.fullmatch(listed.stdout.decode("latin-1")) if loaded.returncode == 0 else not listed.stdout
     return "" if is_alike and is_listing else f"{file.read_bytes()!r}: {loaded.stderr!r}, {listed}"
@@ -125,12 +130,12 @@ def listing(chance, file):
 
 def deck(chance, file):
     """A program run with a deck of chance: it ends at a stop, or the deck is refused for a line and a column of it."""
-    source = TOP / "examples/sales.source"
+    source = EXAMPLES / "sales.source"
     text = source.with_suffix(".cards").read_bytes()
     text = damaged(chance, text) if chance.random() < 0.9 else chance.randbytes(chance.randrange(200))
     file.write_bytes(text)
     words = ["run", source, "--cards", file, "--switches", "A", "--limit", "100000"]
-    ran = run([PROGRAM, *words], timeout=SECONDS)
+    ran = program(*words)
     small = f"ibm1401: {file}: small letters are read as capitals\n"
     has_told_small = ran.stderr.startswith(small.encode())
     told = ran.stderr.decode("latin-1").removeprefix(small).removeprefix(f"ibm1401: {file}: ")
@@ -145,38 +150,39 @@ def deck(chance, file):
 
 def source(chance, file):
     """An assembly of a source of chance."""
-    text = chance.choice(sorted((TOP / "examples").glob("*.source"))).read_bytes()
+    text = chance.choice(sorted(EXAMPLES.glob("*.source"))).read_bytes()
     text = damaged(chance, text) if chance.random() < 0.9 else chance.randbytes(chance.randrange(200))
     file.write_bytes(text)
-    ran = run([PROGRAM, "assemble", file])
+    ran = program("assemble", file)
     told = re.fullmatch(rf"ibm1401: line (\d+): (?:{numbered(KINDS)})\n", ran.stderr.decode())
     is_refused = ran.returncode == 1 and not ran.stdout and told and 1 <= int(told[1]) <= text.count(b"\n") + 2
     is_written = (ran.returncode, ran.stderr) == (0, b"") and IMAGE.fullmatch(ran.stdout.decode("latin-1"))
     return "" if is_refused or is_written else f"{text!r}: status {ran.returncode}, {ran.stderr!r}, {ran.stdout!r}"
 
 
-def told_of_all(file, ran):
-    """The numbers and the kinds of what `--all` told of a source, each line in its form; none if one isn't."""
+def reported(file, ran):
+    """The numbers and the kinds of what `--all` reports of a source, each line in its form; none if one isn't."""
     form = rf"{re.escape(str(file))}:(\d+):\d+: ({'|'.join(KINDS)}|WARNING): [^\n]*"
     lines = [re.fullmatch(form, line) for line in ran.stderr.decode("latin-1").split("\n")[:-1]]
     return [(line[1], line[2]) for line in lines] if all(lines) else None
 
 
 def source_in_both(chance, file):
-    """A source of chance in both languages: of what the plain one takes the wider one writes the same, and `--all` tells
-    its fault before all others, or warnings."""
-    examples = [source.read_bytes() for source in sorted((TOP / "examples").glob("*.source"))]
+    """A source of chance in both languages: of what the plain one takes the wider one writes the same, and `--all`
+    reports its fault before all others, or warnings."""
+    examples = [source.read_bytes() for source in sorted(EXAMPLES.glob("*.source"))]
     decks = [lines.encode() for lines, *_ in (*OF_OLD_DECKS, *OF_LITERALS)]
     text = damaged(chance, chance.choice(chance.choice([examples, decks])))
     file.write_bytes(text)
-    plain, wider, whole = (run([PROGRAM, "assemble", *words, file]) for words in (
+    plain, wider, whole = (program("assemble", *words, file) for words in (
         [], ["--language", "ibm"], ["--language", "ibm", "--all"]
     ))
-    told = told_of_all(file, whole)
+    told = reported(file, whole)
     fault = re.fullmatch(rf"ibm1401: line (\d+): \d+ ({'|'.join(KINDS)})\n", wider.stderr.decode())
     is_same = plain.returncode != 0 or (wider.returncode, wider.stdout, wider.stderr) == (0, plain.stdout, b"")
     if wider.returncode == 0:
-        is_so = IMAGE.fullmatch(wider.stdout.decode("latin-1")) and (whole.returncode, whole.stdout) == (0, wider.stdout)
+        is_image = IMAGE.fullmatch(wider.stdout.decode("latin-1"))
+        is_so = is_image and (whole.returncode, whole.stdout) == (0, wider.stdout)
         is_told = told is not None and all(kind == "WARNING" for _, kind in told)
     else:
         is_so = fault and (wider.stdout, whole.returncode, whole.stdout) == (b"", 1, b"")
@@ -205,39 +211,54 @@ def operator(chance, console):
     return unlike(replies)
 
 
-def room(chance):
-    """A room whose operators do as chance has it. One that keeps to its lines is answered beside them."""
-    service, wrong = Service(4), []
-    steady = service.console()
-    others = [service.console() for _ in range(3)]
+def wrong_room(chance, room):
+    """What is wrong with a room whose operators do as chance has it. One that keeps to its lines is answered all the
+    same."""
+    steady, wrong = room.console(), []
+    others = [room.console() for _ in range(3)]
     steady.sendall(b"EXAMINE 3990\n" * 20)
     for console in others:
         wrong.append(operator(chance, console))
     steady.sendall(b"QUIT\n")
-    replies = b""
-    while more := steady.recv(1 << 16):
-        replies += more
-    output, error = service.process.communicate(timeout=SECONDS)
-    ended = (service.process.returncode, error) == (0, b"") and re.fullmatch(rb"JOURNAL \d+\n", output)
+    replies = steady.hear()
+    steady.close()
+    ran = room.end()
+    ended = (ran.returncode, ran.stderr) == (0, b"") and re.fullmatch(rb"READY\nJOURNAL (\d+)\n", ran.stdout)
     wrong += [] if replies.count(b"\n") == 21 and replies.endswith(b"BYE\n") else [repr(replies)]
-    wrong += [] if ended and int(output.split()[1]) >= 20 else [f"{service.process.returncode} {output} {error}"]
+    wrong += [] if ended and int(ended[1]) >= 20 else [f"{ran}"]
     return "; ".join(each for each in wrong if each)
 
 
-def chance():
+class Chance(ProgramTest):
     """What chance brings, for a seed that stays and for another one each time."""
-    for seed in 1401, int(os.environ.get("CHANCE_SEED", random.SystemRandom().randrange(1 << 32))):
-        given = random.Random(seed)
-        with tempfile.TemporaryDirectory() as folder:
-            file = TOP.__class__(folder) / "a file"
-            for name, times, attempt in [
-                ("sessions", 250, lambda: session(given)),
-                ("images", 150, lambda: image(given, file)),
-                ("sources", 150, lambda: source(given, file)),
-                ("listings", 75, lambda: listing(given, file)),
-                ("decks", 75, lambda: deck(given, file)),
-                ("rooms", 12, lambda: room(given)),
-                ("sources in both languages", 150, lambda: source_in_both(given, file)),
-            ]:
-                wrong = next(filter(None, (attempt() for _ in range(times))), "")
-                tell(f"{times} {name} of chance, seed {seed}", wrong)
+
+    def attempt(self, times, attempt):
+        """A subtest for each seed: this many attempts, until something is wrong."""
+        for seed in SEEDS:
+            chance = random.Random(seed)
+            self.check(f"CHANCE_SEED={seed}", next(filter(None, (attempt(chance) for _ in range(times))), ""))
+
+    def test_sessions(self):
+        self.attempt(250, session)
+
+    def test_images(self):
+        self.attempt(150, lambda chance: image(chance, self.folder / "a file"))
+
+    def test_sources(self):
+        self.attempt(150, lambda chance: source(chance, self.folder / "a file"))
+
+    def test_listings(self):
+        self.attempt(75, lambda chance: listing(chance, self.folder / "a file"))
+
+    def test_decks(self):
+        self.attempt(75, lambda chance: deck(chance, self.folder / "a file"))
+
+    def test_rooms(self):
+        self.attempt(12, lambda chance: wrong_room(chance, self.plain_room(4)))
+
+    def test_sources_in_both_languages(self):
+        self.attempt(150, lambda chance: source_in_both(chance, self.folder / "a file"))
+
+
+if __name__ == "__main__":
+    unittest.main()
