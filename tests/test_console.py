@@ -38,7 +38,7 @@ class Statuses(ProgramTest):
         self.expect("a subcommand's", program("console", "--help"), 0, "Carries out the lines...")
 
     def test_help_texts(self):
-        """Where one was changed on purpose, ./check --help-texts > tests/help.txt renews them."""
+        """Where one was changed on purpose, ./check --help-texts renews them."""
         found, wanted = (text.split("$ ibm1401")[1:] for text in (help_texts(), (TESTS / "help.txt").read_text()))
         titles = [text.partition(" --help\n")[0] for text in wanted]
         self.same("there is one for each subcommand", [text.partition(" --help\n")[0] for text in found], titles)
