@@ -14,7 +14,7 @@ from tests.support import REPLY_SECONDS, SECONDS, TOP, Server, wait_until
 # The sizes of windows, in pixels.
 WIDE = (1500, 1000)
 NARROW = (390, 844)
-# A made-up name that the browser is told to look for on the loopback.
+# A made-up name that the browser looks for on the loopback.
 OTHER_NAME = "museum.example"
 
 

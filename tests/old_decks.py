@@ -235,7 +235,7 @@ OF_LITERALS = [
         "               SS   A,A\n               END  A\n",
         "IMAGE2 04000\n00500 12 ~FA~F5001~K500A\nEND 00500\n",
     ),
-    # units beside addresses
+    # units next to addresses
     (
         "               ORG  500\n     A         MLC  %U1,A,R\n               RT   1,A\n"
         "               WT   %U0,A\n               END  A\n",

@@ -55,13 +55,14 @@ def session_end(lines, ran, before):
     if ran.returncode == 1 and not ran.stdout and ran.stderr in before:
         return "before the session", ""
     whole = replies(lines)
-    told = ran.stdout.splitlines(keepends=True)
+    lines_out = ran.stdout.splitlines(keepends=True)
     if ran.returncode == 1 and ran.stderr == b"ibm1401: session ended: MEMORY\n":
-        return "at a reply", "" if told == whole[: len(told)] and len(told) < len(whole) else f"{told}"
-    if ran.returncode == 0 and not ran.stderr and b"FAULT 1 MEMORY\n" in told:
-        place = told.index(b"FAULT 1 MEMORY\n")
-        return "at the journal", "" if told == without(lines, place) else f"{told}"
-    return "without an effect", "" if (ran.returncode, told, ran.stderr) == (0, whole, b"") else f"{ran}"
+        is_part = lines_out == whole[: len(lines_out)] and len(lines_out) < len(whole)
+        return "at a reply", "" if is_part else f"{lines_out}"
+    if ran.returncode == 0 and not ran.stderr and b"FAULT 1 MEMORY\n" in lines_out:
+        place = lines_out.index(b"FAULT 1 MEMORY\n")
+        return "at the journal", "" if lines_out == without(lines, place) else f"{lines_out}"
+    return "without an effect", "" if (ran.returncode, lines_out, ran.stderr) == (0, whole, b"") else f"{ran}"
 
 
 def written_end(ran, whole, faults):

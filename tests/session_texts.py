@@ -117,9 +117,9 @@ def unlike(session, output):
     if output == "".join(f"{reply}\n" for _, reply in answered).encode():
         return []
     found = output.decode(errors="replace").split("\n")
-    for (line, reply), told in zip(answered, found, strict=False):
-        if told != reply:
-            return [f"{line!r} is answered {told!r}, not {reply!r}"]
+    for (line, reply), found_reply in zip(answered, found, strict=False):
+        if found_reply != reply:
+            return [f"{line!r} is answered {found_reply!r}, not {reply!r}"]
     return [f"{len(found) - 1} replies, not {len(answered)}"]
 
 

@@ -13,13 +13,13 @@ A file of tests/sources/ has a remark on its theme, and then sources, each with 
 
 '==' begins a source, with its name. 'size' is how many places of core storage it is for, where none is asked for, and
 'language ibm' the wider language. Each line of the source follows '>' and a blank. Then comes what is looked at: the
-'image', the 'listing', the 'symbols' and the 'references', and what is 'told' of its faults or its warnings, each with
-its lines below it; or the first 'fault', for which nothing is made. A line that begins or ends with a blank is
+'image', the 'listing', the 'symbols' and the 'references', and what is 'reported' of its faults or its warnings, each
+with its lines below it; or the first 'fault', for which nothing is made. A line that begins or ends with a blank is
 between two bars. A remark begins with '#', above the source's lines."""
 from tests.support import difference, program
 
 # What is asked for with the source where a part is looked at.
-PARTS = {"image": [], "listing": ["--list"], "symbols": ["--symbols"], "references": ["--xref"], "told": ["--all"]}
+PARTS = {"image": [], "listing": ["--list"], "symbols": ["--symbols"], "references": ["--xref"], "reported": ["--all"]}
 # Each call that makes something of a source: for a fault all of them end alike.
 CALLS = [[], ["--list"], ["--symbols", "--xref"]]
 
@@ -89,7 +89,7 @@ def wrong_parts(source, words, parts):
     wrong = []
     for part, lines in parts.items():
         ran = program("assemble", *words, *PARTS[part], source.name, cwd=source.parent)
-        found, beginning = (ran.stderr, f"{source.name}:") if part == "told" else (ran.stdout, "")
+        found, beginning = (ran.stderr, f"{source.name}:") if part == "reported" else (ran.stdout, "")
         wrong += difference(f"the {part}", found, "".join(f"{beginning}{line}\n" for line in lines))
     return wrong
 
@@ -97,5 +97,5 @@ def wrong_parts(source, words, parts):
 def wrong_source(source, text, words=(), fault="", parts=None):
     """What is wrong with a source that is written to a file: with its fault, if it has one, and what is made of it."""
     source.write_text(text, newline="")
-    wrong = [] if parts and "told" in parts else wrong_ends(source, words, fault)
+    wrong = [] if parts and "reported" in parts else wrong_ends(source, words, fault)
     return wrong + wrong_parts(source, words, parts or {})

@@ -42,29 +42,29 @@ BEFORE = "before the call"
 
 @cache
 def whole(call, lines=b""):
-    """What a trial tells where nothing is refused."""
+    """What a trial prints where nothing is refused."""
     return run([TRIALS, call], lines).stdout.splitlines(keepends=True)
 
 
 def again_outcome(call, how):
     """How a trial went whose calls are made again where they were refused."""
     ran = run([TRIALS, call], **how)
-    told = ran.stdout.splitlines(keepends=True)
-    if ran.returncode != 0 and not told:
+    printed = ran.stdout.splitlines(keepends=True)
+    if ran.returncode != 0 and not printed:
         return BEFORE, ""
-    refused = [line for line in told if line.startswith(b"refused ")]
-    rest = [line for line in told if line not in refused]
+    refused = [line for line in printed if line.startswith(b"refused ")]
+    rest = [line for line in printed if line not in refused]
     wrong = [] if (ran.returncode, ran.stderr, len(refused) < 2) == (0, b"", True) else [f"{ran.returncode} {refused}"]
-    wrong += difference("what it told besides", b"".join(rest), b"".join(whole(call)))
+    wrong += difference("what else it printed", b"".join(rest), b"".join(whole(call)))
     if call == "carry" and refused and refused[0].split()[2].isdigit():
-        wrong += difference("the journal then", refused[0].split()[2], str(told.index(refused[0])))
+        wrong += difference("the journal then", refused[0].split()[2], str(printed.index(refused[0])))
     return refused[0].split()[1].decode() if refused else "without an effect", "; ".join(wrong)
 
 
-def split(told):
-    """The replies of each console, its end, and what stands: the journal and the machine."""
+def split(printed):
+    """The replies of each console, its end, and what is left: the journal and the machine."""
     consoles, lines = [], []
-    for line in told:
+    for line in printed:
         if line.startswith(b"END"):
             consoles.append((lines, line.decode().split()[1:]))
             lines = []
@@ -96,30 +96,30 @@ def console_outcome(call, lines, how):
     """How a session or an attended console went: what comes before it was refused, and done again, a command was
     refused, or the session ended at a reply."""
     ran = run([TRIALS, call], b"".join(lines), **how)
-    told = ran.stdout.splitlines(keepends=True)
-    if ran.returncode != 0 and not told:
+    printed = ran.stdout.splitlines(keepends=True)
+    if ran.returncode != 0 and not printed:
         return BEFORE, ""
-    refused = [line for line in told if line.startswith(b"refused ")]
+    refused = [line for line in printed if line.startswith(b"refused ")]
     if refused:
-        rest = b"".join(line for line in told if line not in refused)
-        wrong = difference("what it told besides", rest, b"".join(whole(call, b"".join(lines))))
+        rest = b"".join(line for line in printed if line not in refused)
+        wrong = difference("what else it printed", rest, b"".join(whole(call, b"".join(lines))))
         wrong += [f"{ran}"] if (ran.returncode, len(refused)) != (0, 1) else []
         return refused[0].split()[1].decode(), "; ".join(wrong)
-    consoles, journal, machine = split(told)
+    consoles, journal, machine = split(printed)
     if ran.returncode != 0 or len(consoles) != (2 if call == "attend" else 1):
         return "", f"{ran}"
     replied, end = consoles[0]
-    stand, wanted = carried_out(call, lines, replied, end[0])
+    remaining, wanted = carried_out(call, lines, replied, end[0])
     wrong = difference("the replies", b"".join(replied), b"".join(wanted))
-    _, wanted_journal, wanted_machine = split(whole(call, b"".join(stand)))
+    _, wanted_journal, wanted_machine = split(whole(call, b"".join(remaining)))
     kind = "at a reply" if end[0] == "Memory" else "at the journal" if b"FAULT 1 MEMORY\n" in replied else ""
     if call == "attend":
         others, other_end = consoles[1]
-        stand, wanted = carried_out("session", (b"EXAMINE 0\n", b"QUIT\n"), others, other_end[0])
+        remaining, wanted = carried_out("session", (b"EXAMINE 0\n", b"QUIT\n"), others, other_end[0])
         wrong += difference("the other's replies", b"".join(others), b"".join(wanted))
-        wanted_journal = wanted_journal if b"EXAMINE 0\n" in stand else wanted_journal[:-1]
+        wanted_journal = wanted_journal if b"EXAMINE 0\n" in remaining else wanted_journal[:-1]
         wrong += ["both are refused"] if kind and (others != wanted or other_end[0] != "Quit") else []
-        kind = kind or ("at a reply" if other_end[0] == "Memory" else "at the journal" if len(stand) < 2 else "")
+        kind = kind or ("at a reply" if other_end[0] == "Memory" else "at the journal" if len(remaining) < 2 else "")
     wrong += difference("the journal", b"".join(journal), b"".join(wanted_journal))
     wrong += difference("the machine", b"".join(machine), b"".join(wanted_machine))
     ample = "Quit" if lines[-1] == b"QUIT\n" else "EndOfInput"
@@ -128,15 +128,15 @@ def console_outcome(call, lines, how):
 
 
 def served_outcome(how):
-    """How a room that was served went: its consoles' replies, how many there were, and what stands."""
+    """How a room that was served went: its consoles' replies, how many there were, and what is left."""
     ran = run([TRIALS, "serve"], **how)
-    told = ran.stdout.splitlines(keepends=True)
-    if ran.returncode != 0 and not told or told[0] != b"BEGIN\n":
+    printed = ran.stdout.splitlines(keepends=True)
+    if ran.returncode != 0 and not printed or printed[0] != b"BEGIN\n":
         return BEFORE, ""
-    consoles, journal, machine = split(told[2:])
-    if ran.returncode != 0 or len(consoles) != 2 or not told[1].startswith(b"CONSOLES "):
+    consoles, journal, machine = split(printed[2:])
+    if ran.returncode != 0 or len(consoles) != 2 or not printed[1].startswith(b"CONSOLES "):
         return "", f"{ran}"
-    attended, fault = told[1].split()[1:]
+    attended, fault = printed[1].split()[1:]
     entries, hindered, wrong = 0, 0, []
     for number, (replied, _) in enumerate(consoles):
         is_attended = number < int(attended)
@@ -189,9 +189,9 @@ class Calls(ProgramTest):
 
     def test_one_of_two_seats_is_not_enough_to_close_their_room(self):
         """They made two commands and one."""
-        told = [line.partition(b":")[0] for line in whole("notes")]
+        printed = [line.partition(b":")[0] for line in whole("notes")]
         for text, times in ("Unreturned { back", 1), ("seat 1 made 2", 2), ("seat 2 made 1", 2), ("Entry { seat", 6):
-            self.same(text, told.count(text.encode()), times)
+            self.same(text, printed.count(text.encode()), times)
 
 
 if __name__ == "__main__":

@@ -138,10 +138,11 @@ def deck(chance, file):
     ran = program(*words)
     small = f"ibm1401: {file}: small letters are read as capitals\n"
     has_told_small = ran.stderr.startswith(small.encode())
-    told = ran.stderr.decode("latin-1").removeprefix(small).removeprefix(f"ibm1401: {file}: ")
-    refused = re.fullmatch(r"line (\d+), column (\d+): (?:no card has this character|a card has 80 columns)\n", told)
+    reported = ran.stderr.decode("latin-1").removeprefix(small).removeprefix(f"ibm1401: {file}: ")
+    faults = "no card has this character|a card has 80 columns"
+    refused = re.fullmatch(rf"line (\d+), column (\d+): (?:{faults})\n", reported)
     is_refused = refused and not ran.stdout and int(refused[1]) <= text.count(b"\n") + 1 and int(refused[2]) <= 81
-    ended = JOB.fullmatch(told)
+    ended = JOB.fullmatch(reported)
     has_small = re.search(rb"[a-z]", text) is not None
     is_ended = ended and (ran.returncode == 0) == (ended[1] == "HALT") and has_told_small == has_small
     is_so = ran.returncode in (0, 1) and (is_refused or is_ended)
@@ -154,13 +155,13 @@ def source(chance, file):
     text = damaged(chance, text) if chance.random() < 0.9 else chance.randbytes(chance.randrange(200))
     file.write_bytes(text)
     ran = program("assemble", file)
-    told = re.fullmatch(rf"ibm1401: line (\d+): (?:{numbered(KINDS)})\n", ran.stderr.decode())
-    is_refused = ran.returncode == 1 and not ran.stdout and told and 1 <= int(told[1]) <= text.count(b"\n") + 2
+    reported = re.fullmatch(rf"ibm1401: line (\d+): (?:{numbered(KINDS)})\n", ran.stderr.decode())
+    is_refused = ran.returncode == 1 and not ran.stdout and reported and 1 <= int(reported[1]) <= text.count(b"\n") + 2
     is_written = (ran.returncode, ran.stderr) == (0, b"") and IMAGE.fullmatch(ran.stdout.decode("latin-1"))
     return "" if is_refused or is_written else f"{text!r}: status {ran.returncode}, {ran.stderr!r}, {ran.stdout!r}"
 
 
-def reported(file, ran):
+def reports_of(file, ran):
     """The numbers and the kinds of what `--all` reports of a source, each line in its form; none if one isn't."""
     form = rf"{re.escape(str(file))}:(\d+):\d+: ({'|'.join(KINDS)}|WARNING): [^\n]*"
     lines = [re.fullmatch(form, line) for line in ran.stderr.decode("latin-1").split("\n")[:-1]]
@@ -177,16 +178,16 @@ def source_in_both(chance, file):
     plain, wider, whole = (program("assemble", *words, file) for words in (
         [], ["--language", "ibm"], ["--language", "ibm", "--all"]
     ))
-    told = reported(file, whole)
+    reported = reports_of(file, whole)
     fault = re.fullmatch(rf"ibm1401: line (\d+): \d+ ({'|'.join(KINDS)})\n", wider.stderr.decode())
     is_same = plain.returncode != 0 or (wider.returncode, wider.stdout, wider.stderr) == (0, plain.stdout, b"")
     if wider.returncode == 0:
         is_image = IMAGE.fullmatch(wider.stdout.decode("latin-1"))
         is_so = is_image and (whole.returncode, whole.stdout) == (0, wider.stdout)
-        is_told = told is not None and all(kind == "WARNING" for _, kind in told)
+        is_told = reported is not None and all(kind == "WARNING" for _, kind in reported)
     else:
         is_so = fault and (wider.stdout, whole.returncode, whole.stdout) == (b"", 1, b"")
-        is_told = bool(told) and fault and told[0] == (fault[1], fault[2])
+        is_told = bool(reported) and fault and reported[0] == (fault[1], fault[2])
     return "" if is_same and is_so and is_told else f"{text!r}: {plain}, {wider}, {whole}"
 
 

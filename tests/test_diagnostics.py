@@ -88,9 +88,9 @@ class Faults(ProgramTest):
     def setUp(self):
         self.source, self.out = self.folder / "a source", self.folder / "out"
 
-    def lines(self, told):
+    def lines(self, reported):
         """What standard error has for these lines of the source."""
-        return "".join(f"{self.source}:{line}\n" for line in told)
+        return "".join(f"{self.source}:{line}\n" for line in reported)
 
     def test_each_fault_of_its_own(self):
         self.source.write_text(FAULTY)
@@ -102,9 +102,9 @@ class Faults(ProgramTest):
         self.expect("without --all", program("assemble", self.source), 1, "", "ibm1401: line 1: 6 OPERATION\n")
 
     def test_each_kind(self):
-        for text, told in FAULTS_OF_A_KIND:
+        for text, reported in FAULTS_OF_A_KIND:
             self.source.write_text(text)
-            self.expect(told[0], program("assemble", "--all", self.source), 1, "", self.lines(told))
+            self.expect(reported[0], program("assemble", "--all", self.source), 1, "", self.lines(reported))
 
     def test_a_place_outside_core(self):
         self.source.write_text("               ORG  4000\n               H\n               END  0\n")
@@ -132,16 +132,16 @@ class Warnings(ProgramTest):
         self.source, self.out = self.folder / "a source", self.folder / "out"
 
     def test_each_warning(self):
-        for text, told in WARNED:
+        for text, reported in WARNED:
             self.source.write_bytes(text.encode())
-            lines = "".join(f"{self.source}:{line}\n" for line in told)
+            lines = "".join(f"{self.source}:{line}\n" for line in reported)
             for words in [], ["--list"], ["--symbols", "--xref"]:
                 alone = program("assemble", self.source, *words)
                 self.expect(f"{words}, without --all: {text!r}", alone, 0, "...")
                 ran = program("assemble", "--all", self.source, *words)
-                self.expect(f"{words}: {told}", ran, 0, alone.stdout, lines)
+                self.expect(f"{words}: {reported}", ran, 0, alone.stdout, lines)
             image = program("assemble", self.source).stdout
-            self.expect(f"-o: {told}", program("assemble", "--all", self.source, "-o", self.out), 0, "", lines)
+            self.expect(f"-o: {reported}", program("assemble", "--all", self.source, "-o", self.out), 0, "", lines)
             self.holds(f"-o: the image of {text!r}", self.out, image)
             for error in "2>/dev/full", "2>&-":
                 ran = shell(f'"$0" assemble --all "$1" {error}', self.source)

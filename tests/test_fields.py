@@ -209,8 +209,8 @@ def expect(a, b, *on):
 def sums():
     """A session for each sum, in which the A field and the cells on both sides of the B field stay."""
     for operation, a, b, after, overflow in rows(SUMS):
-        at_a, at_b, beside = 99 + places(a), 199 + places(b), 200 + places(b)
-        given = deposit(100, a) + deposit(200, b) + deposit(199, "Z") + deposit(beside, "~Z")
+        at_a, at_b, next_to_b = 99 + places(a), 199 + places(b), 200 + places(b)
+        given = deposit(100, a) + deposit(200, b) + deposit(199, "Z") + deposit(next_to_b, "~Z")
         given += carry_out(operation, at_a, at_b)
         given += expect(at_a - min(length(a), length(b)), at_b - length(b), *["OVERFLOW"] * bool(overflow))
         given += examine(100, a) + examine(199, f"Z{after}~Z")
@@ -229,9 +229,9 @@ def comparisons():
 def edits():
     """A session for each edit, in which the A field and the cells on both sides of the control word stay."""
     for a, word, shown, _ in rows(EDITS):
-        beside = 720 + places(word)
-        given = deposit(700, a) + deposit(720, word) + deposit(719, "~Z") + deposit(beside, "~Z")
-        given += carry_out("E", 699 + places(a), beside - 1)
+        next_to_b = 720 + places(word)
+        given = deposit(700, a) + deposit(720, word) + deposit(719, "~Z") + deposit(next_to_b, "~Z")
+        given += carry_out("E", 699 + places(a), next_to_b - 1)
         yield Session(f"{a} {word}", 1400, given + examine(700, a) + examine(719, f"~Z{shown}~Z"))
 
 

@@ -13,45 +13,45 @@ def is_command(line):
     return line.split()[0] not in (b"HELLO", b"GLANCE", b"QUIT")
 
 
-def wrong_replies(told, wanted):
-    """What is wrong with replies, of which one may be missing: the others are the wanted ones."""
-    return [f"{line}: {reply}, not {want}" for (line, reply), want in zip(told, wanted, strict=True)
+def wrong_replies(asked, wanted):
+    """What is wrong with replies, one of them perhaps missing: the others are the wanted ones."""
+    return [f"{line}: {reply}, not {want}" for (line, reply), want in zip(asked, wanted, strict=True)
             if reply not in (want, b"")]
 
 
 def ask_in_turn(consoles):
     """Gives the lines to two consoles in turn, as long as each is answered: a seat, a line and its reply."""
-    told, gone = [], set()
+    asked, gone = [], set()
     for place, line in enumerate((*LINES, b"QUIT\n", b"QUIT\n")):
         seat = place % 2
         if seat not in gone:
             said = consoles[seat].say(line)
             reply = said if said.endswith(b"\n") else b""
-            told.append((seat, line, reply))
+            asked.append((seat, line, reply))
             gone |= {seat} if reply in (b"", b"BYE\n") else set()
-    return told
+    return asked
 
 
 def ask_alone(console):
     """Gives the lines to a console, as long as each is answered: a line and its reply."""
-    told = []
+    asked = []
     for line in (*LINES, b"QUIT\n"):
         said = console.say(line)
-        told.append((line, said if said.endswith(b"\n") else b""))
-        if told[-1][1] in (b"", b"BYE\n"):
+        asked.append((line, said if said.endswith(b"\n") else b""))
+        if asked[-1][1] in (b"", b"BYE\n"):
             break
-    return told
+    return asked
 
 
-def served_outcome(told, ran):
+def served_outcome(asked, ran):
     """What became of a room that was opened. Its consoles are answered as one console is that gives the commands which
     were carried out, but for the one that was refused; and the journal has these commands."""
     is_unserved = (ran.returncode, ran.stderr) == (1, THREAD)
-    served = {seat for seat, _, reply in told if reply} if is_unserved else {0, 1}
-    kept = [(line, reply) for seat, line, reply in told if seat in served and reply != REFUSED and line != b"QUIT\n"]
+    served = {seat for seat, _, reply in asked if reply} if is_unserved else {0, 1}
+    kept = [(line, reply) for seat, line, reply in asked if seat in served and reply != REFUSED and line != b"QUIT\n"]
     wrong = wrong_replies(kept, replies(tuple(line for line, _ in kept)))
-    lost = [line for seat, line, reply in told if not reply and seat in served]
-    refused = [line for _, line, reply in told if reply == REFUSED]
+    lost = [line for seat, line, reply in asked if not reply and seat in served]
+    refused = [line for _, line, reply in asked if reply == REFUSED]
     wrong += [f"no reply to {lost}, and {refused} refused"] if len(lost) + len(refused) > 1 else []
     commands = [line for line, _ in kept if is_command(line)]
     wrong += difference("standard output", ran.stdout, f"READY\nJOURNAL {len(commands)}\n")
@@ -60,14 +60,14 @@ def served_outcome(told, ran):
     return next(end for end, is_met in ends if is_met), "; ".join(wrong)
 
 
-def kept_outcome(told, ran, text, given):
+def kept_outcome(asked, ran, text, given):
     """What became of a kept room that was opened after these commands. Its console is answered as one is that gives the
     commands which were carried out; the file has all of them, but for a last one that wasn't kept and has no reply."""
     is_unserved, is_unkept = ran.stderr == THREAD, ran.stderr == UNKEPT
-    kept = [] if is_unserved else [each for each in told if each[1] != REFUSED and each[0] != b"QUIT\n"]
+    kept = [] if is_unserved else [each for each in asked if each[1] != REFUSED and each[0] != b"QUIT\n"]
     wrong = wrong_replies(kept, replies((*given, *(line for line, _ in kept)))[len(given):])
-    lost = [line for line, reply in told if not reply]
-    refused = [line for line, reply in told if reply == REFUSED]
+    lost = [line for line, reply in asked if not reply]
+    refused = [line for line, reply in asked if reply == REFUSED]
     wrong += [f"no reply to {lost}, and {refused} refused"] if len(lost) + len(refused) > 1 else []
     wrong += ["a command that isn't kept is answered"] if is_unkept and not lost else []
     commands = [*given, *(line for line, _ in kept if is_command(line))]
@@ -93,12 +93,12 @@ class GrowthOfRooms(ProgramTest):
             consoles += [room.console() for _ in range(2)] if has_begun else []
         except (ConnectionRefusedError, ConnectionResetError):
             pass
-        told = ask_in_turn(consoles) if len(consoles) == 2 else []
+        asked = ask_in_turn(consoles) if len(consoles) == 2 else []
         for console in consoles:
             console.close()
         ran = room.end()
-        if told:
-            return served_outcome(told, ran)
+        if asked:
+            return served_outcome(asked, ran)
         if has_begun:
             is_so = (ran.returncode, ran.stdout, ran.stderr) == (1, b"READY\nJOURNAL 0\n", THREAD)
             return "before a console", "" if is_so else f"{ran}"
@@ -119,7 +119,7 @@ class GrowthOfRooms(ProgramTest):
             console = room.console() if room.first.startswith(b"READY\n") else None
         except OSError:
             console = None
-        told = ask_alone(console) if console else []
+        asked = ask_alone(console) if console else []
         ran = room.end()
         if console:
             console.close()
@@ -133,7 +133,7 @@ class GrowthOfRooms(ProgramTest):
         if ran.stderr == MEMORY:
             is_so = (ran.returncode, ran.stdout, text) == (1, b"READY\nJOURNAL %d\n" % len(given), begun)
             return "before a console", "" if is_so else f"{ran} {text}"
-        return kept_outcome(told, ran, text, given)
+        return kept_outcome(asked, ran, text, given)
 
     def test_a_room(self):
         ends = "before READY", "at the journal", "at a reply"

@@ -195,7 +195,7 @@ class Synced(ProgramTest):
         after = TEXT.splitlines(keepends=True)[1:]
         text = b"JOURNAL1 4000\n1\t0\tDEPOSIT 0400 ~HI\tOK\n2\t0\tSTART 0400\tOK\n"
         text += b"".join(b"%d%s" % (number, line[1:]) for number, line in enumerate(after, 3))
-        for number, (before, behind, order) in enumerate([
+        for number, (before, after_it, order) in enumerate([
             (["--journal"], [image], b"w" + 3 * b"wr" + b"r"),
             (["--sync", "--journal"], [image], b"fws" + 3 * b"wsr" + b"r"),
             ([image], ["--sync"], b"fws" + 3 * b"wsr" + b"r"),
@@ -203,7 +203,7 @@ class Synced(ProgramTest):
         ]):
             path = self.folder / f"{number}.journal"
             named = [path] if "--journal" in before else [f"--journal={path}"]
-            self.hold(f"load, call {number}", ["load", *before, *named, *behind], order)
+            self.hold(f"load, call {number}", ["load", *before, *named, *after_it], order)
             self.holds(f"its text, call {number}", path, text)
 
     def test_a_resume(self):

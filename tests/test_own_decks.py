@@ -1,4 +1,4 @@
-"""`assemble --deck`: a deck that loads itself, next to what else is asked for, written whole or not at all."""
+"""`assemble --deck`: a deck that loads itself, with what else is asked for, written whole or not at all."""
 import re
 import unittest
 from pathlib import Path

@@ -261,14 +261,14 @@ class Stops(ProgramTest):
 def on_a_terminal(words):
     """What a run writes to a terminal that is its standard error, until it ends or shows how far it is."""
     ours, theirs = pty.openpty()
-    told = b""
+    written = b""
     ran = subprocess.Popen([PROGRAM, "run", *words], stdin=subprocess.DEVNULL, stdout=subprocess.DEVNULL, stderr=theirs)
 
     def is_over():
-        nonlocal told
+        nonlocal written
         while select.select([ours], [], [], 0)[0]:
-            told += os.read(ours, 4_096)
-        return b"cards left" in told or (ran.poll() is not None and not select.select([ours], [], [], 0)[0])
+            written += os.read(ours, 4_096)
+        return b"cards left" in written or (ran.poll() is not None and not select.select([ours], [], [], 0)[0])
 
     try:
         wait_until(is_over, REPLY_SECONDS)
@@ -277,7 +277,7 @@ def on_a_terminal(words):
         ran.wait()
         os.close(theirs)
         os.close(ours)
-    return told
+    return written
 
 
 class WhileItRuns(ProgramTest):

@@ -26,8 +26,8 @@ class Taken(Language):
         for number, (lines, image, warned) in enumerate(OF_OLD_DECKS, 1):
             self.expect(f"source {number}", self.assemble(lines), 0, image)
             rows = [row if isinstance(row, tuple) else (row, NOT_FITTED) for row in warned]
-            told = "".join(f"old.source:{line}:{text}\n" for line, text in rows)
-            self.expect(f"source {number}: its warnings", self.assemble(lines, "--all"), 0, image, told)
+            reported = "".join(f"old.source:{line}:{text}\n" for line, text in rows)
+            self.expect(f"source {number}: its warnings", self.assemble(lines, "--all"), 0, image, reported)
             listing = self.assemble(lines, "--list").stdout.decode().splitlines()
             shown = [line[20:] for line in listing if line[:4] != "    "]
             self.same(f"source {number}: its listing has the lines as they are", shown, lines.splitlines())
@@ -88,22 +88,22 @@ class Refused(Language):
         for statements, number, fault in REFUSED_TOGETHER:
             ran = self.assemble(columns(statements))
             self.expect(f"{statements}", ran, 1, "", f"ibm1401: line {number}: {fault}\n")
-            told = self.assemble(columns(statements), "--all")
-            self.expect(f"{statements}: --all", told, 1, "", f"old.source:{number}:...")
+            reported = self.assemble(columns(statements), "--all")
+            self.expect(f"{statements}: --all", reported, 1, "", f"old.source:{number}:...")
 
     def test_statements(self):
-        for statement, fault, told in NOT_OF_OLD_DECKS:
+        for statement, fault, reported in NOT_OF_OLD_DECKS:
             lines = f"{statement}\n               END  0\n"
             self.expect(statement.strip(), self.assemble(lines), 1, "", f"ibm1401: line 1: {fault}\n")
-            wanted = f"old.source:1:{told}\n" if told else "old.source:1:..."
+            wanted = f"old.source:1:{reported}\n" if reported else "old.source:1:..."
             self.expect(f"{statement.strip()}: --all", self.assemble(lines, "--all"), 1, "", wanted)
 
     def test_statements_after_others(self):
-        for lines, number, fault, told in TOGETHER_REFUSED:
+        for lines, number, fault, reported in TOGETHER_REFUSED:
             name, text = lines.splitlines()[-1].strip(), f"{lines}               END  0\n"
             self.expect(name, self.assemble(text), 1, "", f"ibm1401: line {number}: {fault}\n")
-            if told:
-                self.expect(f"{name}: --all", self.assemble(text, "--all"), 1, "", f"old.source:{number}:{told}\n")
+            if reported:
+                self.expect(f"{name}: --all", self.assemble(text, "--all"), 1, "", f"old.source:{number}:{reported}\n")
 
     def test_what_neither_language_has(self):
         for fault, lines in LEFT_OUT.items():
@@ -184,8 +184,8 @@ class OldDecks(Language):
         """It is refused as the page says, or taken in the wider language, and what goes in its place is taken."""
         rows = re.findall(r"^\| `(.*?)` \| (\d+ [A-Z ]+) \| (.*) \|$", self.page, re.MULTILINE)
         self.assertTrue(rows)
-        for statement, told, instead in rows:
-            lines, refused = f"{'':15}NOP\n{'':15}{statement}\n{LABELS}", f"ibm1401: line 2: {told}\n"
+        for statement, reported, instead in rows:
+            lines, refused = f"{'':15}NOP\n{'':15}{statement}\n{LABELS}", f"ibm1401: line 2: {reported}\n"
             wanted = (0, "...", "") if instead.startswith("*taken*") else (1, "", refused)
             self.expect(f"{statement}: --language ibm", self.assemble(lines), *wanted)
             self.expect(f"{statement}: the plain language", program("assemble", self.source), 1, "", refused)
@@ -200,8 +200,8 @@ class OldDecks(Language):
         cards.write_text(shown[2])
         self.expect("no warning", self.assemble(shown[1], "--all", "--list"), 0, "...")
         ran = program("run", "--language", "ibm", self.source, "--cards", cards, "--switches", "A")
-        told = "HALT at 0542 (line 15, H *-3) after 23 steps; 3 cards read, 4 lines printed, 0 cards punched"
-        self.expect("its paper", ran, 0, shown[3], f"ibm1401: {told}\n")
+        reported = "HALT at 0542 (line 15, H *-3) after 23 steps; 3 cards read, 4 lines printed, 0 cards punched"
+        self.expect("its paper", ran, 0, shown[3], f"ibm1401: {reported}\n")
 
 
 if __name__ == "__main__":
