@@ -67,6 +67,9 @@ def count_module(name):
     """Runs the tests of a module in this process, and prints its line."""
     began, counts = time.monotonic(), Counts()
     unittest.defaultTestLoader.loadTestsFromName(f"tests.{name}").run(counts)
+    if counts.testsRun == 0 and not counts.errors:
+        print(f"FAILED  {name} has no test", flush=True)
+        counts.failed += 1
     took = time.monotonic() - began
     print(f"{name}: {counts.passed} passed, {counts.failed} failed, in {took:.0f} seconds", flush=True)
 

@@ -74,8 +74,16 @@ SIZED = [
 ]
 
 
+FILES = sorted((TESTS / "sources").glob("*.txt"))
+
+
 class SourcesOfTables(ProgramTest):
     """Sources of the tables, a subtest each, and long ones."""
+
+    def test_each_file_has_sources(self):
+        self.assertTrue(FILES)
+        for file in FILES:
+            self.check(file.name, "" if read_sources(file.read_text()) else "it has none")
 
     def try_source(self, name, text, words=(), fault="", parts=None):
         """A subtest: a source has this fault, or none, and this is made of it."""
@@ -124,7 +132,7 @@ def tests_of(file):
     return case
 
 
-for each in sorted((TESTS / "sources").glob("*.txt")):
+for each in FILES:
     made = tests_of(each)
     globals()[made.__name__] = made
 del made
