@@ -9,10 +9,12 @@ import socket
 import struct
 import unittest
 
-from tests.old_decks import OF_LITERALS, OF_OLD_DECKS
 from tests.session_texts import GRAPHICS
-from tests.support import EXAMPLES, SECONDS, ProgramTest, program
+from tests.source_texts import read_sources
+from tests.support import EXAMPLES, TESTS, ProgramTest, program
 
+OLD_DECKS = [each.text.encode() for file in ("old_decks.txt", "literals.txt")
+             for each in read_sources((TESTS / "sources" / file).read_text())]
 SEEDS = 1401, int(os.environ.get("CHANCE_SEED", random.SystemRandom().randrange(1 << 32)))
 
 ONE = f"[{re.escape(GRAPHICS)}]"
@@ -172,8 +174,7 @@ def source_in_both(chance, file):
     """A source of chance in both languages: of what the plain one takes the wider one writes the same, and `--all`
     reports its fault before all others, or warnings."""
     examples = [source.read_bytes() for source in sorted(EXAMPLES.glob("*.source"))]
-    decks = [lines.encode() for lines, *_ in (*OF_OLD_DECKS, *OF_LITERALS)]
-    text = damaged(chance, chance.choice(chance.choice([examples, decks])))
+    text = damaged(chance, chance.choice(chance.choice([examples, OLD_DECKS])))
     file.write_bytes(text)
     plain, wider, whole = (program("assemble", *words, file) for words in (
         [], ["--language", "ibm"], ["--language", "ibm", "--all"]

@@ -123,10 +123,9 @@ def tests_of(file):
     facts = {"__doc__": f"The sources of {file.name}.", "__module__": __name__}
     case = type(file.stem.title().replace("_", ""), (ProgramTest,), facts)
     for each in read_sources(file.read_text()):
-        text = "".join(f"{line}\n" for line in each.lines)
 
-        def test(self, each=each, text=text):
-            self.assertEqual([], wrong_source(self.folder / "source", text, each.words, each.fault, each.parts))
+        def test(self, each=each):
+            self.assertEqual([], wrong_source(self.folder / "source", each.text, each.words, each.fault, each.parts))
 
         add_test(case, each.name, test)
     return case
