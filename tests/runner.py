@@ -14,6 +14,9 @@ from concurrent.futures import ThreadPoolExecutor, as_completed
 
 from tests.support import TESTS, TOP
 
+# The modules that take longest, which begin first: none is waited for alone at the end.
+LONGEST = "test_browser", "test_running", "test_served_journals", "test_serving"
+
 
 class Counts(unittest.TestResult):
     """How many subtests, and tests without one, passed and failed."""
@@ -64,6 +67,9 @@ def count_module(name):
     """Runs the tests of a module in this process, and prints its line."""
     began, counts = time.monotonic(), Counts()
     unittest.defaultTestLoader.loadTestsFromName(f"tests.{name}").run(counts)
+    if counts.testsRun == 0 and not counts.errors:
+        print(f"FAILED  {name} has no test", flush=True)
+        counts.failed += 1
     took = time.monotonic() - began
     print(f"{name}: {counts.passed} passed, {counts.failed} failed, in {took:.0f} seconds", flush=True)
 
@@ -82,6 +88,7 @@ def run_module(name):
 def run_modules(names=()):
     """Runs modules, all of them where none is named, as many at once as there are processors: the counts."""
     names = list(names) or sorted(file.stem for file in TESTS.glob("test_*.py"))
+    names.sort(key=lambda name: name not in LONGEST)
     passed = failed = 0
     with ThreadPoolExecutor(len(os.sched_getaffinity(0))) as pool:
         for ended in as_completed([pool.submit(run_module, name) for name in names]):

@@ -40,6 +40,11 @@ class SourceText:
     def __init__(self, name):
         self.name, self.words, self.lines, self.parts, self.fault, self.part = name, [], [], {}, "", None
 
+    @property
+    def text(self):
+        """The source itself."""
+        return "".join(f"{line}\n" for line in self.lines)
+
     def take(self, line):
         """Takes a line of the file, and returns whether it says something there."""
         word, _, rest = line.partition(" ")
@@ -85,10 +90,13 @@ def wrong_ends(source, words, fault=""):
 
 
 def wrong_parts(source, words, parts):
-    """What is wrong with what is made of a source."""
+    """What is wrong with what is made of a source. Reports on a source that has an image leave the image as it is."""
     wrong = []
     for part, lines in parts.items():
         ran = program("assemble", *words, *PARTS[part], source.name, cwd=source.parent)
+        if part == "reported" and "image" in parts:
+            wrong += [] if ran.returncode == 0 else [f"with --all it has status {ran.returncode}"]
+            wrong += difference("the image with --all", ran.stdout, "".join(f"{line}\n" for line in parts["image"]))
         found, beginning = (ran.stderr, f"{source.name}:") if part == "reported" else (ran.stdout, "")
         wrong += difference(f"the {part}", found, "".join(f"{beginning}{line}\n" for line in lines))
     return wrong
@@ -97,5 +105,6 @@ def wrong_parts(source, words, parts):
 def wrong_source(source, text, words=(), fault="", parts=None):
     """What is wrong with a source that is written to a file: with its fault, if it has one, and what is made of it."""
     source.write_text(text, newline="")
-    wrong = [] if parts and "reported" in parts else wrong_ends(source, words, fault)
-    return wrong + wrong_parts(source, words, parts or {})
+    parts = parts or {}
+    wrong = [] if "reported" in parts and "image" not in parts else wrong_ends(source, words, fault)
+    return wrong + wrong_parts(source, words, parts)

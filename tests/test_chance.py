@@ -9,10 +9,12 @@ import socket
 import struct
 import unittest
 
-from tests.old_decks import OF_LITERALS, OF_OLD_DECKS
 from tests.session_texts import GRAPHICS
-from tests.support import EXAMPLES, SECONDS, ProgramTest, program
+from tests.source_texts import read_sources
+from tests.support import EXAMPLES, TESTS, ProgramTest, program
 
+OLD_DECKS = [each.text.encode() for file in ("old_decks.txt", "literals.txt")
+             for each in read_sources((TESTS / "sources" / file).read_text())]
 SEEDS = 1401, int(os.environ.get("CHANCE_SEED", random.SystemRandom().randrange(1 << 32)))
 
 ONE = f"[{re.escape(GRAPHICS)}]"
@@ -137,14 +139,14 @@ def deck(chance, file):
     words = ["run", source, "--cards", file, "--switches", "A", "--limit", "100000"]
     ran = program(*words)
     small = f"ibm1401: {file}: small letters are read as capitals\n"
-    has_told_small = ran.stderr.startswith(small.encode())
+    has_small_report = ran.stderr.startswith(small.encode())
     reported = ran.stderr.decode("latin-1").removeprefix(small).removeprefix(f"ibm1401: {file}: ")
     faults = "no card has this character|a card has 80 columns"
     refused = re.fullmatch(rf"line (\d+), column (\d+): (?:{faults})\n", reported)
     is_refused = refused and not ran.stdout and int(refused[1]) <= text.count(b"\n") + 1 and int(refused[2]) <= 81
     ended = JOB.fullmatch(reported)
     has_small = re.search(rb"[a-z]", text) is not None
-    is_ended = ended and (ran.returncode == 0) == (ended[1] == "HALT") and has_told_small == has_small
+    is_ended = ended and (ran.returncode == 0) == (ended[1] == "HALT") and has_small_report == has_small
     is_so = ran.returncode in (0, 1) and (is_refused or is_ended)
     return "" if is_so else f"{text!r}: status {ran.returncode}, {ran.stderr!r}, {ran.stdout!r}"
 
@@ -172,8 +174,7 @@ def source_in_both(chance, file):
     """A source of chance in both languages: of what the plain one takes the wider one writes the same, and `--all`
     reports its fault before all others, or warnings."""
     examples = [source.read_bytes() for source in sorted(EXAMPLES.glob("*.source"))]
-    decks = [lines.encode() for lines, *_ in (*OF_OLD_DECKS, *OF_LITERALS)]
-    text = damaged(chance, chance.choice(chance.choice([examples, decks])))
+    text = damaged(chance, chance.choice(chance.choice([examples, OLD_DECKS])))
     file.write_bytes(text)
     plain, wider, whole = (program("assemble", *words, file) for words in (
         [], ["--language", "ibm"], ["--language", "ibm", "--all"]
@@ -184,11 +185,11 @@ def source_in_both(chance, file):
     if wider.returncode == 0:
         is_image = IMAGE.fullmatch(wider.stdout.decode("latin-1"))
         is_so = is_image and (whole.returncode, whole.stdout) == (0, wider.stdout)
-        is_told = reported is not None and all(kind == "WARNING" for _, kind in reported)
+        is_reported = reported is not None and all(kind == "WARNING" for _, kind in reported)
     else:
         is_so = fault and (wider.stdout, whole.returncode, whole.stdout) == (b"", 1, b"")
-        is_told = bool(reported) and fault and reported[0] == (fault[1], fault[2])
-    return "" if is_same and is_so and is_told else f"{text!r}: {plain}, {wider}, {whole}"
+        is_reported = bool(reported) and fault and reported[0] == (fault[1], fault[2])
+    return "" if is_same and is_so and is_reported else f"{text!r}: {plain}, {wider}, {whole}"
 
 
 def operator(chance, console):

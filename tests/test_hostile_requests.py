@@ -15,14 +15,9 @@ SEED = 1401
 MORE_KILOBYTES = 4_096
 
 
-def hostile(port):
-    """Requests that nobody's page sends: a name, the bytes, and the version and status of the answer. Each line among
-    them would be the seat's first command."""
+def hostile_heads(port):
+    """Requests that nobody's page sends: a name, the bytes, and the version and status of the answer."""
     host = f"Host: 127.0.0.1:{port}\r\n"
-    own = f"{host}Origin: http://127.0.0.1:{port}\r\nX-1401-Line: 0\r\n"
-    line = f"POST /line HTTP/1.1\r\n{own}"
-    chunks = "4\r\nREGS\r\n0\r\n\r\n"
-    many, alike = "".join(f"X-{n}: 1\r\n" for n in range(70)), 70 * "X-Field: 1\r\n"
     return [
         ("a word", "GET", "1.1 400"),
         ("a head without its end", f"GET / HTTP/1.1\r\n{host}", "1.1 400"),
@@ -43,13 +38,9 @@ def hostile(port):
         ("a target with a foreign host", f"GET http://museum.example/ HTTP/1.1\r\n{host}\r\n", "1.1 403"),
         ("CONNECT", f"CONNECT 127.0.0.1:1401 HTTP/1.1\r\n{host}\r\n", "1.1 403"),
         ("TRACE", f"TRACE / HTTP/1.1\r\n{host}\r\n", "1.1 405"),
-        ("OPTIONS of a line", f"OPTIONS /line HTTP/1.1\r\n{own}\r\n", "1.1 405"),
         ("OPTIONS of a line, without an origin", f"OPTIONS /line HTTP/1.1\r\n{host}\r\n", "1.1 405"),
         ("OPTIONS of all", f"OPTIONS * HTTP/1.1\r\n{host}\r\n", "1.1 404"),
-        ("GET of a line", f"GET /line HTTP/1.1\r\n{own}\r\n", "1.1 405"),
         ("GET of a line, without an origin", f"GET /line HTTP/1.1\r\n{host}\r\n", "1.1 405"),
-        ("PUT of a line", f"PUT /line HTTP/1.1\r\n{own}Content-Length: 7\r\n\r\nSTART 1", "1.1 405"),
-        ("POST of the page", f"POST / HTTP/1.1\r\n{own}Content-Length: 0\r\n\r\n", "1.1 405"),
         ("POST of a picture", f"POST /picture HTTP/1.1\r\n{host}Content-Length: 0\r\n\r\n", "1.1 405"),
         ("HEAD of the page", f"HEAD / HTTP/1.1\r\n{host}\r\n", "1.1 405"),
         ("a method in small letters", f"get / HTTP/1.1\r\n{host}\r\n", "1.1 405"),
@@ -60,6 +51,18 @@ def hostile(port):
         ("a bare line feed", f"GET / HTTP/1.1\n{host}\n", "1.1 400"),
         ("bare line feeds alone", f"GET / HTTP/1.1\nHost: 127.0.0.1:{port}\n\n", "1.1 400"),
         ("a folded field", f"GET / HTTP/1.1\r\n{host}X-A: 1\r\n 2\r\n\r\n", "1.1 400"),
+    ]
+
+
+def hostile_lines(port):
+    """The same of lines by another method, or whose length or body is wrong. Each would be the seat's first command."""
+    own = f"Host: 127.0.0.1:{port}\r\nOrigin: http://127.0.0.1:{port}\r\nX-1401-Line: 0\r\n"
+    line, chunks = f"POST /line HTTP/1.1\r\n{own}", "4\r\nREGS\r\n0\r\n\r\n"
+    return [
+        ("POST of the page", f"POST / HTTP/1.1\r\n{own}Content-Length: 0\r\n\r\n", "1.1 405"),
+        ("PUT of a line", f"PUT /line HTTP/1.1\r\n{own}Content-Length: 7\r\n\r\nSTART 1", "1.1 405"),
+        ("GET of a line", f"GET /line HTTP/1.1\r\n{own}\r\n", "1.1 405"),
+        ("OPTIONS of a line", f"OPTIONS /line HTTP/1.1\r\n{own}\r\n", "1.1 405"),
         ("a blank before the colon", f"{line}Content-Length : 7\r\n\r\nSTART 1", "1.1 400"),
         ("a body that is cut short", f"{line}Content-Length: 8\r\n\r\nREGS", "1.1 400"),
         ("two framings", f"{line}Content-Length: 4\r\nTransfer-Encoding: chunked\r\n\r\n{chunks}", "1.1 400"),
@@ -70,6 +73,14 @@ def hostile(port):
         ("a length of 1,025", f"{line}Content-Length: 1025\r\n\r\nREGS", "1.1 413"),
         ("a chunk without a length", f"{line}Transfer-Encoding: chunked\r\n\r\nx{chunks[1:]}", "1.1 400"),
         ("another coding", f"{line}Transfer-Encoding: gzip, chunked\r\n\r\n{chunks}", "1.1 501"),
+    ]
+
+
+def large_heads(port):
+    """The same of heads with too many fields, or too long ones."""
+    host = f"Host: 127.0.0.1:{port}\r\n"
+    many, alike = "".join(f"X-{n}: 1\r\n" for n in range(70)), 70 * "X-Field: 1\r\n"
+    return [
         ("70 fields", f"GET / HTTP/1.1\r\n{host}{many}\r\n", "1.1 431"),
         ("70 fields of one name", f"GET / HTTP/1.1\r\n{host}{alike}\r\n", "1.1 431"),
         ("a field of 5,000 bytes", f"GET / HTTP/1.1\r\n{host}X-A: {5_000 * 'a'}\r\n\r\n", "1.1 431"),
@@ -120,7 +131,7 @@ class Hostile(ProgramTest):
         room = self.pages(3)
         port = room.page + 1
         self.same("a request of no byte", exchange(port, b""), b"")
-        for name, request, refused in hostile(port):
+        for name, request, refused in [*hostile_heads(port), *hostile_lines(port), *large_heads(port)]:
             self.refused(name, ask(port, request.encode("latin-1")), refused)
         self.same("none of them is a command", room.made(2), 0)
         self.ended(room, "the room", 0)

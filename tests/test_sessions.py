@@ -69,8 +69,16 @@ def channels():
     return Session("the channels", 1400, given)
 
 
+FILES = sorted((TESTS / "sessions").glob("*.txt"))
+
+
 class SessionsOfTables(ProgramTest):
     """Sessions of tables."""
+
+    def test_each_file_has_sessions(self):
+        self.assertTrue(FILES)
+        for file in FILES:
+            self.check(file.name, "" if read_sessions(file.read_text()) else "it has none")
 
     def test_each_character_as_an_instruction_of_each_length(self):
         for char in GRAPHICS:
@@ -90,7 +98,7 @@ def tests_of(file):
     return case
 
 
-for each in sorted((TESTS / "sessions").glob("*.txt")):
+for each in FILES:
     made = tests_of(each)
     globals()[made.__name__] = made
 del made

@@ -74,8 +74,16 @@ SIZED = [
 ]
 
 
+FILES = sorted((TESTS / "sources").glob("*.txt"))
+
+
 class SourcesOfTables(ProgramTest):
     """Sources of the tables, a subtest each, and long ones."""
+
+    def test_each_file_has_sources(self):
+        self.assertTrue(FILES)
+        for file in FILES:
+            self.check(file.name, "" if read_sources(file.read_text()) else "it has none")
 
     def try_source(self, name, text, words=(), fault="", parts=None):
         """A subtest: a source has this fault, or none, and this is made of it."""
@@ -115,16 +123,15 @@ def tests_of(file):
     facts = {"__doc__": f"The sources of {file.name}.", "__module__": __name__}
     case = type(file.stem.title().replace("_", ""), (ProgramTest,), facts)
     for each in read_sources(file.read_text()):
-        text = "".join(f"{line}\n" for line in each.lines)
 
-        def test(self, each=each, text=text):
-            self.assertEqual([], wrong_source(self.folder / "source", text, each.words, each.fault, each.parts))
+        def test(self, each=each):
+            self.assertEqual([], wrong_source(self.folder / "source", each.text, each.words, each.fault, each.parts))
 
         add_test(case, each.name, test)
     return case
 
 
-for each in sorted((TESTS / "sources").glob("*.txt")):
+for each in FILES:
     made = tests_of(each)
     globals()[made.__name__] = made
 del made

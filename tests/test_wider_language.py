@@ -2,9 +2,9 @@
 import re
 import unittest
 
-from tests.old_decks import (LEFT_OUT, NOT_FITTED, NOT_OF_OLD_DECKS, OF_LITERALS, OF_OLD_DECKS, REFUSED_TOGETHER,
-                             TOGETHER_REFUSED, columns)
-from tests.support import EXAMPLES, TOP, ProgramTest, program, shell
+from tests.old_decks import LEFT_OUT, NOT_OF_OLD_DECKS, REFUSED_TOGETHER, TOGETHER_REFUSED, columns
+from tests.source_texts import read_sources
+from tests.support import EXAMPLES, TESTS, TOP, ProgramTest, program, shell
 
 
 class Language(ProgramTest):
@@ -23,20 +23,13 @@ class Taken(Language):
     """Sources that the wider language takes."""
 
     def test_sources_of_old_decks(self):
-        for number, (lines, image, warned) in enumerate(OF_OLD_DECKS, 1):
-            self.expect(f"source {number}", self.assemble(lines), 0, image)
-            rows = [row if isinstance(row, tuple) else (row, NOT_FITTED) for row in warned]
-            reported = "".join(f"old.source:{line}:{text}\n" for line, text in rows)
-            self.expect(f"source {number}: its warnings", self.assemble(lines, "--all"), 0, image, reported)
-            listing = self.assemble(lines, "--list").stdout.decode().splitlines()
-            shown = [line[20:] for line in listing if line[:4] != "    "]
-            self.same(f"source {number}: its listing has the lines as they are", shown, lines.splitlines())
-            self.expect(f"source {number}: not in the plain language", program("assemble", self.source), 1, "", "...")
-
-    def test_sources_with_indexes_and_literals(self):
-        for number, (lines, image) in enumerate(OF_LITERALS, 1):
-            self.expect(f"source {number}", self.assemble(lines), 0, image)
-            self.expect(f"source {number}: not in the plain language", program("assemble", self.source), 1, "", "...")
+        """A listing has their lines as they are, and the plain language refuses them."""
+        for file in "old_decks.txt", "literals.txt":
+            for each in read_sources((TESTS / "sources" / file).read_text()):
+                listing = self.assemble(each.text, "--list").stdout.decode().splitlines()
+                shown = [line[20:] for line in listing if line[:4] != "    "]
+                self.same(f"{each.name}: its listing", shown, each.lines)
+                self.expect(f"{each.name}: not in the plain language", program("assemble", self.source), 1, "", "...")
 
     def test_a_literal_is_listed_in_capitals(self):
         lines = "               org  500\n     start     mcw  @ab@,start\n               end  start\n"
