@@ -320,20 +320,24 @@ def handles(most):
 
 
 def unheld(_):
-    """A connection for which the system gives no second handle is closed, and the room goes on; it ends at QUIT though
-    no handle is left: the streams, the listener, and what is held for the next connection."""
+    """A connection for which there is no handle waits until there is one, and is answered then."""
     room = Room("serve", "--port", "PORT", "--seats", "2", "--keep-seats", **handles(5))
-    for turn in range(2):
-        with room.console() as console:
-            answer(f"a connection without a second handle, {turn}", hear(console), b"")
-    time.sleep(0.2)
-    room.ended("a room that gave no seat", 0, status=1, error="ibm1401: thread refused\n")
+    with room.console() as first, room.console() as second:
+        answer("the last handle", say(first, b"EXAMINE 0\n"), b" \n")
+        second.sendall(b"EXAMINE 0\n")
+        ready = select.select([second], [], [], 0.5)[0]
+        tell("a connection without a handle waits", "it has an answer" if ready else "")
+        answer("the first operator ends", say(first, b"QUIT\n"), b"BYE\n")
+        first.close()
+        answer("the second is answered", say(second, b"QUIT\n"), b" \n")
+        answer("to the end", hear(second), b"BYE\n")
+    room.ended("a room that had one handle for two", 2)
 
 
 def all_held(folder):
-    """A room whose operators have every handle that is left, two for each, ends at QUIT, kept or not."""
+    """A room whose operators have every handle that is left, one each, ends at QUIT, kept or not."""
     path = folder / "held.journal"
-    for words, most in (["--keep-seats"], 9), (["--journal", path], 10):
+    for words, most in (["--keep-seats"], 6), (["--journal", path], 7):
         room = Room("serve", "--port", "PORT", "--seats", "2", *words, **handles(most))
         with room.console() as first, room.console() as second:
             answer(f"{words[0]}, {most} handles: the first seat", say(first, b"DEPOSIT 0700 A\n"), b"OK\n")
@@ -349,12 +353,12 @@ def all_held(folder):
 
 
 def unaccepted(_):
-    """A connection that the system doesn't accept: it has no reply, and the room goes on to its end."""
+    """A room without a handle for any connection: nobody has a reply, and QUIT ends it."""
     room = Room("serve", "--port", "PORT", "--seats", "1", "--keep-seats", **handles(4))
     with room.console() as console:
         ready = select.select([console], [], [], 0.5)[0]
         tell("a connection that isn't accepted", "it has an answer" if ready and hear(console) else "")
-    room.ended("a room that accepted none", 0, status=1, error="ibm1401: accept failed\n")
+        room.ended("a room that accepted none", 0)
 
 
 def unread(folder):
