@@ -179,43 +179,5 @@ class Options(ProgramTest):
         self.check("and no file is made", "it is there" if new.exists() else "")
 
 
-class Handles(ProgramTest):
-    """Connections for which the system has no handle."""
-
-    def test_a_connection_without_a_second_handle(self):
-        """It is closed, and the room goes on; it ends at QUIT though no handle is left: the streams, the listener, and
-        what is held for the next connection."""
-        room = self.room("serve", "--keep-seats", seats=2, **at_most(5))
-        for turn in range(2):
-            with room.console() as console:
-                self.same(f"connection {turn}", console.hear(), b"")
-        room.settle(4)
-        self.ended(room, "the room", 0, status=1, error="ibm1401: thread refused\n")
-
-    def test_a_room_that_holds_every_handle_it_may_have(self):
-        """Its operators have two each. It ends at QUIT, kept or not."""
-        path = self.folder / "held.journal"
-        for words, most in (["--keep-seats"], 9), (["--journal", path], 10):
-            name, room = words[0], self.room("serve", *words, seats=2, **at_most(most))
-            with room.console() as first, room.console() as second:
-                self.same(f"{name}: the first seat", first.say(b"DEPOSIT 0700 A\n"), b"OK\n")
-                self.same(f"{name}: the second seat", second.say(b"EXAMINE 0700\n"), b"A\n")
-                room.settle(most - 1)
-                room.type(b"QUIT\n")
-                self.same(f"{name}: QUIT ends the first console", first.hear(), b"")
-                self.same(f"{name}: and the second", second.hear(), b"")
-            self.ended(room, f"{name}: the room", 2, b"")
-        text = b"JOURNAL1 4000\n1\t1\tDEPOSIT 0700 A\tOK\n2\t2\tEXAMINE 0700 1\tA\n"
-        self.holds("its journal is whole", path, text)
-
-    def test_a_connection_that_is_not_accepted(self):
-        """It has no reply, and the room goes on to its end."""
-        room = self.room("serve", "--keep-seats", seats=1, **at_most(4))
-        with room.console() as console:
-            room.settle(4)
-            self.ended(room, "the room", 0, status=1, error="ibm1401: accept failed\n")
-            self.check("no reply", "it has one" if b"\n" in console.hear() else "")
-
-
 if __name__ == "__main__":
     unittest.main()

@@ -11,7 +11,6 @@
 // the connections of a page, how long each is waited for, and one as a whole
 pub mod exchange;
 pub mod listening;
-pub mod patience;
 
 // what a request asks for, where it comes from, and what it goes on from
 pub mod fields;
@@ -26,7 +25,7 @@ pub use exchange::answer;
 pub use fields::{has_field, is_for, is_next};
 pub use listening::{Connections, answer_connection, answer_each, page_config};
 pub use numbers::number;
-pub use patience::has_begun;
+pub use patience_1401::has_begun;
 pub use responses::{begin_text, end_with, end_without, put_page, refuse};
 pub use route::{Route, route_of};
 pub use taken::TakenSeat;

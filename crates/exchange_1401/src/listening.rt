@@ -3,8 +3,8 @@ ghost use Rattle.std.specs.Prelude.{◌≡◌};
 ghost use Rattle.exchange_1401.specs.Exchange.{Follows};
 
 use crate::exchange::answer;
-use crate::patience::{Patient, linger};
 use http_server::{Config, Service};
+use patience_1401::{Patient, linger};
 use std::alloc::AllocGlobal;
 use std::hash::RandomState;
 use std::io;

@@ -150,6 +150,7 @@ fn verify_room<
         + RandomSource
         + Input<Reader = StdinLock<'static>>
         + Print
+        + Eprint
         + AllocGlobal
         + Files,
 >(

@@ -102,6 +102,7 @@ pub fn open_seats<
         + RandomSource
         + Input<Reader = StdinLock<'static>>
         + Print
+        + Eprint
         + AllocGlobal
         + Files<File = File>
         + Net<Listener = TcpListener, Stream = TcpStream>,
@@ -127,6 +128,7 @@ pub(crate) fn open_new<
         + RandomSource
         + Input<Reader = StdinLock<'static>>
         + Print
+        + Eprint
         + AllocGlobal
         + Files<File = File>,
 >(
@@ -167,6 +169,7 @@ pub(crate) fn serve_room<
         + RandomSource
         + Input<Reader = StdinLock<'static>>
         + Print
+        + Eprint
         + AllocGlobal
         + Files,
     K: Keeper + Drop + Send + Sync,
@@ -207,6 +210,7 @@ fn serve_begun<
         + RandomSource
         + Input<Reader = StdinLock<'static>>
         + Print
+        + Eprint
         + AllocGlobal
         + Files,
     K: Keeper + Drop + Send + Sync,
@@ -240,6 +244,7 @@ fn serve_operators<
         + RandomSource
         + Input<Reader = StdinLock<'static>>
         + Print
+        + Eprint
         + AllocGlobal,
     K: Keeper + Drop + Send + Sync,
 >(

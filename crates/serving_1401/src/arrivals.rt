@@ -11,6 +11,7 @@ use std::sync::atomic::Ordering::SeqCst;
 use std::sync::atomic::{AtomicBool, AtomicU64};
 use std::thread;
 use std::thread::{Scope, Threads};
+use std::time::Clock;
 
 /// How many connections of a page may wait: for their first byte, and then for their turn. One more is closed at once.
 pub(crate) const MOST_WAITING: usize = 64;
@@ -75,7 +76,7 @@ pub(crate) fn accept_arrivals<J, R>(
 )
 where
     J: RoomId + Send + Sync,
-    R: Threads + Wait + Sync,
+    R: Threads + Wait + Sync + Clock,
 {
     thread::scope(thread::scope_env(), rt, move |scope| {
         accept_each_arrival(scope, rt, service, listener, begun, waiting)
@@ -93,7 +94,7 @@ fn accept_each_arrival<'s, E: 's, J, R>(
 )
 where
     J: RoomId + Send + Sync + 's,
-    R: Threads + Wait + Sync + 's,
+    R: Threads + Wait + Sync + Clock + 's,
 {
     for _ in rt.forever() {
         let Some(stream) = service.accept(rt, listener) else {

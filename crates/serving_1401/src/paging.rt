@@ -72,7 +72,7 @@ where
         { serve_page(alloc, rt, room, service, page, number) },
     );
     if started.is_err() {
-        service.note(rt, SeatsFault::Thread);
+        service.give_up(rt, &page.listener, SeatsFault::Thread);
     }
 }
 
@@ -93,7 +93,7 @@ where
     requires { (0 < number) × (number ≤ J.seats) }
 {
     let Ok((begun, receiver)) = bounded(alloc, MOST_WAITING) else {
-        service.note(rt, SeatsFault::Memory);
+        service.give_up(rt, &page.listener, SeatsFault::Memory);
         return;
     };
     let waiting = AtomicU64::new(0);
@@ -158,7 +158,7 @@ where
     let listener = &page.listener;
     let accepting = scope.spawn(move || accept_arrivals(rt, service, listener, begun, waiting));
     if accepting.is_err() {
-        service.note(rt, SeatsFault::Thread);
+        service.give_up(rt, listener, SeatsFault::Thread);
         return;
     }
     answer_arrivals(alloc, rt, room, service, page.port, number, arrivals);

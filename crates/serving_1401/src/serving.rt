@@ -8,10 +8,10 @@ ghost use Rattle.serving_1401.specs.Accounted.{IsAccounted};
 use crate::paging::{PagePort, start_pages};
 use console_1401::Door;
 use desk_1401::{SeatsFault, Service, accept_each};
+use patience_1401::shut_down;
 use room_1401::{Keeper, Room, RoomId, Seat, SharedRoom};
 use std::alloc::{AllocGlobal, Global};
 use std::net::TcpListener;
-use std::os::fd::AsRawFd;
 use std::random::RandomSource;
 use std::sync::Wait;
 use std::thread;
@@ -36,10 +36,12 @@ pub struct SeatsServed<K: Keeper + Drop> {
 ///
 /// A line of the input that says QUIT, or the end of the input, closes the room: the listener is shut down, and accepts
 /// no connection any more; each console ends as at the end of its input, with its last reply out, and the room is
-/// closed. Other lines of the input say nothing. A peer that doesn't take its replies can keep the room from closing.
+/// closed. Other lines of the input say nothing. A peer that doesn't take its replies keeps the room from closing for
+/// two seconds or so.
 ///
-/// A connection whose thread is refused is closed, and the room goes on. Once a connection couldn't be accepted, none
-/// is accepted any more; the consoles go on until the room is closed.
+/// A connection whose thread is refused is closed, and the room goes on. What keeps a connection from being accepted
+/// and passes is waited for. If anything else does, the listener is shut down, which standard error reports at once;
+/// the consoles go on until the room is closed.
 pub fn serve_seats<J, H, K, R, S, D>(
     alloc: Global,
     rt: &R,
@@ -53,7 +55,7 @@ where
     J: RoomId + Send + Sync,
     H: Wait + Drop + Send + Sync,
     K: Keeper + Drop + Send + Sync,
-    R: Threads + Wait + Sync + Clock + AllocGlobal + RandomSource,
+    R: Threads + Wait + Sync + Clock + Eprint + AllocGlobal + RandomSource,
     S: Source + Drop + Send,
     D: Door + Sync,
     requires ledger { J.parts ≡ J.seats }
@@ -80,8 +82,9 @@ where
 /// It ends as `serve_seats` does: all listeners are shut down, the request of each page that is being answered is
 /// answered, and the connections that still wait are closed.
 ///
-/// A page isn't served any more once a connection to it couldn't be accepted, nor at all if its threads are refused,
-/// or the memory for those who wait; the room goes on. A connection whose thread is refused is closed.
+/// A page isn't served any more once a connection to it can't be accepted for a reason that doesn't pass, nor at all if
+/// its threads are refused, or the memory for those who wait: its listener is shut down, and the room goes on. A
+/// connection whose thread is refused is closed.
 pub fn serve_pages<J, H, K, R, S, D>(
     alloc: Global,
     rt: &R,
@@ -96,7 +99,7 @@ where
     J: RoomId + Send + Sync,
     H: Wait + Drop + Send + Sync,
     K: Keeper + Drop + Send + Sync,
-    R: Threads + Wait + Sync + Clock + AllocGlobal + RandomSource,
+    R: Threads + Wait + Sync + Clock + Eprint + AllocGlobal + RandomSource,
     S: Source + Drop + Send,
     D: Door + Sync,
     requires ledger { J.parts ≡ J.seats }
@@ -173,7 +176,7 @@ where
     J: RoomId + Send + Sync,
     H: Wait + Drop + Send + Sync,
     K: Keeper + Drop + Send + Sync,
-    R: Threads + Wait + Sync + Clock + AllocGlobal + RandomSource,
+    R: Threads + Wait + Sync + Clock + Eprint + AllocGlobal + RandomSource,
     S: Source + Drop + Send,
     D: Door + Sync,
     requires pages { length pages.now ≤ J.seats }
@@ -192,7 +195,8 @@ where
     );
 }
 
-/// Starts the thread that waits for the input's end, and those of the pages, and accepts consoles until then.
+/// Starts the threads that wait for the input's end and for a port that is closed, and those of the pages, and accepts
+/// consoles until then.
 fn listen<'s, E: 's, J, H, K, R, S, D>(
     scope: &Scope<'s, E>,
     alloc: Global,
@@ -208,7 +212,7 @@ where
     J: RoomId + Send + Sync + 's,
     H: Wait + Drop + Send + Sync + 's,
     K: Keeper + Drop + Send + Sync + 's,
-    R: Threads + Wait + Sync + Clock + AllocGlobal + RandomSource + 's,
+    R: Threads + Wait + Sync + Clock + Eprint + AllocGlobal + RandomSource + 's,
     S: Source + Drop + Send + 's,
     D: Door + Sync + 's,
     requires pages { length pages.now ≤ J.seats }
@@ -219,14 +223,27 @@ where
         service.note(rt, SeatsFault::Thread);
         return;
     }
+    if scope
+        .spawn(move || report_closed_port(rt, service))
+        .is_err()
+    {
+        service.note(rt, SeatsFault::Thread);
+    }
     start_pages(scope, alloc, rt, room, service, pages);
     if let Some(listener) = consoles {
         accept_each(scope, alloc, rt, room, service, listener, door);
     }
 }
 
-/// Waits until the input closes the room, and shuts the listeners down.
-fn close_by_input<J: RoomId, R: Wait, S: Source + Drop>(
+/// Reports at once that a port was closed while the room is open.
+fn report_closed_port<J: RoomId, R: Wait + Clock + Eprint>(rt: &R, service: &Service<J>) {
+    if service.await_closed_port(rt) {
+        let _reported = eprintln!(rt; "ibm1401: a port was closed; the room goes on");
+    }
+}
+
+/// Waits until the input closes the room, shuts the listeners down, and gives the consoles a second to end.
+fn close_by_input<J: RoomId, R: Wait + Clock, S: Source + Drop>(
     rt: &R,
     service: &Service<J>,
     consoles: Option<&TcpListener>,
@@ -241,10 +258,5 @@ fn close_by_input<J: RoomId, R: Wait, S: Source + Drop>(
     for page in pages {
         shut_down(&page.listener);
     }
-}
-
-/// Shuts a listener down: a thread that waits for its next connection waits no more, and whoever connects is refused.
-/// A connection would wake the thread too, but needs a handle of the system, which may have none left.
-fn shut_down(listener: &TcpListener) {
-    let _shut = libc::net::shutdown(listener.as_raw_fd(), libc::net::SHUT_RD);
+    service.end_consoles(rt);
 }

@@ -5,17 +5,17 @@ use std::io::{ErrorKind, Read, Write};
 use std::net::{Shutdown, TcpStream};
 use std::time::{Clock, Duration, Instant};
 
-/// How long a connection may take for each of its parts, in seconds: for its first byte, for the rest of its request,
-/// for taking the answer, and for ending.
+/// How long a page's connection may take for each of its parts, in seconds: for its first byte, for the rest of its
+/// request, for taking the answer, and for ending; and how long a console's may take for ending.
 const PATIENCE: u64 = 1;
 
-/// How many reads are made of what comes after the last request, so that the peer gets its answer before the end.
-const MOST_READS_AFTER: u32 = 64;
+/// The most reads of what a peer still sends when its connection ends; the time is up long before.
+const MOST_READS_AFTER: u32 = 1_000_000;
 
-/// A stream whose reads, or whose writes, together take no longer than a page waits, from the first one on. So a peer
-/// that sends byte by byte is let go.
+/// A stream whose reads, or whose writes, together take no longer than a second, from the first one on. So a peer that
+/// sends byte by byte is let go.
 #[derive(Drop)]
-pub(crate) struct Patient<'a, R: Clock> {
+pub struct Patient<'a, R: Clock> {
     stream: &'a TcpStream,
     clock: &'a R,
     until: Option<Instant>,
@@ -23,7 +23,7 @@ pub(crate) struct Patient<'a, R: Clock> {
 
 impl<'a, R: Clock> Patient<'a, R> {
     /// Nothing of the stream is read or written yet.
-    pub(crate) fn new(clock: &'a R, stream: &'a TcpStream) -> Patient<'a, R> {
+    pub fn new(clock: &'a R, stream: &'a TcpStream) -> Patient<'a, R> {
         Patient {
             stream,
             clock,
@@ -76,7 +76,7 @@ impl<R: Clock> Write for Patient<'_, R> {
     }
 }
 
-/// Waits for the first byte of a connection's request, and tells whether it has come.
+/// Waits for the first byte of a connection's request, and returns whether it has come.
 pub fn has_begun(stream: &TcpStream) -> bool {
     if stream
         .set_read_timeout(Some(Duration::from_secs(PATIENCE)))
@@ -88,13 +88,14 @@ pub fn has_begun(stream: &TcpStream) -> bool {
     matches!(stream.peek(&mut first), Ok(1))
 }
 
-/// Ends a connection: the peer is told that nothing more comes, and what it still sends is read, since a socket that is
-/// closed over unread bytes may take its last answer back.
-pub(crate) fn linger<R: Clock>(clock: &R, stream: &TcpStream) {
+/// Ends a connection: the peer sees the end of what it is sent, and what it still sends is read and dropped, for a
+/// second at most. A socket that is closed over unread bytes resets the connection instead, and what the peer hasn't
+/// taken by then is lost.
+pub fn linger<R: Clock>(clock: &R, stream: &TcpStream) {
     if stream.shutdown(Shutdown::Write).is_err() {
         return;
     }
-    let mut buffer = [0; 1024];
+    let mut buffer = [0; 4096];
     let mut rest = Patient::new(clock, stream);
     for _read in 0..MOST_READS_AFTER {
         match rest.read(&mut buffer) {
