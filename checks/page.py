@@ -35,8 +35,8 @@ def document(room):
     expect_status("the page is served", response, 200)
     tell("to the byte", "" if body(response) == PAGE else f"{len(body(response))} bytes, not these {len(PAGE)}")
     for name, value in [("content-security-policy", policy()), ("content-type", "text/html; charset=utf-8"),
-                        ("x-content-type-options", "nosniff"), ("cache-control", "no-store"), ("connection", "close"),
-                        ("content-length", str(len(PAGE)))]:
+                        ("x-content-type-options", "nosniff"), ("referrer-policy", "no-referrer"),
+                        ("cache-control", "no-store"), ("connection", "close"), ("content-length", str(len(PAGE)))]:
         is_it = field(response, name)
         tell(f"its field {name}", "" if is_it == value else f"{is_it!r}, not {value!r}")
     outside = re.findall(rb"""(?:src|href)=["'](?!data:|#)[^"']*|url\((?!data:)|@import""", PAGE)

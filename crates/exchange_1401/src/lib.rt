@@ -23,7 +23,7 @@ pub mod responses;
 pub mod taken;
 
 pub use exchange::answer;
-pub use fields::{has_field, is_for, is_next};
+pub use fields::{has_field, is_ambiguous, is_for, is_next};
 pub use listening::{Connections, answer_connection, answer_each, page_config};
 pub use numbers::number;
 pub use patience::has_begun;

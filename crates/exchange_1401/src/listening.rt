@@ -1,5 +1,6 @@
 //! The connections of a page, one after the other.
 ghost use Rattle.std.specs.Prelude.{◌≡◌};
+ghost use Rattle.exchange_1401.specs.Limits.{most_body_bytes, most_head_bytes, most_other_bytes};
 ghost use Rattle.exchange_1401.specs.Exchange.{Follows};
 
 use crate::exchange::answer;
@@ -13,8 +14,8 @@ use std::random::RandomSource;
 use std::sync::Wait;
 use std::time::Clock;
 
-/// The most bytes of the head of a request.
-const MOST_HEAD_BYTES: usize = 4096;
+/// The most bytes of the head of a request. A browser sends a page the cookies of all servers at the same address.
+const MOST_HEAD_BYTES: usize = 16_384;
 
 /// The most bytes of the body of a request: a line of the console has at most 200, and one that is longer is told so.
 const MOST_BODY_BYTES: usize = 1024;
@@ -28,10 +29,12 @@ pub trait Connections {
     fn next_connection(&mut self) -> Option<TcpStream>;
 }
 
-/// The limits of a page's requests: 4,096 bytes of head, 1,024 of body, and 64 of what else a request may have.
+/// The limits of a page's requests.
 pub fn page_config() -> Config
-    // A line of the console fits, and one that is too long to be one.
-    ensures { result.max_body_len ≡ MOST_BODY_BYTES }
+    ensures head { result.limits.max_head_len ≡ most_head_bytes }
+    ensures body { result.max_body_len ≡ most_body_bytes }
+    ensures extensions { result.limits.max_extensions_len ≡ most_other_bytes }
+    ensures trailers { result.limits.max_trailers_len ≡ most_other_bytes }
 {
     let mut config = Config::default();
     config.limits.max_head_len = MOST_HEAD_BYTES;

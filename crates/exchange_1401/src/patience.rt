@@ -1,4 +1,7 @@
 //! How long a peer is waited for.
+ghost use Rattle.std.specs.Prelude.{◌≡◌, ◌<◌, ◌≤◌, IfOk};
+ghost use Rattle.core.specs.Duration.{as_nanos};
+ghost use Rattle.exchange_1401.specs.Limits.{patience};
 
 use std::io;
 use std::io::{ErrorKind, Read, Write};
@@ -12,13 +15,20 @@ const PATIENCE: u64 = 1;
 /// How many reads are made of what comes after the last request, so that the peer gets its answer before the end.
 const MOST_READS_AFTER: u32 = 64;
 
+/// How long each part of a connection may take.
+fn patience() -> Duration
+    ensures { as_nanos result ≡ patience }
+{
+    Duration::from_secs(PATIENCE)
+}
+
 /// A stream whose reads, or whose writes, together take no longer than a page waits, from the first one on. So a peer
-/// that sends byte by byte is let go.
+/// that sends byte by byte is let go. After a signal the time begins anew, since the process may have been stopped.
 #[derive(Drop)]
 pub(crate) struct Patient<'a, R: Clock> {
     stream: &'a TcpStream,
     clock: &'a R,
-    until: Option<Instant>,
+    since: Option<Instant>,
 }
 
 impl<'a, R: Clock> Patient<'a, R> {
@@ -27,7 +37,7 @@ impl<'a, R: Clock> Patient<'a, R> {
         Patient {
             stream,
             clock,
-            until: None,
+            since: None,
         }
     }
 
@@ -36,39 +46,72 @@ impl<'a, R: Clock> Patient<'a, R> {
     /// # Errors
     ///
     /// `TimedOut` if its time is up, or if the clock can't be read.
-    fn left(&mut self) -> io::Result<Duration> {
+    fn left(&mut self) -> io::Result<Duration>
+        ensures { IfOk result (λ left. (0 < as_nanos left) × (as_nanos left ≤ patience)) }
+    {
         let now = Instant::now(self.clock)?;
-        let until = match self.until {
-            Some(until) => until,
-            None => match now.checked_add(Duration::from_secs(PATIENCE)) {
-                Some(until) => until,
-                None => return Err(ErrorKind::TimedOut.into()),
-            },
-        };
-        self.until = Some(until);
-        let left = until.saturating_duration_since(now);
+        let since = self.since.unwrap_or(now);
+        self.since = Some(since);
+        let left = patience().saturating_sub(now.saturating_duration_since(since));
         if left.is_zero() {
             return Err(ErrorKind::TimedOut.into());
         }
         Ok(left)
     }
+
+    /// Whether a read or a write is to be tried again, since a signal interrupted it; then its time begins anew.
+    fn is_interrupted<T>(&mut self, done: &io::Result<T>) -> bool {
+        match done {
+            Err(error) if error.kind() == ErrorKind::Interrupted => {
+                self.since = None;
+                true
+            }
+            _ => false,
+        }
+    }
+
+    /// Waits for the first byte, and returns whether it has come. It is still to be read.
+    fn has_begun(&mut self) -> io::Result<bool> {
+        // A loop is proved to end, so this one counts its turns.
+        for _ in 0..u64::MAX {
+            let left = self.left()?;
+            self.stream.set_read_timeout(Some(left))?;
+            let peeked = self.stream.peek(&mut [0u8]);
+            if !self.is_interrupted(&peeked) {
+                return Ok(peeked? == 1);
+            }
+        }
+        Err(ErrorKind::TimedOut.into())
+    }
 }
 
 impl<R: Clock> Read for Patient<'_, R> {
     fn read(&mut self, buf: &mut [u8]) -> io::Result<usize> {
-        let left = self.left()?;
-        self.stream.set_read_timeout(Some(left))?;
-        let mut stream = self.stream;
-        stream.read(buf)
+        for _ in 0..u64::MAX {
+            let left = self.left()?;
+            self.stream.set_read_timeout(Some(left))?;
+            let mut stream = self.stream;
+            let read = stream.read(buf);
+            if !self.is_interrupted(&read) {
+                return read;
+            }
+        }
+        Err(ErrorKind::TimedOut.into())
     }
 }
 
 impl<R: Clock> Write for Patient<'_, R> {
     fn write(&mut self, buf: &[u8]) -> io::Result<usize> {
-        let left = self.left()?;
-        self.stream.set_write_timeout(Some(left))?;
-        let mut stream = self.stream;
-        stream.write(buf)
+        for _ in 0..u64::MAX {
+            let left = self.left()?;
+            self.stream.set_write_timeout(Some(left))?;
+            let mut stream = self.stream;
+            let written = stream.write(buf);
+            if !self.is_interrupted(&written) {
+                return written;
+            }
+        }
+        Err(ErrorKind::TimedOut.into())
     }
 
     fn flush(&mut self) -> io::Result<()> {
@@ -76,16 +119,9 @@ impl<R: Clock> Write for Patient<'_, R> {
     }
 }
 
-/// Waits for the first byte of a connection's request, and tells whether it has come.
-pub fn has_begun(stream: &TcpStream) -> bool {
-    if stream
-        .set_read_timeout(Some(Duration::from_secs(PATIENCE)))
-        .is_err()
-    {
-        return false;
-    }
-    let mut first = [0u8];
-    matches!(stream.peek(&mut first), Ok(1))
+/// Waits for the first byte of a connection's request, and returns whether it has come.
+pub fn has_begun<R: Clock>(clock: &R, stream: &TcpStream) -> bool {
+    matches!(Patient::new(clock, stream).has_begun(), Ok(true))
 }
 
 /// Ends a connection: the peer is told that nothing more comes, and what it still sends is read, since a socket that is

@@ -6,7 +6,7 @@ ghost use Rattle.exchange_1401.specs.Fields.{host_of};
 use crate::showing::show_picture;
 use crate::taking::take_line;
 use bytes::Bytes;
-use exchange_1401::{Route, is_for, put_page, refuse, route_of};
+use exchange_1401::{Route, is_ambiguous, is_for, put_page, refuse, route_of};
 use http::{Request, StatusCode};
 use http_server::{Response, Service};
 use notation_1401::put_digits;
@@ -145,6 +145,9 @@ impl<J: RoomId, R: Wait + Drop, P: Keeper + Drop, W: Wait> Service for SeatPage<
     ) -> Result<(), AllocError> {
         if !is_for(request, self.host.as_slice()) {
             return refuse(response, StatusCode::FORBIDDEN);
+        }
+        if is_ambiguous(request) {
+            return refuse(response, StatusCode::BAD_REQUEST);
         }
         match route_of(request.method().as_str(), request.uri().path()) {
             Route::Page => put_page(response, self.page, self.policy),

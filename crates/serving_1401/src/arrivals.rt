@@ -11,6 +11,7 @@ use std::sync::atomic::Ordering::SeqCst;
 use std::sync::atomic::{AtomicBool, AtomicU64};
 use std::thread;
 use std::thread::{Scope, Threads};
+use std::time::Clock;
 
 /// How many connections of a page may wait: for their first byte, and then for their turn. One more is closed at once.
 pub(crate) const MOST_WAITING: usize = 64;
@@ -75,7 +76,7 @@ pub(crate) fn accept_arrivals<J, R>(
 )
 where
     J: RoomId + Send + Sync,
-    R: Threads + Wait + Sync,
+    R: Threads + Wait + Sync + Clock,
 {
     thread::scope(thread::scope_env(), rt, move |scope| {
         accept_each_arrival(scope, rt, service, listener, begun, waiting)
@@ -93,7 +94,7 @@ fn accept_each_arrival<'s, E: 's, J, R>(
 )
 where
     J: RoomId + Send + Sync + 's,
-    R: Threads + Wait + Sync + 's,
+    R: Threads + Wait + Sync + Clock + 's,
 {
     for _ in rt.forever() {
         let Some(stream) = service.accept(rt, listener) else {
@@ -112,7 +113,7 @@ where
 
 /// Starts the thread in which a connection waits for its first byte, and tells whether there is one; else the
 /// connection is closed.
-fn start_arrival<'s, E: 's, R: Threads + Wait + Sync + 's>(
+fn start_arrival<'s, E: 's, R: Threads + Wait + Sync + Clock + 's>(
     scope: &Scope<'s, E>,
     rt: &'s R,
     stream: TcpStream,
@@ -128,13 +129,13 @@ fn start_arrival<'s, E: 's, R: Threads + Wait + Sync + 's>(
 }
 
 /// Waits for the first byte of a connection, and hands it over; one that sends nothing in time is closed.
-fn await_first_byte<R: Wait>(
+fn await_first_byte<R: Wait + Clock>(
     rt: &R,
     stream: TcpStream,
     begun: Sender<TcpStream>,
     waiting: &AtomicU64,
 ) {
-    if !has_begun(&stream) || begun.send(rt, stream).is_err() {
+    if !has_begun(rt, &stream) || begun.send(rt, stream).is_err() {
         waiting.fetch_sub(1, SeqCst);
     }
 }

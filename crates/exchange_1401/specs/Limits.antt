@@ -1,0 +1,18 @@
+-- How long a page waits for a peer, and how much of a request it reads (own).
+use Rattle.std.specs.Prelude.{ℕ}
+
+-- in nanoseconds, a second: for the first byte of a request, for the rest, for taking the answer, and for the end
+abbrev pub patience : ℕ
+patience = 1000000000
+
+-- the most bytes of a head; the cookies of all servers at the same address come with it
+abbrev pub most_head_bytes : ℕ
+most_head_bytes = 16384
+
+-- the most bytes of a body: a console line has at most 200, and the reply to a longer one says so
+abbrev pub most_body_bytes : ℕ
+most_body_bytes = 1024
+
+-- the most bytes of extensions of chunks, and of trailers
+abbrev pub most_other_bytes : ℕ
+most_other_bytes = 64
