@@ -1,6 +1,6 @@
 //! What the lock of a service keeps.
 ghost use Rattle.std.specs.Prelude.{◌≡◌, ◌<◌, ◌≤◌, ◌^◌, [], ◌∷◌, IfOk, IfErr, IfSome, IfNone, OnErr};
-ghost use Rattle.std.specs.Prelude.{vec_len, vec_capacity, length, false, is_some};
+ghost use Rattle.std.specs.Prelude.{vec_len, vec_capacity, length, nat_lt, false, is_some};
 ghost use Rattle.std.specs.List.{Contains};
 ghost use Rattle.console_1401.specs.Served.{AreAllSeats, numbers_of};
 ghost use Rattle.desk_1401.specs.Places.{first_free as free_from, free_in, is_free_at, numbers_in};
@@ -73,6 +73,13 @@ impl<J: RoomId> Desk<J> {
         let number = self.places[at].number();
         self.places[at].give(stream);
         Ok(number)
+    }
+
+    /// Whether a seat is free.
+    pub(crate) fn has_free(&self) -> bool
+        ensures { result ≡ nat_lt (free_from self.now) (length self.now) }
+    {
+        first_free(self.places.as_slice()) < self.places.len()
     }
 
     /// Takes the seat of a number from its place, if it is there.

@@ -91,6 +91,11 @@ impl<J: RoomId> Service<J> {
         self.desk.lock(rt).take_free(number)
     }
 
+    /// Whether a seat is free.
+    pub fn has_free<R: Wait>(&self, rt: &R) -> bool {
+        self.desk.lock(rt).has_free()
+    }
+
     /// Puts a seat back, which is free then.
     pub fn put_back<R: Wait>(&self, rt: &R, seat: Seat<J>)
         requires { (0 < seat.number) × (seat.number ≤ J.seats) }

@@ -4,3 +4,4 @@ pub mod Limits
 pub mod Numbers
 pub mod Responses
 pub mod Route
+pub mod Visiting

@@ -1,5 +1,6 @@
 -- How long a page waits for a peer, and how much of a request it reads (own).
-use Rattle.std.specs.Prelude.{ℕ}
+use Rattle.std.specs.Prelude.{◌≡◌, ℕ}
+use Rattle.http_server.specs.declared.state.Config.{Config}
 
 -- in nanoseconds, a second: for the first byte of a request, for the rest, for taking the answer, and for the end
 abbrev pub patience : ℕ
@@ -16,3 +17,10 @@ most_body_bytes = 1024
 -- the most bytes of extensions of chunks, and of trailers
 abbrev pub most_other_bytes : ℕ
 most_other_bytes = 64
+
+-- the limits of a page's requests
+pub record IsPageConfig (config : Config) : Type 0 where
+  pub head : config.limits.max_head_len ≡ most_head_bytes
+  pub body : config.max_body_len ≡ most_body_bytes
+  pub extensions : config.limits.max_extensions_len ≡ most_other_bytes
+  pub trailers : config.limits.max_trailers_len ≡ most_other_bytes

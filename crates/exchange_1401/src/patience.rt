@@ -126,7 +126,7 @@ pub fn has_begun<R: Clock>(clock: &R, stream: &TcpStream) -> bool {
 
 /// Ends a connection: the peer is told that nothing more comes, and what it still sends is read, since a socket that is
 /// closed over unread bytes may take its last answer back.
-pub(crate) fn linger<R: Clock>(clock: &R, stream: &TcpStream) {
+pub fn linger<R: Clock>(clock: &R, stream: &TcpStream) {
     if stream.shutdown(Shutdown::Write).is_err() {
         return;
     }

@@ -28,8 +28,8 @@ fn put_field(
     )
 }
 
-/// Adds the fields that each response has: it isn't kept, its type isn't guessed, no other page is sent its address, and
-/// its connection ends.
+/// Adds the fields that each response has: it isn't kept, its type isn't guessed, no other page is sent its address,
+/// and its connection ends.
 fn put_common_fields(response: &mut Response) -> Result<(), AllocError>
     ensures fields { OnOk result (fields_of response.new ≡ fields_of response.old ++ common_fields) }
     ensures status { response.new.status ≡ response.old.status }

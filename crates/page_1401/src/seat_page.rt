@@ -1,7 +1,7 @@
 //! The page of a seat: a service of HTTP over the seat.
 ghost use Rattle.std.specs.Prelude.{◌≡◌, ◌++◌, codes, IsTrue, IfErr, IfOk};
 ghost use Rattle.http_header.specs.FieldValue.{is_visible_text};
-ghost use Rattle.exchange_1401.specs.Fields.{host_of};
+ghost use Rattle.exchange_1401.specs.Fields.{host_of, origin_of};
 
 use crate::showing::show_picture;
 use crate::taking::take_line;
@@ -69,6 +69,14 @@ fn origin_text(alloc: Global, host: &[u8]) -> Result<Vec<u8>, AllocError>
     let mut text = Vec::from_slice(alloc, b"http://")?;
     text.extend_from_slice(host)?;
     Ok(text)
+}
+
+/// Where a request of the page at this port comes from.
+pub fn page_origin(alloc: Global, port: u16) -> Result<Vec<u8>, AllocError>
+    ensures { IfOk result (λ text. text.items ≡ origin_of port) }
+{
+    let host = host_text(alloc, port)?;
+    origin_text(alloc, host.as_slice())
 }
 
 impl<'a, J: RoomId, R: Wait + Drop, P: Keeper + Drop, W: Wait> SeatPage<'a, J, R, P, W> {
