@@ -1,24 +1,28 @@
 //! The connections that come to a page. Each has a thread of its own, in which its request comes and its answer is
 //! sent; so a connection that sends nothing, as browsers open ahead, or that takes nothing, delays no other.
 
-use crate::crowd::{Crowd, Stage, Turn};
+use crate::crowd::{Crowd, Stage};
 use crossbeam_channel::{Sender, bounded};
 use desk_1401::{SeatsFault, Service};
 use page_1401::{WholeRequest, has_begun, linger, read_request, send_answer};
 use room_1401::RoomId;
 use std::alloc::{AllocGlobal, Global};
-use std::net::{TcpListener, TcpStream};
+use std::io::{Read, Write};
+use std::net::{Shutdown, TcpListener, TcpStream};
 use std::random::RandomSource;
 use std::sync::{Arc, Wait};
 use std::thread;
 use std::thread::{Scope, Threads};
 use std::time::Clock;
 
-/// What a request is answered if too many wait for their answers.
+/// What a connection is answered if all that have a thread wait for their answers.
 const BUSY: &[u8] =
     b"HTTP/1.1 503 Service Unavailable\r\ncontent-type: text/plain; charset=utf-8\r\n\
 cache-control: no-store\r\nx-content-type-options: nosniff\r\nreferrer-policy: no-referrer\r\nconnection: close\r\n\
 retry-after: 1\r\ncontent-length: 28\r\n\r\ntoo many requests wait here\n";
+
+/// How many reads are made of what a connection has sent that is too many.
+const MOST_READS: usize = 16;
 
 /// A request that waits to be answered.
 #[derive(Drop)]
@@ -82,7 +86,7 @@ fn next_after(number: u64) -> u64 {
     number.wrapping_add(1)
 }
 
-/// Lets a connection in, and starts its thread.
+/// Lets a connection in, and starts its thread; or answers that too many wait.
 ///
 /// # Errors
 ///
@@ -109,8 +113,9 @@ where
     let Ok(asked) = asked.clone() else {
         return Err(SeatsFault::Memory);
     };
-    if crowd.enter(rt, number, second).is_err() {
-        return Err(SeatsFault::Memory);
+    if !crowd.enter(rt, number, second) {
+        refuse(&stream);
+        return Ok(());
     }
     let started = scope.spawn(move || {
         attend_arrival(alloc, rt, origin, crowd, &stream, number, asked);
@@ -123,7 +128,7 @@ where
     Ok(())
 }
 
-/// Reads the request of a connection, has it answered, and sends the answer; or sends that too many wait.
+/// Reads the request of a connection, has it answered, and sends the answer.
 fn attend_arrival<R>(
     alloc: Global,
     rt: &R,
@@ -142,24 +147,17 @@ where
     let Ok(Some(request)) = read_request(rt, origin, stream) else {
         return;
     };
-    match crowd.ask(rt, number) {
-        Turn::Asks => {
-            if let Some(answer) = ask(alloc, rt, request, asked) {
-                finish(rt, crowd, stream, number, answer.as_slice());
-            }
-        }
-        Turn::TooMany => finish(rt, crowd, stream, number, BUSY),
-        Turn::Closed => {}
-    }
-}
-
-/// Sends an answer, and waits until the peer has taken it.
-fn finish<R: Wait + Clock>(rt: &R, crowd: &Crowd, stream: &TcpStream, number: u64, answer: &[u8]) {
-    crowd.note(rt, number, Stage::Writing);
-    if send_answer(rt, stream, answer).is_err() {
+    if !crowd.go_on(rt, number, Stage::Asking) {
         return;
     }
-    crowd.note(rt, number, Stage::Lingering);
+    let Some(answer) = ask(alloc, rt, request, asked) else {
+        return;
+    };
+    let _open = crowd.go_on(rt, number, Stage::Writing);
+    if send_answer(rt, stream, answer.as_slice()).is_err() {
+        return;
+    }
+    let _open = crowd.go_on(rt, number, Stage::Lingering);
     linger(rt, stream);
 }
 
@@ -180,4 +178,24 @@ fn ask<R: Wait>(
     // Requests are answered as long as somebody may send one.
     drop(asked);
     answer.recv(rt).ok()
+}
+
+/// Answers a connection that too many requests wait. Nothing here waits for the peer: what it has sent is read, since a
+/// socket that is closed over unread bytes may take its answer back.
+fn refuse(stream: &TcpStream) {
+    if stream.set_nonblocking(true).is_err() {
+        return;
+    }
+    let mut peer = stream;
+    if peer.write_all(BUSY).is_err() || stream.shutdown(Shutdown::Write).is_err() {
+        return;
+    }
+    let mut buffer = [0; 1024];
+    for _ in 0..MOST_READS {
+        match peer.read(&mut buffer) {
+            Ok(0) => return,
+            Ok(_) => {}
+            Err(_) => return,
+        }
+    }
 }

@@ -8,16 +8,16 @@ use std::thread;
 use std::time::{Clock, Duration, Instant};
 
 /// How many connections of a page have a thread.
-const MOST_INSIDE: usize = 64;
-
-/// How many of them may wait for their answers; so the places of the others are for requests that come.
-pub(crate) const MOST_ASKING: usize = 32;
+pub(crate) const MOST_INSIDE: usize = 64;
 
 /// How long a connection has its place in any case, in milliseconds: a request that is sent at once has come by then.
-const GRACE: u64 = 20;
+const GRACE: u64 = 50;
 
 /// How long is waited before it is looked again whether one can be closed, in milliseconds.
 const NAP: u64 = 1;
+
+/// How many times it is looked, for some second.
+const NAPS: usize = 1000;
 
 /// What a connection is doing.
 #[derive(Clone, Copy, Debug, PartialEq, Eq)]
@@ -42,17 +42,6 @@ impl Stage {
             Stage::Lingering => true,
         }
     }
-}
-
-/// What a connection may do.
-#[derive(Clone, Copy, Debug, PartialEq, Eq)]
-pub(crate) enum Turn {
-    /// Its request may be answered.
-    Asks,
-    /// Too many wait for their answers.
-    TooMany,
-    /// It was closed.
-    Closed,
 }
 
 /// A connection that has a thread.
@@ -101,63 +90,57 @@ impl Crowd {
     }
 
     /// Lets a connection in: if all places are taken, the oldest one that doesn't wait for its answer is closed for it.
-    ///
-    /// # Errors
-    ///
-    /// Not while there is room for the most, which was made at the beginning.
+    /// Returns false if for a second all of them have waited for their answers.
     pub(crate) fn enter<R: Wait + Clock>(
         &self,
         rt: &R,
         number: u64,
         stream: Arc<TcpStream>,
-    ) -> Result<(), AllocError> {
+    ) -> bool {
         let since = Instant::now(rt).ok();
-        let mut visitors = self.wait_for_place(rt);
-        visitors.push(Visitor {
-            number,
-            stream,
-            since,
-            stage: Stage::Reading,
-            is_closed: false,
-        })
+        let Some(mut visitors) = self.wait_for_place(rt) else {
+            return false;
+        };
+        visitors
+            .push(Visitor {
+                number,
+                stream,
+                since,
+                stage: Stage::Reading,
+                is_closed: false,
+            })
+            .is_ok()
     }
 
     /// Waits until a place is free, for which a connection is closed.
-    fn wait_for_place<R: Wait + Clock>(&self, rt: &R) -> MutexGuard<'_, Vec<Visitor>> {
-        let mut visitors = self.visitors.lock(rt);
-        for _ in rt.forever() {
+    fn wait_for_place<R: Wait + Clock>(&self, rt: &R) -> Option<MutexGuard<'_, Vec<Visitor>>> {
+        for _ in 0..NAPS {
+            let mut visitors = self.visitors.lock(rt);
             if visitors.len() < MOST_INSIDE {
-                break;
+                return Some(visitors);
             }
             if close_oldest(&mut visitors, Instant::now(rt).ok()) {
-                visitors = self
-                    .left
-                    .wait_while(rt, visitors, |visitors| visitors.len() >= MOST_INSIDE);
-            } else {
-                drop(visitors);
-                thread::sleep(rt, Duration::from_millis(NAP));
-                visitors = self.visitors.lock(rt);
+                return Some(
+                    self.left
+                        .wait_while(rt, visitors, |visitors| visitors.len() >= MOST_INSIDE),
+                );
+            }
+            drop(visitors);
+            thread::sleep(rt, Duration::from_millis(NAP));
+        }
+        None
+    }
+
+    /// Notes what a connection does next, and returns whether it is open.
+    pub(crate) fn go_on<R: Wait>(&self, rt: &R, number: u64, stage: Stage) -> bool {
+        let mut visitors = self.visitors.lock(rt);
+        for visitor in visitors.iter_mut() {
+            if visitor.number == number {
+                visitor.stage = stage;
+                return !visitor.is_closed;
             }
         }
-        visitors
-    }
-
-    /// A connection whose request has come asks for its answer, unless too many do or it was closed.
-    pub(crate) fn ask<R: Wait>(&self, rt: &R, number: u64) -> Turn {
-        let mut visitors = self.visitors.lock(rt);
-        if count_asking(&visitors) >= MOST_ASKING {
-            return Turn::TooMany;
-        }
-        if go_on(&mut visitors, number, Stage::Asking) {
-            Turn::Asks
-        } else {
-            Turn::Closed
-        }
-    }
-
-    /// Notes that the answer of a connection is sent now, or was sent.
-    pub(crate) fn note<R: Wait>(&self, rt: &R, number: u64, stage: Stage) {
-        let _open = go_on(&mut self.visitors.lock(rt), number, stage);
+        false
     }
 
     /// Lets a connection out.
@@ -176,28 +159,6 @@ impl Crowd {
             }
         }
     }
-}
-
-/// How many connections wait for their answers.
-fn count_asking(visitors: &[Visitor]) -> usize {
-    let mut count: usize = 0;
-    for visitor in visitors {
-        if visitor.stage == Stage::Asking {
-            count = count.saturating_add(1);
-        }
-    }
-    count
-}
-
-/// Notes what a connection does next, and returns whether it is open.
-fn go_on(visitors: &mut [Visitor], number: u64, stage: Stage) -> bool {
-    for visitor in visitors.iter_mut() {
-        if visitor.number == number {
-            visitor.stage = stage;
-            return !visitor.is_closed;
-        }
-    }
-    false
 }
 
 /// Closes the oldest connection whose answer was sent; or else the oldest whose request comes, or whose answer is being

@@ -2,7 +2,7 @@
 ghost use Rattle.std.specs.Prelude.{◌≡◌, ◌<◌, ◌≤◌, ◌^◌, length};
 
 use crate::arrivals::{Asked, accept_arrivals};
-use crate::crowd::{Crowd, MOST_ASKING};
+use crate::crowd::{Crowd, MOST_INSIDE};
 use crate::visits::Visits;
 use crossbeam_channel::{Receiver, Sender, bounded};
 use desk_1401::{SeatsFault, Service};
@@ -94,7 +94,7 @@ where
     requires { (0 < number) × (number ≤ J.seats) }
 {
     let (Ok((asked, receiver)), Ok(crowd), Ok(origin)) = (
-        bounded(alloc, MOST_ASKING),
+        bounded(alloc, MOST_INSIDE),
         Crowd::new(alloc),
         page_origin(alloc, page.port),
     ) else {
