@@ -66,6 +66,8 @@ def hostile_lines(port):
         ("a blank before the colon", f"{line}Content-Length : 7\r\n\r\nSTART 1", "1.1 400"),
         ("a body that is cut short", f"{line}Content-Length: 8\r\n\r\nREGS", "1.1 400"),
         ("two framings", f"{line}Content-Length: 4\r\nTransfer-Encoding: chunked\r\n\r\n{chunks}", "1.1 400"),
+        ("two origins", f"{line}Origin: http://127.0.0.1:{port}\r\nContent-Length: 4\r\n\r\nREGS", "1.1 400"),
+        ("two counts", f"{line}X-1401-Line: 0\r\nContent-Length: 4\r\n\r\nREGS", "1.1 400"),
         ("two lengths", f"{line}Content-Length: 4\r\nContent-Length: 5\r\n\r\nREGS", "1.1 400"),
         ("a length with a sign", f"{line}Content-Length: +4\r\n\r\nREGS", "1.1 400"),
         ("a length of 10 to the 30", f"{line}Content-Length: 1{'0' * 30}\r\n\r\nREGS", "1.1 400"),
@@ -83,8 +85,8 @@ def large_heads(port):
     return [
         ("70 fields", f"GET / HTTP/1.1\r\n{host}{many}\r\n", "1.1 431"),
         ("70 fields of one name", f"GET / HTTP/1.1\r\n{host}{alike}\r\n", "1.1 431"),
-        ("a field of 5,000 bytes", f"GET / HTTP/1.1\r\n{host}X-A: {5_000 * 'a'}\r\n\r\n", "1.1 431"),
-        ("a target of 5,000 bytes", f"GET /{5_000 * 'a'} HTTP/1.1\r\n{host}\r\n", "1.1 414"),
+        ("a field of 17,000 bytes", f"GET / HTTP/1.1\r\n{host}X-A: {17_000 * 'a'}\r\n\r\n", "1.1 431"),
+        ("a target of 17,000 bytes", f"GET /{17_000 * 'a'} HTTP/1.1\r\n{host}\r\n", "1.1 414"),
     ]
 
 

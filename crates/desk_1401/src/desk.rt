@@ -1,6 +1,6 @@
 //! What the lock of a service keeps.
 ghost use Rattle.std.specs.Prelude.{◌≡◌, ◌<◌, ◌≤◌, ◌^◌, [], Some, None, IfOk, IfErr, IfSome, IfNone};
-ghost use Rattle.std.specs.Prelude.{vec_len, vec_capacity, map};
+ghost use Rattle.std.specs.Prelude.{vec_len, vec_capacity, map, is_some};
 ghost use Rattle.std.specs.List.{list_all};
 ghost use Rattle.console_1401.specs.Served.{AreAllSeats, numbers_of};
 ghost use Rattle.desk_1401.specs.Places.{AreBack, IsOneMissing, after_input, free_place, free_seat, given, has_seat};
@@ -83,6 +83,13 @@ impl<J: RoomId> Desk<J> {
         ensures given { self.new ≡ with_place number given self.old }
     {
         self.places[usize::from(number) - 1].give();
+    }
+
+    /// Whether a seat is free.
+    pub(crate) fn has_free(&self) -> bool
+        ensures { result ≡ is_some (lowest_free_in self.now.places) }
+    {
+        lowest_free(self.places.as_slice()).is_some()
     }
 
     /// Takes the seat of a number from its place, if it is there.

@@ -5,8 +5,8 @@ ghost use Rattle.console_1401.specs.Served.{AreAllSeats};
 use crate::desk::Desk;
 use crate::fault::SeatsFault;
 use crate::input::read_to_quit;
-use patience_1401::{Pause, passes, shut_down};
 use room_1401::{RoomId, Seat};
+use sockets_1401::{Pause, passes, shut_down};
 use std::alloc::Global;
 use std::marker::Model;
 use std::net::{TcpListener, TcpStream};
@@ -138,6 +138,11 @@ impl<J: RoomId> Service<J> {
         ensures { IfSome result (λ seat. seat.number ≡ number) }
     {
         self.desk.lock(rt).take_free(number)
+    }
+
+    /// Whether a seat is free.
+    pub fn has_free<R: Wait>(&self, rt: &R) -> bool {
+        self.desk.lock(rt).has_free()
     }
 
     /// Puts a seat back, which is free then.

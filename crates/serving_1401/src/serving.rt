@@ -8,8 +8,8 @@ ghost use Rattle.serving_1401.specs.Accounted.{IsAccounted};
 use crate::paging::{PagePort, start_pages};
 use console_1401::Door;
 use desk_1401::{SeatsFault, Service, accept_each};
-use patience_1401::shut_down;
 use room_1401::{Keeper, Room, RoomId, Seat, SharedRoom};
+use sockets_1401::shut_down;
 use std::alloc::{AllocGlobal, Global};
 use std::net::TcpListener;
 use std::random::RandomSource;
@@ -76,15 +76,16 @@ where
 
 /// Serves a page for each seat that has a port among these: the first is that of seat 1, the next that of seat 2, and
 /// so on; and consoles too, as `serve_seats` does, if there is a listener for them. A seat goes to whoever comes
-/// first, the page or a console. A page that was opened keeps its seat until the room is closed; while a console sits
-/// there, each request of the page is refused.
+/// first, the page or a console. A page takes its seat by the first picture or line that is accepted from the page
+/// itself, and gives it back if there is none for a minute and no other seat is free; while a console sits there, each
+/// request of the page is refused.
 ///
 /// It ends as `serve_seats` does: all listeners are shut down, the request of each page that is being answered is
 /// answered, and the connections that still wait are closed.
 ///
 /// A page isn't served any more once a connection to it can't be accepted for a reason that doesn't pass, nor at all if
 /// its threads are refused, or the memory for those who wait: its listener is shut down, and the room goes on. A
-/// connection whose thread is refused is closed.
+/// connection whose thread or memory is refused is closed.
 pub fn serve_pages<J, H, K, R, S, D>(
     alloc: Global,
     rt: &R,
