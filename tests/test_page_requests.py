@@ -90,7 +90,8 @@ class Document(PageTest):
         self.same("it is served", status(response), 200)
         self.same("to the byte", body(response), PAGE)
         for name, value in [("content-security-policy", policy()), ("content-type", "text/html; charset=utf-8"),
-                            ("x-content-type-options", "nosniff"), ("referrer-policy", "no-referrer"), ("cache-control", "no-store"),
+                            ("x-content-type-options", "nosniff"), ("referrer-policy", "no-referrer"),
+                            ("cache-control", "no-store"),
                             ("connection", "close"), ("content-length", str(len(PAGE)))]:
             self.same(f"its field {name}", field(response, name), value)
 
