@@ -1,7 +1,7 @@
 //! The connections that come to a page. Each has a thread of its own, in which its request comes and its answer is
 //! sent; so a connection that sends nothing, as browsers open ahead, or that takes nothing, delays no other.
 
-use crate::crowd::{Crowd, Stage};
+use crate::crowd::{Crowd, NAPS, Stage};
 use crossbeam_channel::{Sender, bounded};
 use desk_1401::{SeatsFault, Service};
 use page_1401::{WholeRequest, has_begun, linger, read_request, send_answer};
@@ -69,13 +69,18 @@ where
     R: Threads + Wait + Sync + Clock + AllocGlobal + RandomSource + 's,
 {
     let mut number = 0;
+    let mut looks = NAPS;
     for _ in rt.forever() {
         let Some(stream) = service.accept(rt, listener) else {
             break;
         };
         number = next_after(number);
-        if let Err(fault) = let_in(scope, alloc, rt, origin, crowd, stream, number, &asked) {
-            service.note(rt, fault);
+        match let_in(
+            scope, alloc, rt, origin, crowd, stream, number, looks, &asked,
+        ) {
+            // Once one was refused, the next one isn't waited for until there is a place again.
+            Ok(is_inside) => looks = if is_inside { NAPS } else { 1 },
+            Err(fault) => service.note(rt, fault),
         }
     }
     crowd.close_idle(rt);
@@ -86,7 +91,8 @@ fn next_after(number: u64) -> u64 {
     number.wrapping_add(1)
 }
 
-/// Lets a connection in, and starts its thread; or answers that too many wait.
+/// Lets a connection in, and starts its thread; or answers that too many wait, if they do each time that it looks.
+/// Returns whether it was let in.
 ///
 /// # Errors
 ///
@@ -99,8 +105,9 @@ fn let_in<'s, E: 's, R>(
     crowd: &'s Crowd,
     stream: TcpStream,
     number: u64,
+    looks: usize,
     asked: &Sender<Asked>,
-) -> Result<(), SeatsFault>
+) -> Result<bool, SeatsFault>
 where
     R: Threads + Wait + Sync + Clock + AllocGlobal + RandomSource + 's,
 {
@@ -113,9 +120,9 @@ where
     let Ok(asked) = asked.clone() else {
         return Err(SeatsFault::Memory);
     };
-    if !crowd.enter(rt, number, second) {
+    if !crowd.enter(rt, number, second, looks) {
         refuse(&stream);
-        return Ok(());
+        return Ok(false);
     }
     let started = scope.spawn(move || {
         attend_arrival(alloc, rt, origin, crowd, &stream, number, asked);
@@ -125,7 +132,7 @@ where
         crowd.leave(rt, number);
         return Err(SeatsFault::Thread);
     }
-    Ok(())
+    Ok(true)
 }
 
 /// Reads the request of a connection, has it answered, and sends the answer.

@@ -17,7 +17,7 @@ const GRACE: u64 = 50;
 const NAP: u64 = 1;
 
 /// How many times it is looked, for some second.
-const NAPS: usize = 1000;
+pub(crate) const NAPS: usize = 1000;
 
 /// What a connection is doing.
 #[derive(Clone, Copy, Debug, PartialEq, Eq)]
@@ -90,15 +90,16 @@ impl Crowd {
     }
 
     /// Lets a connection in: if all places are taken, the oldest one that doesn't wait for its answer is closed for it.
-    /// Returns false if for a second all of them have waited for their answers.
+    /// Returns false if each time that it was looked, so many times, all of them waited for their answers.
     pub(crate) fn enter<R: Wait + Clock>(
         &self,
         rt: &R,
         number: u64,
         stream: Arc<TcpStream>,
+        looks: usize,
     ) -> bool {
         let since = Instant::now(rt).ok();
-        let Some(mut visitors) = self.wait_for_place(rt) else {
+        let Some(mut visitors) = self.wait_for_place(rt, looks) else {
             return false;
         };
         visitors
@@ -112,9 +113,13 @@ impl Crowd {
             .is_ok()
     }
 
-    /// Waits until a place is free, for which a connection is closed.
-    fn wait_for_place<R: Wait + Clock>(&self, rt: &R) -> Option<MutexGuard<'_, Vec<Visitor>>> {
-        for _ in 0..NAPS {
+    /// Waits until a place is free, for which a connection is closed, and looks so many times.
+    fn wait_for_place<R: Wait + Clock>(
+        &self,
+        rt: &R,
+        looks: usize,
+    ) -> Option<MutexGuard<'_, Vec<Visitor>>> {
+        for _ in 0..looks {
             let mut visitors = self.visitors.lock(rt);
             if visitors.len() < MOST_INSIDE {
                 return Some(visitors);
