@@ -10,8 +10,8 @@ use Rattle.lone_room_1401.proofs.KeptLemmas.{kept_before}
 use Rattle.room_1401.proofs.KeepingLemmas.{all_shown}
 use Rattle.room_1401.proofs.recording.Recorder.carry.Goals as goal
 
-pub reserve-front-requires : goal.reserve-front-requires
-reserve-front-requires g c =
+pub reserve-requires : goal.reserve-requires
+reserve-requires g c =
     let room = c.self.inside.room in
     let failed = g.K.Keeper.has_failed c.self.inside.keeper in
     c.self.invariant.1 ∙ all_shown failed room.journal (sym c.has_failed.ensures ∙ c.if-has_failed.false)
