@@ -2,6 +2,7 @@
 ghost use Rattle.std.specs.Prelude.{◌≡◌, ◌≢◌, ◌<◌, ◌≤◌, ◌^◌, Some, IfSome, length};
 ghost use Rattle.lone_room_1401.specs.Journal.{IsLegal};
 ghost use Rattle.lone_room_1401.specs.Kept.{IsKeptAs};
+ghost use Rattle.room_1401.specs.Keeping.{kept_part};
 ghost use Rattle.console_1401.specs.Served.{AreAllSeats};
 ghost use Rattle.serving_1401.specs.Accounted.{IsAccounted};
 
@@ -68,8 +69,9 @@ where
     ensures kept { IsKeptAs K.form J.size result.room.journal (K.has_failed result.keeper) K.first
         (K.kept result.keeper) }
 
-    // Whatever was refused, the room is closed with all of its seats.
-    ensures accounted { result.fault ≢ Some SeatsFault.Unreturned → IsAccounted J.seats result.room.journal }
+    // Whatever was refused, the room is closed with all of its seats, which made all commands that are kept.
+    ensures accounted { result.fault ≢ Some SeatsFault.Unreturned
+        → IsAccounted J.seats (kept_part (K.has_failed result.keeper) result.room.journal) }
 {
     serve_pages(alloc, rt, room, seats, Some(listener), &[], input, door)
 }
@@ -114,8 +116,9 @@ where
     ensures kept { IsKeptAs K.form J.size result.room.journal (K.has_failed result.keeper) K.first
         (K.kept result.keeper) }
 
-    // Whatever was refused, the room is closed with all of its seats.
-    ensures accounted { result.fault ≢ Some SeatsFault.Unreturned → IsAccounted J.seats result.room.journal }
+    // Whatever was refused, the room is closed with all of its seats, which made all commands that are kept.
+    ensures accounted { result.fault ≢ Some SeatsFault.Unreturned
+        → IsAccounted J.seats (kept_part (K.has_failed result.keeper) result.room.journal) }
 {
     let (seats, fault) = match Service::new(alloc, seats) {
         Ok(service) => {
@@ -139,7 +142,8 @@ fn end_service<J: RoomId, H: Wait + Drop, K: Keeper + Drop>(
     ensures legal { IsLegal J.size result.room.journal }
     ensures kept { IsKeptAs K.form J.size result.room.journal (K.has_failed result.keeper) K.first
         (K.kept result.keeper) }
-    ensures accounted { result.fault ≢ Some SeatsFault.Unreturned → IsAccounted J.seats result.room.journal }
+    ensures accounted { result.fault ≢ Some SeatsFault.Unreturned
+        → IsAccounted J.seats (kept_part (K.has_failed result.keeper) result.room.journal) }
 {
     let room = match seats {
         Some(seats) => match room.close_kept(seats) {
