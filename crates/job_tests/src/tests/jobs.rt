@@ -7,8 +7,8 @@ use bcd_1401::Char;
 use cpu_1401::{Machine, Stop};
 use devices_1401::{Card, PrintLine};
 use job_1401::{
-    CardList, Cards, Collected, Deck, DeckFault, JobEnd, JobFault, Output, Place, ReadDeck, press_load_key,
-    put_cards, put_paper, read_deck, run_job,
+    CardList, Cards, Collected, Deck, DeckFault, JobEnd, JobFault, Output, Place, ReadDeck,
+    press_load_key, put_cards, put_paper, read_deck, run_job,
 };
 use std::process::Abort;
 
