@@ -64,6 +64,10 @@ lines_by-part {A} line journal i entry within is =
     let more : lines_by line 1 front ≡ lines ++ line (i + 1) entry = lines_by-take line journal i entry within is in
     let all : lines_by line 1 journal ≡ lines_by line 1 front ++ lines_by line (1 + length front) back =
     ap (lines_by line 1) (sym (take-append-drop (i + 1) journal)) ∙ lines_by-append line 1 front back in
-    omega (arith, ap length all, ap length more,
-    length-append (lines_by line 1 front) (lines_by line (1 + length front) back),
-    length-append lines (line (i + 1) entry))
+    omega (
+      arith,
+      ap length all,
+      ap length more,
+      length-append (lines_by line 1 front) (lines_by line (1 + length front) back),
+      length-append lines (line (i + 1) entry),
+    )

@@ -80,7 +80,8 @@ fn is_chosen(until: u64, is_left_out: bool, place: u64) -> bool
 
 /// Carries out the command of an entry, if it is chosen.
 fn carry_if_chosen(room: &mut Room, entry: &Entry, chosen: bool) -> Result<(), RoomFault>
-    ensures commands { OnOk result (pairs_of room.new.journal ≡ pairs_of room.old.journal ++ if_chosen chosen entry.now) }
+    ensures commands { OnOk result (pairs_of room.new.journal
+        ≡ pairs_of room.old.journal ++ if_chosen chosen entry.now) }
     ensures size { room.new.size ≡ room.old.size }
     ensures fault { IfErr result (λ fault. fault ≡ refusal_of room.old.journal) }
     ensures chosen { IfErr result (λ fault. chosen ≡ true) }

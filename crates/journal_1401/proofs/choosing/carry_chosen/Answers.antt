@@ -18,7 +18,8 @@ loop-i-preserved c =
     let chosen_is : c.is_chosen-chosen.result ≡ is_chosen until without (i + 1) =
     c.is_chosen-chosen.ensures
     ∙ chosen_by_mark until without i c.index.result.now
-    (c.index.ensures ∙ get_or_default c.in-Ok.left_out.items (i + 1) c.index.result.now false (omega (arith, c.in-Ok.ensures.count))
+    (c.index.ensures
+    ∙ get_or_default c.in-Ok.left_out.items (i + 1) c.index.result.now false (omega (arith, c.in-Ok.ensures.count))
     ∙ c.in-Ok.ensures.marks (i + 1) (omega arith)) in (
       c.in-Ok-carry_if_chosen.ensures.commands
           ∙ ap (λ test. pairs_of c.loop-i.room.journal ++ if_chosen test entry) chosen_is
@@ -38,11 +39,17 @@ returns-in-Err-clause-fault c =
     let chosen_is : c.is_chosen-chosen.result ≡ is_chosen until without (i + 1) =
     c.is_chosen-chosen.ensures
     ∙ chosen_by_mark until without i c.index.result.now
-    (c.index.ensures ∙ get_or_default c.in-Ok.left_out.items (i + 1) c.index.result.now false (omega (arith, c.in-Ok.ensures.count))
+    (c.index.ensures
+    ∙ get_or_default c.in-Ok.left_out.items (i + 1) c.index.result.now false (omega (arith, c.in-Ok.ensures.count))
     ∙ c.in-Ok.ensures.marks (i + 1) (omega arith)) in
     let one : length (chosen_of until without (i + 1) entry) ≡ 1 =
     ap (λ test. length (if_chosen test entry)) (sym chosen_is ∙ c.in-Err.ensures.chosen) in
     let count : length c.loop-i.room.journal ≡ length (chosen until without (take i journal)) =
     sym (length-map c.loop-i.room.journal pair_of) ∙ ap length c.loop-i.invariant.0 in
     refused_so c.loop-i.room.journal (chosen until without journal) c.in-Err.fault c.in-Err.ensures.fault
-    (omega (arith, one, count, lines_by-part (chosen_of until without) journal i entry (omega arith) c.index-journal-i.is))
+    (omega (
+      arith,
+      one,
+      count,
+      lines_by-part (chosen_of until without) journal i entry (omega arith) c.index-journal-i.is,
+    ))

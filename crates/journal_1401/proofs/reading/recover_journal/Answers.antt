@@ -4,8 +4,8 @@ use Rattle.core_1401.specs.Storage.{is_core_size}
 use Rattle.lone_room_1401.specs.declared.entry.Entry.{Entry}
 use Rattle.lone_room_1401.specs.Journal.{IsLegal}
 use Rattle.journal_1401.specs.Reading.IsReached.{at_header}
-use Rattle.journal_1401.proofs.ReadsLemmas.{Reads, first_line, memory_alone, memory_first, next_line, refused_line, shorter, start}
-use Rattle.journal_1401.proofs.ReadsLemmas.{that_journal}
+use Rattle.journal_1401.proofs.ReadsLemmas.{Reads, first_line, memory_alone, memory_first, next_line, refused_line}
+use Rattle.journal_1401.proofs.ReadsLemmas.{shorter, start, that_journal}
 use Rattle.journal_1401.proofs.reading.recover_journal.Goals as goal
 
 pub returns-in-Err-clause-memory : goal.returns-in-Err-clause-memory
