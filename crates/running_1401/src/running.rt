@@ -15,7 +15,6 @@ use crate::watching::{Shown, Unwatched, Watch};
 use calls_1401::{Job, Start};
 use cpu_1401::{Machine, Stop};
 use devices_1401::Card;
-use files_1401::hold_closed_streams;
 use std::io;
 use std::rt::{Clock, Files};
 use streams_1401::{Sink, ToWriter};
@@ -168,7 +167,6 @@ pub fn run_file<R: Files + Print + Eprint + Clock + AllocGlobal>(
         limit,
         switches,
     } = job;
-    let _held = hold_closed_streams(rt);
     let inputs = match read_inputs(rt, file, start, language, size, cards) {
         Ok(inputs) => inputs,
         Err(fault) => return Err(fault),
