@@ -151,7 +151,7 @@ fn verify_room<
         + Input<Reader = StdinLock<'static>>
         + Print
         + AllocGlobal
-        + Files,
+        + Files<File = File>,
 >(
     rt: &R,
     room: Room,
