@@ -1,5 +1,5 @@
 -- What was written of a text that is no journal's.
-use Rattle.std.proofs.Common.{◌≡◌, ℕ, ◌+◌, List, length, Option, subst}
+use Rattle.std.proofs.Common.{◌≡◌, ℕ, List, Option}
 use Rattle.lone_room_1401.specs.declared.entry.Entry.{Entry}
 use Rattle.journal_1401.specs.declared.fault.Wrong.{Wrong}
 use Rattle.journal_1401.specs.declared.fault.Wrong.TheVariants as wrong
