@@ -5,9 +5,7 @@ use crate::fault::AssembleFault;
 use crate::source_faults::{fault_lines, warning_lines};
 use autocoder_1401::{AsmKind, explained_faults, warnings};
 use calls_1401::{Assembling, Product, Told, is_refused, size_for};
-use files_1401::{
-    FileFault, WriteFault, hold_closed_streams, is_one_file, read_whole, write_whole,
-};
+use files_1401::{FileFault, WriteFault, is_one_file, read_whole, write_whole};
 use source_1401::Language;
 use std::alloc::Global;
 use std::io;
@@ -221,8 +219,6 @@ pub fn assemble_file<R: Files + Print + Eprint + AllocGlobal>(
     if is_refused(size) {
         return Err(AssembleFault::Size);
     }
-    // Standard streams that are closed stay so: no file that is made takes the place of one.
-    let _held = hold_closed_streams(rt);
     check_names(rt, file.as_str(), &out, &deck)?;
     let Ok(name) = file.clone() else {
         return Err(AssembleFault::Memory);

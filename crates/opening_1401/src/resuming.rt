@@ -152,7 +152,7 @@ fn verify_room<
         + Print
         + Eprint
         + AllocGlobal
-        + Files,
+        + Files<File = File>,
 >(
     rt: &R,
     room: Room,

@@ -17,7 +17,6 @@ use crate::tracing::Trace;
 use crate::watching::{Shown, Unwatched, Watch};
 use calls_1401::{Job, Start, is_refused};
 use cpu_1401::{Machine, Stop};
-use files_1401::hold_closed_streams;
 use job_1401::CardList;
 use std::io;
 use std::rt::{Clock, Files};
@@ -189,7 +188,6 @@ pub fn run_file<R: Files + Print + Eprint + Clock + AllocGlobal>(
     if is_refused(size) {
         return Err(RunFault::Size);
     }
-    let _held = hold_closed_streams(rt);
     let names = OutputNames {
         paper,
         punch,
