@@ -159,9 +159,9 @@ def show(places_shown):
             print(f"{path.relative_to(TOP)}:{number}: {word}")
 
 
-def main(argv):
+def main(argv=()):
     """Does what these words ask for; the status is 0 if no file has more than its ceiling."""
-    if argv == ["--renew"]:
+    if list(argv) == ["--renew"]:
         renew()
     elif argv:
         show(place.rstrip("/") for place in argv)
