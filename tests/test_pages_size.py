@@ -1,5 +1,6 @@
 """The pages are short, say what the tree has, and keep to our English."""
 import re
+import tempfile
 import unittest
 from pathlib import Path
 
@@ -161,6 +162,12 @@ class English(unittest.TestCase):
         shown = "It tells so, and who stands\n```\nbeside\n```\n`told` of the\n"
         found = [found[0] for _, line in words.of_page(shown) for found in words.WORDS.finditer(line)]
         self.assertEqual(found, ["tells", "and who", "stands"])
+
+    def test_a_phrase_is_found_across_two_lines(self):
+        with tempfile.TemporaryDirectory() as folder:
+            page = Path(folder) / "a page.md"
+            page.write_text("What is\nkept, so\nthat it stays.\n")
+            self.assertEqual([word for _, _, word in words.words_in([page])], ["is kept", "so that"])
 
     def test_a_ceiling_goes_down_and_never_up(self):
         now = {"README.md": 5, "docs/JOURNAL.md": 1, "docs/NEW.md": 2}
