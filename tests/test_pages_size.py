@@ -1,5 +1,6 @@
 """The pages are short, say what the tree has, and keep to our English."""
 import re
+import tempfile
 import unittest
 from pathlib import Path
 
@@ -71,6 +72,23 @@ class Tree(unittest.TestCase):
                 lemmas = re.findall(r"^use Rattle\.(\w+)\.proofs\.", path.read_text(), re.MULTILINE)
                 found |= {(crate, lower) for lower in lemmas if lower in self.crates() - {crate}}
         self.assertEqual(sorted(shown), sorted(found))
+
+    def test_readme_says_how_many_crates_are_proved(self):
+        below = {}
+        for line in (TOP / "crates.txt").read_text().splitlines():
+            if line and not line.startswith("#"):
+                crate, _, lower = line.partition(":")
+                below[crate] = set(lower.split())
+        counts = {}
+        for program in "ibm1401", "lone_console":
+            needed, more = set(), {program}
+            while more:
+                needed |= more
+                more = {lower for crate in more for lower in below[crate] if lower in below} - needed
+            counts[program] = len(needed)
+        readme = " ".join((TOP / "README.md").read_text().split())
+        self.assertIn(f"{counts['lone_console']} crates and 0.4 GB of disk for `console`", readme)
+        self.assertIn(f"{counts['ibm1401']} crates, ", readme)
 
     def test_no_other_page_lists_the_crates(self):
         for page in [TOP / "README.md", *sorted(DOCS.glob("*.md"))]:
@@ -144,6 +162,12 @@ class English(unittest.TestCase):
         shown = "It tells so, and who stands\n```\nbeside\n```\n`told` of the\n"
         found = [found[0] for _, line in words.of_page(shown) for found in words.WORDS.finditer(line)]
         self.assertEqual(found, ["tells", "and who", "stands"])
+
+    def test_a_phrase_is_found_across_two_lines(self):
+        with tempfile.TemporaryDirectory() as folder:
+            page = Path(folder) / "a page.md"
+            page.write_text("What is\nkept, so\nthat it stays.\n")
+            self.assertEqual([word for _, _, word in words.words_in([page])], ["is kept", "so that"])
 
     def test_a_ceiling_goes_down_and_never_up(self):
         now = {"README.md": 5, "docs/JOURNAL.md": 1, "docs/NEW.md": 2}

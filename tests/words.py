@@ -19,7 +19,7 @@ CEILINGS = TOP / "tests/words.txt"
 # Words that have a better one nearly everywhere, each as it is found in a text without code.
 WORDS = re.compile(
     r"\b(?:tells?|told|telling|beside|stands?(?! for\b)|stood(?! for\b)|standing|behind|anew|parted)\b"
-    r"|\b(?:one that|so that|of which|is kept|are kept|let go|ways? out|want of memory|growths? of memory)\b"
+    r"|\b(?:one\s+that|so\s+that|of\s+which|(?:is|are)\s+kept|let\s+go|ways?\s+out|(?:want|growths?)\s+of\s+memory)\b"
     r"|\b(?:and|but|by|for|of|to) who\b|(?:^|[.;:] )who\b(?![^.?]*\?)",
     re.IGNORECASE,
 )
@@ -121,12 +121,16 @@ def places():
 
 def words_in(files):
     """Each of the words in these files, with its file and line."""
-    return [
-        (path, number, found[0].strip())
-        for path in files
-        for number, line in reader_of(path)(path.read_text())
-        for found in WORDS.finditer(line)
-    ]
+    words = []
+    for path in files:
+        numbers, lines = [], []
+        for number, line in reader_of(path)(path.read_text()):
+            numbers.append(number)
+            lines.append(line.strip().lstrip("/!#").strip())
+        text = "\n".join(lines)
+        words += [(path, numbers[text.count("\n", 0, found.start())], " ".join(found[0].split()))
+                  for found in WORDS.finditer(text)]
+    return words
 
 
 def counts():
