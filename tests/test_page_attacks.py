@@ -12,9 +12,10 @@ from pathlib import Path
 
 TOP = Path(__file__).resolve().parent.parent
 PROGRAM = os.environ.get("IBM1401", str(TOP / "crates/ibm1401/out/ibm1401"))
-# How long, in seconds, an answer may take at most before a test gives up, and a good one among hostile clients.
-PATIENCE = 20
-SOON = 0.5
+# How long, in seconds, an answer may take at most before a test gives up; and a good one among hostile clients. On a
+# quiet host it takes a tenth of that; one client after the other would hold it up for much longer.
+PATIENCE = 40
+SOON = 5
 # How many clients do harm at a time.
 HOSTILE = 200
 
@@ -245,22 +246,18 @@ class Hostile(unittest.TestCase):
     """Clients that keep a page from answering others."""
 
     def open(self):
-        """A room with a page, and how long a good request takes while nobody does harm."""
-        room = Room()
+        """A room with a page."""
+        room, self.made = Room(), 0
         self.addCleanup(room.__exit__)
-        self.made, begun = 0, time.monotonic()
-        for _ in range(5):
-            self.assertEqual(room.get(), 200)
-        self.usual = (time.monotonic() - begun) / 5
         return room
 
     def good_request_is_soon_answered(self, room, name):
-        """A picture, and a line, are answered soon beside all others; on a busy host later, as without them."""
+        """A picture, and a line, are answered soon among all others."""
         for ask in (room.get, lambda: status(room.line("EXAMINE 1", self.made))):
             begun = time.monotonic()
             with self.subTest(name):
                 self.assertEqual(ask(), 200)
-                self.assertLess(time.monotonic() - begun, SOON + 10 * self.usual)
+                self.assertLess(time.monotonic() - begun, SOON)
         self.made += 1
 
     def test_clients_that_send_nothing_or_little_or_dont_close_delay_nobody(self):
@@ -357,7 +354,7 @@ class Stopped(unittest.TestCase):
                 self.assertTrue(select.select([client], [], [], PATIENCE)[0])
                 took = time.monotonic() - begun
                 self.assertGreater(took, 0.8)
-                self.assertLess(took, 4)
+                self.assertLess(took, 8)
 
 
 if __name__ == "__main__":
