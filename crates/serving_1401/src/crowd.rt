@@ -1,6 +1,7 @@
 //! The connections of a page that have a thread: at most 64. For one more the oldest is closed that doesn't wait for
 //! its answer.
 
+use sockets_1401::has_unread;
 use std::alloc::{AllocError, Global};
 use std::net::{Shutdown, TcpStream};
 use std::sync::{Arc, Condvar, Mutex, MutexGuard, Wait};
@@ -64,6 +65,13 @@ impl Visitor {
                 >= Duration::from_millis(GRACE),
             _ => true,
         }
+    }
+
+    /// Whether it may be closed for another one. It has had its time; and nothing that it has sent waits to be read, or
+    /// else its thread may just not have run yet.
+    fn may_go(&self, now: Option<Instant>) -> bool {
+        let is_unread = self.stage == Stage::Reading && has_unread(&self.stream);
+        self.is_old(now) && !is_unread
     }
 
     /// Closes the connection, so that its thread waits no more.
@@ -177,7 +185,7 @@ fn close_oldest(visitors: &mut [Visitor], now: Option<Instant>) -> bool {
 /// Closes the first connection at a stage, if it is old enough by then, and returns whether there was one.
 fn close_first(visitors: &mut [Visitor], stage: Stage, now: Option<Instant>) -> bool {
     for visitor in visitors.iter_mut() {
-        if visitor.stage == stage && visitor.is_old(now) {
+        if visitor.stage == stage && visitor.may_go(now) {
             visitor.close();
             return true;
         }

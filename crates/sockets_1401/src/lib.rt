@@ -13,4 +13,4 @@ pub mod accepting;
 pub mod patience;
 
 pub use accepting::{Pause, is_gone, passes, shut_down};
-pub use patience::{Patient, has_begun, linger};
+pub use patience::{Patient, has_begun, has_unread, linger};

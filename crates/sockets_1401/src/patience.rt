@@ -6,6 +6,7 @@ ghost use Rattle.sockets_1401.specs.Limits.{patience};
 use std::io;
 use std::io::{ErrorKind, Read, Write};
 use std::net::{Shutdown, TcpStream};
+use std::os::fd::AsRawFd;
 use std::time::{Clock, Duration, Instant};
 
 /// How long a page's connection may take for each of its parts, in seconds: for its first byte, for the rest of its
@@ -123,6 +124,14 @@ impl<R: Clock> Write for Patient<'_, R> {
 /// Waits for the first byte of a connection's request, and returns whether it has come.
 pub fn has_begun<R: Clock>(clock: &R, stream: &TcpStream) -> bool {
     matches!(Patient::new(clock, stream).has_begun(), Ok(true))
+}
+
+/// Whether the peer has sent bytes that nobody has read yet. It waits for nothing.
+pub fn has_unread(stream: &TcpStream) -> bool {
+    let flags = libc::net::MSG_PEEK | libc::net::MSG_DONTWAIT;
+    let mut first = [0u8];
+    let peeked = unsafe { libc::net::recv(stream.as_raw_fd(), &mut first, flags) };
+    peeked > 0
 }
 
 /// Ends a connection: the peer sees the end of what it is sent, and what it still sends is read and dropped, for a

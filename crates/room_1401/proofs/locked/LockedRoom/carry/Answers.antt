@@ -1,5 +1,6 @@
 -- One command more of the seat's, which has seen all others.
-use Rattle.std.proofs.Common.{◌≡◌, ◌+◌, ◌≤◌, ap, sym, ◌∙◌, subst, arith, false, ℕ, List, [], ◌∷◌, ◌++◌, length, length-append}
+use Rattle.std.proofs.Common.{◌≡◌, ◌+◌, ◌≤◌, ℕ, Bool, true, false, not, List, [], ◌∷◌, ◌++◌, length, length-append}
+use Rattle.std.proofs.Common.{refl, ap, sym, ◌∙◌, subst, arith}
 use Rattle.operator_1401.specs.declared.answer.Answer.{Answer}
 use Rattle.operator_1401.specs.declared.command.Command.{Command}
 use Rattle.lone_room_1401.specs.Kept.{KeptAccount}
@@ -23,6 +24,10 @@ one_more old new seat command answer seen front same good still recorded is =
     ∙ more_shown old new seat command answer good still recorded
     ∙ ap (λ (list : List SeatedCommand). list ++ pair seat command ∷ []) (sym same)
 
+if_not : (test : Bool) → not test ≡ false → test ≡ true
+if_not true is = refl
+if_not false is = sym is
+
 pub count_next-requires : goal.count_next-requires
 count_next-requires g c =
     let seat = c.brief.new.seat in
@@ -32,7 +37,7 @@ count_next-requires g c =
     let same : seat.list ≡ shown_in old = c.if-not-brief.ensures.list ∙ ap shown_in (sym c.self.view_is) in
     let grown : c.front.result.now ≡ seat.list ++ last =
     one_more old c.carry.new.self k c.args.command c.in_ok-carried.carried.answer seat.list c.front.result.now same
-    c.in_ok-carried.ensures.good (c.in_ok-carried.ensures.kept c.if-not-carried.false) c.in_ok-carried.ensures.recorded
+    c.in_ok-carried.ensures.good (c.in_ok-carried.ensures.kept (if_not c.in_ok-carried.carried.kept c.if-not-carried.false)) c.in_ok-carried.ensures.recorded
     c.front.ensures in
     let few : seat.made ≤ own k seat.list =
     subst (λ n. seat.made ≤ own n seat.list) (sym c.number.ensures) c.if-not-brief.ensures.own in
