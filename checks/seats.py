@@ -329,8 +329,8 @@ def unheld(_):
         tell("a connection without a handle waits", "it has an answer" if ready else "")
         answer("the first operator ends", say(first, b"QUIT\n"), b"BYE\n")
         first.close()
-        answer("the second is answered", say(second, b"QUIT\n"), b" \n")
-        answer("to the end", hear(second), b"BYE\n")
+        second.sendall(b"QUIT\n")
+        answer("the second is answered", hear(second), b" \nBYE\n")
     room.ended("a room that had one handle for two", 2)
 
 
