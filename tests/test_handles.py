@@ -18,8 +18,8 @@ class Handles(ProgramTest):
             self.check("the second waits", "it is answered" if select.select([second], [], [], 0.5)[0] else "")
             self.same("the first ends", first.say(b"QUIT\n"), b"BYE\n")
             first.close()
-            self.same("the second is answered", second.say(b"QUIT\n"), b" \n")
-            self.same("to its end", second.hear(), b"BYE\n")
+            second.sendall(b"QUIT\n")
+            self.same("the second is answered", second.hear(), b" \nBYE\n")
         self.ended(room, "the room", 2)
 
     def test_a_room_that_holds_every_handle_it_may_have(self):
