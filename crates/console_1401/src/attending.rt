@@ -143,8 +143,7 @@ impl<J: RoomId, R: Wait + Drop, P: Keeper + Drop, W: Wait, D: Door> Attendant<'_
 
 impl<J: RoomId, R: Wait + Drop, P: Keeper + Drop, W: Wait, D: Door> Responder
     for Attendant<'_, J, R, P, W, D> {
-    ghost responds = {
-        KeptResponds J.size (HasKept P.has_failed P.kept P.first P.form J.size) (HasFailed P.has_failed) };
+    ghost responds = { KeptResponds J.size (HasKept P.has_failed P.kept P.first P.form J.size) (HasFailed P.has_failed) };
 
     ghost is_good = { λ _. Unit {0} };
 
