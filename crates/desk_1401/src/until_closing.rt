@@ -51,6 +51,11 @@ impl<S: Source> Source for UntilClosing<'_, S> {
         // It has failed if its source has.
         ensures good { OnOk result (S.has_failed self.new.source ≡ false) }
         ensures failed { OnErr result (IsTrue (S.has_failed self.new.source)) }
+
+        // When the service closes isn't known, nor what is left until then.
+        ensures byte { IfOk result (λ byte. Consumes None None (option_to_list byte)) }
+        ensures end { result ≡ Ok None → IsAtEnd None }
+        ensures err { OnErr result (Keeps None None) }
     {
         if self.is_between && self.is_closing.load(SeqCst) {
             return Ok(None);

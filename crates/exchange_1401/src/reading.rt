@@ -103,6 +103,17 @@ impl<R: Clock> Read for Recorder<'_, R> {
     }
 }
 
+/// What reading a request has come to.
+#[derive(Clone, Copy)]
+enum Turn {
+    /// More is to be read or written.
+    More,
+    /// The request is whole.
+    Whole,
+    /// It was refused for its form, and the refusal is written.
+    Refused,
+}
+
 /// Reads the request of a connection to the page at this origin, until it is whole. One that is refused for its form is
 /// answered so, and then there is none.
 ///
@@ -115,7 +126,6 @@ pub fn read_request<R: AllocGlobal + RandomSource + Clock>(
     stream: &TcpStream,
 ) -> io::Result<Option<WholeRequest>> {
     stream.set_nodelay(true)?;
-    let mut connection = Connection::new(rt.alloc(), RandomState::new(rt)?, page_config());
     let mut notice = Notice {
         origin,
         is_whole: false,
@@ -125,28 +135,57 @@ pub fn read_request<R: AllocGlobal + RandomSource + Clock>(
         stream: Patient::new(rt, stream),
         bytes: Vec::new(rt.alloc()),
     };
+    read_whole(rt, stream, &mut notice, &mut reader)?;
+    if !notice.is_whole {
+        linger(rt, stream);
+        return Ok(None);
+    }
+    Ok(Some(WholeRequest {
+        bytes: reader.bytes,
+        is_visit: notice.is_visit,
+    }))
+}
+
+/// Reads until the request is whole, or refused and answered.
+fn read_whole<R: AllocGlobal + RandomSource + Clock>(
+    rt: &R,
+    stream: &TcpStream,
+    notice: &mut Notice<'_>,
+    reader: &mut Recorder<'_, R>,
+) -> io::Result<()> {
+    let mut connection = Connection::new(rt.alloc(), RandomState::new(rt)?, page_config());
     let mut writer = Patient::new(rt, stream);
 
     // A loop is proved to end, so this one counts its turns.
     for _ in 0..u64::MAX {
-        connection.advance(&mut notice);
-        if notice.is_whole {
-            return Ok(Some(WholeRequest {
-                bytes: reader.bytes,
-                is_visit: notice.is_visit,
-            }));
-        }
-        if connection.is_done() {
-            linger(rt, stream);
-            return Ok(None);
-        }
-        if !connection.wants_write() {
-            connection.read_from(&mut reader)?;
-        } else if connection.write_to(&mut writer)? == 0 {
-            return Err(ErrorKind::WriteZero.into());
+        match take_turn(&mut connection, notice, reader, &mut writer)? {
+            Turn::More => {}
+            Turn::Whole | Turn::Refused => return Ok(()),
         }
     }
     Err(ErrorKind::TimedOut.into())
+}
+
+/// Reads or writes what the connection wants next.
+fn take_turn<R: Clock>(
+    connection: &mut Connection,
+    notice: &mut Notice<'_>,
+    reader: &mut Recorder<'_, R>,
+    writer: &mut Patient<'_, R>,
+) -> io::Result<Turn> {
+    connection.advance(notice);
+    if notice.is_whole {
+        return Ok(Turn::Whole);
+    }
+    if connection.is_done() {
+        return Ok(Turn::Refused);
+    }
+    if !connection.wants_write() {
+        connection.read_from(reader)?;
+    } else if connection.write_to(writer)? == 0 {
+        return Err(ErrorKind::WriteZero.into());
+    }
+    Ok(Turn::More)
 }
 
 /// Sends the bytes of an answer.
