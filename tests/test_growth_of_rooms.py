@@ -63,7 +63,9 @@ def served_outcome(asked, ran):
 def kept_outcome(asked, ran, text, given):
     """What became of a kept room that was opened after these commands. Its console is answered as one is that gives the
     commands which were carried out; the file has all of them, but for a last one that wasn't kept and has no reply."""
-    is_unserved, is_unkept = ran.stderr == THREAD, ran.stderr == UNKEPT
+    # The thread that was refused may be another one than the console's.
+    is_unserved = ran.stderr == THREAD and not any(reply for _, reply in asked)
+    is_unkept = ran.stderr == UNKEPT
     kept = [] if is_unserved else [each for each in asked if each[1] != REFUSED and each[0] != b"QUIT\n"]
     wrong = wrong_replies(kept, replies((*given, *(line for line, _ in kept)))[len(given):])
     lost = [line for line, reply in asked if not reply]

@@ -109,18 +109,18 @@ class Idle(Pages):
         self.same("they are closed", [connection.hear() for connection in idle], [b""] * IDLE)
         self.ended(room, "the room", 0)
 
-    def test_those_beyond_the_most_are_closed_first(self):
+    def test_the_oldest_are_closed_for_those_beyond_the_most(self):
         """The others are still open then, if the host lets us look within the second that they have."""
         room = self.pages(1, consoles=False)
         self.is_page("a page alone", room.ask(1))
         for _ in range(TURNS):
             idle = self.idle(room, MOST_WAITING + 6)
-            beyond = [connection.hear() for connection in idle[MOST_WAITING:]]
-            others_ended = select.select(idle[:MOST_WAITING], [], [], 0)[0]
-            self.assertEqual([b""] * 6, beyond)
+            oldest = [connection.hear() for connection in idle[:6]]
+            others_ended = select.select(idle[6:], [], [], 0)[0]
+            self.assertEqual([b""] * 6, oldest)
             if not others_ended:
                 break
-        self.same(f"those beyond {MOST_WAITING}, and none of the others", len(others_ended), 0)
+        self.same(f"six for those beyond {MOST_WAITING}, and none of the others", len(others_ended), 0)
         self.same("then the others", [connection.hear() for connection in idle], [b""] * len(idle))
         self.is_page("the page is there again", room.ask(1))
 
@@ -273,13 +273,13 @@ class Ends(Pages):
         self.same("the end", (status, error), (1, b"ibm1401: cannot write\n"))
         self.holds("but the line is kept", new, b"JOURNAL1 4000\n1\t1\tSTART 0002\tOK\n")
 
-    def test_a_console_that_gets_no_second_handle(self):
-        room = self.pages(1, **at_most(7))
+    def test_a_console_that_takes_the_last_handle(self):
+        room = self.pages(1, **at_most(6))
         room.settle(5)
         with room.console() as console:
-            self.same("it is closed", console.hear(), b"")
-        room.settle(5)
-        self.ended(room, "the room", 0, status=1, error="ibm1401: thread refused\n")
+            self.same("it is answered", console.say(b"EXAMINE 0\n"), b" \n")
+            self.same("to its end", console.say(b"QUIT\n"), b"BYE\n")
+        self.ended(room, "the room", 1)
 
     def test_a_page_that_holds_the_last_handle(self):
         room = self.pages(1, **at_most(8))
