@@ -155,6 +155,7 @@ where
         return;
     };
     if !crowd.go_on(rt, number, Stage::Asking) {
+        refuse(stream);
         return;
     }
     let Some(answer) = ask(alloc, rt, request, asked) else {

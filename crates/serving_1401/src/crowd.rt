@@ -74,10 +74,15 @@ impl Visitor {
         self.is_old(now) && !is_unread
     }
 
-    /// Closes the connection, so that its thread waits no more.
+    /// Closes the connection, so that its thread waits no more. One whose request comes is closed for reading alone: if
+    /// its request turns out to be whole, it can still be answered that too many wait.
     fn close(&mut self) {
         self.is_closed = true;
-        let _closed = self.stream.shutdown(Shutdown::Both);
+        let how = match self.stage {
+            Stage::Reading => Shutdown::Read,
+            Stage::Asking | Stage::Writing | Stage::Lingering => Shutdown::Both,
+        };
+        let _closed = self.stream.shutdown(how);
     }
 }
 
