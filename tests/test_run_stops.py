@@ -155,7 +155,7 @@ class ProgressTest(SourceTest):
 
     def test_the_progress_line_is_taken_away_when_a_run_ends(self):
         self.source.write_text(LOOP)
-        limit = 20_000_000
+        limit = 1_000_000
         # A run of at least two seconds, however fast the host is.
         while True:
             began = time.monotonic()
