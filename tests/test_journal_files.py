@@ -155,6 +155,16 @@ class JournalFilesTest(ProgramTest):
         self.holds("it stays", self.journal, HEAD + FIRST)
         self.same("no other file is left", self.left(), ["a journal"])
 
+    def test_a_file_system_that_is_read_only_is_reported_as_denied(self):
+        folder = self.folder / "read only"
+        folder.mkdir()
+        mounted = 'mount -t tmpfs -o ro none "$1" 2> /dev/null || exit 77; exec "$0" console --journal "$1/new"'
+        words = ["unshare", "--mount", "sh", "-c", mounted, str(PROGRAM), str(folder)]
+        ran = subprocess.run(words, input=LINES, capture_output=True, timeout=SECONDS)
+        if ran.returncode != 1:
+            self.skipTest("nothing may be mounted here")
+        self.expect("the session", ran, 1, "", f"ibm1401: {folder / 'new'}: permission denied\n")
+
     def test_a_name_that_is_taken_stays(self):
         """A link to nowhere, a folder and a file are there already, and nothing is left beside them."""
         for name, make in [
@@ -324,4 +334,4 @@ class JournalFilesTest(ProgramTest):
         self.check("the time", f"{took[1]} s for {took[0]} s" if took[1] > 3 * took[0] + 0.2 else "")
 
 
-GROWTH = next(path for path in (TOP / "tests/refuse_growth.c", TOP / "checks/refuse_growth.c") if path.exists())
+GROWTH = TOP / "tests/refuse_growth.c"
