@@ -160,8 +160,10 @@ class JournalFilesTest(ProgramTest):
         folder.mkdir()
         mounted = 'mount -t tmpfs -o ro none "$1" 2> /dev/null || exit 77; exec "$0" console --journal "$1/new"'
         words = ["unshare", "--mount", "sh", "-c", mounted, str(PROGRAM), str(folder)]
+        if not shutil.which("unshare"):
+            self.skipTest("there is no unshare")
         ran = subprocess.run(words, input=LINES, capture_output=True, timeout=SECONDS)
-        if ran.returncode != 1:
+        if ran.returncode == 77 or ran.stderr.startswith(b"unshare:"):
             self.skipTest("nothing may be mounted here")
         self.expect("the session", ran, 1, "", f"ibm1401: {folder / 'new'}: permission denied\n")
 
