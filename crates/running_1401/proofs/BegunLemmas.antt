@@ -1,5 +1,5 @@
 -- What a run begins with, by what its files were read as.
-use Rattle.std.proofs.Common.{◌≡◌, ℕ, true, false, List, [], ◌++◌, Option, None, Some, Result, Ok, refl, sym}
+use Rattle.std.proofs.Common.{◌≡◌, ℕ, true, false, List, [], ◌++◌, Option, None, Some, Result, Ok, refl, sym, subst}
 use Rattle.std.proofs.lemmas.List.{append-nil}
 use Rattle.std.specs.Prelude.{unwrap_or}
 use Rattle.calls_1401.specs.declared.call.Start.{Start}
@@ -52,5 +52,10 @@ begun_alone how language size machine cards is = record {
 pub begun_with : (how : Start) (language : Language) (size : Option ℕ) (name : List ℕ) (machine after : State)
     (own behind cards : List Card) → HasFile how language size machine own → IsDeckText behind → after ≡ machine
     → cards ≡ own ++ behind → IsBegun how language size (Some name) after cards
-begun_with how language size name machine after own behind cards is those refl cards_are =
-    record { own = own; behind = behind; file = is; those = those; cards_are = cards_are }
+begun_with how language size name machine after own behind cards is those same cards_are = record {
+  own = own;
+  behind = behind;
+  file = subst (λ (s : State). HasFile how language size s own) (sym same) is;
+  those = those;
+  cards_are = cards_are;
+}
