@@ -1,4 +1,5 @@
 """`serve`: operators at one machine, a seat each, until the last of them leaves; and what is refused."""
+import contextlib
 import errno
 import re
 import resource
@@ -326,11 +327,13 @@ class Refused(ProgramTest):
     def hold_early(self, error, **how):
         """Subtests: a service ends with this error once its first console has ended."""
         room = self.plain_room(3, **how)
-        with room.console() as one, room.console() as two:
+        with room.console() as one:
+            # The next connection waits to be accepted, or finds the port closed by then.
+            with contextlib.suppress(ConnectionRefusedError):
+                self.addCleanup(room.console().close)
             self.same("the first console goes on", one.say(b"EXAMINE 0\n"), b" \n")
             self.same("to its end", one.say(b"EXAMINE 0\nQUIT\n"), b" \nBYE\n")
             self.ended(room, "the end", 2, status=1, error=f"ibm1401: {error}\n")
-            two.hear()
 
     def test_a_connection_that_is_not_accepted(self):
         self.hold_early("accept failed", **at_most(5))
