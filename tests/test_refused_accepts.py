@@ -10,7 +10,7 @@ from tests.support import ProgramTest, wait_until
 # What passes: the connection is gone, or the system is short of something.
 PASSING = ["ECONNABORTED", "EPROTO", "EAGAIN", "EINTR", "ENOBUFS", "ENOMEM", "EMFILE", "ENFILE", "ENETDOWN"]
 # What of this is no want of the system's.
-GONE = ["ECONNABORTED", "EPROTO", "EAGAIN", "EINTR", "ENETDOWN"]
+GONE = ["ECONNABORTED", "EPROTO", "EINTR", "ENETDOWN"]
 
 
 def refusing(name, times):
@@ -58,7 +58,7 @@ class RefusedAccepts(ProgramTest):
             self.ended(room, f"{name}: the room", 1)
 
     def test_any_other_failure_ends_a_room_whose_seats_are_taken_once(self):
-        for name in "EMFILE", "ENOBUFS", "ENOTSOCK":
+        for name in "EAGAIN", "EMFILE", "ENOBUFS", "ENOTSOCK":
             room = self.plain_room(1, **refusing(name, 1))
             self.ended(room, name, 0, status=1, error="ibm1401: accept failed\n")
 

@@ -6,13 +6,13 @@ use std::os::fd::AsRawFd;
 use std::thread;
 use std::time::{Clock, Duration};
 
-/// Why there is no connection after all, as Linux numbers it: the wait was interrupted (4) or found nothing (11), or
-/// the connection ended or failed before it was accepted (64, 71, 92, 100, 101, 103, 110, 111, 112 and 113).
-const GONE: [i32; 12] = [4, 11, 64, 71, 92, 100, 101, 103, 110, 111, 112, 113];
+/// Why there is no connection after all, as Linux numbers it: the wait was interrupted (4), or the connection ended or
+/// failed before it was accepted (64, 71, 92, 100, 101, 103, 110, 111, 112 and 113).
+const GONE: [i32; 11] = [4, 64, 71, 92, 100, 101, 103, 110, 111, 112, 113];
 
-/// Why a connection isn't accepted yet: memory (12) or buffers (105) are short, or the system (23) or the process (24)
-/// has no handle left.
-const SHORT: [i32; 4] = [12, 23, 24, 105];
+/// Why a connection isn't accepted yet: none is there (11), memory (12) or buffers (105) are short, or the system (23) or
+/// the process (24) has no handle left.
+const SHORT: [i32; 5] = [11, 12, 23, 24, 105];
 
 /// How long the first pause is, in milliseconds.
 const FIRST: u64 = 10;
