@@ -1,18 +1,11 @@
 """A served room of whose journal an entry can't be kept: what its consoles and its page show from then on."""
-import os
-import re
 import resource
-import select
 import signal
 import socket
-import subprocess
-import tempfile
 import unittest
-from pathlib import Path
 
-TOP = Path(__file__).resolve().parent.parent
-PROGRAM = os.environ.get("IBM1401", TOP / "crates/ibm1401/out/ibm1401")
-SECONDS = 60
+from tests.support import SECONDS, ProgramTest
+
 # A journal's file may have the head and one entry of this test, and only a part of the next.
 MOST_BYTES = 50
 
@@ -21,13 +14,6 @@ def limited():
     """Refuses to let a file grow beyond the limit, as a full disk does."""
     signal.signal(signal.SIGXFSZ, signal.SIG_IGN)
     resource.setrlimit(resource.RLIMIT_FSIZE, (MOST_BYTES, MOST_BYTES))
-
-
-def free_port():
-    """The number of a port that nobody has."""
-    with socket.socket() as free:
-        free.bind(("127.0.0.1", 0))
-        return free.getsockname()[1]
 
 
 def hear(console):
@@ -47,26 +33,14 @@ def say(console, line):
     return heard
 
 
-class AnEntryThatIsNotKept(unittest.TestCase):
+class AnEntryThatIsNotKept(ProgramTest):
     """A room with two seats: the first gives a command that is kept, and one that isn't."""
 
     def setUp(self):
-        folder = tempfile.TemporaryDirectory()
-        self.addCleanup(folder.cleanup)
-        self.port, pages = free_port(), free_port()
-        words = ["serve", "--port", self.port, "--page", pages, "--seats", 2, "--journal", Path(folder.name) / "new"]
-        pipes = {"stdin": subprocess.PIPE, "stdout": subprocess.PIPE, "stderr": subprocess.PIPE}
-        self.server = subprocess.Popen([PROGRAM, *map(str, words)], preexec_fn=limited, **pipes)
-        self.addCleanup(self.end)
-        ready = b""
-        while ready.count(b"\n") < 3 and select.select([self.server.stdout], [], [], SECONDS)[0]:
-            ready += os.read(self.server.stdout.fileno(), 1000)
-        self.pages = [int(port) for port in re.findall(rb"127\.0\.0\.1:(\d+)", ready)]
-
-    def end(self):
-        """Ends the program, if it hasn't ended."""
-        self.server.kill()
-        self.server.communicate()
+        super().setUp()
+        new = self.folder / "new"
+        room = self.room("serve", "--journal", new, seats=2, pages=True, preexec_fn=limited)
+        self.server, self.port, self.pages = room.process, room.port, [room.page, room.page + 1]
 
     def console(self):
         """A connection, which has the lowest free seat."""
