@@ -1,4 +1,7 @@
 //! The words of the subcommand `assemble`.
+ghost use Rattle.std.specs.Prelude.{◌≡◌, IfOk, codes};
+ghost use Rattle.clap.specs.Words.{first_value, found_of};
+ghost use Rattle.arguments_1401.specs.Calls.{IsAssembled, IsAssembling, IsProductIn, are_one};
 
 use crate::commands::{Session, Subcommand, refusal};
 use crate::languages::{LANGUAGE, language_in};
@@ -72,7 +75,9 @@ pub(crate) fn assemble() -> &'static Subcommand {
 }
 
 /// What the options of `assemble` name to be written.
-fn product_in(matches: &ArgMatches<'_>) -> Product {
+fn product_in(matches: &ArgMatches<'_>) -> Product
+    ensures { IsProductIn (found_of matches.now) result }
+{
     let tables = Tables {
         listing: matches.get_flag("list"),
         symbols: matches.get_flag("symbols"),
@@ -88,7 +93,10 @@ fn product_in(matches: &ArgMatches<'_>) -> Product {
 }
 
 /// Whether the options of `assemble` name one file for two things.
-fn names_one_file(matches: &ArgMatches<'_>) -> bool {
+fn names_one_file(matches: &ArgMatches<'_>) -> bool
+    ensures { result ≡ are_one (first_value (found_of matches.now) (codes "output"))
+        (first_value (found_of matches.now) (codes "deck")) }
+{
     match (matches.get_str("output"), matches.get_str("deck")) {
         (Some(out), Some(deck)) => out == deck,
         (Some(_), None) | (None, _) => false,
@@ -100,7 +108,9 @@ pub(crate) fn assemble_call(
     alloc: Global,
     matches: &ArgMatches<'_>,
     file: &str,
-) -> Result<Call, Error> {
+) -> Result<Call, Error>
+    ensures { IfOk result (λ call. IsAssembled (found_of matches.now) file.now call) }
+{
     if names_one_file(matches) {
         Err(refusal(alloc, assemble(), "-o and --deck name the same file")?)
     } else {
@@ -113,7 +123,9 @@ fn assembling_in(
     alloc: Global,
     matches: &ArgMatches<'_>,
     file: &str,
-) -> Result<Assembling, AllocError> {
+) -> Result<Assembling, AllocError>
+    ensures { IfOk result (λ asked. IsAssembling (found_of matches.now) file.now asked) }
+{
     let told = if matches.get_flag("all") {
         Told::All
     } else {

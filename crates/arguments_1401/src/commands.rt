@@ -48,7 +48,7 @@ Lines, each with one reply:
   LINE            takes the oldest printed line, with its form and line
   CARD            takes the oldest punched card
   GLANCE A        shows the cell at address A, and after how many commands; it isn't recorded
-  QUIT            ends the session, of which nothing is kept";
+  QUIT            ends the session; nothing is kept but the journal, if there is one";
 
 /// The ports at which operators come, one or both of them.
 fn ports_group<'a>(alloc: Global, is_required: bool) -> Result<ArgGroup<'a>, AllocError> {

@@ -1,4 +1,8 @@
 //! The options of journals, read by `clap`.
+ghost use Rattle.std.specs.Prelude.{◌≡◌, [], IfOk, codes, unwrap_or};
+ghost use Rattle.clap.specs.Words.{first_value, found_of};
+ghost use Rattle.arguments_1401.specs.Options.{IsNumberIn};
+ghost use Rattle.arguments_1401.specs.Calls.{IsJournalIn, IsResumed, IsResuming, IsShowing, IsShown};
 
 use crate::commands::{Session, Subcommand, refusal};
 use crate::options::{ANY_U8, ANY_U32, Argument, FREE, Kind, TEXT, name_in};
@@ -129,11 +133,25 @@ pub(crate) fn resume() -> &'static Subcommand {
 pub(crate) fn new_journal_in(
     alloc: Global,
     matches: &ArgMatches<'_>,
-) -> Result<Option<NewJournal>, AllocError> {
+) -> Result<Option<NewJournal>, AllocError>
+    ensures { IfOk result (λ journal. IsJournalIn (found_of matches.now) journal) }
+{
     let sync = matches.get_flag("sync");
     Ok(match name_in(alloc, matches, "journal")? {
         Some(file) => Some(NewJournal { file, sync }),
         None => None,
+    })
+}
+
+/// The entries of a journal that the options of `journal` show.
+fn showing_in(alloc: Global, matches: &ArgMatches<'_>, file: &str) -> Result<Showing, AllocError>
+    ensures { IfOk result (λ asked. IsShowing (found_of matches.now) file.now asked) }
+{
+    Ok(Showing {
+        file: String::from_str(alloc, file)?,
+        seat: matches.get_one::<u8>("seat"),
+        from: u64::from(matches.get_one::<u32>("from").unwrap_or(1)),
+        check: matches.get_flag("check"),
     })
 }
 
@@ -142,17 +160,16 @@ pub(crate) fn journal_call(
     alloc: Global,
     matches: &ArgMatches<'_>,
     file: &str,
-) -> Result<Call, Error> {
-    Ok(Call::Journal(Showing {
-        file: String::from_str(alloc, file)?,
-        seat: matches.get_one::<u8>("seat"),
-        from: u64::from(matches.get_one::<u32>("from").unwrap_or(1)),
-        check: matches.get_flag("check"),
-    }))
+) -> Result<Call, Error>
+    ensures { IfOk result (λ call. IsShown (found_of matches.now) file.now call) }
+{
+    Ok(Call::Journal(showing_in(alloc, matches, file)?))
 }
 
 /// The number of the last command that is carried out again, if the options of `resume` name one.
-fn until_in(matches: &ArgMatches<'_>) -> Option<u64> {
+fn until_in(matches: &ArgMatches<'_>) -> Option<u64>
+    ensures { IsNumberIn 32 (found_of matches.now) (codes "until") result }
+{
     match matches.get_one::<u32>("until") {
         Some(until) => Some(u64::from(until)),
         None => None,
@@ -160,7 +177,9 @@ fn until_in(matches: &ArgMatches<'_>) -> Option<u64> {
 }
 
 /// The text of the numbers that the options of `resume` leave out.
-fn without_in<'a>(matches: &ArgMatches<'a>) -> &'a str {
+fn without_in<'a>(matches: &ArgMatches<'a>) -> &'a str
+    ensures { result.now ≡ unwrap_or (first_value (found_of matches.now) (codes "without")) [] }
+{
     matches.get_str("without").unwrap_or("")
 }
 
@@ -183,11 +202,9 @@ fn resuming_refused(matches: &ArgMatches<'_>) -> Option<&'static str> {
 }
 
 /// The journal that the options of `resume` name, and how it is taken up.
-fn resuming_in(
-    alloc: Global,
-    matches: &ArgMatches<'_>,
-    file: &str,
-) -> Result<Resuming, AllocError> {
+fn resuming_in(alloc: Global, matches: &ArgMatches<'_>, file: &str) -> Result<Resuming, AllocError>
+    ensures { IfOk result (λ asked. IsResuming (found_of matches.now) file.now asked) }
+{
     Ok(Resuming {
         file: String::from_str(alloc, file)?,
         journal: name_in(alloc, matches, "journal")?,
@@ -211,7 +228,9 @@ pub(crate) fn resume_call(
     alloc: Global,
     matches: &ArgMatches<'_>,
     file: &str,
-) -> Result<Call, Error> {
+) -> Result<Call, Error>
+    ensures { IfOk result (λ call. IsResumed (found_of matches.now) file.now call) }
+{
     match resume_refused(matches) {
         Some(text) => Err(refusal(alloc, resume(), text)?),
         None => Ok(resumed_call(alloc, matches, file)?),
@@ -219,7 +238,9 @@ pub(crate) fn resume_call(
 }
 
 /// What the options of `resume` ask for, if they can be met.
-fn resumed_call(alloc: Global, matches: &ArgMatches<'_>, file: &str) -> Result<Call, AllocError> {
+fn resumed_call(alloc: Global, matches: &ArgMatches<'_>, file: &str) -> Result<Call, AllocError>
+    ensures { IfOk result (λ call. IsResumed (found_of matches.now) file.now call) }
+{
     let resuming = resuming_in(alloc, matches, file)?;
     Ok(match operators_in(matches) {
         Some(operators) => Call::ResumeSeats {

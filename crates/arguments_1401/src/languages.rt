@@ -1,4 +1,7 @@
 //! The language of a source, as an option.
+ghost use Rattle.std.specs.Prelude.{◌≡◌, codes};
+ghost use Rattle.clap.specs.Words.{first_value, found_of};
+ghost use Rattle.arguments_1401.specs.Options.{language_in};
 
 use crate::options::{Argument, FREE, Kind};
 use clap::ArgMatches;
@@ -20,7 +23,9 @@ pub(crate) const LANGUAGE: Argument = Argument {
 };
 
 /// The language that the options of a subcommand name.
-pub(crate) fn language_in(matches: &ArgMatches<'_>) -> Language {
+pub(crate) fn language_in(matches: &ArgMatches<'_>) -> Language
+    ensures { result ≡ language_in (first_value (found_of matches.now) (codes "language")) }
+{
     if matches.get_str("language") == Some(WIDER) {
         Language::Ibm
     } else {

@@ -1,4 +1,7 @@
 //! The kinds of arguments that the subcommands have.
+ghost use Rattle.std.specs.Prelude.{IfOk};
+ghost use Rattle.clap.specs.Words.{found_of};
+ghost use Rattle.arguments_1401.specs.Options.{IsNameIn};
 
 use crate::sizes::SizeTexts;
 use clap::builder::ValueParser;
@@ -137,7 +140,9 @@ pub(crate) fn name_in(
     alloc: Global,
     matches: &ArgMatches<'_>,
     option: &str,
-) -> Result<Option<String>, AllocError> {
+) -> Result<Option<String>, AllocError>
+    ensures { IfOk result (λ name. IsNameIn (found_of matches.now) option.now name) }
+{
     match matches.get_str(option) {
         Some(name) => Ok(Some(String::from_str(alloc, name)?)),
         None => Ok(None),

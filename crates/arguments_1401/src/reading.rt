@@ -1,4 +1,9 @@
 //! The words of the command line, read by `clap`.
+ghost use Rattle.std.specs.Prelude.{◌≡◌, IfOk, IfSome, OnOk, codes};
+ghost use Rattle.clap.specs.Words.{found_of};
+ghost use Rattle.arguments_1401.specs.Options.{IsNameIn};
+ghost use Rattle.arguments_1401.specs.Calls.{IsAsked, IsConsole, IsJob, IsLoad, IsOf, IsOfFile, IsRun};
+ghost use Rattle.arguments_1401.specs.Calls.{switches_named};
 
 use crate::assembling::{assemble, assemble_call};
 use crate::commands::{Session, Subcommand, command_of, refusal};
@@ -138,19 +143,28 @@ fn run() -> &'static Subcommand {
 }
 
 /// The switches that these letters name; none if a byte is no letter from A to G.
-fn switches_of(letters: &str) -> Option<[bool; 7]> {
-    let mut switches = [false; 7];
-    for letter in letters.as_bytes() {
-        match letter {
-            b'A'..=b'G' => switches[usize::from(*letter - b'A')] = true,
-            _ => return None,
-        }
+fn switches_of(letters: &str) -> Option<[bool; 7]>
+    ensures { IfSome result (λ switches. switches ≡ switches_named letters.now) }
+{
+    let letters = letters.as_bytes();
+    if !letters.iter().all(|letter| matches!(*letter, b'A'..=b'G')) {
+        return None;
     }
-    Some(switches)
+    Some([
+        letters.contains(&b'A'),
+        letters.contains(&b'B'),
+        letters.contains(&b'C'),
+        letters.contains(&b'D'),
+        letters.contains(&b'E'),
+        letters.contains(&b'F'),
+        letters.contains(&b'G'),
+    ])
 }
 
 /// What the options of `run` ask for.
-fn run_call(alloc: Global, matches: &ArgMatches<'_>, file: &str) -> Result<Call, Error> {
+fn run_call(alloc: Global, matches: &ArgMatches<'_>, file: &str) -> Result<Call, Error>
+    ensures { IfOk result (λ call. IsRun (found_of matches.now) file.now call) }
+{
     match switches_of(matches.get_str("switches").unwrap_or("")) {
         Some(switches) => Ok(Call::Run(job_in(alloc, matches, file, switches)?)),
         None => Err(refusal(alloc, run(), "the switches are letters from A to G")?),
@@ -163,7 +177,9 @@ fn job_in(
     matches: &ArgMatches<'_>,
     file: &str,
     switches: [bool; 7],
-) -> Result<Job, AllocError> {
+) -> Result<Job, AllocError>
+    ensures { IfOk result (λ job. IsJob (found_of matches.now) file.now switches job) }
+{
     let start = if matches.get_flag("load") {
         Start::LoadKey
     } else {
@@ -186,7 +202,18 @@ fn job_in(
 }
 
 /// Names the files of a job that the options of `run` name.
-fn name_files(alloc: Global, matches: &ArgMatches<'_>, job: &mut Job) -> Result<(), AllocError> {
+fn name_files(alloc: Global, matches: &ArgMatches<'_>, job: &mut Job) -> Result<(), AllocError>
+    ensures cards { OnOk result (IsNameIn (found_of matches.now) (codes "cards") job.new.cards) }
+    ensures punch { OnOk result (IsNameIn (found_of matches.now) (codes "punch") job.new.punch) }
+    ensures paper { OnOk result (IsNameIn (found_of matches.now) (codes "paper") job.new.paper) }
+    ensures trace { OnOk result (IsNameIn (found_of matches.now) (codes "trace") job.new.trace) }
+    ensures rest { OnOk result (job.new ≡ record job.old {
+      cards = job.new.cards;
+      punch = job.new.punch;
+      paper = job.new.paper;
+      trace = job.new.trace;
+    }) }
+{
     job.cards = name_in(alloc, matches, "cards")?;
     job.punch = name_in(alloc, matches, "punch")?;
     job.paper = name_in(alloc, matches, "paper")?;
@@ -261,10 +288,19 @@ fn call_with<'a, S: AsStr>(
 }
 
 /// What a command line asks for that could be read.
-fn call_of(alloc: Global, matches: &ArgMatches<'_>) -> Result<Call, Error> {
-    let Some((name, options)) = matches.subcommand() else {
-        return Ok(Call::Console { size: DEFAULT_SIZE });
-    };
+fn call_of(alloc: Global, matches: &ArgMatches<'_>) -> Result<Call, Error>
+    ensures { IfOk result (λ call. IsAsked matches.now call) }
+{
+    match matches.subcommand() {
+        Some((name, options)) => subcommand_call(alloc, name, options),
+        None => Ok(Call::Console { size: DEFAULT_SIZE }),
+    }
+}
+
+/// What the subcommand of this name asks for.
+fn subcommand_call(alloc: Global, name: &str, options: &ArgMatches<'_>) -> Result<Call, Error>
+    ensures { IfOk result (λ call. IsOf name.now (found_of options.now) call) }
+{
     match name {
         "console" => console_call(alloc, options),
         "serve" => match operators_in(options) {
@@ -276,12 +312,9 @@ fn call_of(alloc: Global, matches: &ArgMatches<'_>) -> Result<Call, Error> {
 }
 
 /// What a subcommand with a file asks for.
-fn file_call(
-    alloc: Global,
-    name: &str,
-    options: &ArgMatches<'_>,
-    file: &str,
-) -> Result<Call, Error> {
+fn file_call(alloc: Global, name: &str, options: &ArgMatches<'_>, file: &str) -> Result<Call, Error>
+    ensures { IfOk result (λ call. IsOfFile name.now (found_of options.now) file.now call) }
+{
     match name {
         "assemble" => assemble_call(alloc, options, file),
         "load" => load_call(alloc, options, file),
@@ -295,7 +328,9 @@ fn file_call(
 }
 
 /// What the options of `console` ask for.
-fn console_call(alloc: Global, matches: &ArgMatches<'_>) -> Result<Call, Error> {
+fn console_call(alloc: Global, matches: &ArgMatches<'_>) -> Result<Call, Error>
+    ensures { IfOk result (λ call. IsConsole (found_of matches.now) call) }
+{
     let size = size_in(matches);
     Ok(match new_journal_in(alloc, matches)? {
         Some(journal) => Call::KeptConsole { size, journal },
@@ -304,7 +339,9 @@ fn console_call(alloc: Global, matches: &ArgMatches<'_>) -> Result<Call, Error> 
 }
 
 /// What the options of `load` ask for.
-fn load_call(alloc: Global, matches: &ArgMatches<'_>, file: &str) -> Result<Call, Error> {
+fn load_call(alloc: Global, matches: &ArgMatches<'_>, file: &str) -> Result<Call, Error>
+    ensures { IfOk result (λ call. IsLoad (found_of matches.now) file.now call) }
+{
     let file = String::from_str(alloc, file)?;
     Ok(match new_journal_in(alloc, matches)? {
         Some(journal) => Call::KeptLoad { file, journal },

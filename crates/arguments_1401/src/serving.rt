@@ -1,4 +1,7 @@
 //! The options of a room that operators share, read by `clap`.
+ghost use Rattle.std.specs.Prelude.{IfOk};
+ghost use Rattle.clap.specs.Words.{found_of};
+ghost use Rattle.arguments_1401.specs.Calls.{AreOperatorsIn, IsOpeningIn, IsPlainIn, IsRoom, IsSeating};
 
 use crate::commands::{Session, Subcommand, refusal};
 use crate::journals::{JOURNAL, NEW_SYNC, new_journal_in};
@@ -86,7 +89,9 @@ pub(crate) fn serve() -> &'static Subcommand {
 }
 
 /// The operators that the options name, if they name any.
-pub(crate) fn operators_in(matches: &ArgMatches<'_>) -> Option<Operators> {
+pub(crate) fn operators_in(matches: &ArgMatches<'_>) -> Option<Operators>
+    ensures { AreOperatorsIn (found_of matches.now) result }
+{
     let port = matches.get_one("port");
     let page = matches.get_one("page");
     match matches.get_one("seats") {
@@ -112,7 +117,9 @@ pub(crate) fn serve_call(
     alloc: Global,
     matches: &ArgMatches<'_>,
     operators: Operators,
-) -> Result<Call, Error> {
+) -> Result<Call, Error>
+    ensures { IfOk result (λ call. IsRoom (found_of matches.now) operators call) }
+{
     match pages_refused(operators) {
         Some(text) => Err(refusal(alloc, serve(), text)?),
         None => Ok(room_call(alloc, matches, operators)?),
@@ -120,7 +127,9 @@ pub(crate) fn serve_call(
 }
 
 /// Whether the options of `serve` ask for a new room that is gone with its first operators.
-fn is_plain(matches: &ArgMatches<'_>) -> bool {
+fn is_plain(matches: &ArgMatches<'_>) -> bool
+    ensures { IsPlainIn (found_of matches.now) result }
+{
     matches.get_str("image").is_none()
         && matches.get_str("cards").is_none()
         && matches.get_str("journal").is_none()
@@ -132,7 +141,9 @@ fn room_call(
     alloc: Global,
     matches: &ArgMatches<'_>,
     operators: Operators,
-) -> Result<Call, AllocError> {
+) -> Result<Call, AllocError>
+    ensures { IfOk result (λ call. IsRoom (found_of matches.now) operators call) }
+{
     let Operators { seats, port, page } = operators;
     match (is_plain(matches), port, page) {
         (true, Some(port), None) => {
@@ -144,7 +155,9 @@ fn room_call(
 }
 
 /// What a room begins with by the options of `serve`.
-fn opening_in(alloc: Global, matches: &ArgMatches<'_>) -> Result<Opening, AllocError> {
+fn opening_in(alloc: Global, matches: &ArgMatches<'_>) -> Result<Opening, AllocError>
+    ensures { IfOk result (λ opening. IsOpeningIn (found_of matches.now) opening) }
+{
     Ok(match name_in(alloc, matches, "image")? {
         Some(file) => Opening::Image(file),
         None => Opening::PowerOn(size_in(matches)),
@@ -156,7 +169,9 @@ fn seating_in(
     alloc: Global,
     matches: &ArgMatches<'_>,
     operators: Operators,
-) -> Result<Seating, AllocError> {
+) -> Result<Seating, AllocError>
+    ensures { IfOk result (λ asked. IsSeating (found_of matches.now) operators asked) }
+{
     Ok(Seating {
         opening: opening_in(alloc, matches)?,
         operators,

@@ -67,6 +67,7 @@ IsWhyNotAssembled language size source (fault.Image why) = ⊥
 IsWhyNotAssembled language size source fault.Memory = IsOk (assembly_in language size source)
 IsWhyNotAssembled language size source fault.Output = ⊥
 IsWhyNotAssembled language size source (fault.Unwritten name) = ⊥
+IsWhyNotAssembled language size source (fault.OneFile first second) = ⊥
 
 -- the text is that of the deck of what the source stands for
 pub record IsDeckOf (language : Language) (size : ℕ) (source text : List ℕ) : Type 0 where

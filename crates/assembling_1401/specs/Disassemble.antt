@@ -26,6 +26,7 @@ IsWhyNotListed text (fault.Image why) = IsRefused text why
 IsWhyNotListed text fault.Memory = (image : Image) × IsTextOf text image
 IsWhyNotListed text fault.Output = ⊥
 IsWhyNotListed text (fault.Unwritten name) = ⊥
+IsWhyNotListed text (fault.OneFile first second) = ⊥
 
 -- Nothing was written.
 pub record NotListed (text : List ℕ) (old new : Option (List ℕ)) (outcome : Result ⊤ AssembleFault) : Type 0 where

@@ -39,4 +39,7 @@ pub enum AssembleFault {
     /// The file of this name can't be made or written.
     #[error("cannot write {0}")]
     Unwritten(String),
+    /// These names lead to one file, and the second is one of a file that is written.
+    #[error("{0} and {1} are one file")]
+    OneFile(String, String),
 }

@@ -5,12 +5,12 @@ use crate::fault::AssembleFault;
 use crate::source_faults::{fault_lines, warning_lines};
 use autocoder_1401::{AsmKind, explained_faults, warnings};
 use calls_1401::{Assembling, Product, Told, is_refused, size_for};
-use files_1401::{FileFault, WriteFault, hold_closed_streams, read_whole, write_whole};
+use files_1401::{FileFault, WriteFault, is_one_file, read_whole, write_whole};
 use source_1401::Language;
 use std::alloc::Global;
 use std::io;
 use std::rt::Files;
-use streams_1401::ToWriter;
+use streams_1401::{ToWriter, put_all};
 
 /// The bytes of a source's file.
 ///
@@ -25,12 +25,72 @@ fn read_source(rt: &(impl Files + AllocGlobal), name: String) -> Result<Vec<u8>,
     }
 }
 
-/// Writes a text to the file of this name, whole or not at all.
+/// The name of standard output, to which a text is written as it comes.
+const STANDARD_OUTPUT: &str = "/dev/stdout";
+
+/// Looks at two names, the second one of a file that is written, if there are both.
+///
+/// # Errors
+///
+/// `OneFile` if they lead to one file, or `Memory`.
+fn check_pair<R: Files + AllocGlobal>(
+    rt: &R,
+    first: &str,
+    second: &Option<String>,
+) -> Result<(), AssembleFault> {
+    let Some(second) = second else {
+        return Ok(());
+    };
+    match is_one_file(rt, first, second.as_str()) {
+        Ok(false) => Ok(()),
+        Ok(true) => Err(one_file(rt.alloc(), first, second.as_str())),
+        Err(_) => Err(AssembleFault::Memory),
+    }
+}
+
+/// The fault of two names that lead to one file.
+fn one_file(alloc: Global, first: &str, second: &str) -> AssembleFault {
+    match (
+        String::from_str(alloc, first),
+        String::from_str(alloc, second),
+    ) {
+        (Ok(first), Ok(second)) => AssembleFault::OneFile(first, second),
+        _ => AssembleFault::Memory,
+    }
+}
+
+/// Looks at the names of the source and of the files that are written.
+///
+/// # Errors
+///
+/// `OneFile` if two of them lead to one file, or `Memory`.
+fn check_names<R: Files + AllocGlobal>(
+    rt: &R,
+    file: &str,
+    out: &Option<String>,
+    deck: &Option<String>,
+) -> Result<(), AssembleFault> {
+    check_pair(rt, file, out)?;
+    check_pair(rt, file, deck)?;
+    match out {
+        Some(out) => check_pair(rt, out.as_str(), deck),
+        None => Ok(()),
+    }
+}
+
+/// Writes a text to the file of this name, whole or not at all; or to standard output, if the name is its.
 fn put_file(
-    rt: &(impl Files + AllocGlobal),
+    rt: &(impl Files + Print + AllocGlobal),
     name: String,
     text: &[u8],
 ) -> Result<(), AssembleFault> {
+    if name.as_str() == STANDARD_OUTPUT {
+        let mut writer = ToWriter::new(io::writer(rt));
+        return match put_all(&mut writer, text) {
+            Ok(()) => Ok(()),
+            Err(_) => Err(AssembleFault::Unwritten(name)),
+        };
+    }
     match write_whole(rt, name.as_str(), text) {
         Ok(()) => Ok(()),
         Err(WriteFault::Memory) => Err(AssembleFault::Memory),
@@ -40,7 +100,7 @@ fn put_file(
 
 /// Writes the deck of a source to the file of this name.
 fn put_deck(
-    rt: &(impl Files + AllocGlobal),
+    rt: &(impl Files + Print + AllocGlobal),
     language: Language,
     source: &[u8],
     size: u16,
@@ -140,9 +200,9 @@ fn tell_warnings(
 ///
 /// # Errors
 ///
-/// `Size` if no core storage of the size named is made, `Unread` if the file can't be read; `Source` or `Faulty`
-/// if it can't be assembled, and `Deck` if its image has no deck, and nothing is written then; `Output` or
-/// `Unwritten` if a text isn't written; or `Memory`.
+/// `Size` if no core storage of the size named is made, `OneFile` if two of the names lead to one file, `Unread` if the
+/// file can't be read; `Source` or `Faulty` if it can't be assembled, and `Deck` if its image has no deck, and nothing
+/// is written then; `Output` or `Unwritten` if a text isn't written; or `Memory`.
 pub fn assemble_file<R: Files + Print + Eprint + AllocGlobal>(
     rt: &R,
     asked: Assembling,
@@ -159,8 +219,7 @@ pub fn assemble_file<R: Files + Print + Eprint + AllocGlobal>(
     if is_refused(size) {
         return Err(AssembleFault::Size);
     }
-    // Standard streams that are closed stay so: no file that is made takes the place of one.
-    let _held = hold_closed_streams(rt);
+    check_names(rt, file.as_str(), &out, &deck)?;
     let Ok(name) = file.clone() else {
         return Err(AssembleFault::Memory);
     };

@@ -24,7 +24,7 @@ use Rattle.console_1401.specs.Attended.{command_in, answer_in}
 use Rattle.text_1401.specs.ConsoleLine.{Said}
 use Rattle.answering_1401.specs.ReplyText.{bytes_of}
 use Rattle.answering_1401.specs.Session.{HasEnded, SessionDid}
-use Rattle.console_1401.specs.SeatTurns.{SeatResponds, LineResponds}
+use Rattle.console_1401.specs.SeatTurns.{KeptResponds, SeatResponds, LineResponds}
 
 prefix_self : {A : Type 0} (xs : List A) → IsPrefix xs xs
 prefix_self [] = ([], refl)
@@ -218,7 +218,7 @@ carried_more said given more =
     (record { said = said; reply = given }) more
 
 -- the lines answered at a seat, as the seat's own commands
-pub attended_at_seat : (size : ℕ) (before : SeatView) (lines : List Said) (written : List ℕ) (after : SeatView)
+attended_at_seat : (size : ℕ) (before : SeatView) (lines : List Said) (written : List ℕ) (after : SeatView)
     → AnsweredAll (SeatResponds size) before lines written after → Attended size before lines written after
 attended_at_seat size before [] written after a = record {
   replied = [];
@@ -264,6 +264,23 @@ attended_at_seat size before (said ∷ lines) written after a =
         all_from size before.list middle.list after.list more.replied front.grows more.each,
       );
     }
+
+-- lines answered at a seat of a room with a keeper are answered at a seat
+answered_at_seat : (size : ℕ) (has_kept : List SeatedCommand → Type 0) (has_failed : Type 0) (before : SeatView)
+    (lines : List Said) (written : List ℕ) (after : SeatView)
+    → AnsweredAll (KeptResponds size has_kept has_failed) before lines written after
+    → AnsweredAll (SeatResponds size) before lines written after
+answered_at_seat size has_kept has_failed before [] written after a = a
+answered_at_seat size has_kept has_failed before (said ∷ lines) written after a =
+    (a.0, a.1, a.2, a.3.responded, a.4, answered_at_seat size has_kept has_failed a.0 lines a.2 after a.5)
+
+pub attended_when_kept : (size : ℕ) (has_kept : List SeatedCommand → Type 0) (has_failed : Type 0) (before : SeatView)
+    (lines : List Said) (written : List ℕ) (after : SeatView)
+    → AnsweredAll (KeptResponds size has_kept has_failed) before lines written after
+    → Attended size before lines written after
+attended_when_kept size has_kept has_failed before lines written after a =
+    attended_at_seat size before lines written after
+    (answered_at_seat size has_kept has_failed before lines written after a)
 
 number_by_end : (size : ℕ) (last : SessionEnd) (left : Option (List ℕ)) (before : SeatView) (read written : List ℕ)
     (after : SeatView) → HasEnded (Attended size) last left before read written after → after.number ≡ before.number

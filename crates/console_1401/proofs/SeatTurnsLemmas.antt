@@ -11,7 +11,7 @@ use Rattle.text_1401.specs.declared.line.Line.TheVariants as line
 use Rattle.text_1401.specs.ConsoleLine.{Said}
 use Rattle.answering_1401.specs.declared.reply.Reply.{Reply}
 use Rattle.answering_1401.specs.declared.reply.Reply.TheVariants as reply
-use Rattle.console_1401.specs.SeatTurns.{CommandResponds, GlanceResponds, LineResponds, SeatResponds}
+use Rattle.console_1401.specs.SeatTurns.{CommandResponds, GlanceResponds, KeptResponds, LineResponds, SeatResponds}
 
 same_list : (before after : SeatView) → after ≡ before → IsPrefix before.list after.list
 same_list before after is = ([], append-nil before.list ∙ sym (ap (λ (seat : SeatView). seat.list) is))
@@ -53,6 +53,11 @@ line_grows size before (Ok (line.Glance address)) (Some given) after r =
 line_grows size before (Ok line.Quit) given after r = same_list before after r.1
 line_grows size before (Err fault) given after r = same_list before after r.1
 
-pub seat_grows : (size : ℕ) (before : SeatView) (said : Said) (given : Option Reply) (after : SeatView)
+seat_grows : (size : ℕ) (before : SeatView) (said : Said) (given : Option Reply) (after : SeatView)
     → SeatResponds size before said given after → IsPrefix before.list after.list
 seat_grows size before said given after r = line_grows size before said given after r.line
+
+pub kept_grows : (size : ℕ) (has_kept : List SeatedCommand → Type 0) (has_failed : Type 0) (before : SeatView) (said : Said)
+    (given : Option Reply) (after : SeatView)
+    → KeptResponds size has_kept has_failed before said given after → IsPrefix before.list after.list
+kept_grows size has_kept has_failed before said given after r = seat_grows size before said given after r.responded

@@ -4,7 +4,9 @@ use mathlib.Core.List.{IsPrefix}
 use Rattle.operator_1401.specs.declared.command.Command.{Command}
 use Rattle.operator_1401.specs.declared.fault.GlanceFault.{GlanceFault}
 use Rattle.operator_1401.specs.declared.fault.GlanceFault.TheVariants.{Range, Gone}
-use Rattle.operator_1401.specs.declared.fault.RoomFault.TheVariants.{Memory, JournalFull}
+use Rattle.operator_1401.specs.declared.answer.Answer.{Answer}
+use Rattle.operator_1401.specs.declared.fault.RoomFault.TheVariants.{Memory, JournalFull, Unkept}
+use Rattle.lone_room_1401.specs.declared.entry.SeatedCommand.{SeatedCommand}
 use Rattle.lone_room_1401.specs.Journal.{most_entries}
 use Rattle.lone_room_1401.specs.Replay.{cell_after}
 use Rattle.room_1401.specs.Seen.{SeatView, Carries}
@@ -64,6 +66,18 @@ pub record SeatResponds (size : ℕ) (before : SeatView) (said : Said) (given : 
   pub number_is : after.number ≡ before.number
   pub bound : length after.list ≤ most_entries
   pub line : LineResponds size before said given after
+
+-- what a command is replied once an entry of the room wasn't kept
+abbrev pub unkept_reply : Option Reply
+unkept_reply = Some (reply.RoomFault Unkept)
+
+-- One line was answered at a seat of a room with a keeper: a command by the machine only if the keeper has kept all that
+-- the seat has then seen, and as unkept only if the keeper has failed.
+pub record KeptResponds (size : ℕ) (has_kept : List SeatedCommand → Type 0) (has_failed : Type 0) (before : SeatView)
+    (said : Said) (given : Option Reply) (after : SeatView) : Type 0 where
+  pub responded : SeatResponds size before said given after
+  pub kept : (answer : Answer) → given ≡ Some (reply.Answer answer) → has_kept after.list
+  pub failed : given ≡ unkept_reply → has_failed
 
 -- One line was answered at a seat, and these bytes are its reply: none for an empty line.
 pub record AnswersAtSeat (size : ℕ) (before : SeatView) (said : Said) (written : List ℕ) (after : SeatView)

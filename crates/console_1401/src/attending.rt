@@ -1,15 +1,16 @@
 //! A console at a seat of a shared room.
-ghost use Rattle.std.specs.Prelude.{◌≡◌, ◌≢◌, true, false, IsTrue, IfOk, OnErr, None};
+ghost use Rattle.std.specs.Prelude.{◌≡◌, ◌≢◌, true, false, IsTrue, IfOk, OnErr, None, Some};
 ghost use mathlib.Core.List.{IsPrefix};
 ghost use Rattle.text_1401.specs.ConsoleLine.{said_by};
 ghost use Rattle.answering_1401.specs.Answering.{AnsweredAll};
-ghost use Rattle.console_1401.specs.Attended.{Attended};
-ghost use Rattle.console_1401.specs.SeatTurns.{AnswersAtSeat, IsUnanswered, SeatResponds};
 ghost use Rattle.answering_1401.specs.Session.{SessionDid};
+ghost use Rattle.room_1401.specs.Keeping.{HasFailed, HasKept};
+ghost use Rattle.console_1401.specs.Attended.{Attended};
+ghost use Rattle.console_1401.specs.SeatTurns.{AnswersAtSeat, IsUnanswered, KeptResponds, unkept_reply};
 
 use crate::door::Door;
 use answering_1401::{Reply, Responder, SessionEnd, answer_lines, reply_bytes};
-use room_1401::{Keeper, RoomId, Seat, SharedRoom};
+use room_1401::{Carried, Keeper, RoomFault, RoomId, Seat, SharedRoom};
 use std::alloc::Global;
 use std::marker::Model;
 use std::sync::Wait;
@@ -29,23 +30,29 @@ pub enum Unanswered {
 }
 
 /// Carries out at a seat what a line says. Gives its reply, which an empty line hasn't, and whether what it did is
-/// kept.
+/// kept. If the entry of its command isn't kept, the reply is that of each later command, and must not go out.
 fn respond_at<J: RoomId, R: Wait + Drop, P: Keeper + Drop, W: Wait>(
     wait: &W,
     room: &SharedRoom<J, R, P>,
     seat: &mut Seat<J>,
     said: Result<Line, LineFault>,
 ) -> (Option<Reply>, bool)
-    ensures line { SeatResponds J.size seat.old said result.0 seat.new }
+    ensures line { KeptResponds J.size (HasKept P.has_failed P.kept P.first P.form J.size) (HasFailed P.has_failed)
+        seat.old said result.0 seat.new }
+
+    // It isn't kept only if a keeper that had kept all that the seat has seen has failed at the line's command.
     ensures kept { result.0 ≡ None → result.1 ≡ true }
+    ensures unkept { result.1 ≡ false → HasFailed P.has_failed
+        × HasKept P.has_failed P.kept P.first P.form J.size seat.new.list × (result.0 ≡ unkept_reply) }
 {
     let mut kept = true;
     let reply = match said {
         Ok(Line::Empty) => None,
         Ok(Line::Command(command)) => match room.command_kept(wait, seat, command) {
-            Ok(carried) => {
-                kept = carried.kept;
-                Some(Reply::Answer(carried.answer))
+            Ok(Carried { answer, kept: true }) => Some(Reply::Answer(answer)),
+            Ok(Carried { kept: false, .. }) => {
+                kept = false;
+                Some(Reply::RoomFault(RoomFault::Unkept))
             }
             Err(fault) => Some(Reply::RoomFault(fault)),
         },
@@ -67,7 +74,7 @@ fn respond_at<J: RoomId, R: Wait + Drop, P: Keeper + Drop, W: Wait>(
 ///
 /// `Unkept` if the entry of the line's command wasn't kept, else `Memory` if there is no room for the reply. The line
 /// was carried out.
-#[tactic(auto, using(crate::proofs::SeatTurnsLemmas::seat_grows))]
+#[tactic(auto, using(crate::proofs::SeatTurnsLemmas::kept_grows))]
 pub fn answer_line<J: RoomId, R: Wait + Drop, P: Keeper + Drop, W: Wait>(
     alloc: Global,
     wait: &W,
@@ -77,6 +84,10 @@ pub fn answer_line<J: RoomId, R: Wait + Drop, P: Keeper + Drop, W: Wait>(
 ) -> Result<Vec<u8>, Unanswered>
     ensures ok { IfOk result (λ reply. AnswersAtSeat J.size seat.old (said_by line.now) reply.items seat.new) }
     ensures err { OnErr result (IsUnanswered J.size seat.old (said_by line.now) seat.new) }
+
+    // Its entry isn't kept only if a keeper has failed, one that had kept all that the seat has then seen.
+    ensures unkept { result ≡ Err Unanswered.Unkept → HasFailed P.has_failed
+        × HasKept P.has_failed P.kept P.first P.form J.size seat.new.list }
 
     // Whatever it said, the seat has seen no less.
     ensures grows { IsPrefix seat.old.list seat.new.list }
@@ -103,11 +114,15 @@ struct Attendant<'a, J: RoomId, R: Wait + Drop, P: Keeper + Drop, W: Wait, D: Do
 
 impl<'a, J: RoomId, R: Wait + Drop, P: Keeper + Drop, W: Wait, D: Door> Model
     for Attendant<'a, J, R, P, W, D> {
+    ghost use Rattle.std.specs.Prelude.{◌≡◌, false};
+    ghost use Rattle.room_1401.specs.Keeping.{HasFailed};
     ghost use Rattle.room_1401.specs.Seen.{SeatView};
 
     ghost Value = { SeatView };
 
     ghost view = { λ attendant. attendant.seat };
+
+    ghost invariant = { λ attendant. attendant.kept ≡ false → HasFailed P.has_failed };
 }
 
 impl<J: RoomId, R: Wait + Drop, P: Keeper + Drop, W: Wait, D: Door> Attendant<'_, J, R, P, W, D> {
@@ -128,11 +143,11 @@ impl<J: RoomId, R: Wait + Drop, P: Keeper + Drop, W: Wait, D: Door> Attendant<'_
 
 impl<J: RoomId, R: Wait + Drop, P: Keeper + Drop, W: Wait, D: Door> Responder
     for Attendant<'_, J, R, P, W, D> {
-    ghost responds = { SeatResponds J.size };
+    ghost responds = { KeptResponds J.size (HasKept P.has_failed P.kept P.first P.form J.size) (HasFailed P.has_failed) };
 
     ghost is_good = { λ _. Unit {0} };
 
-    ghost is_unkept = { λ _. Unit {0} };
+    ghost is_unkept = { λ _. HasFailed P.has_failed };
 
     fn before(&mut self, line: u64) {
         self.door.before(self.seat.number(), line);
@@ -169,14 +184,18 @@ pub fn attend<J: RoomId, R: Wait + Drop, P: Keeper + Drop, W: Wait, S: Source, K
     ensures session { SessionDid (Attended J.size) result.1 (S.left reader.old) (S.left reader.new)
         (K.received writer.old) (K.received writer.new) seat result.0 }
 
-    // The same, line by line.
-    ensures lines { SessionDid (AnsweredAll (SeatResponds J.size)) result.1 (S.left reader.old) (S.left reader.new)
-        (K.received writer.old) (K.received writer.new) seat result.0 }
+    // The same, line by line. Each answer that goes out is of a command whose entry is kept.
+    ensures lines { SessionDid (AnsweredAll
+        (KeptResponds J.size (HasKept P.has_failed P.kept P.first P.form J.size) (HasFailed P.has_failed)))
+        result.1 (S.left reader.old) (S.left reader.new) (K.received writer.old) (K.received writer.new) seat result.0 }
     ensures number { result.0.number ≡ seat.number }
 
     // It says that a read or a write failed only if it did.
     ensures read { result.1 ≡ SessionEnd.Read → IsTrue (S.has_failed reader.new) }
     ensures write { result.1 ≡ SessionEnd.Write → IsTrue (K.has_failed writer.new) }
+
+    // It ends as unkept only if a keeper has failed; one that keeps nothing never has.
+    ensures unkept { result.1 ≡ SessionEnd.Unkept → HasFailed P.has_failed }
 
     // Any other end means that no read and no write failed, and that the source hadn't failed before.
     ensures good_read { result.1 ≢ SessionEnd.Read → S.has_failed reader.new ≡ false }

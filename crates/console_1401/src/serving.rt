@@ -7,11 +7,13 @@ use crate::ahead::ahead_of;
 use crate::attending::attend;
 use crate::door::Door;
 use room_1401::{Room, RoomId, Seat, SharedRoom};
+use sockets_1401::{Pause, is_gone, linger, shut_down};
 use std::alloc::Global;
 use std::net::{TcpListener, TcpStream};
 use std::sync::Wait;
 use std::thread;
 use std::thread::{JoinHandle, Scope, Threads};
+use std::time::Clock;
 use streams_1401::{FromReader, ToWriter};
 use thiserror::Error;
 
@@ -48,10 +50,11 @@ struct Consoles<J: RoomId> {
 /// Listens until each seat has a console, the first connection at the first seat, and attends each console in a thread
 /// of its own. When all of them have ended, the room is closed; or it is abandoned, if a seat was lost with a thread
 /// that was refused. After a fault no more connections are accepted, and the consoles that there are go on to the end.
+/// A connection that was gone before it could be accepted is no fault: the next one is waited for.
 pub fn serve<
     J: RoomId + Send + Sync,
     H: Wait + Drop + Send + Sync,
-    R: Threads + Wait + Sync,
+    R: Threads + Wait + Sync + Clock,
     D: Door + Sync,
 >(
     alloc: Global,
@@ -98,7 +101,7 @@ fn end_room<J: RoomId, H: Wait + Drop>(room: SharedRoom<J, H>, seats: Vec<Seat<J
 fn attend_seats<
     J: RoomId + Send + Sync,
     H: Wait + Drop + Send + Sync,
-    R: Threads + Wait + Sync,
+    R: Threads + Wait + Sync + Clock,
     D: Door + Sync,
 >(
     alloc: Global,
@@ -155,7 +158,7 @@ fn start_each<'s, E: 's, J, H, R, D>(
 where
     J: RoomId + Send + Sync + 's,
     H: Wait + Drop + Send + Sync + 's,
-    R: Threads + Wait + Sync + 's,
+    R: Threads + Wait + Sync + Clock + 's,
     D: Door + Sync + 's,
     requires { (0 < length seats.items) × (length seats.items < 2 ^ 8) }
     ensures count { CountsConsoles (length seats.items) result.count result.fault }
@@ -180,7 +183,7 @@ where
             back.push_reserved(seat);
             continue;
         }
-        let Ok((stream, _)) = listener.accept() else {
+        let Some(stream) = accept(wait, listener) else {
             back.push_reserved(seat);
             fault = Some(ServeFault::Accept);
             continue;
@@ -193,12 +196,34 @@ where
             Err(_) => fault = Some(ServeFault::Thread),
         }
     }
+    refuse_after(listener, fault);
     Started {
         threads,
         back,
         count,
         fault,
     }
+}
+
+/// After a fault, whoever connects is refused, and doesn't wait.
+fn refuse_after(listener: &TcpListener, fault: Option<ServeFault>) {
+    if fault.is_some() {
+        shut_down(listener);
+    }
+}
+
+/// Waits for the next connection. One that was gone before it could be accepted is passed over; if one can't be
+/// accepted for any other reason, there is none.
+fn accept<R: Wait + Clock>(rt: &R, listener: &TcpListener) -> Option<TcpStream> {
+    let mut pause = Pause::new();
+    for _ in rt.forever() {
+        match listener.accept() {
+            Ok((stream, _)) => return Some(stream),
+            Err(error) if is_gone(&error) => pause.sleep(rt),
+            Err(_) => return None,
+        }
+    }
+    unreachable!()
 }
 
 /// Waits for these threads, and adds their seats to those that are back.
@@ -216,8 +241,8 @@ fn join_each<J: RoomId + Send, R: Threads>(
     back
 }
 
-/// Attends the console of a connection.
-fn attend_stream<J: RoomId, H: Wait + Drop, R: Wait, D: Door>(
+/// Attends the console of a connection. When it ends, the peer has a second to take its last replies.
+fn attend_stream<J: RoomId, H: Wait + Drop, R: Wait + Clock, D: Door>(
     alloc: Global,
     wait: &R,
     room: &SharedRoom<J, H>,
@@ -230,5 +255,6 @@ fn attend_stream<J: RoomId, H: Wait + Drop, R: Wait, D: Door>(
     let mut reader = FromReader::new(ahead_of(alloc, &stream));
     let mut writer = ToWriter::new(&stream);
     let (seat, _) = attend(alloc, wait, room, seat, &mut reader, &mut writer, door);
+    linger(wait, &stream);
     seat
 }

@@ -1,14 +1,18 @@
 -- Places and the numbers of their seats.
-use Rattle.std.proofs.Common.{◌≡◌, ℕ, zero, suc, ◌+◌, ◌-◌, ◌<◌, ◌≤◌, ◌⊎◌, inl, inr, Bool, true, false, cond}
-use Rattle.std.proofs.Common.{List, [], ◌∷◌, ◌++◌, length, get_or, slice_set, refl, sym, ap, subst, ◌∙◌, arith}
+use Rattle.std.proofs.Common.{◌≡◌, ℕ, zero, suc, ◌+◌, ◌-◌, ◌<◌, ◌≤◌, ◌⊎◌, inl, inr, Bool, true, false, if◌then◌else◌}
+use Rattle.std.proofs.Common.{List, [], ◌∷◌, ◌++◌, length, map, get_or, slice_set, Option, Some, None}
+use Rattle.std.proofs.Common.{refl, sym, ap, ◌∙◌, arith}
 use Rattle.std.proofs.lemmas.Bool.{cases_lt}
-use Rattle.std.proofs.lemmas.List.{get_or-map, get_or-set_same, get_or_append_left, get_or_push, length-map, length-set}
+use Rattle.std.proofs.lemmas.Option.{same_Some}
+use Rattle.std.proofs.lemmas.List.{get_or-map, get_or_append_left, get_or_default, get_or_push, get_or_read, length-map}
 use Rattle.std.proofs.lemmas.List.{length_push, map-append}
 use Rattle.std.proofs.Math.Seq.{map-set_same}
 use Rattle.std.specs.List.{Contains}
 use Rattle.room_1401.specs.Seen.{SeatView, newcomer, newcomers}
 use Rattle.console_1401.specs.Served.{numbers_of}
-use Rattle.desk_1401.specs.Places.{PlaceView, first_free, free_in, is_free_at, numbers_in}
+use Rattle.desk_1401.specs.declared.fault.SeatsFault.{SeatsFault}
+use Rattle.desk_1401.specs.Places.{AreBack, DeskView, IsOneMissing, PlaceView, free_place, is_free, lowest_free}
+use Rattle.desk_1401.specs.Places.{nowhere, numbers_in, place_at, with_place, without_free_seat, without_seat}
 
 numbers_more : (n : ℕ) → numbers_of (newcomers (suc n)) ≡ numbers_of (newcomers n) ++ suc n ∷ []
 numbers_more n = map-append (λ (seat : SeatView). seat.number) (newcomers n) (newcomer (suc n) ∷ [])
@@ -60,113 +64,102 @@ pub numbers_stay : (places : List PlaceView) (k : ℕ) (new d : PlaceView) → n
     → numbers_in (slice_set places k new) ≡ numbers_in places
 numbers_stay places k new d same = map-set_same (λ (place : PlaceView). place.number) places k new d same
 
--- the seat of a number is free if its place is
-pub free_at : (n : ℕ) (places : List PlaceView) (number : ℕ) (place : PlaceView)
-    → numbers_in places ≡ numbers_of (newcomers n) → 0 < number → number ≤ n
-    → place ≡ get_or places (number - 1) place → is_free_at number places ≡ place.is_free
-free_at n places number place all some most is =
-    get_or-map (λ (it : PlaceView). it.is_free) places (number - 1) place false (omega (arith, length_places n places all))
-    ∙ sym (ap (λ (it : PlaceView). it.is_free) is)
+-- the place that is read at the index of a number
+pub place_read : (places : List PlaceView) (number : ℕ) (place : PlaceView) → number - 1 < length places
+    → place ≡ get_or places (number - 1) place → place ≡ place_at number places
+place_read places number place inside is = get_or_read places (number - 1) place inside is nowhere
 
--- and so if its place has changed
-pub free_at_new : (n : ℕ) (places : List PlaceView) (number : ℕ) (new : PlaceView)
-    → numbers_in places ≡ numbers_of (newcomers n) → 0 < number → number ≤ n
-    → is_free_at number (slice_set places (number - 1) new) ≡ new.is_free
-free_at_new n places number new all some most =
-    let at : ℕ = number - 1 in
-    let less : at < length places = omega (arith, length_places n places all) in
-    get_or-map (λ (it : PlaceView). it.is_free) (slice_set places at new) at new false
-    (omega (arith, less, length-set places at new))
-    ∙ ap (λ (it : PlaceView). it.is_free) (get_or-set_same places at new new less)
+-- what contracts see of a desk with these places and this fault
+abbrev pub desk_of : List PlaceView → Option SeatsFault → DeskView
+desk_of places fault = record { places = places; fault = fault }
 
-abbrev place_of : ℕ → Bool → PlaceView
-place_of number is_free = record { number = number; is_free = is_free }
+-- a desk at which the place that was read has changed
+pub changed : (places : List PlaceView) (fault : Option SeatsFault) (number at : ℕ) (change : PlaceView → PlaceView)
+    (place new : PlaceView) (desk : DeskView) → desk_of places fault ≡ desk → at ≡ number → at - 1 < length places
+    → place ≡ get_or places (at - 1) place → new ≡ change place
+    → desk_of (slice_set places (at - 1) new) fault ≡ with_place number change desk
+changed places fault number at change place new desk view same inside is done =
+    ap (λ after. desk_of (slice_set places (at - 1) after) fault)
+    (done ∙ ap change (place_read places at place inside is))
+    ∙ ap (λ of. with_place of change (desk_of places fault)) same
+    ∙ ap (with_place number change) view
 
-given_by : (number : ℕ) (is_free : Bool) (places : List PlaceView) (new d : PlaceView) (at : ℕ)
-    → ((at' : ℕ) → at' ≡ first_free places → at' < length places → new.number ≡ (get_or places at' d).number
-    → free_in places ≡ new.number ∷ free_in (slice_set places at' new))
-    → at ≡ first_free (place_of number is_free ∷ places) → at < suc (length places) → new.is_free ≡ false
-    → new.number ≡ (get_or (place_of number is_free ∷ places) at d).number
-    → free_in (place_of number is_free ∷ places) ≡ new.number ∷ free_in (slice_set (place_of number is_free ∷ places) at new)
-given_by number true places new d zero more is less given same =
-    ap (λ first. first ∷ free_in places) (sym same)
-    ∙ ap (λ test. new.number ∷ cond test (new.number ∷ free_in places) (free_in places)) (sym given)
-given_by number true places new d (suc at) more is less given same = absurd (omega arith)
-given_by number false places new d zero more is less given same = absurd (omega arith)
-given_by number false places new d (suc at) more is less given same = more at (omega arith) (omega arith) same
+kept_by : (is_given : Bool) (place : PlaceView)
+    → (if is_given then place else without_seat place).number ≡ place.number
+kept_by true place = refl
+kept_by false place = refl
 
--- the first free place isn't free any more
-pub free_given : (places : List PlaceView) (new d : PlaceView) (at : ℕ) → new.is_free ≡ false
-    → at ≡ first_free places → at < length places → new.number ≡ (get_or places at d).number
-    → free_in places ≡ new.number ∷ free_in (slice_set places at new)
-free_given [] new d at given is less same = absurd (omega arith)
-free_given (place ∷ places) new d at given is less same =
-    given_by place.number place.is_free places new d at (λ at'. free_given places new d at' given) is less given same
+-- a place keeps its number when its free seat is taken
+pub number_kept : (place : PlaceView) → (without_free_seat place).number ≡ place.number
+number_kept place = kept_by place.is_given place
 
-none_by : (number : ℕ) (is_free : Bool) (places : List PlaceView) → (first_free places ≡ length places
-    → free_in places ≡ [])
-    → first_free (place_of number is_free ∷ places) ≡ suc (length places) → free_in (place_of number is_free ∷ places) ≡ []
-none_by number true places more all = absurd (omega arith)
-none_by number false places more all = more (omega arith)
+lowest_by : (test : Bool) (place : PlaceView) (places : List PlaceView) (number : ℕ) → is_free place ≡ test
+    → (lowest_free places ≡ Some number → Contains (numbers_in places) number)
+    → lowest_free (place ∷ places) ≡ Some number → Contains (numbers_in (place ∷ places)) number
+lowest_by true place places number is more found =
+    let first = ap (λ (test : Bool). if test then Some place.number else lowest_free places) is in
+    (0, omega arith, same_Some place.number number (sym first ∙ found))
+lowest_by false place places number is more found =
+    let rest = ap (λ (test : Bool). if test then Some place.number else lowest_free places) is in
+    let there = more (sym rest ∙ found) in
+    (suc there.0, omega (arith, there.1), there.2)
 
--- no place is free
-pub free_none : (places : List PlaceView) → first_free places ≡ length places → free_in places ≡ []
-free_none [] all = refl
-free_none (place ∷ places) all = none_by place.number place.is_free places (free_none places) all
+-- the first free place is one of these
+lowest_in : (places : List PlaceView) (number : ℕ) → lowest_free places ≡ Some number
+    → Contains (numbers_in places) number
+lowest_in [] number found = cc
+lowest_in (place ∷ places) number found =
+    lowest_by (is_free place) place places number refl (lowest_in places number) found
 
-first_most_by : (number : ℕ) (is_free : Bool) (places : List PlaceView) → first_free places ≤ length places
-    → first_free (place_of number is_free ∷ places) ≤ suc (length places)
-first_most_by number true places more = omega arith
-first_most_by number false places more = omega arith
+-- and so it is that of a seat
+pub lowest_bound : (n : ℕ) (places : List PlaceView) (number : ℕ) → numbers_in places ≡ numbers_of (newcomers n)
+    → lowest_free places ≡ Some number → (0 < number) × (number ≤ n)
+lowest_bound n places number all found =
+    let there = lowest_in places number found in
+    let at : ℕ = there.0 in
+    let less : at < n = omega (arith, there.1, ap length all, length_numbers n) in
+    let is : number ≡ at + 1 =
+    sym there.2 ∙ ap (λ numbers. get_or numbers at number) all
+    ∙ get_or_default (numbers_of (newcomers n)) at number 0 (omega (arith, less, length_numbers n))
+    ∙ number_at n at less in
+    (omega (arith, is), omega (arith, is, less))
 
--- the first free place is one of them, or there is none
-pub first_most : (places : List PlaceView) → first_free places ≤ length places
-first_most [] = omega arith
-first_most (place ∷ places) = first_most_by place.number place.is_free places (first_most places)
+-- the free places of seats have their numbers
+pub numbers_free : (seats : List SeatView) → numbers_in (map free_place seats) ≡ numbers_of seats
+numbers_free [] = refl
+numbers_free (seat ∷ seats) = ap (λ numbers. seat.number ∷ numbers) (numbers_free seats)
 
-behind : (number x : ℕ) (is_free : Bool) (places : List PlaceView) → Contains (free_in places) x
-    → Contains (free_in (place_of number is_free ∷ places)) x
-behind number x true places there = (suc there.0, omega (arith, there.1), there.2)
-behind number x false places there = there
-
--- a place that is free now is among the free ones
-pub free_now : (places : List PlaceView) (k : ℕ) (new : PlaceView) → k < length places → new.is_free ≡ true
-    → Contains (free_in (slice_set places k new)) new.number
-free_now [] k new less free = absurd (omega arith)
-free_now (place ∷ places) zero new less free =
-    subst (λ test. Contains (cond test (new.number ∷ free_in places) (free_in places)) new.number) (sym free)
-    (0, omega arith, refl)
-free_now (place ∷ places) (suc k) new less free =
-    behind place.number new.number place.is_free (slice_set places k new)
-    (free_now places k new (omega arith) free)
-
-free_push_by : (number : ℕ) (is_free : Bool) (places : List PlaceView) (new : PlaceView)
-    → free_in (places ++ new ∷ []) ≡ free_in places ++ new.number ∷ []
-    → free_in (place_of number is_free ∷ places ++ new ∷ []) ≡ free_in (place_of number is_free ∷ places) ++ new.number ∷ []
-free_push_by number true places new more = ap (λ numbers. number ∷ numbers) more
-free_push_by number false places new more = more
-
--- one more free place
-free_push : (places : List PlaceView) (new : PlaceView) → new.is_free ≡ true
-    → free_in (places ++ new ∷ []) ≡ free_in places ++ new.number ∷ []
-free_push [] new free = ap (λ test. cond test (new.number ∷ []) []) free
-free_push (place ∷ places) new free =
-    free_push_by place.number place.is_free places new (free_push places new free)
-
--- one more place, of a seat
-pub numbers_push : (places : List PlaceView) (seats : List SeatView) (place : PlaceView) (seat : SeatView)
-    → numbers_in places ≡ numbers_of seats → place.number ≡ seat.number
-    → numbers_in (places ++ place ∷ []) ≡ numbers_of (seats ++ seat ∷ [])
-numbers_push places seats place seat all same =
-    map-append (λ (it : PlaceView). it.number) places (place ∷ [])
-    ∙ ap (λ numbers. numbers ++ place.number ∷ []) all ∙ ap (λ number. numbers_of seats ++ number ∷ []) same
-    ∙ sym (map-append (λ (it : SeatView). it.number) seats (seat ∷ []))
-
--- one more free place, of a seat
+-- one free place more
 pub free_more : (places : List PlaceView) (seats : List SeatView) (place : PlaceView) (seat : SeatView)
-    → free_in places ≡ numbers_of seats → place.number ≡ seat.number → place.is_free ≡ true
-    → free_in (places ++ place ∷ []) ≡ numbers_of (seats ++ seat ∷ [])
-free_more places seats place seat all same free =
-    free_push places place free
-    ∙ ap (λ numbers. numbers ++ place.number ∷ []) all ∙ ap (λ number. numbers_of seats ++ number ∷ []) same
-    ∙ sym (map-append (λ (it : SeatView). it.number) seats (seat ∷ []))
+    → places ≡ map free_place seats → place ≡ free_place seat
+    → places ++ place ∷ [] ≡ map free_place (seats ++ seat ∷ [])
+free_more places seats place seat all one =
+    ap (λ before. before ++ place ∷ []) all ∙ ap (λ last. map free_place seats ++ last ∷ []) one
+    ∙ sym (map-append free_place seats (seat ∷ []))
+
+-- one seat more is back, of a place
+pub numbers_more_back : (places : List PlaceView) (seats : List SeatView) (place : PlaceView) (seat : SeatView)
+    → numbers_of seats ≡ numbers_in places → seat.number ≡ place.number
+    → numbers_of (seats ++ seat ∷ []) ≡ numbers_in (places ++ place ∷ [])
+numbers_more_back places seats place seat all one =
+    map-append (λ (it : SeatView). it.number) seats (seat ∷ [])
+    ∙ ap (λ numbers. numbers ++ seat.number ∷ []) all ∙ ap (λ number. numbers_in places ++ number ∷ []) one
+    ∙ sym (map-append (λ (it : PlaceView). it.number) places (place ∷ []))
+
+pub back_more : (places : List PlaceView) (seats : List SeatView) (place : PlaceView) (seat : SeatView)
+    → AreBack places seats → place.seat ≡ Some seat → AreBack (places ++ place ∷ []) (seats ++ seat ∷ [])
+back_more places seats place seat all one =
+    map-append (λ (it : PlaceView). it.seat) places (place ∷ [])
+    ∙ ap (λ before. before ++ place.seat ∷ []) all
+    ∙ ap (λ last. map (λ (it : SeatView). Some it) seats ++ last ∷ []) one
+    ∙ sym (map-append (λ (it : SeatView). Some it) seats (seat ∷ []))
+
+-- a place without its seat is one of these
+pub one_missing : (places : List PlaceView) (at : ℕ) (place : PlaceView) → at < length places
+    → place ≡ get_or places at place → place.seat ≡ None → IsOneMissing places
+one_missing places at place inside is none = (
+  at,
+  omega (arith, inside, length-map places (λ (it : PlaceView). it.seat)),
+  get_or-map (λ (it : PlaceView). it.seat) places at place None inside
+      ∙ ap (λ (it : PlaceView). it.seat) (sym is) ∙ none,
+)

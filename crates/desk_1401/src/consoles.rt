@@ -5,14 +5,20 @@ ghost use Rattle.desk_1401.specs.Places.{IsAdmission};
 use crate::fault::SeatsFault;
 use crate::service::Service;
 use crate::until_closing::UntilClosing;
+use crate::while_open::WhileOpen;
 use console_1401::{Door, ahead_of, attend};
 use room_1401::{Keeper, RoomId, Seat, SharedRoom};
+use sockets_1401::linger;
 use std::alloc::Global;
 use std::net::{TcpListener, TcpStream};
 use std::sync::Wait;
-use std::sync::atomic::AtomicBool;
+use std::sync::atomic::Ordering::SeqCst;
 use std::thread::{Scope, Threads};
+use std::time::Clock;
 use streams_1401::{FromReader, ToWriter, put_all};
+
+/// How many connections may end after their seats are free.
+const MOST_ENDING: u64 = 64;
 
 /// Accepts connections until the room is being closed, or one couldn't be accepted.
 pub fn accept_each<'s, E: 's, J, H, K, R, D>(
@@ -28,26 +34,25 @@ where
     J: RoomId + Send + Sync + 's,
     H: Wait + Drop + Send + Sync + 's,
     K: Keeper + Drop + Send + Sync + 's,
-    R: Threads + Wait + Sync + 's,
+    R: Threads + Wait + Sync + Clock + 's,
     D: Door + Sync + 's,
 {
     for _ in rt.forever() {
         let Some(stream) = service.accept(rt, listener) else {
             return;
         };
-        match admit(rt, service, &stream) {
+        match admit(rt, service) {
             Admission::Given(number) => {
                 start_console(scope, alloc, rt, room, service, stream, number, door);
             }
             Admission::Full => refuse(&stream),
-            Admission::Fault => service.note(rt, SeatsFault::Thread),
             Admission::Closing => return,
         }
     }
 }
 
 /// Attends the console of a connection at the seat of this number.
-fn attend_connection<J: RoomId, H: Wait + Drop, K: Keeper + Drop, R: Wait, D: Door>(
+fn attend_connection<J: RoomId, H: Wait + Drop, K: Keeper + Drop, R: Wait + Clock, D: Door>(
     alloc: Global,
     rt: &R,
     room: &SharedRoom<J, H, K>,
@@ -61,30 +66,53 @@ fn attend_connection<J: RoomId, H: Wait + Drop, K: Keeper + Drop, R: Wait, D: Do
     let Some(seat) = service.desk.lock(rt).take_seat(number) else {
         return;
     };
-    let seat = attend_stream(alloc, rt, room, seat, &stream, &service.is_closing, door);
-
-    // The peer sees the end of the connection only when the seat is free.
-    service.desk.lock(rt).put_back(seat);
+    let seat = attend_stream(alloc, rt, room, service, seat, &stream, door);
+    end_connection(rt, service, seat, &stream);
 }
 
 /// Attends the console of a stream until its input ends, or the service closes.
-fn attend_stream<'a, J: RoomId, H: Wait + Drop, K: Keeper + Drop, R: Wait, D: Door>(
+fn attend_stream<J: RoomId, H: Wait + Drop, K: Keeper + Drop, R: Wait, D: Door>(
     alloc: Global,
     rt: &R,
     room: &SharedRoom<J, H, K>,
+    service: &Service<J>,
     seat: Seat<J>,
-    stream: &'a TcpStream,
-    is_closing: &'a AtomicBool,
+    stream: &TcpStream,
     door: &D,
 ) -> Seat<J>
     ensures { result.number ≡ seat.number }
 {
     // Replies are sent at once. If the system refuses this, they only come later.
     let _sent_at_once = stream.set_nodelay(true);
-    let mut reader = UntilClosing::new(FromReader::new(ahead_of(alloc, stream)), is_closing);
-    let mut writer = ToWriter::new(stream);
+    let Ok(open) = WhileOpen::new(stream, &service.is_closing, &service.is_over) else {
+        return seat;
+    };
+    let source = FromReader::new(ahead_of(alloc, open));
+    let mut reader = UntilClosing::new(source, &service.is_closing);
+    let mut writer = ToWriter::new(open);
     let (seat, _) = attend(alloc, rt, room, seat, &mut reader, &mut writer, door);
     seat
+}
+
+/// Puts the seat of a connection back, and ends the connection. The peer sees its end only when the seat is free; but
+/// if many connections are ending, the seat is kept as long as this one is.
+fn end_connection<J: RoomId, R: Wait + Clock>(
+    rt: &R,
+    service: &Service<J>,
+    seat: Seat<J>,
+    stream: &TcpStream,
+)
+    requires { (0 < seat.number) × (seat.number ≤ J.seats) }
+{
+    let are_many = service.ending.fetch_add(1, SeqCst) >= MOST_ENDING;
+    if are_many {
+        linger(rt, stream);
+    }
+    service.desk.lock(rt).put_back(seat);
+    if !are_many {
+        linger(rt, stream);
+    }
+    service.ending.fetch_sub(1, SeqCst);
 }
 
 /// What becomes of a connection.
@@ -93,26 +121,21 @@ enum Admission {
     Given(u8),
     /// No seat is free.
     Full,
-    /// The system gives no second handle of it.
-    Fault,
     /// The room is being closed.
     Closing,
 }
 
 /// Gives a connection the lowest free seat, unless the room is being closed.
-fn admit<J: RoomId, R: Wait>(rt: &R, service: &Service<J>, stream: &TcpStream) -> Admission
+fn admit<J: RoomId, R: Wait>(rt: &R, service: &Service<J>) -> Admission
     ensures { IsAdmission J.seats result }
 {
     let mut desk = service.desk.lock(rt);
     if service.is_closing() {
         return Admission::Closing;
     }
-    let Ok(second) = stream.try_clone() else {
-        return Admission::Fault;
-    };
-    match desk.give(second) {
-        Ok(number) => Admission::Given(number),
-        Err(_) => Admission::Full,
+    match desk.give() {
+        Some(number) => Admission::Given(number),
+        None => Admission::Full,
     }
 }
 
@@ -131,7 +154,7 @@ where
     J: RoomId + Send + Sync + 's,
     H: Wait + Drop + Send + Sync + 's,
     K: Keeper + Drop + Send + Sync + 's,
-    R: Threads + Wait + Sync + 's,
+    R: Threads + Wait + Sync + Clock + 's,
     D: Door + Sync + 's,
     requires { (0 < number) × (number ≤ J.seats) }
 {

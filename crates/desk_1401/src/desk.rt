@@ -1,16 +1,18 @@
 //! What the lock of a service keeps.
-ghost use Rattle.std.specs.Prelude.{◌≡◌, ◌<◌, ◌≤◌, ◌^◌, [], ◌∷◌, IfOk, IfErr, IfSome, IfNone, OnErr};
-ghost use Rattle.std.specs.Prelude.{vec_len, vec_capacity, length, false, is_some};
-ghost use Rattle.std.specs.List.{Contains};
+ghost use Rattle.std.specs.Prelude.{◌≡◌, ◌<◌, ◌≤◌, ◌^◌, [], Some, None, IfOk, IfErr, IfSome, IfNone};
+ghost use Rattle.std.specs.Prelude.{vec_len, vec_capacity, map, is_some};
+ghost use Rattle.std.specs.List.{list_all};
 ghost use Rattle.console_1401.specs.Served.{AreAllSeats, numbers_of};
-ghost use Rattle.desk_1401.specs.Places.{first_free as free_from, free_in, is_free_at, numbers_in};
+ghost use Rattle.desk_1401.specs.Places.{AreBack, IsOneMissing, after_input, free_place, free_seat, given, has_seat};
+ghost use Rattle.desk_1401.specs.Places.{lowest_free as lowest_free_in, noted, numbers_in, place_at, taken_back};
+ghost use Rattle.desk_1401.specs.Places.{with_place, with_seat, without_free_seat, without_seat};
 
 use crate::fault::SeatsFault;
+use crate::input::InputEnd;
 use crate::place::Place;
 use room_1401::{RoomId, Seat};
 use std::alloc::Global;
 use std::marker::Model;
-use std::net::TcpStream;
 
 /// The places of all seats of a room, in the order of their numbers, and what went wrong first.
 #[derive(Drop)]
@@ -22,14 +24,17 @@ pub(crate) struct Desk<J: RoomId> {
 }
 
 impl<J: RoomId> Model for Desk<J> {
-    ghost use Rattle.std.specs.Prelude.{◌≡◌, ◌<◌, ◌≤◌, ◌^◌, [], List, vec_capacity};
+    ghost use Rattle.std.specs.Prelude.{◌≡◌, ◌<◌, ◌≤◌, ◌^◌, [], vec_capacity};
     ghost use Rattle.room_1401.specs.Seen.{newcomers};
     ghost use Rattle.console_1401.specs.Served.{numbers_of};
-    ghost use Rattle.desk_1401.specs.Places.{PlaceView, numbers_in};
+    ghost use Rattle.desk_1401.specs.Places.{DeskView, numbers_in};
 
-    ghost Value = { List PlaceView };
+    ghost Value = { DeskView };
 
-    ghost view = { λ desk. desk.places.items };
+    ghost view = { λ desk. record {
+      places = desk.places.items;
+      fault = desk.fault;
+    } };
 
     ghost invariant = { λ desk.
         (numbers_in desk.places.items ≡ numbers_of (newcomers J.seats)) × (J.seats < 2 ^ 8)
@@ -41,8 +46,9 @@ impl<J: RoomId> Desk<J> {
     pub(crate) fn new(alloc: Global, seats: Vec<Seat<J>>) -> Result<Desk<J>, Vec<Seat<J>>>
         requires seats { AreAllSeats J.seats seats.items }
         requires count { J.seats < 2 ^ 8 }
-        ensures free { IfOk result (λ desk. free_in desk ≡ numbers_of seats.items) }
-        ensures err { IfErr result (λ back. AreAllSeats J.seats back.items) }
+        ensures free { IfOk result (λ desk. desk.places ≡ map free_place seats.items) }
+        ensures good { IfOk result (λ desk. desk.fault ≡ None) }
+        ensures err { IfErr result (λ back. back ≡ seats) }
     {
         let total = seats.len();
         let (Ok(places), Ok(back)) = (
@@ -58,27 +64,40 @@ impl<J: RoomId> Desk<J> {
         })
     }
 
-    /// Gives the lowest free seat to a connection, and tells its number; or hands the connection back if no seat is
-    /// free.
-    pub(crate) fn give(&mut self, stream: TcpStream) -> Result<u8, TcpStream>
-        ensures given { IfOk result (λ number. free_in self.old ≡ number ∷ free_in self.new) }
-        ensures number { IfOk result (λ number. (0 < number) × (number ≤ J.seats)) }
-        ensures full { OnErr result (free_in self.old ≡ []) }
-        ensures err { OnErr result (self.new ≡ self.old) }
+    /// Gives the lowest free seat to a connection, and returns its number, if a seat is free.
+    pub(crate) fn give(&mut self) -> Option<u8>
+        ensures lowest { result ≡ lowest_free_in self.old.places }
+        ensures number { IfSome result (λ number. (0 < number) × (number ≤ J.seats)) }
+        ensures given { IfSome result (λ number. self.new ≡ with_place number given self.old) }
+        ensures full { IfNone result (self.new ≡ self.old) }
     {
-        let at = first_free(self.places.as_slice());
-        if at == self.places.len() {
-            return Err(stream);
-        }
-        let number = self.places[at].number();
-        self.places[at].give(stream);
-        Ok(number)
+        let number = lowest_free(self.places.as_slice())?;
+        self.give_at(number);
+        Some(number)
+    }
+
+    /// Gives the lowest free seat, which has this number, to a connection.
+    fn give_at(&mut self, number: u8)
+        requires { lowest_free_in self.old.places ≡ Some number }
+        ensures number { (0 < number) × (number ≤ J.seats) }
+        ensures given { self.new ≡ with_place number given self.old }
+    {
+        self.places[usize::from(number) - 1].give();
+    }
+
+    /// Whether a seat is free.
+    pub(crate) fn has_free(&self) -> bool
+        ensures { result ≡ is_some (lowest_free_in self.now.places) }
+    {
+        lowest_free(self.places.as_slice()).is_some()
     }
 
     /// Takes the seat of a number from its place, if it is there.
     pub(crate) fn take_seat(&mut self, number: u8) -> Option<Seat<J>>
         requires { (0 < number) × (number ≤ J.seats) }
-        ensures { IfSome result (λ seat. seat.number ≡ number) }
+        ensures seat { result ≡ (place_at number self.old.places).seat }
+        ensures taken { self.new ≡ with_place number without_seat self.old }
+        ensures number { IfSome result (λ seat. seat.number ≡ number) }
     {
         self.places[usize::from(number) - 1].take_seat()
     }
@@ -86,10 +105,9 @@ impl<J: RoomId> Desk<J> {
     /// Takes the seat of a number, if it is there and no console sits at it.
     pub(crate) fn take_free(&mut self, number: u8) -> Option<Seat<J>>
         requires { (0 < number) × (number ≤ J.seats) }
-        ensures free { is_some result ≡ is_free_at number self.old }
-        ensures taken { is_free_at number self.new ≡ false }
+        ensures seat { result ≡ free_seat (place_at number self.old.places) }
+        ensures taken { self.new ≡ with_place number without_free_seat self.old }
         ensures number { IfSome result (λ seat. seat.number ≡ number) }
-        ensures none { IfNone result (self.new ≡ self.old) }
     {
         self.places[usize::from(number) - 1].take_free()
     }
@@ -97,7 +115,7 @@ impl<J: RoomId> Desk<J> {
     /// Puts a seat back at its place, which is free then.
     pub(crate) fn put_back(&mut self, seat: Seat<J>)
         requires { (0 < seat.number) × (seat.number ≤ J.seats) }
-        ensures { Contains (free_in self.new) seat.number }
+        ensures { self.new ≡ with_place seat.number (with_seat seat) self.old }
     {
         let at = usize::from(seat.number()) - 1;
         self.places[at].put_back(seat);
@@ -106,27 +124,43 @@ impl<J: RoomId> Desk<J> {
     /// Takes the place of a number back from a connection that has no thread.
     pub(crate) fn take_back(&mut self, number: u8)
         requires { (0 < number) × (number ≤ J.seats) }
+        ensures { self.new ≡ with_place number taken_back self.old }
     {
         self.places[usize::from(number) - 1].take_back();
     }
 
-    /// Ends the input of each connection.
-    pub(crate) fn end_inputs(&self) {
-        for place in &self.places {
-            place.end_input();
-        }
+    /// Whether each seat is back.
+    pub(crate) fn are_back(&self) -> bool
+        ensures { result ≡ list_all has_seat self.now.places }
+    {
+        are_back(self.places.as_slice())
     }
 
     /// Notes what went wrong, if nothing did before.
-    pub(crate) fn note(&mut self, fault: SeatsFault) {
+    pub(crate) fn note(&mut self, fault: SeatsFault)
+        ensures { self.new ≡ noted fault self.old }
+    {
         if self.fault.is_none() {
             self.fault = Some(fault);
         }
     }
 
+    /// Notes how the input ended that closes the room.
+    pub(crate) fn note_input(&mut self, end: InputEnd)
+        ensures { self.new ≡ after_input end self.old }
+    {
+        match end {
+            InputEnd::Quit | InputEnd::End => {}
+            InputEnd::Failed => self.note(SeatsFault::Input),
+        }
+    }
+
     /// All seats, if they are back, and what went wrong first.
     pub(crate) fn into_seats(self) -> (Option<Vec<Seat<J>>>, Option<SeatsFault>)
-        ensures { IfSome result.0 (λ seats. AreAllSeats J.seats seats.items) }
+        ensures back { IfSome result.0 (λ seats. AreBack self.places seats.items) }
+        ensures all { IfSome result.0 (λ seats. AreAllSeats J.seats seats.items) }
+        ensures missing { IfNone result.0 (IsOneMissing self.places) }
+        ensures fault { result.1 ≡ self.fault }
     {
         let Desk {
             places,
@@ -140,8 +174,7 @@ impl<J: RoomId> Desk<J> {
 /// The free places of these seats.
 fn place_each<J: RoomId>(seats: Vec<Seat<J>>, places: Vec<Place<J>>) -> Vec<Place<J>>
     requires { (places.items ≡ []) × (vec_len seats ≤ vec_capacity places) }
-    ensures numbers { numbers_in result.items ≡ numbers_of seats.items }
-    ensures free { free_in result.items ≡ numbers_of seats.items }
+    ensures { result.items ≡ map free_place seats.items }
 {
     let mut places = places;
     for seat in seats {
@@ -153,7 +186,9 @@ fn place_each<J: RoomId>(seats: Vec<Seat<J>>, places: Vec<Place<J>>) -> Vec<Plac
 /// The seats of these places, if all of them are back.
 fn collect<J: RoomId>(places: Vec<Place<J>>, back: Vec<Seat<J>>) -> Option<Vec<Seat<J>>>
     requires { (back.items ≡ []) × (vec_len places ≤ vec_capacity back) }
-    ensures { IfSome result (λ seats. numbers_of seats.items ≡ numbers_in places.items) }
+    ensures numbers { IfSome result (λ seats. numbers_of seats.items ≡ numbers_in places.items) }
+    ensures back { IfSome result (λ seats. AreBack places.items seats.items) }
+    ensures missing { IfNone result (IsOneMissing places.items) }
 {
     let mut back = back;
     for place in places {
@@ -165,20 +200,28 @@ fn collect<J: RoomId>(places: Vec<Place<J>>, back: Vec<Seat<J>>) -> Option<Vec<S
     Some(back)
 }
 
-/// How many places stand before the first that is free.
-fn first_free<J: RoomId>(places: &[Place<J>]) -> usize
-    requires { length places.now < 2 ^ 8 }
-    ensures first { result ≡ free_from places.now }
-    ensures bound { result ≤ length places.now }
+/// The number of the first of these places that is free.
+fn lowest_free<J: RoomId>(places: &[Place<J>]) -> Option<u8>
+    ensures { result ≡ lowest_free_in places.now }
 {
     match places {
-        [] => 0,
+        [] => None,
         [first, rest @ ..] => {
             if first.is_free() {
-                0
+                Some(first.number())
             } else {
-                first_free(rest) + 1
+                lowest_free(rest)
             }
         }
+    }
+}
+
+/// Whether each of these places has its seat.
+fn are_back<J: RoomId>(places: &[Place<J>]) -> bool
+    ensures { result ≡ list_all has_seat places.now }
+{
+    match places {
+        [] => true,
+        [first, rest @ ..] => first.has_seat() && are_back(rest),
     }
 }

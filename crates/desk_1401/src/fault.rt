@@ -9,11 +9,11 @@ pub enum SeatsFault {
     /// which wasn't served.
     #[error("memory refused")]
     Memory,
-    /// 2: a connection couldn't be accepted, and none was accepted after it at that port.
+    /// 2: a connection couldn't be accepted, for a reason that doesn't pass, and its port was closed.
     #[error("accept failed")]
     Accept,
-    /// 3: a thread was refused, or a second handle of a connection; the connection was closed, and its seat is free. Or
-    /// it was a thread of a page, which wasn't served.
+    /// 3: a thread was refused; its connection was closed, and its seat is free. Or it was a thread of a page, which
+    /// wasn't served, or that which reports that a port was closed.
     #[error("thread refused")]
     Thread,
     /// 4: the input that closes the room couldn't be read, which closed it.

@@ -1,6 +1,7 @@
 //! The commands of a journal, given again by the seats of a room before its operators come.
 ghost use Rattle.std.specs.Prelude.{◌≡◌, ◌↔◌, ℕ, ◌+◌, ◌<◌, ◌^◌, None, Some, All, OnOk, IfErr};
 ghost use Rattle.operator_1401.specs.declared.answer.Answer.{Answer};
+ghost use Rattle.room_1401.specs.Keeping.{HasFailed, HasKept};
 ghost use Rattle.room_1401.specs.Seen.{Carries};
 ghost use Rattle.console_1401.specs.Served.{AreAllSeats};
 ghost use Rattle.desk_1401.specs.Giving.{GiveAll, IsSeated, IsWhyNotGiven, foreign_in};
@@ -51,6 +52,10 @@ pub fn give<J: RoomId, H: Wait + Drop, K: Keeper + Drop, W: Wait>(
     ensures made { OnOk result (seat.new.made ≡ seat.old.made + 1) }
     ensures carried { OnOk result ((answer : Answer)
         × Carries J.size seat.old.list seat.new.list seat.old.number command answer) }
+
+    // Given are commands only whose entries are kept, and none is refused as unkept unless a keeper has failed.
+    ensures kept { OnOk result (HasKept K.has_failed K.kept K.first K.form J.size seat.new.list) }
+    ensures unkept { result ≡ Err RoomFault.Unkept → HasFailed K.has_failed }
 {
     match room.command_kept(wait, seat, command) {
         Ok(Carried { kept: true, .. }) => Ok(()),

@@ -1,7 +1,7 @@
 //! The input by which a served room is closed.
-ghost use Rattle.std.specs.Prelude.{◌≡◌, ◌↔◌, ◌≤◌, ℕ, Some, true, IfSome, IsTrue};
+ghost use Rattle.std.specs.Prelude.{◌≡◌, ◌≢◌, ◌↔◌, IsTrue};
 ghost use Rattle.std.specs.Io.KnownBytes.{IsAtEnd};
-ghost use Rattle.desk_1401.specs.Input.{MatchesMore, SaysQuit};
+ghost use Rattle.desk_1401.specs.Input.{SaysNoQuit, SaysQuit, has_quit, match_more as matched_after};
 
 use std::sync::Wait;
 use streams_1401::Source;
@@ -27,6 +27,9 @@ pub enum InputEnd {
 /// as at the console. Every other line is passed over, an empty one too.
 pub(crate) fn read_to_quit<R: Wait, S: Source>(wait: &R, input: &mut S) -> InputEnd
     ensures quit { result ≡ InputEnd.Quit → SaysQuit (S.left input.old) (S.left input.new) }
+
+    // If it ends otherwise, no line of what was read said QUIT.
+    ensures other { result ≢ InputEnd.Quit → SaysNoQuit (S.left input.old) (S.left input.new) }
     ensures end { result ≡ InputEnd.End → IsAtEnd (S.left input.new) }
     ensures failed { (result ≡ InputEnd.Failed) ↔ IsTrue (S.has_failed input.new) }
 {
@@ -52,7 +55,7 @@ pub(crate) fn read_to_quit<R: Wait, S: Source>(wait: &R, input: &mut S) -> Input
 
 /// Whether a line of which this much is matched is QUIT, with a carriage return or without one.
 fn is_quit(matched: Option<u8>) -> bool
-    ensures { result ≡ true → (n : ℕ) × (matched ≡ Some n) × (4 ≤ n) }
+    ensures { result ≡ has_quit matched }
 {
     match matched {
         Some(count) => count >= QUIT_LEN,
@@ -62,8 +65,7 @@ fn is_quit(matched: Option<u8>) -> bool
 
 /// How many bytes of QUIT and a carriage return have matched after this byte, if all of the line has.
 fn match_more(matched: Option<u8>, byte: u8) -> Option<u8>
-    requires { IfSome matched (λ count. count ≤ 5) }
-    ensures { IfSome result (λ count. MatchesMore matched byte count) }
+    ensures { result ≡ matched_after matched byte }
 {
     let count = matched?;
     if count < 5 && QUIT_RETURN[usize::from(count)] == byte {

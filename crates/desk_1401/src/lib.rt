@@ -15,9 +15,10 @@ pub mod fault;
 // what the seats of a room do before its operators come
 pub mod giving;
 
-// the input that closes the room, and what a console reads until then
+// the input that closes the room, and what a console reads and writes until then
 mod input;
 mod until_closing;
+mod while_open;
 
 // the place of each seat, what the lock of a service keeps, and what its threads share
 mod desk;

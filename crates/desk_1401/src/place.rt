@@ -1,28 +1,29 @@
 //! The place of a seat.
-ghost use Rattle.std.specs.Prelude.{◌≡◌, true, false, is_some, IfSome, IfNone};
+ghost use Rattle.std.specs.Prelude.{◌≡◌, IfSome};
+ghost use Rattle.desk_1401.specs.Places.{free_place, free_seat, given, has_seat as is_there, is_free as is_free_place};
+ghost use Rattle.desk_1401.specs.Places.{taken_back, with_seat, without_free_seat, without_seat};
 
 use room_1401::{RoomId, Seat};
 use std::marker::Model;
-use std::net::{Shutdown, TcpStream};
 
-/// The place of a seat. It is free, or it is given to a connection: until the connection's thread takes the seat, it
-/// has both.
+/// The place of a seat. It is free, or it is given to a connection, whose thread then takes the seat.
 #[derive(Drop)]
 pub(crate) struct Place<J: RoomId> {
     number: u8,
     seat: Option<Seat<J>>,
-    stream: Option<TcpStream>,
+    is_given: bool,
 }
 
 impl<J: RoomId> Model for Place<J> {
-    ghost use Rattle.std.specs.Prelude.{◌≡◌, ◌&&◌, IfSome, is_none, is_some};
+    ghost use Rattle.std.specs.Prelude.{◌≡◌, IfSome};
     ghost use Rattle.desk_1401.specs.Places.{PlaceView};
 
     ghost Value = { PlaceView };
 
     ghost view = { λ place. record {
       number = place.number;
-      is_free = is_some place.seat && is_none place.stream;
+      seat = place.seat;
+      is_given = place.is_given;
     } };
 
     ghost invariant = { λ place. IfSome place.seat (λ seat. seat.number ≡ place.number) };
@@ -31,13 +32,12 @@ impl<J: RoomId> Model for Place<J> {
 impl<J: RoomId> Place<J> {
     /// The free place of a seat.
     pub(crate) fn new(seat: Seat<J>) -> Place<J>
-        ensures number { result.number ≡ seat.number }
-        ensures free { result.is_free ≡ true }
+        ensures { result ≡ free_place seat }
     {
         Place {
             number: seat.number(),
             seat: Some(seat),
-            stream: None,
+            is_given: false,
         }
     }
 
@@ -50,75 +50,71 @@ impl<J: RoomId> Place<J> {
 
     /// Whether the seat is there, and no connection has it.
     pub(crate) fn is_free(&self) -> bool
-        ensures { result ≡ self.now.is_free }
+        ensures { result ≡ is_free_place self.now }
     {
-        self.seat.is_some() && self.stream.is_none()
+        self.seat.is_some() && !self.is_given
+    }
+
+    /// Whether the seat is there.
+    pub(crate) fn has_seat(&self) -> bool
+        ensures { result ≡ is_there self.now }
+    {
+        self.seat.is_some()
     }
 
     /// Gives it to a connection.
-    pub(crate) fn give(&mut self, stream: TcpStream)
-        ensures number { self.new.number ≡ self.old.number }
-        ensures given { self.new.is_free ≡ false }
+    pub(crate) fn give(&mut self)
+        ensures { self.new ≡ given self.old }
     {
-        self.stream = Some(stream);
+        self.is_given = true;
     }
 
     /// Takes the seat, if it is there.
     pub(crate) fn take_seat(&mut self) -> Option<Seat<J>>
-        ensures number { self.new.number ≡ self.old.number }
-        ensures given { self.new.is_free ≡ false }
-        ensures seat { IfSome result (λ seat. seat.number ≡ self.old.number) }
+        ensures seat { result ≡ self.old.seat }
+        ensures taken { self.new ≡ without_seat self.old }
+        ensures number { IfSome result (λ seat. seat.number ≡ self.old.number) }
     {
         self.seat.take()
     }
 
-    /// Takes the seat, if the place is free.
+    /// Takes the seat, if it is there and no connection has the place.
     pub(crate) fn take_free(&mut self) -> Option<Seat<J>>
-        ensures number { self.new.number ≡ self.old.number }
-        ensures free { is_some result ≡ self.old.is_free }
-        ensures taken { self.new.is_free ≡ false }
-        ensures seat { IfSome result (λ seat. seat.number ≡ self.old.number) }
-        ensures none { IfNone result (self.new ≡ self.old) }
+        ensures seat { result ≡ free_seat self.old }
+        ensures taken { self.new ≡ without_free_seat self.old }
+        ensures number { IfSome result (λ seat. seat.number ≡ self.old.number) }
     {
-        if self.is_free() {
-            self.seat.take()
-        } else {
-            None
+        if self.is_given {
+            return None;
         }
+        self.seat.take()
     }
 
-    /// Puts the seat back, and closes its handle of the connection.
+    /// Puts the seat back.
     pub(crate) fn put_back(&mut self, seat: Seat<J>)
         requires { seat.number ≡ self.old.number }
-        ensures number { self.new.number ≡ self.old.number }
-        ensures free { self.new.is_free ≡ true }
+        ensures { self.new ≡ with_seat seat self.old }
     {
         self.seat = Some(seat);
-        self.stream = None;
+        self.is_given = false;
     }
 
     /// Takes it back from the connection, which has no thread.
     pub(crate) fn take_back(&mut self)
-        ensures number { self.new.number ≡ self.old.number }
+        ensures { self.new ≡ taken_back self.old }
     {
-        self.stream = None;
-    }
-
-    /// Ends the input of the connection. What it has sent is still read.
-    pub(crate) fn end_input(&self) {
-        if let Some(stream) = &self.stream {
-            let _ended = stream.shutdown(Shutdown::Read);
-        }
+        self.is_given = false;
     }
 
     /// The seat, if it is there.
     pub(crate) fn into_seat(self) -> Option<Seat<J>>
-        ensures { IfSome result (λ seat. seat.number ≡ self.number) }
+        ensures seat { result ≡ self.seat }
+        ensures number { IfSome result (λ seat. seat.number ≡ self.number) }
     {
         let Place {
             number: _,
             seat,
-            stream: _stream,
+            is_given: _,
         } = self;
         seat
     }

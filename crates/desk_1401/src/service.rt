@@ -4,15 +4,27 @@ ghost use Rattle.console_1401.specs.Served.{AreAllSeats};
 
 use crate::desk::Desk;
 use crate::fault::SeatsFault;
-use crate::input::{InputEnd, read_to_quit};
+use crate::input::read_to_quit;
 use room_1401::{RoomId, Seat};
+use sockets_1401::{Pause, passes, shut_down};
 use std::alloc::Global;
 use std::marker::Model;
 use std::net::{TcpListener, TcpStream};
-use std::sync::atomic::AtomicBool;
 use std::sync::atomic::Ordering::SeqCst;
+use std::sync::atomic::{AtomicBool, AtomicU64};
 use std::sync::{Mutex, Wait};
+use std::thread;
+use std::time::{Clock, Duration};
 use streams_1401::Source;
+
+/// How long a room that is being closed looks again whether its seats are back, in milliseconds.
+const NAP: u64 = 10;
+
+/// How many times it looks, which is for a second.
+const NAPS: u32 = 100;
+
+/// How long an open room looks again whether a port was closed, in milliseconds.
+const LOOK: u64 = 100;
 
 /// The places of a room's seats, and whether the room is being closed. Contracts see how many seats the room has.
 #[derive(Drop)]
@@ -20,6 +32,12 @@ pub struct Service<J: RoomId> {
     seats: u8,
     /// Whether the room is being closed, which is written under the lock alone.
     pub is_closing: AtomicBool,
+    // Whether it has been so for a second.
+    pub(crate) is_over: AtomicBool,
+    // Whether a port was closed, since no connection could be accepted there.
+    has_closed_port: AtomicBool,
+    // How many connections of consoles are ending.
+    pub(crate) ending: AtomicU64,
     pub(crate) desk: Mutex<Desk<J>>,
 }
 
@@ -49,6 +67,9 @@ impl<J: RoomId> Service<J> {
         Ok(Service {
             seats: count,
             is_closing: AtomicBool::new(false),
+            is_over: AtomicBool::new(false),
+            has_closed_port: AtomicBool::new(false),
+            ending: AtomicU64::new(0),
             desk: Mutex::new(desk),
         })
     }
@@ -65,22 +86,50 @@ impl<J: RoomId> Service<J> {
         self.is_closing.load(SeqCst)
     }
 
-    /// Waits for the next connection to a listener; there is none once the room is being closed, nor if one couldn't be
-    /// accepted, which is noted.
-    pub fn accept<R: Wait>(&self, rt: &R, listener: &TcpListener) -> Option<TcpStream> {
-        let accepted = listener.accept();
+    /// Waits for the next connection to a listener; there is none once the room is being closed. What keeps a
+    /// connection from being accepted and passes is waited for, in pauses that grow; after anything else there is none
+    /// either, the listener is shut down, and the fault is noted.
+    pub fn accept<R: Wait + Clock>(&self, rt: &R, listener: &TcpListener) -> Option<TcpStream> {
+        let mut pause = Pause::new();
+        for _ in rt.forever() {
+            let accepted = listener.accept();
 
-        // A listener that is shut down fails too.
-        if self.is_closing() {
-            return None;
-        }
-        match accepted {
-            Ok((stream, _)) => Some(stream),
-            Err(_) => {
-                self.note(rt, SeatsFault::Accept);
-                None
+            // A listener that is shut down fails too.
+            if self.is_closing() {
+                return None;
+            }
+            match accepted {
+                Ok((stream, _)) => return Some(stream),
+                Err(error) if passes(&error) => pause.sleep(rt),
+                Err(_) => {
+                    self.give_up(rt, listener, SeatsFault::Accept);
+                    self.has_closed_port.store(true, SeqCst);
+                    return None;
+                }
             }
         }
+        unreachable!()
+    }
+
+    /// Shuts a listener down, so that whoever connects is refused and doesn't wait, and notes why.
+    pub fn give_up<R: Wait>(&self, rt: &R, listener: &TcpListener, fault: SeatsFault) {
+        shut_down(listener);
+        self.note(rt, fault);
+    }
+
+    /// Waits until a port was closed, since no connection could be accepted there, or until the room is being closed,
+    /// and returns whether a port was closed first.
+    pub fn await_closed_port<R: Wait + Clock>(&self, rt: &R) -> bool {
+        for _ in rt.forever() {
+            if self.has_closed_port.load(SeqCst) {
+                return true;
+            }
+            if self.is_closing() {
+                return false;
+            }
+            thread::sleep(rt, Duration::from_millis(LOOK));
+        }
+        unreachable!()
     }
 
     /// Takes the seat of a number for its page, if the seat is there and no console sits at it.
@@ -89,6 +138,11 @@ impl<J: RoomId> Service<J> {
         ensures { IfSome result (λ seat. seat.number ≡ number) }
     {
         self.desk.lock(rt).take_free(number)
+    }
+
+    /// Whether a seat is free.
+    pub fn has_free<R: Wait>(&self, rt: &R) -> bool {
+        self.desk.lock(rt).has_free()
     }
 
     /// Puts a seat back, which is free then.
@@ -103,16 +157,25 @@ impl<J: RoomId> Service<J> {
         self.desk.lock(rt).note(fault);
     }
 
-    /// Waits until a line of the input says QUIT, or until the input ends; then the room is being closed, and the input
-    /// of each console ends.
+    /// Waits until a line of the input says QUIT, or until the input ends; then the room is being closed: no console
+    /// begins another line.
     pub fn close_by<R: Wait, S: Source>(&self, rt: &R, input: &mut S) {
         let end = read_to_quit(rt, input);
         let mut desk = self.desk.lock(rt);
-        if end == InputEnd::Failed {
-            desk.note(SeatsFault::Input);
-        }
+        desk.note_input(end);
         self.is_closing.store(true, SeqCst);
-        desk.end_inputs();
+    }
+
+    /// Waits until the consoles of a room that is being closed have ended, for a second at most. After that they wait
+    /// for no peer.
+    pub fn end_consoles<R: Wait + Clock>(&self, rt: &R) {
+        for _ in 0..NAPS {
+            if self.desk.lock(rt).are_back() {
+                return;
+            }
+            thread::sleep(rt, Duration::from_millis(NAP));
+        }
+        self.is_over.store(true, SeqCst);
     }
 
     /// All seats, if they are back, and what went wrong first.
@@ -122,6 +185,9 @@ impl<J: RoomId> Service<J> {
         let Service {
             seats: _,
             is_closing: _,
+            is_over: _,
+            has_closed_port: _,
+            ending: _,
             desk,
         } = self;
         desk.into_inner().into_seats()

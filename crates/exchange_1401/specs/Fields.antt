@@ -1,9 +1,9 @@
 -- The fields of a request that say where it comes from, and what it goes on from (own).
-use Rattle.std.specs.Prelude.{ℕ, ◌==◌, Bool, false, if◌then◌else◌, List, ◌++◌, codes}
+use Rattle.std.specs.Prelude.{ℕ, ◌==◌, nat_lt, Bool, false, ◌||◌, if◌then◌else◌, List, ◌++◌, codes, length}
 use Rattle.std.specs.Prelude.{Option, None, Some, is_some}
 use Rattle.std.specs.Str.{bytes_eq}
 use Rattle.http_header.specs.FieldValue.{FieldValue}
-use Rattle.http_header.specs.HeaderMap.{get}
+use Rattle.http_header.specs.HeaderMap.{get, get_all}
 use Rattle.http_header.specs.Token.{lowercase}
 use Rattle.http_uri.specs.Uri.{uri_authority}
 use Rattle.http.specs.declared.request.Parts.{Parts}
@@ -18,6 +18,14 @@ is_value (Some found) value = bytes_eq found.bytes value
 -- the first value of a field is this one, byte for byte
 abbrev pub has_field : Parts → List ℕ → List ℕ → Bool
 has_field head name value = is_value (get head.headers (lowercase name)) value
+
+-- a field stands more than once
+abbrev pub is_doubled : Parts → List ℕ → Bool
+is_doubled head name = nat_lt 1 (length (get_all head.headers (lowercase name)))
+
+-- a request says twice where it comes from, or what it goes on from
+abbrev pub is_ambiguous : Parts → Bool
+is_ambiguous head = is_doubled head (codes "origin") || is_doubled head (codes "x-1401-line")
 
 -- a request is for this host and port: its target has none of its own, and its Host names it
 abbrev pub is_for : Parts → List ℕ → Bool

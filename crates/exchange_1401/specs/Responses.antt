@@ -9,11 +9,12 @@ use Rattle.http_server.specs.Response.{IsResponse}
 abbrev pub field : List ℕ → List ℕ → Header
 field name value = (name, value)
 
--- each response isn't kept, has a type that isn't guessed, and ends its connection
+-- each response isn't kept, has a type that isn't guessed, isn't named to other pages, and ends its connection
 abbrev pub common_fields : List Header
 common_fields =
     field (codes "cache-control") (codes "no-store")
     ∷ field (codes "x-content-type-options") (codes "nosniff")
+    ∷ field (codes "referrer-policy") (codes "no-referrer")
     ∷ field (codes "connection") (codes "close")
     ∷ []
 

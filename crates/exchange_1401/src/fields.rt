@@ -1,7 +1,7 @@
 //! The fields of a request that say where it comes from, and what it goes on from.
 ghost use Rattle.std.specs.Prelude.{◌≡◌};
 ghost use Rattle.http.specs.Request.{head_of};
-ghost use Rattle.exchange_1401.specs.Fields.{count_in, has_field, is_for, is_next};
+ghost use Rattle.exchange_1401.specs.Fields.{count_in, has_field, is_ambiguous, is_doubled, is_for, is_next};
 
 use crate::numbers::number;
 use bytes::Bytes;
@@ -15,6 +15,20 @@ pub fn has_field(request: &Request<Bytes>, name: &str, value: &[u8]) -> bool
         Some(found) => found.as_bytes() == value,
         None => false,
     }
+}
+
+/// Whether a field stands more than once.
+fn is_doubled(request: &Request<Bytes>, name: &str) -> bool
+    ensures { result ≡ is_doubled (head_of request.now) name.now }
+{
+    request.headers().get_all(name).iter().count() > 1
+}
+
+/// Whether a request says twice where it comes from, or what it goes on from.
+pub fn is_ambiguous(request: &Request<Bytes>) -> bool
+    ensures { result ≡ is_ambiguous (head_of request.now) }
+{
+    is_doubled(request, "origin") || is_doubled(request, "x-1401-line")
 }
 
 /// Whether a request is for this host and port: its target has none of its own, and its Host names it.

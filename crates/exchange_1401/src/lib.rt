@@ -2,16 +2,18 @@
 //! answered.
 //!
 //! ```text
-//! answer_each(rt, &mut service, &mut connections);       // a page's connections in turn, to the last one
+//! read_request(rt, origin, &stream)?                     // a connection's request, once it has come whole
+//! answer_each(rt, &mut service, &mut requests);          // such requests in turn, to the last one
 //! route_of("GET", "/picture")                            // Route::Picture
 //! put_page(&mut response, html, policy)?;                // 200, with the page
 //! ```
 #![tactic(auto)]
 
-// the connections of a page, how long each is waited for, and one as a whole
+// a connection as a whole, one request after the other, how long a peer is waited for, and a request that comes bit by
+// bit
 pub mod exchange;
 pub mod listening;
-pub mod patience;
+pub mod reading;
 
 // what a request asks for, where it comes from, and what it goes on from
 pub mod fields;
@@ -23,10 +25,11 @@ pub mod responses;
 pub mod taken;
 
 pub use exchange::answer;
-pub use fields::{has_field, is_for, is_next};
-pub use listening::{Connections, answer_connection, answer_each, page_config};
+pub use fields::{has_field, is_ambiguous, is_for, is_next};
+pub use listening::{Requests, answer_bytes, answer_each, page_config};
 pub use numbers::number;
-pub use patience::has_begun;
+pub use reading::{WholeRequest, is_accepted, is_visit, read_request, send_answer};
 pub use responses::{begin_text, end_with, end_without, put_page, refuse};
 pub use route::{Route, route_of};
+pub use sockets_1401::{has_begun, linger};
 pub use taken::TakenSeat;

@@ -1,20 +1,18 @@
-//! The connections of a page, one after the other.
-ghost use Rattle.std.specs.Prelude.{◌≡◌};
-ghost use Rattle.exchange_1401.specs.Exchange.{Follows};
+//! The requests of a page, one after the other.
+ghost use Rattle.std.specs.Prelude.{◌≡◌, IfOk};
+ghost use Rattle.exchange_1401.specs.Exchange.{AnswersBytes, Follows};
+ghost use Rattle.exchange_1401.specs.Limits.{IsPageConfig};
 
 use crate::exchange::answer;
-use crate::patience::{Patient, linger};
 use http_server::{Config, Service};
 use std::alloc::AllocGlobal;
 use std::hash::RandomState;
 use std::io;
-use std::net::TcpStream;
 use std::random::RandomSource;
 use std::sync::Wait;
-use std::time::Clock;
 
-/// The most bytes of the head of a request.
-const MOST_HEAD_BYTES: usize = 4096;
+/// The most bytes of the head of a request. A browser sends a page the cookies of all servers at the same address.
+const MOST_HEAD_BYTES: usize = 16_384;
 
 /// The most bytes of the body of a request: a line of the console has at most 200, and one that is longer is told so.
 const MOST_BODY_BYTES: usize = 1024;
@@ -22,16 +20,19 @@ const MOST_BODY_BYTES: usize = 1024;
 /// The most bytes of what a request may have beside these: extensions of chunks, and trailers.
 const MOST_OTHER_BYTES: usize = 64;
 
-/// Gives connections, one after the other.
-pub trait Connections {
-    /// The next connection, or `None` if no more are answered.
-    fn next_connection(&mut self) -> Option<TcpStream>;
+/// Gives requests, one after the other, and takes their answers.
+pub trait Requests {
+    /// The bytes of the next connection, or `None` if no more are answered.
+    fn next_request(&mut self) -> Option<Vec<u8>>;
+
+    /// Takes the bytes of the answer to that request; or `None`, if memory was refused for it. What the request did
+    /// stands.
+    fn take_answer(&mut self, answer: Option<Vec<u8>>);
 }
 
-/// The limits of a page's requests: 4,096 bytes of head, 1,024 of body, and 64 of what else a request may have.
+/// The limits of a page's requests.
 pub fn page_config() -> Config
-    // A line of the console fits, and one that is too long to be one.
-    ensures { result.max_body_len ≡ MOST_BODY_BYTES }
+    ensures { IsPageConfig result }
 {
     let mut config = Config::default();
     config.limits.max_head_len = MOST_HEAD_BYTES;
@@ -41,46 +42,49 @@ pub fn page_config() -> Config
     config
 }
 
-/// Answers a connection, which is given no more time than a page needs.
+/// The bytes that answer those of a connection. Nobody is waited for.
 ///
 /// # Errors
 ///
-/// If its request doesn't come to an end in time, or its answer isn't taken. What the request did stands.
-pub fn answer_connection<R: AllocGlobal + RandomSource + Clock, S: Service>(
+/// If memory or random keys are refused, or the bytes end before the connection is done. What the request did stands.
+pub fn answer_bytes<R: AllocGlobal + RandomSource, S: Service>(
     rt: &R,
     service: &mut S,
-    stream: &TcpStream,
-) -> io::Result<()>
-    ensures { Follows S.answers service.old service.new }
+    request: &[u8],
+) -> io::Result<Vec<u8>>
+    ensures whole { IfOk result (λ answer.
+        AnswersBytes S.answers request.now answer.items service.old service.new) }
+    ensures follows { Follows S.answers service.old service.new }
 {
-    stream.set_nodelay(true)?;
     let keys = RandomState::new(rt)?;
+    let mut rest = request;
+    let mut written = Vec::new(rt.alloc());
     answer(
         rt.alloc(),
         keys,
         page_config(),
         service,
-        &mut Patient::new(rt, stream),
-        &mut Patient::new(rt, stream),
+        &mut rest,
+        &mut written,
     )?;
-    linger(rt, stream);
-    Ok(())
+    Ok(written)
 }
 
-/// Answers connections one after the other, to the last one. If one fails, what its requests did stays, and the next
-/// one is taken.
-pub fn answer_each<R: AllocGlobal + RandomSource + Clock + Wait, S: Service, C: Connections>(
+/// Answers requests one after the other, to the last one. If memory is refused for an answer, what its request did
+/// stays, and the next one is taken.
+pub fn answer_each<R: AllocGlobal + RandomSource + Wait, S: Service, Q: Requests>(
     rt: &R,
     service: &mut S,
-    connections: &mut C,
+    requests: &mut Q,
 )
     // Some requests, answered one after the other, lead from the one state of the service to the other.
     ensures { Follows S.answers service.old service.new }
 {
     for _ in rt.forever() {
-        let Some(stream) = connections.next_connection() else {
+        let Some(request) = requests.next_request() else {
             return;
         };
-        let _failed = answer_connection(rt, service, &stream);
+        let answer = answer_bytes(rt, service, request.as_slice());
+        requests.take_answer(answer.ok());
     }
 }

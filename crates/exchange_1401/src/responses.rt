@@ -28,7 +28,8 @@ fn put_field(
     )
 }
 
-/// Adds the fields that each response has: it isn't kept, its type isn't guessed, and its connection ends.
+/// Adds the fields that each response has: it isn't kept, its type isn't guessed, no other page is sent its address,
+/// and its connection ends.
 fn put_common_fields(response: &mut Response) -> Result<(), AllocError>
     ensures fields { OnOk result (fields_of response.new ≡ fields_of response.old ++ common_fields) }
     ensures status { response.new.status ≡ response.old.status }
@@ -36,6 +37,7 @@ fn put_common_fields(response: &mut Response) -> Result<(), AllocError>
 {
     put_field(response, "cache-control", "no-store")?;
     put_field(response, "x-content-type-options", "nosniff")?;
+    put_field(response, "referrer-policy", "no-referrer")?;
     put_field(response, "connection", "close")?;
     Ok(())
 }

@@ -3,15 +3,18 @@
 //! ```text
 //! let source = read_whole(rt, "sales.source")?;       // its bytes, or why not
 //! write_whole(rt, "sales.image", text.as_slice())?    // the old file, or the new one
+//! is_one_file(rt, "one", "./one")?                    // true, whether it is there or not
 //! ```
 #![tactic(auto)]
 
 pub mod closed_streams;
 pub mod fault;
+pub mod names;
 pub mod reading;
 pub mod writing;
 
 pub use closed_streams::{HeldStreams, hold_closed_streams};
 pub use fault::{FileFault, WriteFault};
+pub use names::is_one_file;
 pub use reading::read_whole;
 pub use writing::{create, write_whole};

@@ -8,16 +8,16 @@ use calls_1401::{NewJournal, Resuming, Showing};
 use core_1401::CoreFault;
 use journal_1401::{JournalFault, View, carry_chosen};
 use keeping_1401::{
-    Durability, FileFault, JournalFile, KeepFault, ShowFault, TakenUp, check_journal,
+    Durability, JournalFile, KeepFault, MadeJournal, ShowFault, TakenUp, TextFault, check_journal,
     create_journal, keep_session, read_journal_file, read_room, resume_session, show_journal,
     take_up_journal,
 };
-use lone_room_1401::{Room, Unkept, session};
+use lone_room_1401::{Room, session};
 use std::alloc::Global;
 use std::fs::File;
+use std::io;
 use std::marker::Brand;
 use std::rt::Files;
-use std::{fs, io};
 use streams_1401::{FromReader, Sink, Source, ToWriter};
 
 /// Shows the journal of a file, or checks it and tells how many entries it has.
@@ -38,7 +38,7 @@ pub fn journal_file<R: Files<File = File> + Print + AllocGlobal>(
     } = asked;
     let text = match read_journal_file(rt, file.as_str()) {
         Ok(text) => text,
-        Err(fault) => return Err(HoldFault::Kept(KeepFault::File(file, fault))),
+        Err(fault) => return Err(HoldFault::Kept(KeepFault::of_file(file, fault))),
     };
     if check {
         return tell_entries(rt, file, check_journal(rt.alloc(), text.as_slice()));
@@ -57,9 +57,9 @@ pub fn journal_file<R: Files<File = File> + Print + AllocGlobal>(
     }
 }
 
-/// Why the file of this name has no journal.
+/// What it means that the file of this name has no journal, or that memory was refused.
 fn no_journal(file: String, fault: JournalFault) -> HoldFault {
-    HoldFault::Kept(KeepFault::Journal(file, fault))
+    HoldFault::Kept(KeepFault::of_journal(file, fault))
 }
 
 /// Tells how many entries a journal has.
@@ -129,17 +129,14 @@ fn keep_in_new<R: Files<File = File> + Input + Print + AllocGlobal>(
     journal: NewJournal,
 ) -> Result<(), HoldFault> {
     let NewJournal { file, sync } = journal;
-    let name = String::from_str(rt.alloc(), file.as_str()).map_err(|_| HoldFault::Memory)?;
-    let sink = create_journal(rt, file, durability_of(sync)).map_err(HoldFault::Kept)?;
+    let made = create_journal(rt, file, durability_of(sync)).map_err(HoldFault::Kept)?;
+    let MadeJournal { file, name } = made;
     let mut reader = FromReader::new(rt.reader());
     let mut writer = ToWriter::new(io::writer(rt));
-    match keep_by(rt.alloc(), room, sink, &mut reader, &mut writer) {
+    match keep_by(rt.alloc(), room, file, &mut reader, &mut writer) {
         Ok(end) => ended(end),
-        Err(_) => {
-            // The file has no journal, and it is this call's own.
-            let _ = fs::remove_file(rt, name.as_str());
-            Err(HoldFault::Kept(KeepFault::File(name, FileFault::Unwritten)))
-        }
+        // The file has no journal.
+        Err(fault) => Err(HoldFault::Kept(KeepFault::of_text(name.remove(rt), fault))),
     }
 }
 
@@ -150,7 +147,7 @@ fn keep_by<S: Sink + Drop, R: Source, W: Sink>(
     sink: S,
     reader: &mut R,
     writer: &mut W,
-) -> Result<SessionEnd, Unkept> {
+) -> Result<SessionEnd, TextFault> {
     keep_session::<Brand, S, R, W>(alloc, room, sink, reader, writer)
 }
 

@@ -10,7 +10,7 @@ use running_1401::RunFault;
 use terminal_1401::ConsoleFault;
 use thiserror::Error;
 
-/// The status of a command line that can't be read.
+/// The status of a command line that can't be read, or that names one file twice.
 const MISUSED: u8 = 2;
 
 /// The status of a run that failed.
@@ -59,6 +59,9 @@ impl Fault {
     {
         match self {
             Fault::Text | Fault::Usage(_) => MISUSED,
+            Fault::Assemble(AssembleFault::OneFile(..)) | Fault::Run(RunFault::OneFile(..)) => {
+                MISUSED
+            }
             Fault::Output | Fault::Memory => FAILED,
             Fault::Assemble(_) | Fault::Run(_) | Fault::Hopper(..) => FAILED,
             Fault::Console(_) | Fault::Hold(_) | Fault::Open(_) => FAILED,

@@ -2,7 +2,9 @@
 
 use crate::fault::Fault;
 use devices_1401::{Card, MOST_HELD};
+use job_1401::{CardList, Cards, Deck};
 use running_1401::read_cards;
+use std::alloc::Global;
 use std::rt::Files;
 
 /// The cards of a deck's file; without one there are none.
@@ -29,5 +31,18 @@ fn hopper_of(rt: &(impl Files + Eprint + AllocGlobal), name: String) -> Result<V
     if cards.len() > MOST_HELD {
         return Err(Fault::Hopper(label, cards.len() as u64));
     }
-    Ok(cards)
+    all_of(rt.alloc(), &cards)
+}
+
+/// All cards of a deck that the hopper holds.
+fn all_of(alloc: Global, cards: &CardList) -> Result<Vec<Card>, Fault> {
+    let mut deck = Deck::new(cards);
+    let mut all = Vec::new(alloc);
+    for _ in 0..cards.len() {
+        // A deck in memory is always read.
+        if let Ok(Some(card)) = deck.next_card() {
+            all.push(card).map_err(|_| Fault::Memory)?;
+        }
+    }
+    Ok(all)
 }

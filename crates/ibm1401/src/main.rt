@@ -14,6 +14,7 @@ use crate::hopper::cards_of;
 use arguments_1401::read_call;
 use assembling_1401::{assemble_file, disassemble_file};
 use calls_1401::{Call, Seating};
+use files_1401::hold_closed_streams;
 use holding_1401::{journal_file, keep_console, keep_loaded, load_file, resume_file};
 use opening_1401::{new_machine, open_room, open_seats, resume_seats};
 use running_1401::{ErrorOutput, run_file};
@@ -30,6 +31,8 @@ use streams_1401::{FromReader, ToWriter};
 use terminal_1401::console;
 
 fn main(rt: HostRuntime) -> ExitCode {
+    // Standard streams that are closed stay so: no file or connection that is opened takes the place of one.
+    let _held = hold_closed_streams(&rt);
     let error_output = if rt.stderr().is_terminal() {
         ErrorOutput::Terminal
     } else {

@@ -1,13 +1,18 @@
 -- The card of a line, and the cards of lines.
-use Rattle.std.proofs.Common.{◌≡◌, ℕ, ◌+◌, ◌<◌, ◌≤◌, ◌==◌, true, false, List, ◌++◌, length}
-use Rattle.std.proofs.Common.{Option, None, Some, refl, ◌∙◌, ap, arith}
+use Rattle.std.proofs.Common.{◌≡◌, ℕ, ◌+◌, ◌-◌, ◌<◌, ◌≤◌, ◌==◌, Bool, true, false, List, [], ◌∷◌, ◌++◌, length, take}
+use Rattle.std.proofs.Common.{map, replicate, if◌then◌else◌, Option, None, Some, refl, ◌∙◌, ap, sym, subst, arith}
+use Rattle.std.proofs.Common.{take_all}
 use Rattle.std.proofs.lemmas.Bool.Decides.{nat_tests}
+use Rattle.std.proofs.lemmas.List.{append_assoc, drop_all, length-map, take-append-le}
 use Rattle.std.specs.List.{prefix_len}
 use Rattle.std.specs.Prelude.{is_some, nat_lt, unwrap_or, Result, Ok, Err}
 use Rattle.devices_1401.specs.declared.card.Card.{Card}
 use Rattle.job_1401.specs.declared.deck_text.DeckFault.{DeckFault}
 use Rattle.job_1401.specs.declared.deck_text.DeckFault.TheVariants.{Graphic, Length}
-use Rattle.job_1401.specs.DeckText.{card_of_line, card_with, columns_filled, fault_behind, has_char}
+use Rattle.job_1401.specs.CardList.{AreOfCards, card_of_chars, cards_in}
+use Rattle.job_1401.specs.DeckText.{card_before, card_of_line, card_with, code_of, columns_filled, fault_behind}
+use Rattle.job_1401.specs.DeckText.{has_char}
+use Rattle.job_1401.proofs.CardListLemmas.{are_of_cards_append, cards_in_append}
 
 -- all bytes fill columns
 pub card_of-full : (number : ℕ) (line : List ℕ) → length line ≤ 80 → prefix_len has_char line ≡ length line
@@ -46,3 +51,64 @@ no_char char is = rw is refl
 abbrev pub behind : List Card → Result (List Card) DeckFault → Result (List Card) DeckFault
 behind so_far (Ok cards) = Ok (so_far ++ cards)
 behind so_far (Err fault) = Err fault
+
+-- a line that is a card has at most 80 bytes, and is that card
+pub card_fits : (number : ℕ) (line : List ℕ) (card : Card) → card_of_line number line ≡ Ok card
+    → (length line ≤ 80) × (card_with line ≡ card)
+unfolding card_of_line
+card_fits number line card is = by (columns_filled line == length line) refl is
+  where
+    read : Bool → Result Card DeckFault
+    read b = if b then Ok (card_with line) else Err (fault_behind number (columns_filled line))
+
+    by : (b : Bool) → (columns_filled line == length line) ≡ b → read b ≡ Ok card
+        → (length line ≤ 80) × (card_with line ≡ card)
+    by true e is = (grind (arith, nat_tests, e), cc)
+    by false e is = absurd cc
+
+-- the characters of a line are the first of its card
+taken : (line : List ℕ) → take (length line) (card_with line).0 ≡ map code_of line
+taken line =
+    let n = length line in
+    let whole = length-map line code_of in
+    take-append-le n (map code_of line) (replicate (80 - n) 0) (omega (arith, whole))
+    ∙ take_all n (map code_of line) (omega (arith, whole))
+
+-- and make it again
+made_again : (line : List ℕ) → card_of_chars (take (length line) (map code_of line)) ≡ card_with line
+made_again line =
+    ap card_of_chars (take_all (length line) (map code_of line) (omega (arith, length-map line code_of)))
+    ∙ ap (λ (n : ℕ). let card : Card = record { 0 = map code_of line ++ replicate (80 - n) 0 } in card)
+    (length-map line code_of)
+
+-- the card of a line after those that are kept
+pub record IsOneMore (lens chars lens' chars' : List ℕ) (card : Card) : Type 0 where
+  pub cards : cards_in lens' chars' ≡ cards_in lens chars ++ card ∷ []
+  pub held : AreOfCards lens' chars'
+
+pub one_more : (number : ℕ) (lens chars lens' chars' line : List ℕ) (card : Card) → AreOfCards lens chars
+    → card_of_line number line ≡ Ok card → lens' ≡ lens ++ length line ∷ []
+    → chars' ≡ chars ++ take (length line) card.0 → IsOneMore lens chars lens' chars' card
+one_more number lens chars lens' chars' line card held is lens_are chars_are =
+    let few = card_fits number line card is in
+    let front : take (length line) card.0 ≡ map code_of line =
+    ap (λ (c : Card). take (length line) c.0) (sym few.1) ∙ taken line in
+    let more : length (map code_of line) ≡ length line = length-map line code_of in
+    let added : IsOneMore lens chars (lens ++ length line ∷ []) (chars ++ map code_of line) card =
+    record {
+      cards = cards_in_append lens chars (length line ∷ []) (map code_of line) held
+          ∙ ap (λ (c : Card). cards_in lens chars ++ c ∷ []) (made_again line ∙ few.1);
+      held = are_of_cards_append lens chars (length line ∷ []) (map code_of line) held
+          (few.0, omega (arith, more), drop_all (length line) (map code_of line) (omega (arith, more)));
+    } in
+    subst (λ (l : List ℕ). IsOneMore lens chars l chars' card) (sym lens_are)
+    (subst (λ (cs : List ℕ). IsOneMore lens chars (lens ++ length line ∷ []) cs card)
+    (sym (chars_are ∙ ap (λ (cs : List ℕ). chars ++ cs) front)) added)
+
+-- a card after those so far, and then the others
+pub card_behind : (so_far : List Card) (card : Card) (others : Result (List Card) DeckFault)
+    → behind so_far (card_before (Ok card) others) ≡ behind (so_far ++ card ∷ []) others
+card_behind so_far card (Ok cards) =
+    ap (λ (all : List Card). let read : Result (List Card) DeckFault = Ok all in read)
+    (sym (append_assoc so_far (card ∷ []) cards))
+card_behind so_far card (Err fault) = refl

@@ -1,3 +1,4 @@
+pub mod CardList
 pub mod DeckText
 pub mod Paper
 pub mod PaperRead

@@ -5,6 +5,7 @@ ghost use Rattle.std.specs.Prelude.{◌≡◌, ◌≢◌, ◌++◌, length, Ok, 
 ghost use Rattle.source_1401.specs.SourceLine.{lines_of};
 ghost use Rattle.job_1401.specs.DeckText.{card_of_line, card_text, deck_of};
 
+use crate::card_list::{CardList, put_card};
 use bcd_1401::Char;
 use devices_1401::Card;
 use notation_1401::put_characters;
@@ -41,7 +42,7 @@ pub enum DeckFault {
 #[derive(Debug, Drop)]
 pub struct ReadDeck {
     /// Its cards, first to last.
-    pub cards: Vec<Card>,
+    pub cards: CardList,
     /// Whether the text has small letters, which are read as capitals.
     pub has_small_letters: bool,
 }
@@ -76,27 +77,29 @@ fn card_of(number: u64, line: &[u8]) -> Result<Card, DeckFault>
 /// # Errors
 ///
 /// `Graphic` or `Length` for the first byte that is on no card, or `Memory`.
+#[tactic(auto, using(crate::proofs::DeckTextLemmas::card_fits))]
 pub fn read_deck(alloc: Global, text: &[u8]) -> Result<ReadDeck, DeckFault>
-    ensures deck { IfOk result (λ deck. deck_of text.now ≡ Ok deck.cards.items) }
-    ensures count { IfOk result (λ deck. length deck.cards.items ≡ length (lines_of text.now)) }
+    ensures deck { IfOk result (λ deck. deck_of text.now ≡ Ok deck.cards) }
+    ensures count { IfOk result (λ deck. length deck.cards ≡ length (lines_of text.now)) }
     ensures small { IfOk result (λ deck. deck.has_small_letters ≡ list_any is_ascii_lowercase text.now) }
 
     // Without a fault of the text only memory can be refused.
     ensures fault { IfErr result (λ why. why ≢ DeckFault.Memory → deck_of text.now ≡ Err why) }
 {
     let has_small_letters = text.iter().any(|byte| byte.is_ascii_lowercase());
-    let mut cards = Vec::new(alloc);
+    let mut lens = Vec::new(alloc);
+    let mut chars = Vec::new(alloc);
     let mut rest = text;
     while let Some((line, behind)) = split_line(rest) {
-        let number = (cards.len() as u64).saturating_add(1);
+        let number = (lens.len() as u64).saturating_add(1);
         let card = card_of(number, line)?;
-        if cards.push(Card(card.0)).is_err() {
+        let Ok(()) = put_card(&mut lens, &mut chars, &card, line.len()) else {
             return Err(DeckFault::Memory);
-        }
+        };
         rest = behind;
     }
     Ok(ReadDeck {
-        cards,
+        cards: CardList { lens, chars },
         has_small_letters,
     })
 }

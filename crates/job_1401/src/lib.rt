@@ -1,7 +1,8 @@
 //! A deck run to its end on the IBM 1401: cards in, paper and punched cards out, and no operator.
 //!
 //! ```text
-//! let mut deck = Deck::new(cards.as_slice());
+//! let read = read_deck(alloc, text)?;     // a card from each line
+//! let mut deck = Deck::new(&read.cards);
 //! let mut output = Collected::new(alloc);
 //! run_job(&mut machine, &mut deck, 1_000_000, &mut output)?   // the steps, and why it ended
 //! output.lines                            // all that was printed, however much
@@ -13,6 +14,7 @@
 #![tactic(auto)]
 
 // where cards come from, a deck in memory, and one as a text
+pub mod card_list;
 pub mod cards;
 pub mod deck;
 pub mod deck_text;
@@ -31,6 +33,7 @@ pub mod output;
 pub mod paper;
 mod taking;
 
+pub use card_list::CardList;
 pub use cards::Cards;
 pub use collected::Collected;
 pub use deck::Deck;

@@ -1,3 +1,4 @@
+pub mod ChoiceLemmas
 pub mod EntryLemmas
 pub mod ReadsLemmas
 pub mod TextLemmas

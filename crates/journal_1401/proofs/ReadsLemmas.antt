@@ -26,10 +26,11 @@ use Rattle.journal_1401.specs.declared.fault.Wrong.{Wrong}
 use Rattle.journal_1401.specs.declared.fault.Wrong.TheVariants as wrong
 use Rattle.journal_1401.specs.JournalText.{CanBeKept, IsJournal, entries_text, entry_text, header_text, journal_text}
 use Rattle.journal_1401.specs.JournalText.{with_feed, with_tab}
-use Rattle.journal_1401.specs.Reading.{HasHeader, IsRefusedIn, IsTextOf, IsThat, IsWhy}
-use Rattle.journal_1401.specs.Reading.{IsCut, IsWrongAt, Takes}
+use Rattle.journal_1401.specs.Reading.{HasHeader, IsNoHeader, IsRefusedIn, IsTextOf, IsThat, IsWhy}
+use Rattle.journal_1401.specs.Reading.{IsCut, IsReached, IsWrongAt, Takes}
 use Rattle.journal_1401.specs.Reading.{entry_at, has_line, size_at}
 use Rattle.journal_1401.specs.Reading.IsCut.{in_entry, in_header}
+use Rattle.journal_1401.specs.Reading.IsReached.{at_entry, at_header}
 use Rattle.journal_1401.proofs.EntryLemmas.{IsOfEntry, entry_again, entry_takes, of_entry}
 use Rattle.journal_1401.proofs.TextLemmas.{journal_text-push}
 
@@ -315,7 +316,8 @@ refused_by : (text : List ℕ) (size : ℕ) (journal : List Entry) (rest : List 
     → Reads text size journal rest → has_line rest ≡ true → number ≡ length journal + 2
     → IsWhy (entry_at size journal rest) why → IfErr (entry_at size journal rest) IsOfEntry
     → IsRefusedIn text number why
-refused_by text size journal rest number wrong.Memory reads some number_is is of = tt
+refused_by text size journal rest number wrong.Memory reads some number_is is of =
+    subst (λ (n : ℕ). IsReached text n) (sym number_is) (at_entry text size journal rest reads.of reads.text_is some)
 refused_by text size journal rest number wrong.Header reads some number_is is of =
     absurd (off (entry_at size journal rest) wrong.Header of is)
 refused_by text size journal rest number wrong.Number reads some number_is is of =
@@ -337,6 +339,28 @@ pub refused_line : (text : List ℕ) (size : ℕ) (journal : List Entry) (rest :
 refused_line text size journal rest number why reads some number_is is =
     refused_by text size journal rest number why reads some number_is is (of_entry size journal rest)
 
+-- a text that names a size has its first line
+named_line : (size : ℕ) → has_line (header_text size) ≡ true
+named_line size = has_behind (codes "JOURNAL1 " ++ digits_in 1 size) (line_feed ∷ []) refl
+
+pub first_line : (text : List ℕ) (size : ℕ) (rest : List ℕ) → HasHeader text size rest → has_line text ≡ true
+first_line text size rest named =
+    ap has_line (after_prefix_takes (header_text size) text rest named.rest_is)
+    ∙ has_in_front (header_text size) rest (named_line size)
+
+-- a first line that names no size, or whose memory was refused
+pub no_header : (text : List ℕ) (why : Wrong) → has_line text ≡ true → IsNoHeader core_sizes text why
+    → IsRefusedIn text 1 why
+unfolding size_at
+no_header text wrong.Memory some is = at_header text some
+no_header text wrong.Header some is = (refl, some, is)
+no_header text wrong.Number some is = absurd is
+no_header text wrong.Seat some is = absurd is
+no_header text wrong.Command some is = absurd is
+no_header text wrong.Answer some is = absurd is
+no_header text wrong.Full some is = absurd is
+no_header text wrong.Unfinished some is = absurd is
+
 -- a journal's text has its first line
 header_there : (text : List ℕ) (size : ℕ) (journal : List Entry) (rest : List ℕ) → IsTextOf text size journal rest
     → size_at text ≡ Some size
@@ -348,10 +372,9 @@ header_there text size journal rest is =
 line_there : (text : List ℕ) (size : ℕ) (journal : List Entry) (rest : List ℕ) → IsTextOf text size journal rest
     → has_line text ≡ true
 line_there text size journal rest is =
-    let header : has_line (header_text size) ≡ true =
-    has_behind (codes "JOURNAL1 " ++ digits_in 1 size) (line_feed ∷ []) refl in
     ap has_line is.text_is
-    ∙ has_in_front (journal_text size journal) rest (has_in_front (header_text size) (entries_text 1 journal) header)
+    ∙ has_in_front (journal_text size journal) rest
+    (has_in_front (header_text size) (entries_text 1 journal) (named_line size))
 
 cut_not : (text : List ℕ) (number : ℕ) → IsCut text number → number ≡ 1 → has_line text ≡ true → ⊥
 cut_not text number (in_header _ none) one some = let both : true ≡ false = sym some ∙ none in absurd cc

@@ -1,6 +1,7 @@
 -- The text of a journal, by its parts.
-use Rattle.std.proofs.Common.{◌≡◌, ℕ, ◌+◌, ◌<◌, List, [], ◌∷◌, ◌++◌, length, get_or, take, ap, sym, ◌∙◌, arith}
-use Rattle.std.proofs.lemmas.List.{append_assoc, append-nil, length-take, take_more}
+use Rattle.std.proofs.Common.{◌≡◌, ℕ, ◌+◌, ◌<◌, ◌≤◌, List, [], ◌∷◌, ◌++◌, length, get_or, take, drop, ap, sym, ◌∙◌}
+use Rattle.std.proofs.Common.{arith, length-append}
+use Rattle.std.proofs.lemmas.List.{append_assoc, append-nil, length-take, take-append-drop, take_more}
 use Rattle.lone_room_1401.specs.declared.entry.Entry.{Entry}
 use Rattle.journal_1401.specs.JournalText.{entries_text, entry_text, header_text, journal_text}
 use Rattle.lone_room_1401.specs.Kept.{lines_by}
@@ -50,3 +51,23 @@ journal_text-push size journal entry text rest behind so_far next =
     so_far ∙ ap (λ (text : List ℕ). journal_text size journal ++ text) next
     ∙ sym (append_assoc (journal_text size journal) line behind)
     ∙ ap (λ (text : List ℕ). text ++ behind) (sym more)
+
+-- the entries before one of them and that one give no more than all do
+pub lines_by-part : {A : Type 0} (line : ℕ → Entry → List A) (journal : List Entry) (i : ℕ) (entry : Entry)
+    → i < length journal
+    → entry ≡ get_or journal i entry
+    → length (lines_by line 1 (take i journal)) + length (line (i + 1) entry) ≤ length (lines_by line 1 journal)
+lines_by-part {A} line journal i entry within is =
+    let front : List Entry = take (i + 1) journal in
+    let back : List Entry = drop (i + 1) journal in
+    let lines : List A = lines_by line 1 (take i journal) in
+    let more : lines_by line 1 front ≡ lines ++ line (i + 1) entry = lines_by-take line journal i entry within is in
+    let all : lines_by line 1 journal ≡ lines_by line 1 front ++ lines_by line (1 + length front) back =
+    ap (lines_by line 1) (sym (take-append-drop (i + 1) journal)) ∙ lines_by-append line 1 front back in
+    omega (
+      arith,
+      ap length all,
+      ap length more,
+      length-append (lines_by line 1 front) (lines_by line (1 + length front) back),
+      length-append lines (line (i + 1) entry),
+    )

@@ -152,9 +152,15 @@ pub data IsCut : List ℕ → ℕ → Type 0 where
   in_entry : (text : List ℕ) (size : ℕ) (journal : List Entry) (rest : List ℕ) → IsTextOf text size journal rest
       → 0 < length rest → IsCut text (length journal + 2)
 
--- why a text is refused in a line
+-- The lines before this one are those of a journal, and this one follows them, with its line feed.
+pub data IsReached : List ℕ → ℕ → Type 0 where
+  at_header : (text : List ℕ) → has_line text ≡ true → IsReached text 1
+  at_entry : (text : List ℕ) (size : ℕ) (journal : List Entry) (rest : List ℕ) → IsJournal size journal
+      → text ≡ journal_text size journal ++ rest → has_line rest ≡ true → IsReached text (length journal + 2)
+
+-- why a text is refused in a line; if memory was refused there, the lines before it are right
 abbrev pub IsRefusedIn : List ℕ → ℕ → Wrong → Type 0
-IsRefusedIn text number wrong.Memory = Unit {0}
+IsRefusedIn text number wrong.Memory = IsReached text number
 IsRefusedIn text number wrong.Header = (number ≡ 1) × (has_line text ≡ true) × (size_at text ≡ None)
 IsRefusedIn text number wrong.Number = IsWrongAt text number wrong.Number
 IsRefusedIn text number wrong.Seat = IsWrongAt text number wrong.Seat

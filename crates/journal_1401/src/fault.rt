@@ -5,7 +5,7 @@ use thiserror::Error;
 /// What is wrong with a line of a text that is no journal's, by number.
 #[derive(Clone, Copy, Debug, PartialEq, Eq, Error)]
 pub enum Wrong {
-    /// 1: memory was refused. The line may be right.
+    /// 1: memory was refused. The line may be right, and those before it are.
     #[error("1 MEMORY")]
     Memory,
     /// 2: the first line doesn't name this format and a size of core storage.

@@ -1,1 +1,2 @@
+mod ShowingLemmas
 mod VerifyingLemmas

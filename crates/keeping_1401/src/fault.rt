@@ -1,6 +1,7 @@
 //! Why a journal isn't kept, or isn't taken up.
+ghost use Rattle.std.specs.Prelude.{◌≡◌, ◌≢◌};
 
-use journal_1401::JournalFault;
+use journal_1401::{JournalFault, Wrong};
 use thiserror::Error;
 
 /// Why the file of a journal can't be had.
@@ -18,6 +19,9 @@ pub enum FileFault {
     /// The name is that of a folder.
     #[error("is a folder")]
     Folder,
+    /// The name is that of a pipe, a device or a socket, to which no line can be added.
+    #[error("is not a regular file")]
+    NoFile,
     /// The file may not be read or written.
     #[error("permission denied")]
     Denied,
@@ -28,6 +32,20 @@ pub enum FileFault {
     #[error("cannot be read")]
     Unreadable,
     /// The system can't write the file.
+    #[error("cannot be written")]
+    Unwritten,
+    /// Memory was refused for the bytes of the file, or for a name.
+    #[error("memory refused")]
+    Memory,
+}
+
+/// Why the text of a journal so far isn't written.
+#[derive(Clone, Copy, Debug, PartialEq, Eq, Error)]
+pub enum TextFault {
+    /// Memory was refused for the text.
+    #[error("memory refused")]
+    Memory,
+    /// A write failed, or took nothing.
     #[error("cannot be written")]
     Unwritten,
 }
@@ -47,4 +65,50 @@ pub enum KeepFault {
     /// The journal has no entry of this number.
     #[error("there is no entry {0}")]
     NoEntry(u64),
+}
+
+impl KeepFault {
+    /// Why the file of this name can't be had; want of memory is no fault of the file.
+    pub fn of_file(name: String, fault: FileFault) -> KeepFault
+        ensures memory { fault ≡ FileFault.Memory → result ≡ KeepFault.Memory }
+        ensures file { fault ≢ FileFault.Memory → result ≡ KeepFault.File name fault }
+    {
+        match fault {
+            FileFault::Memory => KeepFault::Memory,
+            FileFault::Exists | FileFault::InUse | FileFault::NotThere => {
+                KeepFault::File(name, fault)
+            }
+            FileFault::Folder | FileFault::NoFile | FileFault::Denied => {
+                KeepFault::File(name, fault)
+            }
+            FileFault::TooLong | FileFault::Unreadable | FileFault::Unwritten => {
+                KeepFault::File(name, fault)
+            }
+        }
+    }
+
+    /// Why the text of a journal so far isn't in the new file of this name.
+    pub fn of_text(name: String, fault: TextFault) -> KeepFault
+        ensures memory { fault ≡ TextFault.Memory → result ≡ KeepFault.Memory }
+        ensures unwritten { fault ≡ TextFault.Unwritten → result ≡ KeepFault.File name FileFault.Unwritten }
+    {
+        match fault {
+            TextFault::Memory => KeepFault::Memory,
+            TextFault::Unwritten => KeepFault::File(name, FileFault::Unwritten),
+        }
+    }
+
+    /// Why the file of this name has no journal; want of memory is no fault of its text.
+    pub fn of_journal(name: String, fault: JournalFault) -> KeepFault
+        ensures memory { fault.why ≡ Wrong.Memory → result ≡ KeepFault.Memory }
+        ensures journal { fault.why ≢ Wrong.Memory → result ≡ KeepFault.Journal name fault }
+    {
+        match fault.why {
+            Wrong::Memory => KeepFault::Memory,
+            Wrong::Header | Wrong::Number | Wrong::Seat | Wrong::Command => {
+                KeepFault::Journal(name, fault)
+            }
+            Wrong::Answer | Wrong::Full | Wrong::Unfinished => KeepFault::Journal(name, fault),
+        }
+    }
 }

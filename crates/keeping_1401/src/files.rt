@@ -4,11 +4,9 @@ ghost use Rattle.journal_1401.specs.JournalText.{journal_text};
 
 use crate::fault::{FileFault, KeepFault};
 use crate::journal_file::{Durability, JournalFile};
-use crate::keeping::begin_text;
-use journal_1401::{JournalFault, Wrong, recover_journal};
+use journal_1401::recover_journal;
 use lone_room_1401::{Entry, Room};
 use std::alloc::Global;
-use std::fs;
 use std::fs::{File, OpenFile, OpenOptions};
 use std::io::{ErrorKind, Read};
 use std::path::Path;
@@ -19,7 +17,7 @@ use streams_1401::Sink;
 const MOST_BYTES: u64 = 67_108_864;
 
 /// Why a file can't be had, by what the system says; the last is for what it doesn't say.
-fn file_fault(kind: ErrorKind, otherwise: FileFault) -> FileFault {
+pub(crate) fn file_fault(kind: ErrorKind, otherwise: FileFault) -> FileFault {
     match kind {
         ErrorKind::AlreadyExists => FileFault::Exists,
         ErrorKind::NotFound | ErrorKind::NotADirectory => FileFault::NotThere,
@@ -30,7 +28,7 @@ fn file_fault(kind: ErrorKind, otherwise: FileFault) -> FileFault {
 }
 
 /// Keeps other processes from keeping a journal in this file, as long as it is open.
-fn lock(file: &File) -> Result<(), FileFault> {
+pub(crate) fn lock(file: &File) -> Result<(), FileFault> {
     match file.try_lock() {
         Ok(()) => Ok(()),
         Err(_) => Err(FileFault::InUse),
@@ -46,7 +44,7 @@ fn folder_of(name: &str) -> &str {
 }
 
 /// Forces the name of a file onto the disk if that is asked for: the file's own bytes may be there without it.
-fn keep_name(
+pub(crate) fn keep_name(
     rt: &impl Files<File = File>,
     name: &str,
     durability: Durability,
@@ -61,80 +59,13 @@ fn keep_name(
     synced.map_err(|error| file_fault(error.kind(), FileFault::Unwritten))
 }
 
-/// A new file of this name, locked, to which lines are added.
-fn create(
-    rt: &impl Files<File = File>,
-    name: &str,
-    durability: Durability,
-) -> Result<File, FileFault> {
-    let file = match OpenOptions::new()
-        .append(true)
-        .create_new(true)
-        .open(rt, name)
-    {
-        Ok(file) => file,
-        Err(error) => return Err(file_fault(error.kind(), FileFault::Unwritten)),
-    };
-    lock(&file)?;
-    if let Err(fault) = keep_name(rt, name, durability) {
-        // The file is empty, and this call's own.
-        let _ = fs::remove_file(rt, name);
-        return Err(fault);
-    }
-    Ok(file)
-}
-
-/// A new file of this name for a journal, locked. A file that is there stays as it is.
-///
-/// # Errors
-///
-/// `File`, with the name as it was given.
-pub fn create_journal(
-    rt: &impl Files<File = File>,
-    name: String,
-    durability: Durability,
-) -> Result<JournalFile, KeepFault>
-    ensures good { IfOk result (λ file. ⟦<JournalFile as Sink>⟧.has_failed file ≡ false) }
-{
-    match create(rt, name.as_str(), durability) {
-        Ok(file) => Ok(JournalFile::new(file, durability)),
-        Err(fault) => Err(KeepFault::File(name, fault)),
-    }
-}
-
-/// A new file of this name, locked, that has the first line of the journal of a machine of this size. A file that is
-/// there stays as it is.
-///
-/// # Errors
-///
-/// `File`, with the name as it was given; then no new file is left.
-pub fn begin_journal(
-    rt: &(impl Files<File = File> + AllocGlobal),
-    name: String,
-    size: u16,
-    durability: Durability,
-) -> Result<JournalFile, KeepFault>
-    ensures good { IfOk result (λ file. ⟦<JournalFile as Sink>⟧.has_failed file ≡ false) }
-{
-    let file = match create(rt, name.as_str(), durability) {
-        Ok(file) => file,
-        Err(fault) => return Err(KeepFault::File(name, fault)),
-    };
-    let mut sink = JournalFile::new(file, durability);
-    if begin_text(rt.alloc(), size, &mut sink).is_err() {
-        // The file has no journal, and is this call's own.
-        let _ = fs::remove_file(rt, name.as_str());
-        return Err(KeepFault::File(name, FileFault::Unwritten));
-    }
-    Ok(sink)
-}
-
 /// All bytes of a file, if there are no more than a journal may have.
 fn bytes_of(alloc: Global, file: &File) -> Result<Vec<u8>, FileFault> {
     let mut bytes = Vec::new(alloc);
     match file.take(MOST_BYTES + 1).read_to_end(&mut bytes) {
         Ok(_) if bytes.len() as u64 > MOST_BYTES => Err(FileFault::TooLong),
         Ok(_) => Ok(bytes),
+        Err(error) if error.kind() == ErrorKind::OutOfMemory => Err(FileFault::Memory),
         Err(error) => Err(file_fault(error.kind(), FileFault::Unreadable)),
     }
 }
@@ -143,7 +74,7 @@ fn bytes_of(alloc: Global, file: &File) -> Result<Vec<u8>, FileFault> {
 ///
 /// # Errors
 ///
-/// `File`, with the name as it was given.
+/// Why the file can't be read.
 pub fn read_journal_file(
     rt: &(impl Files<File = File> + AllocGlobal),
     name: &str,
@@ -151,17 +82,6 @@ pub fn read_journal_file(
     match OpenOptions::new().read(true).open(rt, name) {
         Ok(file) => bytes_of(rt.alloc(), &file),
         Err(error) => Err(file_fault(error.kind(), FileFault::Unreadable)),
-    }
-}
-
-/// Why the file of this name has no journal.
-fn no_journal(name: String, fault: JournalFault) -> KeepFault {
-    match fault.why {
-        Wrong::Memory => KeepFault::Memory,
-        Wrong::Header | Wrong::Number | Wrong::Seat | Wrong::Command => {
-            KeepFault::Journal(name, fault)
-        }
-        Wrong::Answer | Wrong::Full | Wrong::Unfinished => KeepFault::Journal(name, fault),
     }
 }
 
@@ -176,11 +96,11 @@ pub fn read_room(
 ) -> Result<Room, KeepFault> {
     let text = match read_journal_file(rt, name.as_str()) {
         Ok(text) => text,
-        Err(fault) => return Err(KeepFault::File(name, fault)),
+        Err(fault) => return Err(KeepFault::of_file(name, fault)),
     };
     match recover_journal(rt.alloc(), text.as_slice()) {
         Ok((room, _)) => Ok(room),
-        Err(fault) => Err(no_journal(name, fault)),
+        Err(fault) => Err(KeepFault::of_journal(name, fault)),
     }
 }
 
@@ -210,6 +130,15 @@ pub struct TakenUp {
     pub cut: Option<u32>,
 }
 
+/// Refuses what isn't a regular file: a pipe has no end, and a device has nothing to add lines to.
+fn expect_file(file: &File) -> Result<(), FileFault> {
+    match file.metadata() {
+        Ok(metadata) if metadata.is_file() => Ok(()),
+        Ok(_) => Err(FileFault::NoFile),
+        Err(error) => Err(file_fault(error.kind(), FileFault::Unreadable)),
+    }
+}
+
 /// Opens a file, locked, and reads it.
 fn open(
     rt: &(impl Files<File = File> + AllocGlobal),
@@ -220,6 +149,7 @@ fn open(
         Ok(file) => file,
         Err(error) => return Err(file_fault(error.kind(), FileFault::Unreadable)),
     };
+    expect_file(&file)?;
     lock(&file)?;
     keep_name(rt, name, durability)?;
     let text = bytes_of(rt.alloc(), &file)?;
@@ -239,11 +169,11 @@ pub fn find_journal(
 ) -> Result<FoundJournal, KeepFault> {
     let (file, mut text) = match open(rt, name.as_str(), durability) {
         Ok(opened) => opened,
-        Err(fault) => return Err(KeepFault::File(name, fault)),
+        Err(fault) => return Err(KeepFault::of_file(name, fault)),
     };
     let (room, rest) = match recover_journal(rt.alloc(), text.as_slice()) {
         Ok((room, rest)) => (room, rest.len()),
-        Err(fault) => return Err(no_journal(name, fault)),
+        Err(fault) => return Err(KeepFault::of_journal(name, fault)),
     };
     text.truncate(text.len() - rest);
     Ok(FoundJournal {
@@ -287,7 +217,7 @@ impl FoundJournal {
             }
             Some(room.journal().len() as u32 + 2)
         };
-        let file = JournalFile::new(file, durability);
+        let file = JournalFile::new(file, text.len() as u64, durability);
         Ok(TakenUp {
             room,
             file,
@@ -309,6 +239,7 @@ pub fn take_up_journal(
     durability: Durability,
 ) -> Result<TakenUp, KeepFault>
     ensures good { IfOk result (λ taken. ⟦<JournalFile as Sink>⟧.has_failed taken.file ≡ false) }
+    ensures text { IfOk result (λ taken. taken.text.items ≡ journal_text taken.room.size taken.room.journal) }
 {
     match find_journal(rt, name, durability) {
         Ok(found) => found.take_up(),

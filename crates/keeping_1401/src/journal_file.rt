@@ -1,7 +1,8 @@
 //! The file of a journal, as a sink of its lines.
 ghost use Rattle.std.specs.Prelude.{◌≡◌, ◌<◌, ◌≤◌, false, length, IfOk, None};
 
-use std::fs::File;
+use std::fs::{File, OpenFile};
+use std::os::unix::fs::MetadataExt;
 use streams_1401::{Failed, Sink, ToWriter};
 
 /// What a line of a journal outlasts, once it counts as written.
@@ -13,25 +14,57 @@ pub enum Durability {
     Disk,
 }
 
+/// What `getrlimit` is asked for the most bytes that a file may have.
+const RLIMIT_FSIZE: i32 = 1;
+
 /// Hands lines to a file, with one write each time, and forces each onto the disk if that is asked for. If that
-/// fails, so has the write, though the line may be in the file.
+/// fails, so has the write, though the line may be in the file. If another process has cut the file, added to it or
+/// taken it away, the write fails before a byte is written.
 #[derive(Drop)]
 pub struct JournalFile {
     file: File,
+    // How many bytes the file has.
+    len: u64,
+    // How many it may have.
+    most: u64,
     durability: Durability,
     failed: bool,
 }
 
+/// The most bytes that this process may have in a file. Whoever writes beyond that is ended by a signal, which can't be
+/// ignored from here.
+fn most_bytes() -> u64 {
+    let mut limit = libc::types::rlimit {
+        rlim_cur: u64::MAX,
+        rlim_max: u64::MAX,
+    };
+    if libc::getrlimit(RLIMIT_FSIZE, &mut limit) == 0 {
+        limit.rlim_cur
+    } else {
+        u64::MAX
+    }
+}
+
 impl JournalFile {
-    /// A sink that adds lines to this file, which was opened so that each write adds to its end.
-    pub fn new(file: File, durability: Durability) -> JournalFile
+    /// A sink that adds lines to this file of this many bytes, which was opened so that each write adds to its end.
+    pub fn new(file: File, len: u64, durability: Durability) -> JournalFile
         ensures received { ⟦<JournalFile as Sink>⟧.received result ≡ None }
         ensures failed { ⟦<JournalFile as Sink>⟧.has_failed result ≡ false }
     {
         JournalFile {
             file,
+            len,
+            most: most_bytes(),
             durability,
             failed: false,
+        }
+    }
+
+    /// Whether the file is as this sink left it, with a name, and may have a byte more.
+    fn is_whole(&self) -> bool {
+        match self.file.metadata() {
+            Ok(now) => now.len() == self.len && now.nlink() > 0 && self.len < self.most,
+            Err(_) => false,
         }
     }
 
@@ -40,6 +73,9 @@ impl JournalFile {
         ensures most { IfOk result (λ n. n ≤ length bytes.now) }
         ensures some { IfOk result (λ n. 0 < length bytes.now → 0 < n) }
     {
+        if !self.is_whole() {
+            return Err(Failed);
+        }
         let written = ToWriter::new(&self.file).put(bytes)?;
         match self.durability {
             Durability::System => Ok(written),
@@ -63,7 +99,10 @@ impl Sink for JournalFile {
 
     fn put(&mut self, bytes: &[u8]) -> Result<usize, Failed> {
         let written = self.write(bytes);
-        self.failed = written.is_err();
+        match written {
+            Ok(count) => self.len = self.len.saturating_add(count as u64),
+            Err(_) => self.failed = true,
+        }
         written
     }
 }

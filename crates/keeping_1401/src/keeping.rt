@@ -1,15 +1,16 @@
 //! A room whose journal is kept as a text.
-ghost use Rattle.std.specs.Prelude.{◌≡◌, [], false, length, IfOk, OnOk};
+ghost use Rattle.std.specs.Prelude.{◌≡◌, [], false, length, Err, IsTrue, IfOk, OnOk};
 ghost use Rattle.std.specs.Io.KnownBytes.{Appends};
 ghost use Rattle.std.specs.Option.{ForSome};
 ghost use Rattle.journal_1401.specs.JournalText.{journal_text};
 ghost use Rattle.lone_room_1401.specs.Kept.{BeginsWith};
 ghost use Rattle.keeping_1401.specs.Verifying.{emptied, verified};
 
+use crate::fault::TextFault;
 use crate::text_keeper::{Beginning, TextKeeper};
 use crate::verifier::Verifier;
 use journal_1401::write_journal;
-use lone_room_1401::{Entry, Keeper, KeptRoom, Room, Unkept};
+use lone_room_1401::{Entry, Keeper, KeptRoom, Room};
 use std::alloc::{AllocError, Global};
 use streams_1401::{Sink, put_all};
 
@@ -17,10 +18,12 @@ use streams_1401::{Sink, put_all};
 ///
 /// # Errors
 ///
-/// If memory is refused, or the line isn't written, or only a part of it.
-pub fn begin_text<S: Sink>(alloc: Global, size: u16, sink: &mut S) -> Result<(), Unkept>
+/// `Memory`, and nothing is written; or `Unwritten` if the line isn't written, or only a part of it.
+pub fn begin_text<S: Sink>(alloc: Global, size: u16, sink: &mut S) -> Result<(), TextFault>
     ensures text { OnOk result (Appends (S.received sink.old) (S.received sink.new) (journal_text size [])) }
     ensures good { OnOk result (S.has_failed sink.new ≡ false) }
+    ensures memory { result ≡ Err TextFault.Memory → S.received sink.new ≡ S.received sink.old }
+    ensures failed { result ≡ Err TextFault.Unwritten → IsTrue (S.has_failed sink.new) }
 {
     write_so_far(alloc, size, &[], sink)
 }
@@ -31,15 +34,17 @@ fn write_so_far<S: Sink>(
     size: u16,
     journal: &[Entry],
     sink: &mut S,
-) -> Result<(), Unkept>
+) -> Result<(), TextFault>
     ensures text { OnOk result (Appends (S.received sink.old) (S.received sink.new) (journal_text size journal.now)) }
     ensures good { OnOk result (S.has_failed sink.new ≡ false) }
+    ensures memory { result ≡ Err TextFault.Memory → S.received sink.new ≡ S.received sink.old }
+    ensures failed { result ≡ Err TextFault.Unwritten → IsTrue (S.has_failed sink.new) }
 {
     let Ok(text) = write_journal(alloc, size, journal) else {
-        return Err(Unkept);
+        return Err(TextFault::Memory);
     };
     if put_all(sink, text.as_slice()).is_err() || sink.has_failed() {
-        return Err(Unkept);
+        return Err(TextFault::Unwritten);
     }
     Ok(())
 }
@@ -48,12 +53,12 @@ fn write_so_far<S: Sink>(
 ///
 /// # Errors
 ///
-/// If memory is refused, or the text isn't written, or only a part of it.
+/// `Memory`, or `Unwritten` if the text isn't written, or only a part of it.
 pub fn keep_room<J: Beginning, S: Sink + Drop>(
     alloc: Global,
     room: Room,
     sink: S,
-) -> Result<KeptRoom<TextKeeper<J, S>>, Unkept>
+) -> Result<KeptRoom<TextKeeper<J, S>>, TextFault>
     // The call picks `J`.
     requires { J.first ≡ S.received sink }
     ensures room { IfOk result (λ kept. kept.room ≡ room) }

@@ -1,8 +1,8 @@
 //! Journals of the IBM 1401 that are kept in files: each entry is a line, written before its command's reply.
 //!
 //! ```text
-//! let sink = create_journal(rt, name, Durability::Disk)?;                 // new, and locked
-//! keep_session::<J, _, _, _>(alloc, room, sink, &mut reader, &mut writer) // each command is kept, then answered
+//! let made = create_journal(rt, name, Durability::Disk)?;                      // new, and locked
+//! keep_session::<J, _, _, _>(alloc, room, made.file, &mut reader, &mut writer) // each command is kept, then answered
 //! ```
 #![tactic(auto)]
 
@@ -17,20 +17,21 @@ pub mod text_keeper;
 // a sink for the text of a journal whose commands are carried out again
 pub mod verifier;
 
-// the files of journals
+// the files of journals, and new ones
 pub mod files;
 pub mod journal_file;
+pub mod new_file;
 
 // a journal shown or checked
 pub mod showing;
 
-pub use fault::{FileFault, KeepFault};
+pub use fault::{FileFault, KeepFault, TextFault};
 pub use files::{
-    FoundJournal, TakenUp, begin_journal, create_journal, find_journal, read_journal_file,
-    read_room, take_up_journal,
+    FoundJournal, TakenUp, find_journal, read_journal_file, read_room, take_up_journal,
 };
 pub use journal_file::{Durability, JournalFile};
 pub use keeping::{begin_text, keep_room, take_up_room, verify_journal};
+pub use new_file::{MadeJournal, MadeName, begin_journal, create_journal};
 pub use sessions::{keep_session, resume_session};
 pub use showing::{ShowFault, check_journal, show_journal};
 pub use text_keeper::{Beginning, TextKeeper};

@@ -1,12 +1,14 @@
 //! A session at the console of a room whose journal is kept as a text.
-ghost use Rattle.std.specs.Prelude.{◌≡◌, false};
+ghost use Rattle.std.specs.Prelude.{◌≡◌, false, Ok, IsTrue, IfOk, OnErr};
 ghost use Rattle.std.specs.Io.KnownBytes.{Appends};
 ghost use Rattle.journal_1401.specs.JournalText.{journal_text};
+ghost use Rattle.keeping_1401.specs.Sessions.{IsHeld};
 
+use crate::fault::TextFault;
 use crate::keeping::{keep_room, take_up_room};
 use crate::text_keeper::Beginning;
 use answering_1401::SessionEnd;
-use lone_room_1401::{Room, Unkept, session_kept};
+use lone_room_1401::{Room, session_kept};
 use std::alloc::Global;
 use streams_1401::{Sink, Source};
 
@@ -14,20 +16,28 @@ use streams_1401::{Sink, Source};
 ///
 /// # Errors
 ///
-/// If what the room has done so far isn't kept; then no session is held.
+/// If what the room has done so far isn't kept: `Memory`, or `Unwritten`. Then no session is held.
 pub fn keep_session<J: Beginning, S: Sink + Drop, R: Source, W: Sink>(
     alloc: Global,
     room: Room,
     sink: S,
     reader: &mut R,
     writer: &mut W,
-) -> Result<SessionEnd, Unkept>
+) -> Result<SessionEnd, TextFault>
     // The call picks `J`.
     requires { J.first ≡ S.received sink }
+    ensures held { IfOk result (λ end. IsHeld end room J.first (R.left reader.old) (R.left reader.new)
+        (W.received writer.old) (W.received writer.new)) }
+    ensures read { result ≡ Ok SessionEnd.Read → IsTrue (R.has_failed reader.new) }
+    ensures write { result ≡ Ok SessionEnd.Write → IsTrue (W.has_failed writer.new) }
+
+    // Without a session nothing is read and nothing is answered.
+    ensures unread { OnErr result (R.left reader.new ≡ R.left reader.old) }
+    ensures unanswered { OnErr result (W.received writer.new ≡ W.received writer.old) }
 {
     let mut kept = match keep_room::<J, S>(alloc, room, sink) {
         Ok(kept) => kept,
-        Err(unkept) => return Err(unkept),
+        Err(fault) => return Err(fault),
     };
     Ok(session_kept(alloc, &mut kept, reader, writer))
 }
@@ -43,6 +53,10 @@ pub fn resume_session<J: Beginning, S: Sink + Drop, R: Source, W: Sink>(
     // The call picks `J`.
     requires good { S.has_failed sink ≡ false }
     requires text { Appends J.first (S.received sink) (journal_text room.size room.journal) }
+    ensures held { IsHeld result room J.first (R.left reader.old) (R.left reader.new)
+        (W.received writer.old) (W.received writer.new) }
+    ensures read { result ≡ SessionEnd.Read → IsTrue (R.has_failed reader.new) }
+    ensures write { result ≡ SessionEnd.Write → IsTrue (W.has_failed writer.new) }
 {
     let mut kept = take_up_room::<J, S>(alloc, room, sink);
     session_kept(alloc, &mut kept, reader, writer)

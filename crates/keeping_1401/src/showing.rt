@@ -1,7 +1,7 @@
 //! A journal's text, shown or checked.
-ghost use Rattle.std.specs.Prelude.{◌≡◌, IfOk, IfErr, OnOk};
+ghost use Rattle.std.specs.Prelude.{◌≡◌, Err, IsTrue, IfOk, IfErr, OnOk};
 ghost use Rattle.journal_1401.specs.Reading.{IsRefused};
-ghost use Rattle.keeping_1401.specs.Showing.{IsOfEntries, IsShown, IsWhyNotShown};
+ghost use Rattle.keeping_1401.specs.Showing.{IsNotShown, IsOfEntries, IsShown};
 
 use journal_1401::{JournalFault, View, Wrong, list_journal, read_journal, recover_journal};
 use std::alloc::Global;
@@ -26,7 +26,8 @@ pub enum ShowFault {
 ///
 /// # Errors
 ///
-/// `Journal` if the text isn't a journal's, `Memory`, or `Output` if the listing isn't written.
+/// `Journal` if the text isn't a journal's: then nothing is written, but for the entries before an unfinished line.
+/// `Memory` if memory is refused for the listing of a journal, or `Output` if the listing isn't written.
 pub fn show_journal<W: Sink>(
     alloc: Global,
     text: &[u8],
@@ -34,7 +35,8 @@ pub fn show_journal<W: Sink>(
     writer: &mut W,
 ) -> Result<(), ShowFault>
     ensures shown { OnOk result (IsShown text.now view (W.received writer.old) (W.received writer.new)) }
-    ensures fault { IfErr result (IsWhyNotShown text.now) }
+    ensures fault { IfErr result (IsNotShown text.now view (W.received writer.old) (W.received writer.new)) }
+    ensures failed { result ≡ Err ShowFault.Output → IsTrue (W.has_failed writer.new) }
 {
     let (room, rest) = match recover_journal(alloc, text) {
         Ok(found) => found,
@@ -59,7 +61,7 @@ pub fn show_journal<W: Sink>(
 ///
 /// # Errors
 ///
-/// What is wrong with a text that isn't a journal's, or `Memory`.
+/// What is wrong with a text that isn't a journal's, or `Memory`, and the line at which that was found.
 pub fn check_journal(alloc: Global, text: &[u8]) -> Result<usize, JournalFault>
     ensures ok { IfOk result (IsOfEntries text.now) }
     ensures fault { IfErr result (IsRefused text.now) }

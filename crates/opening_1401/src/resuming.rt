@@ -150,8 +150,9 @@ fn verify_room<
         + RandomSource
         + Input<Reader = StdinLock<'static>>
         + Print
+        + Eprint
         + AllocGlobal
-        + Files,
+        + Files<File = File>,
 >(
     rt: &R,
     room: Room,

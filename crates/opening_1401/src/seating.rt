@@ -14,10 +14,9 @@ use core_1401::Core;
 use devices_1401::Card;
 use holding_1401::{HoldFault, durability_of, read_file};
 use image_1401::{Image, read_image};
-use keeping_1401::{JournalFile, TextKeeper, begin_journal};
+use keeping_1401::{JournalFile, MadeJournal, MadeName, TextKeeper, begin_journal};
 use room_1401::{Keeper, NoKeeper, Opened, RoomId, Seat, SharedRoom};
 use serving_1401::{SeatsFault, SeatsServed, TakingTurns, serve_pages};
-use std::fs;
 use std::fs::File;
 use std::io::StdinLock;
 use std::marker::Brand;
@@ -102,6 +101,7 @@ pub fn open_seats<
         + RandomSource
         + Input<Reader = StdinLock<'static>>
         + Print
+        + Eprint
         + AllocGlobal
         + Files<File = File>
         + Net<Listener = TcpListener, Stream = TcpStream>,
@@ -127,6 +127,7 @@ pub(crate) fn open_new<
         + RandomSource
         + Input<Reader = StdinLock<'static>>
         + Print
+        + Eprint
         + AllocGlobal
         + Files<File = File>,
 >(
@@ -145,12 +146,10 @@ pub(crate) fn open_new<
             rt, size, seats, before, opened, NoKeeper, entrances, None,
         );
     };
-    let Ok(made) = String::from_str(rt.alloc(), file.as_str()) else {
-        return Err(OpenFault::Hold(HoldFault::Memory));
-    };
-    let sink = begin_journal(rt, file, size, durability_of(sync)).map_err(not_kept)?;
-    let keeper = TextKeeper::<Brand, JournalFile>::new(rt.alloc(), sink);
-    let made = Some(made);
+    let made = begin_journal(rt, file, size, durability_of(sync)).map_err(not_kept)?;
+    let MadeJournal { file, name } = made;
+    let keeper = TextKeeper::<Brand, JournalFile>::new(rt.alloc(), file);
+    let made = Some(name);
     serve_room::<Brand, R, TextKeeper<Brand, JournalFile>>(
         rt, size, seats, before, opened, keeper, entrances, made,
     )
@@ -167,8 +166,9 @@ pub(crate) fn serve_room<
         + RandomSource
         + Input<Reader = StdinLock<'static>>
         + Print
+        + Eprint
         + AllocGlobal
-        + Files,
+        + Files<File = File>,
     K: Keeper + Drop + Send + Sync,
 >(
     rt: &R,
@@ -178,7 +178,7 @@ pub(crate) fn serve_room<
     opened: Opened,
     keeper: K,
     entrances: &Entrances,
-    made: Option<String>,
+    made: Option<MadeName>,
 ) -> Result<(), OpenFault>
     requires history { opened.book ≡ J.book }
     requires ledger { (opened.ledger ≡ J.name) × (opened.parts ≡ J.parts) × (J.parts ≡ J.seats) }
@@ -207,8 +207,9 @@ fn serve_begun<
         + RandomSource
         + Input<Reader = StdinLock<'static>>
         + Print
+        + Eprint
         + AllocGlobal
-        + Files,
+        + Files<File = File>,
     K: Keeper + Drop + Send + Sync,
 >(
     rt: &R,
@@ -216,7 +217,7 @@ fn serve_begun<
     mut seats: Vec<Seat<J>>,
     before: Before,
     entrances: &Entrances,
-    made: Option<String>,
+    made: Option<MadeName>,
 ) -> Result<(), OpenFault>
     requires ledger { J.parts ≡ J.seats }
     requires seats { AreAllSeats J.seats seats.items }
@@ -227,6 +228,7 @@ fn serve_begun<
         remove(rt, made);
         return Err(fault);
     }
+    drop(made);
     serve_operators(rt, room, seats, entrances)
 }
 
@@ -240,6 +242,7 @@ fn serve_operators<
         + RandomSource
         + Input<Reader = StdinLock<'static>>
         + Print
+        + Eprint
         + AllocGlobal,
     K: Keeper + Drop + Send + Sync,
 >(
@@ -270,8 +273,8 @@ fn tell_end<K: Keeper + Drop>(rt: &impl Print, served: SeatsServed<K>) -> Result
 }
 
 /// Takes away the file that was made for a journal, if one was: it has no journal of a room that operators came to.
-fn remove(rt: &impl Files, made: Option<String>) {
+fn remove(rt: &impl Files<File = File>, made: Option<MadeName>) {
     if let Some(name) = made {
-        let _ = fs::remove_file(rt, name.as_str());
+        let _name = name.remove(rt);
     }
 }

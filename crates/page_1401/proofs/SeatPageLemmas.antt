@@ -16,7 +16,7 @@ use Rattle.exchange_1401.specs.declared.route.Route.{Route}
 use Rattle.exchange_1401.specs.declared.route.Route.TheVariants.{Page, Picture, Line, WrongMethod, Unknown}
 use Rattle.page_1401.specs.declared.showing.Sight.{Sight}
 use Rattle.page_1401.specs.declared.showing.Sight.TheVariants.{Text, Same, NotInCore, Gone, NoMemory}
-use Rattle.exchange_1401.specs.Fields.{count_in, is_next}
+use Rattle.exchange_1401.specs.Fields.{count_in, is_ambiguous, is_next}
 use Rattle.exchange_1401.specs.Exchange.{Follows}
 use Rattle.exchange_1401.specs.Responses.{IsRefused}
 use Rattle.exchange_1401.specs.Route.{route_of}
@@ -39,7 +39,7 @@ sees size seats asked before (Text text) after s = looked size asked before afte
 sees size seats asked before Same after s = looked size asked before after s.0
 sees size seats asked before NotInCore after s = stays before after s.1
 sees size seats asked before Gone after s = stays before after s.1
-sees size seats asked before NoMemory after s = looked size asked before after s
+sees size seats asked before NoMemory after s = looked size asked before after s.0
 
 shows : (size seats : ℕ) (asked : Option Asked) (before : SeatView) (response : Response) (after : SeatView)
     → ShowsPicture size seats asked before response after → GoesOn before after
@@ -79,9 +79,12 @@ answers : (size : ℕ) (old : PageView) (request : Request (List ℕ)) (response
 answers size old request response new a =
     let head : Parts = head_of request in
     let to : Route = route_of head.method (uri_path head.uri) in
-    either _ (AnswersRoute size to old request response new) (IsRefused 403 response × (new ≡ old))
-    (GoesOn old.seat new.seat) a
-    (λ asked. route size to old request response new asked)
+    let Refused : ℕ → Type 0 = λ status. IsRefused status response × (new ≡ old) in
+    let Asked : Type 0 = AnswersRoute size to old request response new in
+    either _ (MatchBool (is_ambiguous head) (Refused 400) Asked) (Refused 403) (GoesOn old.seat new.seat) a
+    (λ own. either _ (Refused 400) Asked (GoesOn old.seat new.seat) own
+    (λ refused. stays old.seat new.seat (ap (λ (page : PageView). page.seat) refused.1))
+    (λ asked. route size to old request response new asked))
     (λ refused. stays old.seat new.seat (ap (λ (page : PageView). page.seat) refused.1))
 
 goes_then : (before middle after : SeatView) → GoesOn before middle → GoesOn middle after → GoesOn before after

@@ -10,7 +10,7 @@ use Rattle.room_1401.specs.Seen.{SeatView}
 use Rattle.exchange_1401.specs.declared.route.Route.{Route}
 use Rattle.exchange_1401.specs.declared.route.Route.TheVariants.{Page, Picture, Line, WrongMethod, Unknown}
 use Rattle.page_1401.specs.Asked.{asked_in}
-use Rattle.exchange_1401.specs.Fields.{host_of, is_for, origin_of}
+use Rattle.exchange_1401.specs.Fields.{host_of, is_ambiguous, is_for, origin_of}
 use Rattle.exchange_1401.specs.Responses.{IsRefused, page_fields}
 use Rattle.exchange_1401.specs.Route.{route_of}
 use Rattle.page_1401.specs.Showing.{ShowsPicture}
@@ -42,12 +42,15 @@ AnswersRoute size Line old request response new =
 AnswersRoute size WrongMethod old request response new = IsRefused 405 response × (new ≡ old)
 AnswersRoute size Unknown old request response new = IsRefused 404 response × (new ≡ old)
 
--- a request that isn't for the page's own host and port is refused, and leaves all as it was
+-- a request that isn't for the page's own host and port is refused, and so is a request that says twice where it comes
+-- from or what it goes on from; both leave all as it was
 abbrev pub Answers : ℕ → PageView → Request (List ℕ) → Response → PageView → Type 0
 Answers size old request response new =
     let head = head_of request in
     MatchBool (is_for head (host_of old.port))
-    (AnswersRoute size (route_of head.method (uri_path head.uri)) old request response new)
+    (MatchBool (is_ambiguous head)
+    (IsRefused 400 response × (new ≡ old))
+    (AnswersRoute size (route_of head.method (uri_path head.uri)) old request response new))
     (IsRefused 403 response × (new ≡ old))
 
 -- A seat's number stays, and what it has seen goes on.

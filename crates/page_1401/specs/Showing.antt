@@ -23,18 +23,19 @@ pub record HasLooked (size : ℕ) (asked : Asked) (before after : SeatView) : Ty
   pub made_is : after.made ≡ before.made
   pub grows : IsPrefix before.list after.list
 
--- what looking came to: the text of the picture after the commands that the seat has then seen; or that the page has
--- the picture after as many commands; or that the window isn't in core; or that nothing is published any more; or that
--- there was no memory
+-- what looking came to: the text of the picture after the commands that the seat has then seen, if the page hasn't the
+-- picture after as many commands; that it has it; that the window isn't in core; that nothing is published any more; or
+-- that memory was refused for the text
 abbrev pub Sees : ℕ → ℕ → Asked → SeatView → Sight → SeatView → Type 0
 Sees size seats asked before (Text text) after =
-    HasLooked size asked before after
+    HasLooked size asked before after × (has_seen asked.after (length after.list) ≡ false)
     × (text.items ≡ picture_text before.number seats before.made (picture_after size after.list asked.window))
 Sees size seats asked before Same after =
     HasLooked size asked before after × (has_seen asked.after (length after.list) ≡ true)
 Sees size seats asked before NotInCore after = (size < asked.window.core + window_cells) × (after ≡ before)
 Sees size seats asked before Gone after = (asked.window.core + window_cells ≤ size) × (after ≡ before)
-Sees size seats asked before NoMemory after = HasLooked size asked before after
+Sees size seats asked before NoMemory after =
+    HasLooked size asked before after × (has_seen asked.after (length after.list) ≡ false)
 
 -- what is answered then
 abbrev pub IsSightTold : Sight → Response → Type 0

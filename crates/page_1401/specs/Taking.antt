@@ -6,19 +6,22 @@ use Rattle.http_server.specs.declared.response.Response.{Response}
 use Rattle.http_server.specs.Response.{IsResponse}
 use Rattle.room_1401.specs.Seen.{SeatView}
 use Rattle.text_1401.specs.ConsoleLine.{said_by}
+use Rattle.console_1401.specs.declared.attending.Unanswered.{Unanswered}
+use Rattle.console_1401.specs.declared.attending.Unanswered.TheVariants.{Memory, Unkept}
 use Rattle.console_1401.specs.SeatTurns.{AnswersAtSeat, IsUnanswered}
 use Rattle.exchange_1401.specs.Fields.{count_in, has_field, is_next}
 use Rattle.exchange_1401.specs.Responses.{IsRefused, IsText, text_fields}
 
--- it was carried out, but its reply isn't told: 507 for want of memory, 500 if its entry wasn't kept
-abbrev pub IsUntold : Response → Type 0
-IsUntold response = IsResponse 507 text_fields [] response ⊎ IsResponse 500 text_fields [] response
+-- a line was carried out and isn't answered: 507 if memory was refused for its reply, 500 if its entry wasn't kept
+abbrev pub IsUnansweredBy : Unanswered → Response → Type 0
+IsUnansweredBy Memory response = IsResponse 507 text_fields [] response
+IsUnansweredBy Unkept response = IsResponse 500 text_fields [] response
 
--- the reply to a line, or that it isn't told
+-- the reply to a line, or by its reason that there is none
 abbrev pub IsReplied : ℕ → SeatView → List ℕ → Response → SeatView → Type 0
 IsReplied size before line response after =
     ((reply : List ℕ) × AnswersAtSeat size before (said_by line) reply after × IsText reply response)
-    ⊎ (IsUnanswered size before (said_by line) after × IsUntold response)
+    ⊎ ((why : Unanswered) × IsUnanswered size before (said_by line) after × IsUnansweredBy why response)
 
 -- A line is carried out at a seat, and answered by its reply. The seat has seen no less.
 pub record AnswersLine (size : ℕ) (before : SeatView) (line : List ℕ) (response : Response) (after : SeatView)

@@ -544,6 +544,7 @@ const TEXTS = {
   lost: 'The machine doesn\'t answer. This page tries again.',
   closed: 'The room is closed: the machine has been put away. This page tries again.',
   taken503: 'Somebody sits at this seat with a console. This page goes on when that operator has left.',
+  busy: 'Too many requests wait at this page. It tries again.',
   unkept: 'The journal\'s file can\'t be written, so the machine takes no more commands. Please tell the staff.',
   full: 'The journal is full, so the machine takes no more commands. Please tell the staff.',
   nearlyFull: 'The journal has {n} of its 100,000 entries. Please tell the staff.',
@@ -557,6 +558,7 @@ const TEXTS = {
     403: 'Not carried out: the server doesn\'t take lines from this page.',
     410: 'Not carried out: the room is closed.',
     503: 'Not carried out: a console sits at this seat.',
+    busy: 'Not carried out: too many requests wait at this page.',
     507: 'Carried out, but there was no memory for its reply.',
     500: 'Carried out, but its entry wasn\'t kept in the journal\'s file.',
     other: 'Not carried out: the server refused it ({status}).',
@@ -819,6 +821,11 @@ class Refused extends Error {
   }
 }
 
+/* The status of a response; "busy" where the server takes the request later, since too many wait. */
+function statusOf(response) {
+  return response.status === 503 && response.headers.has('Retry-After') ? 'busy' : response.status;
+}
+
 /* One exchange with the server after the other, so that counts and pictures are in order. */
 let queue = Promise.resolve();
 function inTurn(task) {
@@ -834,7 +841,7 @@ async function askForPicture(kept, after) {
   const response = await fetch(`/picture?${query}`, {cache: 'no-store', signal: AbortSignal.timeout(10 * RETRY_MS)});
   const text = await response.text();
   if (response.status === 204) return null;
-  if (response.status !== 200) throw new Refused(response.status);
+  if (response.status !== 200) throw new Refused(statusOf(response));
   return pictureOf(text);
 }
 
@@ -878,7 +885,7 @@ async function look() {
   }
 }
 
-const LINK_OF_STATUS = {410: 'closed', 503: 'taken503', 507: 'noMemory'};
+const LINK_OF_STATUS = {410: 'closed', 503: 'taken503', busy: 'busy', 507: 'noMemory'};
 function blame(why) {
   if (why instanceof Unreadable) setLink('unread');
   else if (!(why instanceof Refused)) setLink('lost');
@@ -916,7 +923,7 @@ async function send(line) {
   } catch {
     return lostLine(count);
   }
-  if (response.status !== 200) return refusedLine(response.status);
+  if (response.status !== 200) return refusedLine(statusOf(response));
   const reply = text.replace(/\n$/, '');
   view.made = madeAfter(line, reply, count);
   if (reply === 'FAULT 2 JOURNAL FULL') view.full = true;
@@ -1817,7 +1824,7 @@ poll();
 /// The `content-security-policy` of the page: its own script and style by their SHA-256, exchanges with its own server,
 /// and nothing else.
 pub const POLICY: &str = "default-src 'none'; \
-    script-src 'sha256-ZgopE9EwY086t8r2ApVAMGTfLd2cjRnCP3KxlSBf63U='; \
+    script-src 'sha256-GFXZAPktEotSEgW+r+G4Cv4ItbwPKbW7+HUrtn3BJiI='; \
     style-src 'sha256-iCePqYiqYxRX/6vm808e0HphUEqmBPevsWcLvpHN28s='; \
     img-src data:; \
     connect-src 'self'; \

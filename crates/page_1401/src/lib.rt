@@ -2,7 +2,7 @@
 //!
 //! ```text
 //! let mut page = SeatPage::new(alloc, rt, &room, seat, 8, 8080, html, policy)?;  // at http://127.0.0.1:8080/
-//! answer_page(rt, &mut page, &mut connections);          // its connections in turn, to the last one
+//! answer_page(rt, &mut page, &mut requests);             // its requests in turn, to the last one
 //! page.into_seat()                                       // the seat, with all that it made
 //! ```
 #![tactic(auto)]
@@ -18,15 +18,15 @@ mod taking;
 // the page's own text, and the policy under which a browser runs it
 pub mod document;
 
-// the page of a seat, and all its connections
+// the page of a seat, and all its requests
 pub mod listening;
 pub mod seat_page;
 
 pub use asked::{Asked, asked_by};
 pub use exchange_1401::{
-    Connections, Route, TakenSeat, answer, answer_connection, answer_each, has_begun, page_config,
-    route_of,
+    Requests, Route, TakenSeat, WholeRequest, answer, answer_bytes, answer_each, has_begun,
+    is_accepted, linger, page_config, read_request, route_of, send_answer,
 };
 pub use listening::answer_page;
 pub use picture_lines::picture_text;
-pub use seat_page::SeatPage;
+pub use seat_page::{SeatPage, page_origin};

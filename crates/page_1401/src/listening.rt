@@ -1,28 +1,27 @@
-//! The connections of a page, one after the other.
+//! The requests of a page, one after the other.
 ghost use Rattle.exchange_1401.specs.Exchange.{Follows};
 ghost use Rattle.page_1401.specs.SeatPage.{Answers, GoesOn};
 
 use crate::seat_page::SeatPage;
-use exchange_1401::{Connections, answer_each};
+use exchange_1401::{Requests, answer_each};
 use room_1401::{Keeper, RoomId};
 use std::alloc::AllocGlobal;
 use std::random::RandomSource;
 use std::sync::Wait;
-use std::time::Clock;
 
-/// Answers the connections of a seat's page one after the other, as `answer_each` does.
+/// Answers the requests of a seat's page one after the other, as `answer_each` does.
 pub fn answer_page<
-    R: AllocGlobal + RandomSource + Clock + Wait,
+    R: AllocGlobal + RandomSource + Wait,
     J: RoomId,
     H: Wait + Drop,
     P: Keeper + Drop,
     W: Wait,
-    C: Connections,
->(rt: &R, page: &mut SeatPage<'_, J, H, P, W>, connections: &mut C)
+    Q: Requests,
+>(rt: &R, page: &mut SeatPage<'_, J, H, P, W>, requests: &mut Q)
     ensures follows { Follows (Answers J.size) page.old page.new }
 
     // So no picture, and no reply, is of fewer of the room's commands than one before.
     ensures seat { GoesOn page.old.seat page.new.seat }
 {
-    answer_each(rt, page, connections);
+    answer_each(rt, page, requests);
 }

@@ -1,12 +1,12 @@
 //! The page of a seat: a service of HTTP over the seat.
 ghost use Rattle.std.specs.Prelude.{◌≡◌, ◌++◌, codes, IsTrue, IfErr, IfOk};
 ghost use Rattle.http_header.specs.FieldValue.{is_visible_text};
-ghost use Rattle.exchange_1401.specs.Fields.{host_of};
+ghost use Rattle.exchange_1401.specs.Fields.{host_of, origin_of};
 
 use crate::showing::show_picture;
 use crate::taking::take_line;
 use bytes::Bytes;
-use exchange_1401::{Route, is_for, put_page, refuse, route_of};
+use exchange_1401::{Route, is_ambiguous, is_for, put_page, refuse, route_of};
 use http::{Request, StatusCode};
 use http_server::{Response, Service};
 use notation_1401::put_digits;
@@ -69,6 +69,14 @@ fn origin_text(alloc: Global, host: &[u8]) -> Result<Vec<u8>, AllocError>
     let mut text = Vec::from_slice(alloc, b"http://")?;
     text.extend_from_slice(host)?;
     Ok(text)
+}
+
+/// Where a request of the page at this port comes from.
+pub fn page_origin(alloc: Global, port: u16) -> Result<Vec<u8>, AllocError>
+    ensures { IfOk result (λ text. text.items ≡ origin_of port) }
+{
+    let host = host_text(alloc, port)?;
+    origin_text(alloc, host.as_slice())
 }
 
 impl<'a, J: RoomId, R: Wait + Drop, P: Keeper + Drop, W: Wait> SeatPage<'a, J, R, P, W> {
@@ -145,6 +153,9 @@ impl<J: RoomId, R: Wait + Drop, P: Keeper + Drop, W: Wait> Service for SeatPage<
     ) -> Result<(), AllocError> {
         if !is_for(request, self.host.as_slice()) {
             return refuse(response, StatusCode::FORBIDDEN);
+        }
+        if is_ambiguous(request) {
+            return refuse(response, StatusCode::BAD_REQUEST);
         }
         match route_of(request.method().as_str(), request.uri().path()) {
             Route::Page => put_page(response, self.page, self.policy),

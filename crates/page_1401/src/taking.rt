@@ -1,9 +1,9 @@
 //! A console line, as a request brings one.
-ghost use Rattle.std.specs.Prelude.{◌≡◌, [], OnOk, OnErr};
+ghost use Rattle.std.specs.Prelude.{◌≡◌, [], IfOk, IfErr, OnOk, OnErr};
 ghost use Rattle.http.specs.Request.{body_of, head_of};
 ghost use Rattle.http_server.specs.Response.{IsBlank, IsResponse};
-ghost use Rattle.exchange_1401.specs.Responses.{text_fields};
-ghost use Rattle.page_1401.specs.Taking.{AnswersLine, TakesLine};
+ghost use Rattle.exchange_1401.specs.Responses.{text_fields, IsText};
+ghost use Rattle.page_1401.specs.Taking.{AnswersLine, IsUnansweredBy, TakesLine};
 
 use bytes::Bytes;
 use console_1401::{Unanswered, answer_line};
@@ -13,6 +13,19 @@ use http_server::Response;
 use room_1401::{Keeper, RoomId, Seat, SharedRoom};
 use std::alloc::{AllocError, Global};
 use std::sync::Wait;
+
+/// Fills in what came of a line.
+fn tell_outcome(response: &mut Response, outcome: &Result<Vec<u8>, Unanswered>)
+    requires { IsResponse 200 text_fields [] response.old }
+    ensures ok { IfOk outcome.now (λ reply. IsText reply.items response.new) }
+    ensures err { IfErr outcome.now (λ why. IsUnansweredBy why response.new) }
+{
+    match outcome {
+        Ok(reply) => end_with(response, reply.as_slice()),
+        Err(Unanswered::Memory) => end_without(response, StatusCode::INSUFFICIENT_STORAGE),
+        Err(Unanswered::Unkept) => end_without(response, StatusCode::INTERNAL_SERVER_ERROR),
+    }
+}
 
 /// Answers a line at a seat: its reply, or that there is none though it was carried out.
 fn answer_at<J: RoomId, R: Wait + Drop, P: Keeper + Drop, W: Wait>(
@@ -26,11 +39,8 @@ fn answer_at<J: RoomId, R: Wait + Drop, P: Keeper + Drop, W: Wait>(
     requires { IsResponse 200 text_fields [] response.old }
     ensures { AnswersLine J.size seat.old line.now response.new seat.new }
 {
-    match answer_line(alloc, wait, room, seat, line) {
-        Ok(reply) => end_with(response, reply.as_slice()),
-        Err(Unanswered::Memory) => end_without(response, StatusCode::INSUFFICIENT_STORAGE),
-        Err(Unanswered::Unkept) => end_without(response, StatusCode::INTERNAL_SERVER_ERROR),
-    }
+    let outcome = answer_line(alloc, wait, room, seat, line);
+    tell_outcome(response, &outcome);
 }
 
 /// Answers a request that brings a line to a seat: it has to come from the seat's own page, and to go on from what the

@@ -1,5 +1,6 @@
 pub mod ClosingLemmas
 pub mod HistoryLemmas
+pub mod KeepingLemmas
 pub mod PaperLemmas
 pub mod PrefixLemmas
 pub mod PublishLemmas

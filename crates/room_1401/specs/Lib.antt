@@ -1,5 +1,6 @@
 pub mod Closing
 pub mod History
+pub mod Keeping
 pub mod Opening
 pub mod Paper
 pub mod Picture

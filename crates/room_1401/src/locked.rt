@@ -1,9 +1,12 @@
 //! What the lock of a shared room keeps.
-ghost use Rattle.std.specs.Prelude.{◌≡◌, ◌+◌, ◌<◌, ◌≤◌, [], ◌∷◌, ◌++◌, true, length, IfOk, OnOk, OnErr, MatchBool};
+ghost use Rattle.std.specs.Prelude.{◌≡◌, ◌≢◌, ◌+◌, ◌<◌, ◌≤◌, ◌↔◌, [], ◌∷◌, ◌++◌, true, false, length, MatchBool};
+ghost use Rattle.std.specs.Prelude.{IfOk, IfErr, OnOk, OnErr};
 ghost use mathlib.Core.List.{IsPrefix};
 ghost use Rattle.room_1401.specs.Closing.{AllFit, IsSettled, back_of};
-ghost use Rattle.lone_room_1401.specs.Journal.{IsLegal, entry, most_entries, pairs_of};
+ghost use Rattle.lone_room_1401.specs.Journal.{IsLegal, entry, most_entries, refusal_of};
 ghost use Rattle.lone_room_1401.specs.Kept.{IsKeptAs};
+ghost use Rattle.lone_room_1401.specs.Replay.{reply_to};
+ghost use Rattle.room_1401.specs.Keeping.{HasFailed, HasKept, kept_part, shown_in};
 ghost use Rattle.room_1401.specs.Seen.{Carries, own};
 
 use crate::closing::{all_fit, merge_all};
@@ -18,7 +21,8 @@ use std::sync::Wait;
 use std::sync::ledger::{Book, Share};
 
 /// The room, with the history, the writer and the keeper, and the ledger's total. Whenever the lock is free, the room's
-/// machine and each recorded answer are those of the replay of its journal, and the total is the journal's length.
+/// machine and each recorded answer are those of the replay of its journal, and the total is the number of commands that
+/// are shown: all of the journal's, but for a last one whose entry wasn't kept.
 #[derive(Drop)]
 pub struct LockedRoom<J: RoomId, R: Wait + Drop, K: Keeper + Drop> {
     recorder: Recorder<J, R, K>,
@@ -30,14 +34,15 @@ pub struct LockedRoom<J: RoomId, R: Wait + Drop, K: Keeper + Drop> {
 
 impl<J: RoomId, R: Wait + Drop, K: Keeper + Drop> Model for LockedRoom<J, R, K> {
     ghost use Rattle.std.specs.Prelude.{◌≡◌, length};
-    ghost use Rattle.lone_room_1401.specs.Account.{Account};
+    ghost use Rattle.lone_room_1401.specs.Kept.{KeptAccount};
+    ghost use Rattle.room_1401.specs.Keeping.{shown_in};
 
-    ghost Value = { Account };
+    ghost Value = { KeptAccount };
 
     ghost view = { λ locked. locked.recorder };
 
     ghost invariant = { λ locked.
-        (locked.total.total ≡ length locked.recorder.journal)
+        (locked.total.total ≡ length (shown_in locked.recorder))
         × (locked.rest.parts ≡ 0)
         × (locked.rest.amount ≡ 0)
         × (locked.seats ≡ J.seats) };
@@ -51,7 +56,7 @@ impl<J: RoomId, R: Wait + Drop, K: Keeper + Drop> LockedRoom<J, R, K> {
         rest: Share<J>,
         seats: u8,
     ) -> LockedRoom<J, R, K>
-        requires room { recorder.journal ≡ [] }
+        requires room { (recorder.room.journal ≡ []) × (recorder.failed ≡ false) }
         requires total { total.total ≡ 0 }
         requires rest { (rest.parts ≡ 0) × (rest.amount ≡ 0) }
         requires seats { seats ≡ J.seats }
@@ -64,12 +69,14 @@ impl<J: RoomId, R: Wait + Drop, K: Keeper + Drop> LockedRoom<J, R, K> {
         }
     }
 
-    /// Brings the seat up to date; true if it has now seen exactly the journal.
+    /// Brings the seat up to date; true if it has now seen exactly what is shown, else it has seen more.
     fn brief(&self, seat: &mut Seat<J>) -> bool
         ensures same { (seat.new.number ≡ seat.old.number) × (seat.new.made ≡ seat.old.made) }
         ensures grows { IsPrefix seat.old.list seat.new.list }
         ensures own { seat.new.made ≤ own seat.new.number seat.new.list }
-        ensures list { MatchBool result (seat.new.list ≡ pairs_of self.now.journal) (Unit {0}) }
+        ensures list { MatchBool result (seat.new.list ≡ shown_in self.now)
+            (length (shown_in self.now) < length seat.new.list) }
+        ensures bound { length (shown_in self.now) ≤ most_entries }
     {
         let _total = &self.total;
         let front = self.recorder.front();
@@ -78,20 +85,45 @@ impl<J: RoomId, R: Wait + Drop, K: Keeper + Drop> LockedRoom<J, R, K> {
     }
 
     /// Carries a command out for a seat, records it with its answer, keeps the entry, and shows what the command did if
-    /// the entry is kept. All that can be refused is asked for before the machine moves.
+    /// the entry is kept. The seat sees what is shown, and so never a command whose entry isn't kept. All that can be
+    /// refused is asked for before the machine moves.
     pub(crate) fn carry(
         &mut self,
         seat: &mut Seat<J>,
         command: Command,
     ) -> Result<Carried, RoomFault>
-        ensures carried { IfOk result (λ carried.
-            Carries J.size seat.old.list seat.new.list seat.old.number command carried.answer) }
-        ensures made { OnOk result (seat.new.made ≡ seat.old.made + 1) }
         ensures recorded { IfOk result (λ carried.
-            self.new.journal ≡ self.old.journal ++ entry seat.old.number command carried.answer ∷ []) }
-        ensures err { OnErr result ((seat.new.made ≡ seat.old.made) × (self.new.journal ≡ self.old.journal)) }
-        ensures grows { OnErr result (IsPrefix seat.old.list seat.new.list) }
+            self.new.room.journal ≡ self.old.room.journal ++ entry seat.old.number command carried.answer ∷ []) }
         ensures number { seat.new.number ≡ seat.old.number }
+        ensures grows { IsPrefix seat.old.list seat.new.list }
+
+        // The entry is kept: the seat has seen its command, and no write has failed.
+        ensures carried { IfOk result (λ carried. carried.kept ≡ true
+            → Carries J.size seat.old.list seat.new.list seat.old.number command carried.answer) }
+        ensures made { IfOk result (λ carried. carried.kept ≡ true → seat.new.made ≡ seat.old.made + 1) }
+        ensures kept { IfOk result (λ carried. carried.kept ≡ true → self.new.failed ≡ false) }
+
+        // It isn't: the answer is the machine's after all that the seat has seen, and the write of the entry has failed.
+        ensures answered { IfOk result (λ carried. carried.kept ≡ false
+            → carried.answer ≡ reply_to J.size seat.new.list command) }
+        ensures same { IfOk result (λ carried. carried.kept ≡ false → seat.new.made ≡ seat.old.made) }
+        ensures unkept { IfOk result (λ carried. carried.kept ≡ false → self.new.failed ≡ true) }
+        ensures by_failure { IfOk result (λ carried. carried.kept ≡ false → HasFailed K.has_failed) }
+
+        // In each case the seat has seen exactly what is shown, and all of that is kept.
+        ensures list { OnOk result (seat.new.list ≡ shown_in self.new) }
+        ensures shown { OnOk result (HasKept K.has_failed K.kept K.first K.form J.size seat.new.list) }
+
+        // A refusal changes nothing in the room. The first to be refused is a seat that has seen more than is shown. Any
+        // other has then seen exactly that, and is refused as the recorder refuses it.
+        ensures err { OnErr result ((seat.new.made ≡ seat.old.made) × (self.new.room.journal ≡ self.old.room.journal)
+            × (self.new.failed ≡ self.old.failed) × (self.new.kept ≡ self.old.kept)) }
+        ensures no_reading { result ≡ Err RoomFault.NoReading → length (shown_in self.old) < length seat.new.list }
+        ensures failed { result ≢ Err RoomFault.NoReading
+            → ((result ≡ Err RoomFault.Unkept) ↔ (self.old.failed ≡ true)) }
+        ensures after_failure { result ≡ Err RoomFault.Unkept → HasFailed K.has_failed }
+        ensures fault { IfErr result (λ fault. fault ≢ RoomFault.NoReading → self.old.failed ≡ false
+            → (fault ≡ refusal_of self.old.room.journal) × (seat.new.list ≡ shown_in self.old)) }
         ensures full { result ≡ Err RoomFault.JournalFull → length seat.new.list ≡ most_entries }
         ensures memory { result ≡ Err RoomFault.Memory → length seat.new.list < most_entries }
     {
@@ -99,17 +131,23 @@ impl<J: RoomId, R: Wait + Drop, K: Keeper + Drop> LockedRoom<J, R, K> {
             return Err(RoomFault::NoReading);
         }
         let carried = self.recorder.carry(seat.number(), command)?;
+        if !carried.kept {
+            return Ok(carried);
+        }
         count_next(seat, &mut self.total, self.recorder.front());
         Ok(carried)
     }
 
-    /// A note of what the seat has then seen: all that the journal has.
+    /// A note of what the seat has then seen: all that is shown.
     pub(crate) fn note(&self, seat: &mut Seat<J>) -> Result<Told<J>, RoomFault>
         ensures same { (seat.new.number ≡ seat.old.number) × (seat.new.made ≡ seat.old.made) }
         ensures grows { IsPrefix seat.old.list seat.new.list }
-        ensures all { OnOk result (seat.new.list ≡ pairs_of self.now.journal) }
+        ensures all { OnOk result (seat.new.list ≡ shown_in self.now) }
         ensures told { IfOk result (λ told. told ≡ seat.new.list) }
-        ensures err { OnErr result (result ≡ Err RoomFault.NoReading) }
+
+        // It is refused exactly if the seat has seen more than is shown.
+        ensures err { OnErr result ((result ≡ Err RoomFault.NoReading)
+            × (length (shown_in self.now) < length seat.new.list)) }
     {
         if self.brief(seat) {
             Ok(Told::new(self.recorder.front().again()))
@@ -125,17 +163,18 @@ impl<J: RoomId, R: Wait + Drop, K: Keeper + Drop> LockedRoom<J, R, K> {
         self.seats
     }
 
-    /// Whether what each seat has seen is a prefix of the journal's commands.
+    /// Whether what each seat has seen is a prefix of the commands that are shown.
     pub(crate) fn knows(&self, seats: &[Seat<J>]) -> bool
-        ensures { result ≡ true → AllFit (pairs_of self.now.journal) seats.now }
+        ensures { result ≡ true → AllFit (shown_in self.now) seats.now }
     {
         all_fit(seats, self.recorder.front())
     }
 
     /// Ends the writer, and gives the room and its keeper.
     pub(crate) fn into_room(self) -> (Room, K)
-        ensures room { (result.0.journal ≡ self.journal) × (result.0.size ≡ J.size) }
+        ensures room { (result.0.journal ≡ self.room.journal) × (result.0.size ≡ J.size) }
         ensures legal { IsLegal J.size result.0.journal }
+        ensures failed { K.has_failed result.1 ≡ self.failed }
         ensures kept { IsKeptAs K.form J.size result.0.journal (K.has_failed result.1) K.first (K.kept result.1) }
     {
         let LockedRoom {
@@ -151,10 +190,11 @@ impl<J: RoomId, R: Wait + Drop, K: Keeper + Drop> LockedRoom<J, R, K> {
     pub(crate) fn settle(self, seats: Vec<Seat<J>>) -> (Room, K)
         requires parts { J.parts ≡ J.seats }
         requires back { back_of J.seats seats.items ≡ J.seats }
-        requires fit { AllFit (pairs_of self.journal) seats.items }
-        ensures room { (result.0.journal ≡ self.journal) × (result.0.size ≡ J.size) }
+        requires fit { AllFit (shown_in self) seats.items }
+        ensures room { (result.0.journal ≡ self.room.journal) × (result.0.size ≡ J.size) }
         ensures legal { IsLegal J.size result.0.journal }
-        ensures settled { IsSettled self.journal seats.items }
+        ensures settled { IsSettled (kept_part self.failed self.room.journal) seats.items }
+        ensures failed { K.has_failed result.1 ≡ self.failed }
         ensures kept { IsKeptAs K.form J.size result.0.journal (K.has_failed result.1) K.first (K.kept result.1) }
     {
         let LockedRoom {

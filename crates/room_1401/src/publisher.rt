@@ -1,7 +1,6 @@
 //! The writer of what a shared room shows.
-ghost use Rattle.std.specs.Prelude.{◌≡◌, ◌<◌, [], ◌∷◌, ◌++◌, List, drop, fold, IfOk, OnOk, OnErr};
-ghost use Rattle.lone_room_1401.specs.declared.entry.SeatedCommand.{SeatedCommand};
-ghost use Rattle.room_1401.specs.Rule.{Follows, Keeps, Publishes, changed};
+ghost use Rattle.std.specs.Prelude.{◌≡◌, ◌<◌, [], ◌∷◌, ◌++◌, drop, fold, IfOk, OnOk, OnErr};
+ghost use Rattle.room_1401.specs.Rule.{Follows, Keeps, changed};
 
 use crate::naming::RoomId;
 use crate::published::{Change, Shown};
@@ -68,21 +67,6 @@ impl<J: RoomId, R: Wait + Drop> Publisher<J, R> {
         ensures pending { drop self.new.writer.behind self.new.writer.log.items ≡ [] }
     {
         replace_with(&mut self.writer, &self.rt, show::<J, R>)
-    }
-
-    /// Shows the pending changes if they are kept. What is published and pending then is of the same commands.
-    pub(crate) fn show_kept(&mut self, kept: bool)
-        requires { Follows J.book J.size self.old.writer.desk.shown.value
-            (drop self.old.writer.behind self.old.writer.log.items) }
-        ensures { (pairs : List SeatedCommand)
-            → Publishes J.book J.size self.old.writer.desk.shown.value
-            (drop self.old.writer.behind self.old.writer.log.items) pairs
-            → Publishes J.book J.size self.new.writer.desk.shown.value
-            (drop self.new.writer.behind self.new.writer.log.items) pairs }
-    {
-        if kept {
-            self.show();
-        }
     }
 }
 

@@ -1,9 +1,10 @@
 //! A room with all that follows its journal: the history of its commands, what is published, and what is kept.
-ghost use Rattle.std.specs.Prelude.{◌≡◌, ◌+◌, ◌<◌, ◌≤◌, [], ◌∷◌, ◌++◌, true, false, length, drop, Some};
-ghost use Rattle.std.specs.Prelude.{IfOk, OnOk, OnErr};
+ghost use Rattle.std.specs.Prelude.{◌≡◌, ◌+◌, ◌<◌, ◌≤◌, ◌↔◌, [], ◌∷◌, ◌++◌, true, false, length, drop, Some};
+ghost use Rattle.std.specs.Prelude.{IfOk, IfErr, OnOk, OnErr};
 ghost use Rattle.std.specs.Io.KnownBytes.{Appends};
-ghost use Rattle.lone_room_1401.specs.Journal.{IsLegal, answer_to, entry, is_full, most_entries, pairs_of};
+ghost use Rattle.lone_room_1401.specs.Journal.{IsLegal, answer_to, entry, is_full, most_entries, pairs_of, refusal_of};
 ghost use Rattle.lone_room_1401.specs.Kept.{IsKeptAs, kept_text};
+ghost use Rattle.room_1401.specs.Keeping.{HasFailed, HasKept, shown_in};
 ghost use Rattle.room_1401.specs.Rule.{Publishes};
 
 use crate::history::{Head, SeenPrefix};
@@ -15,33 +16,39 @@ use lone_room_1401::{Carried, Entry, Keeper, Room, RoomFault, SeatedCommand};
 use std::marker::Model;
 use std::sync::Wait;
 
-/// A room with the history, the writer and the keeper. The history and what is published are the journal's, and what is
-/// kept is its text, or breaks off in the last line after a failed write. Contracts see the room.
+/// A room with the history, the writer and the keeper. What is shown is the replay of the commands whose entries are
+/// kept. What is kept is the text of the journal, or breaks off in the last line after a failed write. Contracts see the
+/// room, whether a write has failed, and what is kept.
 #[derive(Drop)]
 pub struct Recorder<J: RoomId, R: Wait + Drop, K: Keeper + Drop> {
     room: Room,
     head: Head<J>,
+    // The commands that are shown.
     front: SeenPrefix<J>,
     publisher: Publisher<J, R>,
     keeper: K,
 }
 
 impl<J: RoomId, R: Wait + Drop, K: Keeper + Drop> Model for Recorder<J, R, K> {
-    ghost use Rattle.std.specs.Prelude.{◌≡◌, drop};
-    ghost use Rattle.lone_room_1401.specs.Account.{Account};
-    ghost use Rattle.lone_room_1401.specs.Journal.{pairs_of};
-    ghost use Rattle.lone_room_1401.specs.Kept.{IsKeptAs};
+    ghost use Rattle.std.specs.Prelude.{◌≡◌, false, drop};
+    ghost use Rattle.lone_room_1401.specs.Kept.{IsKeptAs, KeptAccount};
+    ghost use Rattle.room_1401.specs.Keeping.{shown_by};
     ghost use Rattle.room_1401.specs.Rule.{Publishes};
 
-    ghost Value = { Account };
+    ghost Value = { KeptAccount };
 
-    ghost view = { λ it. it.room };
+    ghost view = { λ it. record {
+      room = it.room;
+      failed = K.has_failed it.keeper;
+      kept = K.kept it.keeper;
+    } };
 
     ghost invariant = { λ it.
         (it.room.size ≡ J.size)
-        × (it.front ≡ pairs_of it.room.journal)
-        × Publishes J.book J.size it.publisher.writer.desk.shown.value
-        (drop it.publisher.writer.behind it.publisher.writer.log.items) (pairs_of it.room.journal)
+        × (it.front ≡ shown_by (K.has_failed it.keeper) it.room.journal)
+        × (it.publisher.writer.desk.shown.value.front.log ≡ it.front)
+        × (K.has_failed it.keeper ≡ false → Publishes J.book J.size it.publisher.writer.desk.shown.value
+        (drop it.publisher.writer.behind it.publisher.writer.log.items) it.front)
         × IsKeptAs K.form it.room.size it.room.journal (K.has_failed it.keeper) K.first (K.kept it.keeper) };
 }
 
@@ -56,11 +63,13 @@ impl<J: RoomId, R: Wait + Drop, K: Keeper + Drop> Recorder<J, R, K> {
     ) -> Recorder<J, R, K>
         requires room { (room.size ≡ J.size) × (room.journal ≡ []) }
         requires front { front ≡ [] }
+        requires shown { publisher.writer.desk.shown.value.front.log ≡ [] }
         requires published { Publishes J.book J.size publisher.writer.desk.shown.value
             (drop publisher.writer.behind publisher.writer.log.items) [] }
         requires good { K.has_failed keeper ≡ false }
         requires kept { Appends K.first (K.kept keeper) (kept_text K.form room.size []) }
-        ensures { result.journal ≡ [] }
+        ensures journal { result.room.journal ≡ [] }
+        ensures failed { result.failed ≡ false }
     {
         Recorder {
             room,
@@ -71,9 +80,9 @@ impl<J: RoomId, R: Wait + Drop, K: Keeper + Drop> Recorder<J, R, K> {
         }
     }
 
-    /// All commands of the journal.
+    /// All commands that are shown.
     pub(crate) fn front(&self) -> &SeenPrefix<J>
-        ensures { result.now ≡ pairs_of self.now.journal }
+        ensures { result.now ≡ shown_in self.now }
     {
         &self.front
     }
@@ -81,12 +90,27 @@ impl<J: RoomId, R: Wait + Drop, K: Keeper + Drop> Recorder<J, R, K> {
     /// Carries a command out for a seat, records it with its answer, keeps the entry, and shows what the command did if
     /// the entry is kept. All that can be refused is asked for before the machine moves.
     pub(crate) fn carry(&mut self, seat: u8, command: Command) -> Result<Carried, RoomFault>
-        ensures answer { IfOk result (λ carried. carried.answer ≡ answer_to J.size self.old.journal command) }
+        ensures answer { IfOk result (λ carried. carried.answer ≡ answer_to J.size self.old.room.journal command) }
         ensures recorded { IfOk result (λ carried.
-            self.new.journal ≡ self.old.journal ++ entry seat command carried.answer ∷ []) }
-        ensures err { OnErr result (self.new.journal ≡ self.old.journal) }
-        ensures full { result ≡ Err RoomFault.JournalFull → length self.old.journal ≡ most_entries }
-        ensures memory { result ≡ Err RoomFault.Memory → length self.old.journal < most_entries }
+            self.new.room.journal ≡ self.old.room.journal ++ entry seat command carried.answer ∷ []) }
+
+        // If the answer may go out, the whole journal is kept; if it may not, no later command is taken.
+        ensures kept { IfOk result (λ carried. carried.kept ≡ true → self.new.failed ≡ false) }
+        ensures unkept { IfOk result (λ carried. carried.kept ≡ false → self.new.failed ≡ true) }
+
+        // In each case all that is shown is kept.
+        ensures shown { OnOk result (HasKept K.has_failed K.kept K.first K.form J.size (shown_in self.new)) }
+        ensures by_failure { IfOk result (λ carried. carried.kept ≡ false → HasFailed K.has_failed) }
+        ensures after_failure { result ≡ Err RoomFault.Unkept → HasFailed K.has_failed }
+
+        // A refusal changes nothing.
+        ensures good { OnOk result (self.old.failed ≡ false) }
+        ensures failed { (result ≡ Err RoomFault.Unkept) ↔ (self.old.failed ≡ true) }
+        ensures full { self.old.failed ≡ false
+            → ((result ≡ Err RoomFault.JournalFull) ↔ (is_full self.old.room.journal ≡ true)) }
+        ensures fault { IfErr result (λ fault. self.old.failed ≡ false → fault ≡ refusal_of self.old.room.journal) }
+        ensures err { OnErr result ((self.new.room.journal ≡ self.old.room.journal)
+            × (self.new.failed ≡ self.old.failed) × (self.new.kept ≡ self.old.kept)) }
     {
         if self.keeper.has_failed() {
             return Err(RoomFault::Unkept);
@@ -100,15 +124,19 @@ impl<J: RoomId, R: Wait + Drop, K: Keeper + Drop> Recorder<J, R, K> {
             &front,
             &next,
         )?;
-        self.publisher.show_kept(carried.kept);
+        if !carried.kept {
+            return Ok(carried);
+        }
+        self.publisher.show();
         self.front = front;
         Ok(carried)
     }
 
-    /// Ends the writer, and gives the room and its keeper.
+    /// Ends the writer, and gives the room and its keeper. What isn't shown by then never is.
     pub(crate) fn into_room(self) -> (Room, K)
-        ensures room { (result.0.journal ≡ self.journal) × (result.0.size ≡ J.size) }
+        ensures room { (result.0.journal ≡ self.room.journal) × (result.0.size ≡ J.size) }
         ensures legal { IsLegal J.size result.0.journal }
+        ensures failed { K.has_failed result.1 ≡ self.failed }
         ensures kept { IsKeptAs K.form J.size result.0.journal (K.has_failed result.1) K.first (K.kept result.1) }
     {
         let Recorder {
@@ -124,6 +152,8 @@ impl<J: RoomId, R: Wait + Drop, K: Keeper + Drop> Recorder<J, R, K> {
 }
 
 /// Makes room in the journal for one command more, and adds it to the history. Gives what the history has then reached.
+/// Nobody else adds to the history, so it is never longer than what was reached before; if it were, there would be no
+/// room for the command in it either.
 fn reserve<J: RoomId>(
     room: &mut Room,
     head: &Head<J>,
@@ -135,15 +165,16 @@ fn reserve<J: RoomId>(
     ensures spare { OnOk result (0 < room.new.spare) }
     ensures not_full { OnOk result (is_full room.old.journal ≡ false) }
     ensures room { (room.new.journal ≡ room.old.journal) × (room.new.size ≡ room.old.size) }
-    ensures full { result ≡ Err RoomFault.JournalFull → length room.old.journal ≡ most_entries }
-    ensures memory { result ≡ Err RoomFault.Memory → length room.old.journal < most_entries }
+    ensures full { (result ≡ Err RoomFault.JournalFull) ↔ (is_full room.old.journal ≡ true) }
+    ensures fault { IfErr result (λ fault. fault ≡ refusal_of room.old.journal) }
 {
     room.reserve()?;
     let mut more = front.again();
-    if !more.extend(head, *next) {
-        return Err(RoomFault::NoReading);
+    if more.extend(head, *next) {
+        Ok(more)
+    } else {
+        Err(RoomFault::Memory)
     }
-    Ok(more)
 }
 
 /// Carries the command out that leads to this front, records it with its answer, keeps the entry, and leaves the change
@@ -168,11 +199,19 @@ fn record<J: RoomId, R: Wait + Drop, K: Keeper>(
         room.new.journal ≡ room.old.journal ++ entry next.now.seat next.now.command carried.answer ∷ []) }
     ensures front { OnOk result (front.now ≡ pairs_of room.new.journal) }
     ensures size { room.new.size ≡ J.size }
+
+    // Nothing is shown yet.
+    ensures shown { publisher.new.writer.desk.shown.value ≡ publisher.old.writer.desk.shown.value }
     ensures published { Publishes J.book J.size publisher.new.writer.desk.shown.value
         (drop publisher.new.writer.behind publisher.new.writer.log.items) (pairs_of room.new.journal) }
-    ensures kept { IsKeptAs K.form room.new.size room.new.journal (K.has_failed keeper.new) K.first
+    ensures text { IsKeptAs K.form room.new.size room.new.journal (K.has_failed keeper.new) K.first
         (K.kept keeper.new) }
-    ensures err { OnErr result (room.new.journal ≡ room.old.journal) }
+    ensures before { OnOk result (HasKept K.has_failed K.kept K.first K.form J.size (pairs_of room.old.journal)) }
+    ensures kept { IfOk result (λ carried. carried.kept ≡ true → K.has_failed keeper.new ≡ false) }
+    ensures after { IfOk result (λ carried. carried.kept ≡ true
+        → HasKept K.has_failed K.kept K.first K.form J.size (pairs_of room.new.journal)) }
+    ensures unkept { IfOk result (λ carried. carried.kept ≡ false → K.has_failed keeper.new ≡ true) }
+    ensures err { OnErr result ((room.new.journal ≡ room.old.journal) × (keeper.new ≡ keeper.old)) }
     ensures memory { OnErr result (result ≡ Err RoomFault.Memory) }
 {
     let Ok(()) = publisher.append(change_to(&next.command, front)) else {
@@ -198,14 +237,23 @@ fn carry_kept<K: Keeper>(
     ensures answer { result.answer ≡ answer_to room.old.size room.old.journal next.now.command }
     ensures recorded { room.new.journal ≡ room.old.journal ++ entry next.now.seat next.now.command result.answer ∷ [] }
     ensures size { room.new.size ≡ room.old.size }
-    ensures kept { IsKeptAs K.form room.new.size room.new.journal (K.has_failed keeper.new) K.first
+    ensures text { IsKeptAs K.form room.new.size room.new.journal (K.has_failed keeper.new) K.first
         (K.kept keeper.new) }
+    ensures before { HasKept K.has_failed K.kept K.first K.form room.old.size (pairs_of room.old.journal) }
+
+    // The entry is said to be kept exactly if no write has failed.
+    ensures kept { result.kept ≡ true → K.has_failed keeper.new ≡ false }
+    ensures after { result.kept ≡ true
+        → HasKept K.has_failed K.kept K.first K.form room.new.size (pairs_of room.new.journal) }
+    ensures unkept { result.kept ≡ false → K.has_failed keeper.new ≡ true }
 {
+    let _before = room.journal();
     let Ok(answer) = room.carry(next.seat, next.command) else {
         unreachable!();
     };
     let entry = Entry::new(next.seat, &next.command, &answer);
     let kept = keeper.keep(number, &entry).is_ok();
+    let _after = room.journal();
     Carried { answer, kept }
 }
 

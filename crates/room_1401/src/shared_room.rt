@@ -8,6 +8,8 @@ ghost use Rattle.cpu_1401.specs.State.{power_on};
 ghost use Rattle.room_1401.specs.Closing.{ClosesBy, IsSettled, back_of};
 ghost use Rattle.lone_room_1401.specs.Journal.{IsLegal, most_entries};
 ghost use Rattle.lone_room_1401.specs.Kept.{IsKeptAs, kept_text};
+ghost use Rattle.lone_room_1401.specs.Replay.{reply_to};
+ghost use Rattle.room_1401.specs.Keeping.{HasFailed, HasKept, kept_part};
 ghost use Rattle.room_1401.specs.Rule.{Publishes};
 ghost use Rattle.room_1401.specs.Seen.{Carries, most_seats, newcomers, own};
 
@@ -69,9 +71,9 @@ impl<J: RoomId, R: Wait + Drop> SharedRoom<J, R> {
     ///
     /// # Errors
     ///
-    /// `NoReading` if what the seat has seen isn't the journal's length, which doesn't happen while seats and room are
-    /// of one `power_on`; else `JournalFull` if the journal has its 100,000 entries, else `Memory` if there
-    /// is no room for one more. The room's journal and machine are as they were.
+    /// `NoReading` if the seat has seen more than the journal has, which doesn't happen while seats and room are of one
+    /// `power_on`; else `JournalFull` if the journal has its 100,000 entries, else `Memory` if there is no room for one
+    /// more. The room's journal and machine are as they were.
     pub fn command<W: Wait>(
         &self,
         wait: &W,
@@ -86,15 +88,43 @@ impl<J: RoomId, R: Wait + Drop> SharedRoom<J, R> {
 
         // After a refusal the seat made no more, and it has seen no less.
         ensures err { OnErr result (seat.new.made ≡ seat.old.made) }
-        ensures grows { OnErr result (IsPrefix seat.old.list seat.new.list) }
+        ensures grows { IsPrefix seat.old.list seat.new.list }
         ensures full { result ≡ Err RoomFault.JournalFull → length seat.new.list ≡ most_entries }
 
-        // A journal that is full is told as nothing else.
+        // A full journal is never reported as refused memory, and nothing is ever reported as unkept.
         ensures memory { result ≡ Err RoomFault.Memory → length seat.new.list < most_entries }
+        ensures unkept { result ≢ Err RoomFault.Unkept }
+
+        // A seat that has seen nothing has seen no more than there is.
+        ensures no_reading { result ≡ Err RoomFault.NoReading → 0 < length seat.new.list }
     {
         match self.command_kept(wait, seat, command) {
             Ok(carried) => Ok(carried.answer),
             Err(fault) => Err(fault),
+        }
+    }
+
+    /// The room, with all its seats back.
+    ///
+    /// # Errors
+    ///
+    /// `Unreturned` if a number of the room's seats has no seat among them, else `NoReading`, as in `command`. The
+    /// room comes back, with the seats as they were.
+    pub fn close(
+        self,
+        seats: Vec<Seat<J>>,
+    ) -> Result<Room, (SharedRoom<J, R>, Vec<Seat<J>>, CloseFault)>
+        requires { J.parts ≡ J.seats }
+        ensures size { IfOk result (λ room. room.size ≡ J.size) }
+        ensures legal { IfOk result (λ room. IsLegal J.size room.journal) }
+        ensures settled { IfOk result (λ room. IsSettled room.journal seats.items) }
+        ensures back { OnOk result (back_of J.seats seats.items ≡ J.seats) }
+        ensures seats { IfErr result (λ back. back.1.items ≡ seats.items) }
+        ensures fault { IfErr result (λ back. ClosesBy J.seats seats.items back.2) }
+    {
+        match self.close_kept(seats) {
+            Ok((room, _keeper)) => Ok(room),
+            Err(back) => Err(back),
         }
     }
 }
@@ -132,8 +162,8 @@ impl<J: RoomId, R: Wait + Drop, K: Keeper + Drop> SharedRoom<J, R, K> {
         Ok((SharedRoom { locked }, made))
     }
 
-    /// As `command`, and keeps the entry before the answer may go out. If it couldn't be kept, no other seat's glance
-    /// shows what the command did, and no later command is taken.
+    /// As `command`, and keeps the entry before the answer may go out. If it couldn't be kept, the command isn't shown:
+    /// no seat sees it, this one included, and no later command is taken.
     ///
     /// # Errors
     ///
@@ -145,26 +175,42 @@ impl<J: RoomId, R: Wait + Drop, K: Keeper + Drop> SharedRoom<J, R, K> {
         seat: &mut Seat<J>,
         command: Command,
     ) -> Result<Carried, RoomFault>
-        ensures carried { IfOk result (λ carried.
-            Carries J.size seat.old.list seat.new.list seat.old.number command carried.answer) }
-        ensures made { OnOk result (seat.new.made ≡ seat.old.made + 1) }
-        ensures own { OnOk result (seat.new.made ≤ own seat.new.number seat.new.list) }
         ensures number { seat.new.number ≡ seat.old.number }
+        ensures grows { IsPrefix seat.old.list seat.new.list }
+        ensures own { OnOk result (seat.new.made ≤ own seat.new.number seat.new.list) }
 
-        // After a refusal the seat made no more, and it has seen no less.
+        // If the entry is kept, the seat has seen its command, and made one more.
+        ensures carried { IfOk result (λ carried. carried.kept ≡ true
+            → Carries J.size seat.old.list seat.new.list seat.old.number command carried.answer) }
+        ensures made { IfOk result (λ carried. carried.kept ≡ true → seat.new.made ≡ seat.old.made + 1) }
+
+        // If it isn't, a write has failed, and the seat made no more. The answer, which must not go out, is the machine's
+        // after all that the seat has seen.
+        ensures unkept { IfOk result (λ carried. carried.kept ≡ false → HasFailed K.has_failed) }
+        ensures same { IfOk result (λ carried. carried.kept ≡ false → seat.new.made ≡ seat.old.made) }
+        ensures answered { IfOk result (λ carried. carried.kept ≡ false
+            → carried.answer ≡ reply_to J.size seat.new.list command) }
+
+        // In both cases a keeper had the text of the journal of all that the seat has then seen.
+        ensures kept { OnOk result (HasKept K.has_failed K.kept K.first K.form J.size seat.new.list) }
+
+        // After a refusal the seat made no more.
         ensures err { OnErr result (seat.new.made ≡ seat.old.made) }
-        ensures grows { OnErr result (IsPrefix seat.old.list seat.new.list) }
+        ensures failed { result ≡ Err RoomFault.Unkept → HasFailed K.has_failed }
         ensures full { result ≡ Err RoomFault.JournalFull → length seat.new.list ≡ most_entries }
 
-        // A journal that is full is told as nothing else.
+        // A full journal is never reported as refused memory.
         ensures memory { result ≡ Err RoomFault.Memory → length seat.new.list < most_entries }
+
+        // A seat that has seen nothing has seen no more than there is.
+        ensures no_reading { result ≡ Err RoomFault.NoReading → 0 < length seat.new.list }
     {
         let carried = self.locked.lock(wait).carry(seat, command);
         let _made = seat.made();
         carried
     }
 
-    /// A note of what the seat has then seen: all that the journal has.
+    /// A note of what the seat has then seen: all commands whose entries are kept.
     ///
     /// # Errors
     ///
@@ -199,32 +245,8 @@ impl<J: RoomId, R: Wait + Drop, K: Keeper + Drop> SharedRoom<J, R, K> {
         locked.into_inner().into_room()
     }
 
-    /// The room, with all its seats back.
-    ///
-    /// # Errors
-    ///
-    /// `Unreturned` if a number of the room's seats has no seat among them, else `NoReading`, as in `command`. The
-    /// room comes back, with the seats as they were.
-    pub fn close(
-        self,
-        seats: Vec<Seat<J>>,
-    ) -> Result<Room, (SharedRoom<J, R, K>, Vec<Seat<J>>, CloseFault)>
-        requires { J.parts ≡ J.seats }
-        ensures size { IfOk result (λ room. room.size ≡ J.size) }
-        ensures legal { IfOk result (λ room. IsLegal J.size room.journal) }
-        ensures settled { IfOk result (λ room. IsSettled room.journal seats.items) }
-        ensures back { OnOk result (back_of J.seats seats.items ≡ J.seats) }
-        ensures seats { IfErr result (λ back. back.1.items ≡ seats.items) }
-        ensures fault { IfErr result (λ back. ClosesBy J.seats seats.items back.2) }
-    {
-        match self.close_kept(seats) {
-            Ok((room, _keeper)) => Ok(room),
-            Err(back) => Err(back),
-        }
-    }
-
     /// As `close`, and gives the keeper: what is kept is the text of the journal, or breaks off in the last line after
-    /// a failed write.
+    /// a failed write. The command of that last line is none that a seat made.
     ///
     /// # Errors
     ///
@@ -236,7 +258,8 @@ impl<J: RoomId, R: Wait + Drop, K: Keeper + Drop> SharedRoom<J, R, K> {
         requires { J.parts ≡ J.seats }
         ensures size { IfOk result (λ closed. closed.0.size ≡ J.size) }
         ensures legal { IfOk result (λ closed. IsLegal J.size closed.0.journal) }
-        ensures settled { IfOk result (λ closed. IsSettled closed.0.journal seats.items) }
+        ensures settled { IfOk result (λ closed.
+            IsSettled (kept_part (K.has_failed closed.1) closed.0.journal) seats.items) }
         ensures kept { IfOk result (λ closed.
             IsKeptAs K.form J.size closed.0.journal (K.has_failed closed.1) K.first (K.kept closed.1)) }
         ensures back { OnOk result (back_of J.seats seats.items ≡ J.seats) }
@@ -305,6 +328,7 @@ fn open_publisher<J: RoomId, R: Wait + Drop>(
     requires token { (token.log ≡ []) × (token.book ≡ J.book) }
     requires size { size ≡ J.size }
     requires readers { 0 < readers }
+    ensures shown { IfOk result (λ publisher. publisher.writer.desk.shown.value.front.log ≡ []) }
     ensures published { IfOk result (λ publisher. Publishes J.book J.size publisher.writer.desk.shown.value
         (drop publisher.writer.behind publisher.writer.log.items) []) }
     ensures err { OnErr result (result ≡ Err StartFault.Memory) }
@@ -355,6 +379,7 @@ fn open_seats<J: RoomId, R: Wait + Drop>(
     requires whole { (whole.old.parts ≡ total) × (whole.old.amount ≡ 0) }
     requires size { size ≡ J.size }
     requires seats { 0 < total }
+    ensures shown { IfOk result (λ made. made.0.writer.desk.shown.value.front.log ≡ []) }
     ensures published { IfOk result (λ made. Publishes J.book J.size made.0.writer.desk.shown.value
         (drop made.0.writer.behind made.0.writer.log.items) []) }
     ensures seats { IfOk result (λ made. made.1.items ≡ newcomers total) }

@@ -4,3 +4,5 @@ pub mod RunDeck
 pub mod TraceText
 pub mod RunTrace
 pub mod RunFile
+pub mod RunJob
+pub mod OneFile

@@ -15,6 +15,7 @@ IsUnreadFile file fault.Output = ⊥
 IsUnreadFile file fault.Size = ⊥
 IsUnreadFile file (fault.File name why) = string_bytes name ≡ file
 IsUnreadFile file (fault.Unwritten name) = ⊥
+IsUnreadFile file (fault.OneFile first second) = ⊥
 IsUnreadFile file (fault.Deck name why) = ⊥
 IsUnreadFile file (fault.Stopped ending) = ⊥
 IsUnreadFile file (fault.Source why) = ⊥
@@ -27,6 +28,7 @@ IsOfFile file fault.Output = ⊥
 IsOfFile file fault.Size = ⊥
 IsOfFile file (fault.File name why) = string_bytes name ≡ file
 IsOfFile file (fault.Unwritten name) = ⊥
+IsOfFile file (fault.OneFile first second) = ⊥
 IsOfFile file (fault.Deck name why) = string_bytes name ≡ file
 IsOfFile file (fault.Stopped ending) = ⊥
 IsOfFile file (fault.Source why) = ⊥
@@ -55,6 +57,7 @@ IsUnread how size names fault.Output = ⊥
 IsUnread how size names fault.Size = is_refused size ≡ true
 IsUnread how size names (fault.File name why) = IsInput names (string_bytes name)
 IsUnread how size names (fault.Unwritten name) = ⊥
+IsUnread how size names (fault.OneFile first second) = ⊥
 IsUnread how size names (fault.Deck name why) = IsDeck how names (string_bytes name)
 IsUnread how size names (fault.Stopped ending) = ⊥
 IsUnread how size names (fault.Source why) = how ≡ start.Entry
@@ -80,6 +83,7 @@ IsUnwrittenFile file fault.Output = ⊤
 IsUnwrittenFile file fault.Size = ⊥
 IsUnwrittenFile file (fault.File name why) = ⊥
 IsUnwrittenFile file (fault.Unwritten name) = file ≡ Some (string_bytes name)
+IsUnwrittenFile file (fault.OneFile first second) = ⊥
 IsUnwrittenFile file (fault.Deck name why) = ⊥
 IsUnwrittenFile file (fault.Stopped ending) = ⊥
 IsUnwrittenFile file (fault.Source why) = ⊥
@@ -92,6 +96,7 @@ IsUnwritten names fault.Output = ⊤
 IsUnwritten names fault.Size = ⊥
 IsUnwritten names (fault.File name why) = ⊥
 IsUnwritten names (fault.Unwritten name) = IsWrittenName names (string_bytes name)
+IsUnwritten names (fault.OneFile first second) = ⊥
 IsUnwritten names (fault.Deck name why) = ⊥
 IsUnwritten names (fault.Stopped ending) = ⊥
 IsUnwritten names (fault.Source why) = ⊥
@@ -104,6 +109,7 @@ IsOfRun names fault.Output = ⊤
 IsOfRun names fault.Size = ⊥
 IsOfRun names (fault.File name why) = ⊥
 IsOfRun names (fault.Unwritten name) = IsWrittenName names (string_bytes name)
+IsOfRun names (fault.OneFile first second) = ⊥
 IsOfRun names (fault.Deck name why) = ⊥
 IsOfRun names (fault.Stopped ending) = ending.report.stop ≢ stop.Halt
 IsOfRun names (fault.Source why) = ⊥
@@ -118,6 +124,26 @@ abbrev pub written_of : Job → WrittenNames
 written_of job = written_names (option_map string_bytes job.paper) (option_map string_bytes job.punch)
     (option_map string_bytes job.trace)
 
+-- a file that is read or written
+abbrev pub IsName : InputNames → WrittenNames → List ℕ → Type 0
+IsName inputs outputs name = IsInput inputs name ⊎ IsWrittenName outputs name
+
+-- why names are refused: two of them lead to one file, the second one of a file that is written
+abbrev pub IsOneFile : InputNames → WrittenNames → RunFault → Type 0
+IsOneFile inputs outputs fault.Output = ⊥
+IsOneFile inputs outputs fault.Size = ⊥
+IsOneFile inputs outputs (fault.File name why) = ⊥
+IsOneFile inputs outputs (fault.Unwritten name) = ⊥
+IsOneFile inputs outputs (fault.OneFile first second) =
+    IsName inputs outputs (string_bytes first) × IsWrittenName outputs (string_bytes second)
+IsOneFile inputs outputs (fault.Deck name why) = ⊥
+IsOneFile inputs outputs (fault.Stopped ending) = ⊥
+IsOneFile inputs outputs (fault.Source why) = ⊥
+IsOneFile inputs outputs (fault.Image why) = ⊥
+IsOneFile inputs outputs fault.Memory = ⊤
+
 -- what a run of files fails by
 abbrev pub IsFaultOf : Job → RunFault → Type 0
-IsFaultOf job why = IsUnread job.start job.size (inputs_of job) why ⊎ IsOfRun (written_of job) why
+IsFaultOf job why =
+    IsUnread job.start job.size (inputs_of job) why
+    ⊎ (IsOneFile (inputs_of job) (written_of job) why ⊎ IsOfRun (written_of job) why)

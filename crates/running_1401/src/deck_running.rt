@@ -16,7 +16,7 @@ use crate::watching::{HowFar, Watch};
 use calls_1401::Start;
 use cpu_1401::{Machine, Stop};
 use devices_1401::{Card, PrintLine};
-use job_1401::{Cards, Collected, Deck, Place, press_load_key, put_cards, put_paper, run_job};
+use job_1401::{CardList, Collected, Deck, Place, press_load_key, put_cards, put_paper, run_job};
 use std::alloc::Global;
 use streams_1401::{Sink, put_all};
 use thiserror::Error;
@@ -144,8 +144,8 @@ fn run_stretch<'d, W: Sink, P: Sink, F: Sink>(
     requires seen { trace.old.before ≡ seen_if (is_some trace.old.before) machine.old }
     requires file { is_some trace.old.before ≡ is_some trace.old.file }
     ensures ran { IfOk result (RanStretch left place
-        (with_deck (⟦<Deck<'d> as Cards>⟧.left deck.old) machine.old)
-        (with_deck (⟦<Deck<'d> as Cards>⟧.left deck.new) machine.new)
+        (with_deck deck.old machine.old)
+        (with_deck deck.new machine.new)
         (received (W.received paper.old) (P.received punch.old))
         (received (W.received paper.new) (P.received punch.new))) }
     ensures most { IfOk result (λ stretch. stretch.steps ≤ left) }
@@ -153,8 +153,8 @@ fn run_stretch<'d, W: Sink, P: Sink, F: Sink>(
     ensures good { OnOk result ((W.has_failed paper.new ≡ W.has_failed paper.old)
         × (P.has_failed punch.new ≡ P.has_failed punch.old)) }
     ensures part { OnErr result (HasWrittenPart place
-        (unattended left (with_deck (⟦<Deck<'d> as Cards>⟧.left deck.old) machine.old)).lines
-        (unattended left (with_deck (⟦<Deck<'d> as Cards>⟧.left deck.old) machine.old)).cards
+        (unattended left (with_deck deck.old machine.old)).lines
+        (unattended left (with_deck deck.old machine.old)).cards
         (received (W.received paper.old) (P.received punch.old))
         (received (W.received paper.new) (P.received punch.new))) }
     ensures why { IfErr result (λ why. IsWhyUnwritten why (W.has_failed paper.old) (W.has_failed paper.new)
@@ -163,12 +163,12 @@ fn run_stretch<'d, W: Sink, P: Sink, F: Sink>(
         → trace.new.before ≡ seen_if (is_some trace.old.before) machine.new) }
     ensures file { is_some trace.new.file ≡ is_some trace.old.file }
     ensures traced { IfOk result (λ stretch. TracedStretch (is_some trace.old.before) left stretch.steps stretch.stop
-        (with_deck (⟦<Deck<'d> as Cards>⟧.left deck.old) machine.old)
-        (with_deck (⟦<Deck<'d> as Cards>⟧.left deck.new) machine.new)
+        (with_deck deck.old machine.old)
+        (with_deck deck.new machine.new)
         (option_and_then F.received trace.old.file) (option_and_then F.received trace.new.file)) }
     ensures traced_part { OnErr result (AppendsPart (option_and_then F.received trace.old.file)
         (option_and_then F.received trace.new.file) (traced (is_some trace.old.before)
-        (trace_text left (with_deck (⟦<Deck<'d> as Cards>⟧.left deck.old) machine.old)))) }
+        (trace_text left (with_deck deck.old machine.old)))) }
     ensures traced_good { OnOk result (failed_of F.has_failed trace.new.file ≡ failed_of F.has_failed trace.old.file) }
     ensures why_untraced { IfErr result (λ why. IsWhyUntraced why (failed_of F.has_failed trace.old.file)
         (failed_of F.has_failed trace.new.file)) }
@@ -216,25 +216,25 @@ fn run_deck<'d, W: Sink, P: Sink, F: Sink, T: Watch>(
     watch: &mut T,
 ) -> Result<JobReport, Broken>
     ensures report { IfOk result (λ report. report ≡ report_of held
-        (unattended limit (with_deck (⟦<Deck<'d> as Cards>⟧.left deck.old) machine.old))) }
+        (unattended limit (with_deck deck.old machine.old))) }
     ensures written { OnOk result (HasWritten first_place
-        (unattended limit (with_deck (⟦<Deck<'d> as Cards>⟧.left deck.old) machine.old)).lines
-        (unattended limit (with_deck (⟦<Deck<'d> as Cards>⟧.left deck.old) machine.old)).cards
+        (unattended limit (with_deck deck.old machine.old)).lines
+        (unattended limit (with_deck deck.old machine.old)).cards
         (received (W.received paper.old) (P.received punch.old))
         (received (W.received paper.new) (P.received punch.new))) }
     ensures part { OnErr result (HasWrittenPart first_place
-        (unattended limit (with_deck (⟦<Deck<'d> as Cards>⟧.left deck.old) machine.old)).lines
-        (unattended limit (with_deck (⟦<Deck<'d> as Cards>⟧.left deck.old) machine.old)).cards
+        (unattended limit (with_deck deck.old machine.old)).lines
+        (unattended limit (with_deck deck.old machine.old)).cards
         (received (W.received paper.old) (P.received punch.old))
         (received (W.received paper.new) (P.received punch.new))) }
     ensures why { IfErr result (λ why. IsWhyUnwritten why (W.has_failed paper.old) (W.has_failed paper.new)
         (P.has_failed punch.old) (P.has_failed punch.new)) }
     ensures traced { OnOk result (Appends (option_and_then F.received trace.old.file)
         (option_and_then F.received trace.new.file) (traced (is_some trace.old.file)
-        (trace_text limit (with_deck (⟦<Deck<'d> as Cards>⟧.left deck.old) machine.old)))) }
+        (trace_text limit (with_deck deck.old machine.old)))) }
     ensures traced_part { OnErr result (AppendsPart (option_and_then F.received trace.old.file)
         (option_and_then F.received trace.new.file) (traced (is_some trace.old.file)
-        (trace_text limit (with_deck (⟦<Deck<'d> as Cards>⟧.left deck.old) machine.old)))) }
+        (trace_text limit (with_deck deck.old machine.old)))) }
     ensures why_untraced { IfErr result (λ why. IsWhyUntraced why (failed_of F.has_failed trace.old.file)
         (failed_of F.has_failed trace.new.file)) }
 {
@@ -273,7 +273,7 @@ fn run_deck<'d, W: Sink, P: Sink, F: Sink, T: Watch>(
 
 /// How many cards there are, in the hopper and after it.
 fn cards_held<'d>(machine: &Machine, deck: &Deck<'d>) -> u64
-    ensures { result ≡ length (with_deck (⟦<Deck<'d> as Cards>⟧.left deck.now) machine.now).devices.hopper }
+    ensures { result ≡ length (with_deck deck.now machine.now).devices.hopper }
 {
     u64::from(machine.regs().hopper) + deck.left() as u64
 }
@@ -292,7 +292,7 @@ fn run_no_card<'d, W: Sink, P: Sink, F: Sink, T: Watch>(
     watch: &mut T,
 ) -> Result<JobReport, Broken>
     ensures report { IfOk result (λ report. report ≡ report_of held
-        (ended 0 Stop.Reader (with_deck (⟦<Deck<'d> as Cards>⟧.left deck.old) machine.old))) }
+        (ended 0 Stop.Reader (with_deck deck.old machine.old))) }
     ensures written { OnOk result (HasWritten first_place
         machine.old.devices.paper machine.old.devices.stacker
         (received (W.received paper.old) (P.received punch.old))
@@ -334,7 +334,7 @@ fn run_no_card<'d, W: Sink, P: Sink, F: Sink, T: Watch>(
 pub fn run_started<W: Sink, P: Sink, F: Sink, T: Watch>(
     alloc: Global,
     machine: &mut Machine,
-    cards: &[Card],
+    cards: &CardList,
     start: Start,
     limit: u32,
     paper: &mut W,

@@ -25,6 +25,9 @@ pub enum RunFault {
     /// The file of this name can't be made or written.
     #[error("cannot write {0}")]
     Unwritten(String),
+    /// These names lead to one file, and the second is one of a file that is written.
+    #[error("{0} and {1} are one file")]
+    OneFile(String, String),
     /// The file of this name is no deck.
     #[error("{0}: {1}")]
     Deck(String, DeckFault),

@@ -1,7 +1,8 @@
 //! The files that a run reads: its program, and its deck.
-ghost use Rattle.std.specs.Prelude.{◌≡◌, true, false, None, Err, IfErr, option_map, string_bytes};
+ghost use Rattle.std.specs.Prelude.{◌≡◌, ◌++◌, true, false, None, Err, IfOk, IfErr, option_map, string_bytes};
 ghost use Rattle.calls_1401.specs.Sizes.{is_refused};
 ghost use Rattle.running_1401.specs.RunFile.{IsOfFile, IsUnread, IsUnreadFile, input_names};
+ghost use Rattle.running_1401.specs.RunJob.{HasFile, HasLoader, HasProgram, IsBegun, IsDeckText};
 
 use crate::fault::RunFault;
 use crate::programs::{Program, loaded_machine, program_of};
@@ -9,9 +10,8 @@ use autocoder_1401::Listing;
 use calls_1401::{DEFAULT_SIZE, Start, is_refused};
 use core_1401::CoreFault;
 use cpu_1401::Machine;
-use devices_1401::Card;
 use files_1401::{FileFault, read_whole};
-use job_1401::{DeckFault, read_deck};
+use job_1401::{CardList, DeckFault, read_deck};
 use source_1401::Language;
 use std::rt::Files;
 
@@ -40,11 +40,13 @@ pub fn tell_small_letters(rt: &impl Eprint, name: &str) {
 /// # Errors
 ///
 /// `File` if the file can't be read, `Deck` if a line is no card, or `Memory`.
+#[tactic(auto, using(crate::proofs::BegunLemmas::is_deck_text))]
 pub fn read_cards(
     rt: &(impl Files + Eprint + AllocGlobal),
     name: String,
-) -> Result<Vec<Card>, RunFault>
-    ensures { IfErr result (IsOfFile (string_bytes name)) }
+) -> Result<CardList, RunFault>
+    ensures cards { IfOk result IsDeckText }
+    ensures fault { IfErr result (IsOfFile (string_bytes name)) }
 {
     let Ok(label) = name.clone() else {
         return Err(RunFault::Memory);
@@ -68,12 +70,13 @@ pub(crate) struct Inputs {
     /// A machine with the program.
     pub machine: Machine,
     /// The cards that follow those in its hopper.
-    pub cards: Vec<Card>,
+    pub cards: CardList,
     /// The listing of the program's source, if it has one.
     pub listing: Option<Listing>,
 }
 
 /// A machine with the program of a source or an image, and no cards.
+#[tactic(auto, using(crate::proofs::BegunLemmas::has_program))]
 fn read_program(
     rt: &(impl Files + AllocGlobal),
     file: String,
@@ -81,7 +84,8 @@ fn read_program(
     size: Option<u16>,
 ) -> Result<Inputs, RunFault>
     requires { is_refused size ≡ false }
-    ensures { IfErr result (IsUnread Start.Entry size (input_names (string_bytes file) None)) }
+    ensures file { IfOk result (λ inputs. HasProgram language size inputs.machine inputs.cards) }
+    ensures fault { IfErr result (IsUnread Start.Entry size (input_names (string_bytes file) None)) }
 {
     let text = read_file(rt, file)?;
     let program = program_of(rt.alloc(), language, text.as_slice(), size)?;
@@ -89,19 +93,21 @@ fn read_program(
     let machine = loaded_machine(rt.alloc(), &image)?;
     Ok(Inputs {
         machine,
-        cards: Vec::new(rt.alloc()),
+        cards: CardList::new(rt.alloc()),
         listing,
     })
 }
 
 /// A machine at power-on, and the cards of a deck that loads itself.
+#[tactic(auto, using(crate::proofs::BegunLemmas::has_loader))]
 fn read_loader(
     rt: &(impl Files + Eprint + AllocGlobal),
     file: String,
     size: Option<u16>,
 ) -> Result<Inputs, RunFault>
     requires { is_refused size ≡ false }
-    ensures { IfErr result (IsUnread Start.LoadKey size (input_names (string_bytes file) None)) }
+    ensures file { IfOk result (λ inputs. HasLoader size inputs.machine inputs.cards) }
+    ensures fault { IfErr result (IsUnread Start.LoadKey size (input_names (string_bytes file) None)) }
 {
     let cards = read_cards(rt, file)?;
     match Machine::power_on(rt.alloc(), size.unwrap_or(DEFAULT_SIZE)) {
@@ -121,6 +127,7 @@ fn read_loader(
 ///
 /// `Size` if there is no core storage of the size named; `File` if a file can't be read; `Source`, `Image` or `Deck` if
 /// it has no program or is no deck; or `Memory`.
+#[tactic(auto, using(crate::proofs::BegunLemmas::begun_alone, crate::proofs::BegunLemmas::begun_with))]
 pub(crate) fn read_inputs(
     rt: &(impl Files + Eprint + AllocGlobal),
     file: String,
@@ -129,6 +136,8 @@ pub(crate) fn read_inputs(
     size: Option<u16>,
     cards: Option<String>,
 ) -> Result<Inputs, RunFault>
+    ensures begun { IfOk result (λ inputs. IsBegun start language size (option_map string_bytes cards)
+        inputs.machine inputs.cards) }
     ensures size { is_refused size ≡ true → result ≡ Err RunFault.Size }
     ensures fault { IfErr result
         (IsUnread start size (input_names (string_bytes file) (option_map string_bytes cards))) }
@@ -136,15 +145,50 @@ pub(crate) fn read_inputs(
     if is_refused(size) {
         return Err(RunFault::Size);
     }
-    let mut inputs = match start {
-        Start::Entry => read_program(rt, file, language, size)?,
-        Start::LoadKey => read_loader(rt, file, size)?,
-    };
-    if let Some(name) = cards {
-        let behind = read_cards(rt, name)?;
-        if inputs.cards.extend_from_slice(behind.as_slice()).is_err() {
-            return Err(RunFault::Memory);
+    let inputs = read_own(rt, file, start, language, size)?;
+    match cards {
+        Some(name) => {
+            let behind = read_cards(rt, name)?;
+            with_cards(inputs, &behind)
         }
+        None => Ok(inputs),
     }
-    Ok(inputs)
+}
+
+/// What the program's file gives.
+fn read_own(
+    rt: &(impl Files + Eprint + AllocGlobal),
+    file: String,
+    start: Start,
+    language: Language,
+    size: Option<u16>,
+) -> Result<Inputs, RunFault>
+    requires { is_refused size ≡ false }
+    ensures file { IfOk result (λ inputs. HasFile start language size inputs.machine inputs.cards) }
+    ensures fault { IfErr result (IsUnread start size (input_names (string_bytes file) None)) }
+{
+    match start {
+        Start::Entry => read_program(rt, file, language, size),
+        Start::LoadKey => read_loader(rt, file, size),
+    }
+}
+
+/// What a run begins with, with more cards after its own.
+fn with_cards(inputs: Inputs, behind: &CardList) -> Result<Inputs, RunFault>
+    ensures ok { IfOk result (λ more. (more.machine ≡ inputs.machine) × (more.cards ≡ inputs.cards ++ behind.now)) }
+    ensures err { IfErr result (λ why. why ≡ RunFault.Memory) }
+{
+    let Inputs {
+        machine,
+        cards,
+        listing,
+    } = inputs;
+    match cards.followed_by(behind) {
+        Ok(cards) => Ok(Inputs {
+            machine,
+            cards,
+            listing,
+        }),
+        Err(_) => Err(RunFault::Memory),
+    }
 }

@@ -9,6 +9,7 @@
 
 // what a run begins with
 mod inputs;
+mod one_file;
 pub mod programs;
 
 // a machine run with a deck; where what comes goes, and who is told

@@ -1,7 +1,9 @@
 //! What the subcommand `run` does.
-ghost use Rattle.std.specs.Prelude.{◌≡◌, true, Err, IfErr, option_map, string_bytes};
+ghost use Rattle.std.specs.Prelude.{◌≡◌, true, Err, IfOk, IfErr, OnOk, option_map, string_bytes};
+ghost use Rattle.job_1401.specs.Unattended.{with_deck};
 ghost use Rattle.running_1401.specs.Run.{job_outcome};
 ghost use Rattle.running_1401.specs.RunFile.{IsFaultOf, IsOfRun, IsUnwritten, written_names};
+ghost use Rattle.running_1401.specs.RunJob.{HasHalted, ReportsJob, ReportsStop, report_on, with_switches};
 ghost use Rattle.calls_1401.specs.Sizes.{is_refused};
 
 use crate::deck_running::{Broken, run_started};
@@ -9,13 +11,13 @@ use crate::ending::Ending;
 use crate::fault::{RunFault, job_outcome};
 use crate::inputs::{Inputs, read_inputs};
 use crate::job_report::JobReport;
+use crate::one_file::{Clash, check_names};
 use crate::outputs::{OutputNames, Outputs, create_outputs};
 use crate::tracing::Trace;
 use crate::watching::{Shown, Unwatched, Watch};
-use calls_1401::{Job, Start};
+use calls_1401::{Job, Start, is_refused};
 use cpu_1401::{Machine, Stop};
-use devices_1401::Card;
-use files_1401::hold_closed_streams;
+use job_1401::CardList;
 use std::io;
 use std::rt::{Clock, Files};
 use streams_1401::{Sink, ToWriter};
@@ -30,9 +32,12 @@ pub enum ErrorOutput {
 }
 
 /// Sets the sense switches.
-fn set_switches(machine: &mut Machine, switches: &[bool; 7]) {
-    for n in 0..7 {
-        machine.switch(n, switches[usize::from(n)]);
+#[tactic(auto, using(crate::proofs::RunJobLemmas::turned_more, crate::proofs::RunJobLemmas::turned_none))]
+fn set_switches(machine: &mut Machine, switches: &[bool; 7])
+    ensures { machine.new ≡ with_switches switches.now machine.old }
+{
+    for (n, on) in switches.iter().enumerate() {
+        machine.switch(n as u8, *on);
     }
 }
 
@@ -41,13 +46,15 @@ fn run_shown<R: Eprint + Clock + AllocGlobal, W: Sink, P: Sink, F: Sink>(
     rt: &R,
     error_output: ErrorOutput,
     machine: &mut Machine,
-    cards: &[Card],
+    cards: &CardList,
     start: Start,
     limit: u32,
     paper: &mut W,
     punch: &mut P,
     trace: &mut Trace<F>,
-) -> Result<JobReport, Broken> {
+) -> Result<JobReport, Broken>
+    ensures { IfOk result (λ report. report ≡ report_on start limit (with_deck cards.now machine.old)) }
+{
     let alloc = rt.alloc();
     match error_output {
         ErrorOutput::Terminal => {
@@ -72,11 +79,13 @@ fn run_into<R: Files + Print + Eprint + Clock + AllocGlobal>(
     rt: &R,
     error_output: ErrorOutput,
     machine: &mut Machine,
-    cards: &[Card],
+    cards: &CardList,
     start: Start,
     limit: u32,
     outputs: Outputs<ToWriter<R::File>>,
-) -> Result<JobReport, Broken> {
+) -> Result<JobReport, Broken>
+    ensures { IfOk result (λ report. report ≡ report_on start limit (with_deck cards.now machine.old)) }
+{
     let Outputs {
         paper,
         mut punch,
@@ -120,12 +129,13 @@ fn run_inputs<R: Files + Print + Eprint + Clock + AllocGlobal>(
     rt: &R,
     error_output: ErrorOutput,
     machine: &mut Machine,
-    cards: &[Card],
+    cards: &CardList,
     start: Start,
     limit: u32,
     names: OutputNames,
 ) -> Result<JobReport, RunFault>
-    ensures { IfErr result (IsUnwritten (written_names (option_map string_bytes names.paper)
+    ensures report { IfOk result (λ report. report ≡ report_on start limit (with_deck cards.now machine.old)) }
+    ensures fault { IfErr result (IsUnwritten (written_names (option_map string_bytes names.paper)
         (option_map string_bytes names.punch) (option_map string_bytes names.trace))) }
 {
     let outputs = match create_outputs(rt, &names) {
@@ -138,19 +148,26 @@ fn run_inputs<R: Files + Print + Eprint + Clock + AllocGlobal>(
     }
 }
 
-/// Runs a program with its deck, and tells on standard error how it ended, if it halted.
+/// Runs a program with its deck, and says on standard error how it ended, if it halted.
 ///
 /// # Errors
 ///
-/// `Size` if there is no core storage of the size named; `File`, `Source`, `Image` or `Deck` if there is no program or
-/// no deck; `Unwritten` or `Output` if a file can't be made, or paper, cards or trace aren't written; `Stopped` if the
-/// machine stopped otherwise than by a halt; or `Memory`.
+/// `Size` if there is no core storage of the size named; `OneFile` if two of the names lead to one file, the second one
+/// of a file that is written; `File`, `Source`, `Image` or `Deck` if there is no program or no deck; `Unwritten` or
+/// `Output` if a file can't be made, or paper, cards or trace aren't written; `Stopped` if the machine stopped
+/// otherwise than by a halt; or `Memory`.
+#[tactic(auto, using(crate::proofs::RunJobLemmas::unread_reports, crate::proofs::RunJobLemmas::run_halted, crate::proofs::RunJobLemmas::run_stopped))]
 pub fn run_file<R: Files + Print + Eprint + Clock + AllocGlobal>(
     rt: &R,
     error_output: ErrorOutput,
     job: Job,
 ) -> Result<(), RunFault>
     ensures size { is_refused job.size ≡ true → result ≡ Err RunFault.Size }
+
+    // Without a fault the job that is asked for ran to a halt, with its switches, its limit and what its files were
+    // read as; and any other stop that is reported is that job's.
+    ensures halted { OnOk result (HasHalted job) }
+    ensures stopped { IfErr result (ReportsJob job) }
 
     // No halt is told as a fault, and no size that there is; a deck that loads itself is neither source nor image; and
     // a fault of a file names one of the job's.
@@ -168,20 +185,28 @@ pub fn run_file<R: Files + Print + Eprint + Clock + AllocGlobal>(
         limit,
         switches,
     } = job;
-    let _held = hold_closed_streams(rt);
-    let inputs = match read_inputs(rt, file, start, language, size, cards) {
-        Ok(inputs) => inputs,
-        Err(fault) => return Err(fault),
-    };
+    if is_refused(size) {
+        return Err(RunFault::Size);
+    }
     let names = OutputNames {
         paper,
         punch,
         trace,
     };
+    match check_names(rt, file.as_str(), &cards, &names) {
+        Ok(()) => {}
+        Err(Clash::Memory) => return Err(RunFault::Memory),
+        Err(Clash::Names(first, second)) => return Err(RunFault::OneFile(first, second)),
+    }
+    let inputs = match read_inputs(rt, file, start, language, size, cards) {
+        Ok(inputs) => inputs,
+        Err(fault) => return Err(fault),
+    };
     run_and_tell(rt, error_output, inputs, start, limit, &switches, names)
 }
 
 /// Runs what was read, writes to the files of these names, and tells how it ended.
+#[tactic(auto, using(crate::proofs::RunJobLemmas::unwritten_reports))]
 fn run_and_tell<R: Files + Print + Eprint + Clock + AllocGlobal>(
     rt: &R,
     error_output: ErrorOutput,
@@ -191,7 +216,11 @@ fn run_and_tell<R: Files + Print + Eprint + Clock + AllocGlobal>(
     switches: &[bool; 7],
     names: OutputNames,
 ) -> Result<(), RunFault>
-    ensures { IfErr result (IsOfRun (written_names (option_map string_bytes names.paper)
+    ensures halted { OnOk result ((report_on start limit
+        (with_deck inputs.cards (with_switches switches.now inputs.machine))).stop ≡ Stop.Halt) }
+    ensures stopped { IfErr result (ReportsStop (report_on start limit
+        (with_deck inputs.cards (with_switches switches.now inputs.machine)))) }
+    ensures fault { IfErr result (IsOfRun (written_names (option_map string_bytes names.paper)
         (option_map string_bytes names.punch) (option_map string_bytes names.trace))) }
 {
     let Inputs {
@@ -200,15 +229,7 @@ fn run_and_tell<R: Files + Print + Eprint + Clock + AllocGlobal>(
         listing,
     } = inputs;
     set_switches(&mut machine, switches);
-    match run_inputs(
-        rt,
-        error_output,
-        &mut machine,
-        cards.as_slice(),
-        start,
-        limit,
-        names,
-    ) {
+    match run_inputs(rt, error_output, &mut machine, &cards, start, limit, names) {
         Ok(report) => {
             tell_ending(
                 rt,

@@ -1,140 +1,209 @@
-//! The connections that come to a page. Each waits for its first byte in a thread of its own, so that one which sends
-//! nothing, as browsers open ahead, delays no other.
+//! The connections that come to a page. Each has a thread of its own, in which its request comes and its answer is
+//! sent; so a connection that sends nothing, as browsers open ahead, or that takes nothing, delays no other.
 
-use crossbeam_channel::{Receiver, Sender};
+use crate::crowd::{Crowd, NAPS, Stage};
+use crossbeam_channel::{Sender, bounded};
 use desk_1401::{SeatsFault, Service};
-use page_1401::{Connections, has_begun};
+use page_1401::{WholeRequest, has_begun, linger, read_request, send_answer};
 use room_1401::RoomId;
-use std::net::{TcpListener, TcpStream};
-use std::sync::Wait;
-use std::sync::atomic::Ordering::SeqCst;
-use std::sync::atomic::{AtomicBool, AtomicU64};
+use std::alloc::{AllocGlobal, Global};
+use std::io::{Read, Write};
+use std::net::{Shutdown, TcpListener, TcpStream};
+use std::random::RandomSource;
+use std::sync::{Arc, Wait};
 use std::thread;
 use std::thread::{Scope, Threads};
+use std::time::Clock;
 
-/// How many connections of a page may wait: for their first byte, and then for their turn. One more is closed at once.
-pub(crate) const MOST_WAITING: usize = 64;
+/// What a connection is answered if all that have a thread wait for their answers.
+const BUSY: &[u8] =
+    b"HTTP/1.1 503 Service Unavailable\r\ncontent-type: text/plain; charset=utf-8\r\n\
+cache-control: no-store\r\nx-content-type-options: nosniff\r\nreferrer-policy: no-referrer\r\nconnection: close\r\n\
+retry-after: 1\r\ncontent-length: 28\r\n\r\ntoo many requests wait here\n";
 
-/// The connections of a page whose first byte has come, in turn, until the room is being closed.
+/// How many reads are made of what a connection has sent that is too many.
+const MOST_READS: usize = 16;
+
+/// A request that waits to be answered.
 #[derive(Drop)]
-pub(crate) struct Arrivals<'a, R: Wait> {
-    rt: &'a R,
-    begun: Receiver<TcpStream>,
-    waiting: &'a AtomicU64,
-    is_closing: &'a AtomicBool,
-    first: Option<TcpStream>,
-}
-
-impl<'a, R: Wait> Arrivals<'a, R> {
-    /// Those that are received here, of as many as wait.
-    pub(crate) fn new(
-        rt: &'a R,
-        begun: Receiver<TcpStream>,
-        waiting: &'a AtomicU64,
-        is_closing: &'a AtomicBool,
-    ) -> Arrivals<'a, R> {
-        Arrivals {
-            rt,
-            begun,
-            waiting,
-            is_closing,
-            first: None,
-        }
-    }
-
-    /// Gives a connection back, which is then the next one.
-    pub(crate) fn put_back(&mut self, stream: TcpStream) {
-        self.first = Some(stream);
-    }
-}
-
-impl<R: Wait> Connections for Arrivals<'_, R> {
-    fn next_connection(&mut self) -> Option<TcpStream> {
-        if let Some(first) = self.first.take() {
-            return Some(first);
-        }
-        let Ok(stream) = self.begun.recv(self.rt) else {
-            return None;
-        };
-        self.waiting.fetch_sub(1, SeqCst);
-        if self.is_closing.load(SeqCst) {
-            return None;
-        }
-        Some(stream)
-    }
+pub(crate) struct Asked {
+    /// The request.
+    pub request: WholeRequest,
+    /// Where its answer goes.
+    pub reply: Sender<Vec<u8>>,
 }
 
 /// Accepts the connections of a page, until the room is being closed or one can't be accepted, and waits until each has
-/// begun or was given up.
+/// ended.
 pub(crate) fn accept_arrivals<J, R>(
+    alloc: Global,
     rt: &R,
     service: &Service<J>,
     listener: &TcpListener,
-    begun: Sender<TcpStream>,
-    waiting: &AtomicU64,
+    origin: &[u8],
+    crowd: &Crowd,
+    asked: Sender<Asked>,
 )
 where
     J: RoomId + Send + Sync,
-    R: Threads + Wait + Sync,
+    R: Threads + Wait + Sync + Clock + AllocGlobal + RandomSource,
 {
     thread::scope(thread::scope_env(), rt, move |scope| {
-        accept_each_arrival(scope, rt, service, listener, begun, waiting)
+        accept_each_arrival(scope, alloc, rt, service, listener, origin, crowd, asked)
     });
 }
 
 /// Accepts connections, and starts the thread of each.
 fn accept_each_arrival<'s, E: 's, J, R>(
     scope: &Scope<'s, E>,
+    alloc: Global,
     rt: &'s R,
     service: &'s Service<J>,
     listener: &TcpListener,
-    begun: Sender<TcpStream>,
-    waiting: &'s AtomicU64,
+    origin: &'s [u8],
+    crowd: &'s Crowd,
+    asked: Sender<Asked>,
 )
 where
     J: RoomId + Send + Sync + 's,
-    R: Threads + Wait + Sync + 's,
+    R: Threads + Wait + Sync + Clock + AllocGlobal + RandomSource + 's,
 {
+    let mut number = 0;
+    let mut looks = NAPS;
     for _ in rt.forever() {
         let Some(stream) = service.accept(rt, listener) else {
-            return;
+            break;
         };
-        if waiting.fetch_add(1, SeqCst) >= MOST_WAITING as u64 {
-            waiting.fetch_sub(1, SeqCst);
-            continue;
-        }
-        if !start_arrival(scope, rt, stream, &begun, waiting) {
-            waiting.fetch_sub(1, SeqCst);
-            service.note(rt, SeatsFault::Thread);
+        number = next_after(number);
+        match let_in(
+            scope, alloc, rt, origin, crowd, stream, number, looks, &asked,
+        ) {
+            // Once one was refused, the next one isn't waited for until there is a place again.
+            Ok(is_inside) => looks = if is_inside { NAPS } else { 1 },
+            Err(fault) => service.note(rt, fault),
         }
     }
+    crowd.close_idle(rt);
 }
 
-/// Starts the thread in which a connection waits for its first byte, and tells whether there is one; else the
-/// connection is closed.
-fn start_arrival<'s, E: 's, R: Threads + Wait + Sync + 's>(
+/// The next number. Nobody counts to the last one.
+fn next_after(number: u64) -> u64 {
+    number.wrapping_add(1)
+}
+
+/// Lets a connection in, and starts its thread; or answers that too many wait, if they do each time that it looks.
+/// Returns whether it was let in.
+///
+/// # Errors
+///
+/// `Memory` if there is none for its handles, `Thread` if its thread was refused. The connection is closed.
+fn let_in<'s, E: 's, R>(
     scope: &Scope<'s, E>,
+    alloc: Global,
     rt: &'s R,
+    origin: &'s [u8],
+    crowd: &'s Crowd,
     stream: TcpStream,
-    begun: &Sender<TcpStream>,
-    waiting: &'s AtomicU64,
-) -> bool {
-    let Ok(begun) = begun.clone() else {
-        return false;
+    number: u64,
+    looks: usize,
+    asked: &Sender<Asked>,
+) -> Result<bool, SeatsFault>
+where
+    R: Threads + Wait + Sync + Clock + AllocGlobal + RandomSource + 's,
+{
+    let Ok(stream) = Arc::new(alloc, stream) else {
+        return Err(SeatsFault::Memory);
     };
-    scope
-        .spawn(move || await_first_byte(rt, stream, begun, waiting))
-        .is_ok()
+    let Ok(second) = Arc::try_clone(&stream) else {
+        return Err(SeatsFault::Memory);
+    };
+    let Ok(asked) = asked.clone() else {
+        return Err(SeatsFault::Memory);
+    };
+    if !crowd.enter(rt, number, second, looks) {
+        refuse(&stream);
+        return Ok(false);
+    }
+    let started = scope.spawn(move || {
+        attend_arrival(alloc, rt, origin, crowd, &stream, number, asked);
+        crowd.leave(rt, number);
+    });
+    if started.is_err() {
+        crowd.leave(rt, number);
+        return Err(SeatsFault::Thread);
+    }
+    Ok(true)
 }
 
-/// Waits for the first byte of a connection, and hands it over; one that sends nothing in time is closed.
-fn await_first_byte<R: Wait>(
+/// Reads the request of a connection, has it answered, and sends the answer.
+fn attend_arrival<R>(
+    alloc: Global,
     rt: &R,
-    stream: TcpStream,
-    begun: Sender<TcpStream>,
-    waiting: &AtomicU64,
-) {
-    if !has_begun(&stream) || begun.send(rt, stream).is_err() {
-        waiting.fetch_sub(1, SeqCst);
+    origin: &[u8],
+    crowd: &Crowd,
+    stream: &TcpStream,
+    number: u64,
+    asked: Sender<Asked>,
+)
+where
+    R: Wait + Clock + AllocGlobal + RandomSource,
+{
+    if !has_begun(rt, stream) {
+        return;
+    }
+    let Ok(Some(request)) = read_request(rt, origin, stream) else {
+        return;
+    };
+    if !crowd.go_on(rt, number, Stage::Asking) {
+        refuse(stream);
+        return;
+    }
+    let Some(answer) = ask(alloc, rt, request, asked) else {
+        return;
+    };
+    let _open = crowd.go_on(rt, number, Stage::Writing);
+    if send_answer(rt, stream, answer.as_slice()).is_err() {
+        return;
+    }
+    let _open = crowd.go_on(rt, number, Stage::Lingering);
+    linger(rt, stream);
+}
+
+/// Has a request answered; there is no answer if the room is being closed, or if memory was refused.
+fn ask<R: Wait>(
+    alloc: Global,
+    rt: &R,
+    request: WholeRequest,
+    asked: Sender<Asked>,
+) -> Option<Vec<u8>> {
+    let Ok((reply, answer)) = bounded(alloc, 1) else {
+        return None;
+    };
+    if asked.send(rt, Asked { request, reply }).is_err() {
+        return None;
+    }
+
+    // Requests are answered as long as somebody may send one.
+    drop(asked);
+    answer.recv(rt).ok()
+}
+
+/// Answers a connection that too many requests wait. Nothing here waits for the peer: what it has sent is read, since a
+/// socket that is closed over unread bytes may take its answer back.
+fn refuse(stream: &TcpStream) {
+    if stream.set_nonblocking(true).is_err() {
+        return;
+    }
+    let mut peer = stream;
+    if peer.write_all(BUSY).is_err() || stream.shutdown(Shutdown::Write).is_err() {
+        return;
+    }
+    let mut buffer = [0; 1024];
+    for _ in 0..MOST_READS {
+        match peer.read(&mut buffer) {
+            Ok(0) => return,
+            Ok(_) => {}
+            Err(_) => return,
+        }
     }
 }

@@ -8,9 +8,11 @@
 //! ```
 #![tactic(auto)]
 
-// the connections of a page, and the pages that come to their seats
+// the connections of a page, its requests at its seat, and the pages of all seats
 mod arrivals;
+mod crowd;
 pub mod paging;
+mod visits;
 
 // the service
 pub mod serving;

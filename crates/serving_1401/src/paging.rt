@@ -1,17 +1,18 @@
 //! The pages of a service: each at a port of its own, for a seat of its own.
 ghost use Rattle.std.specs.Prelude.{◌≡◌, ◌<◌, ◌≤◌, ◌^◌, length};
 
-use crate::arrivals::{Arrivals, MOST_WAITING, accept_arrivals};
-use crossbeam_channel::{Sender, bounded};
+use crate::arrivals::{Asked, accept_arrivals};
+use crate::crowd::{Crowd, MOST_INSIDE};
+use crate::visits::Visits;
+use crossbeam_channel::{Receiver, Sender, bounded};
 use desk_1401::{SeatsFault, Service};
 use page_1401::document::{PAGE, POLICY};
-use page_1401::{Connections, SeatPage, TakenSeat, answer_connection, answer_page};
+use page_1401::{SeatPage, TakenSeat, answer_each, answer_page, page_origin};
 use room_1401::{Keeper, RoomId, Seat, SharedRoom};
 use std::alloc::{AllocGlobal, Global};
-use std::net::{TcpListener, TcpStream};
+use std::net::TcpListener;
 use std::random::RandomSource;
 use std::sync::Wait;
-use std::sync::atomic::AtomicU64;
 use std::thread;
 use std::thread::{Scope, Threads};
 use std::time::Clock;
@@ -72,7 +73,7 @@ where
         { serve_page(alloc, rt, room, service, page, number) },
     );
     if started.is_err() {
-        service.note(rt, SeatsFault::Thread);
+        service.give_up(rt, &page.listener, SeatsFault::Thread);
     }
 }
 
@@ -92,28 +93,40 @@ where
     R: Threads + Wait + Sync + Clock + AllocGlobal + RandomSource,
     requires { (0 < number) × (number ≤ J.seats) }
 {
-    let Ok((begun, receiver)) = bounded(alloc, MOST_WAITING) else {
-        service.note(rt, SeatsFault::Memory);
+    let (Ok((asked, receiver)), Ok(crowd), Ok(origin)) = (
+        bounded(alloc, MOST_INSIDE),
+        Crowd::new(alloc),
+        page_origin(alloc, page.port),
+    ) else {
+        service.give_up(rt, &page.listener, SeatsFault::Memory);
         return;
     };
-    let waiting = AtomicU64::new(0);
-    let arrivals = Arrivals::new(rt, receiver, &waiting, &service.is_closing);
     answer_all(
-        alloc, rt, room, service, page, number, begun, &waiting, arrivals,
+        alloc,
+        rt,
+        room,
+        service,
+        page,
+        number,
+        origin.as_slice(),
+        &crowd,
+        asked,
+        receiver,
     );
 }
 
-/// Answers the connections of a page, which are accepted in a thread of their own.
-fn answer_all<'a, J, H, K, R>(
+/// Answers the requests of a page, whose connections are accepted in a thread of their own.
+fn answer_all<J, H, K, R>(
     alloc: Global,
-    rt: &'a R,
-    room: &'a SharedRoom<J, H, K>,
-    service: &'a Service<J>,
-    page: &'a PagePort,
+    rt: &R,
+    room: &SharedRoom<J, H, K>,
+    service: &Service<J>,
+    page: &PagePort,
     number: u8,
-    begun: Sender<TcpStream>,
-    waiting: &'a AtomicU64,
-    arrivals: Arrivals<'a, R>,
+    origin: &[u8],
+    crowd: &Crowd,
+    asked: Sender<Asked>,
+    receiver: Receiver<Asked>,
 )
 where
     J: RoomId + Send + Sync,
@@ -129,7 +142,7 @@ where
             requires { (0 < number) × (number ≤ J.seats) }
         {
             accept_and_answer(
-                scope, alloc, rt, room, service, page, number, begun, waiting, arrivals,
+                scope, alloc, rt, room, service, page, number, origin, crowd, asked, receiver,
             )
         },
     );
@@ -144,9 +157,10 @@ fn accept_and_answer<'s, E: 's, J, H, K, R>(
     service: &'s Service<J>,
     page: &'s PagePort,
     number: u8,
-    begun: Sender<TcpStream>,
-    waiting: &'s AtomicU64,
-    arrivals: Arrivals<'s, R>,
+    origin: &'s [u8],
+    crowd: &'s Crowd,
+    asked: Sender<Asked>,
+    receiver: Receiver<Asked>,
 )
 where
     J: RoomId + Send + Sync + 's,
@@ -156,24 +170,27 @@ where
     requires { (0 < number) × (number ≤ J.seats) }
 {
     let listener = &page.listener;
-    let accepting = scope.spawn(move || accept_arrivals(rt, service, listener, begun, waiting));
+    let accepting = scope.spawn(move || accept_arrivals(
+        alloc, rt, service, listener, origin, crowd, asked,
+    ));
     if accepting.is_err() {
-        service.note(rt, SeatsFault::Thread);
+        service.give_up(rt, listener, SeatsFault::Thread);
         return;
     }
-    answer_arrivals(alloc, rt, room, service, page.port, number, arrivals);
+    let visits = Visits::new(rt, service, receiver);
+    answer_visits(alloc, rt, room, service, page.port, number, visits);
 }
 
-/// Answers the connections of a page one after the other. While a console sits at its seat they are refused; the
-/// first one that finds the seat free takes it for all that follow.
-fn answer_arrivals<J, H, K, R>(
+/// Answers the requests of a page one after the other. While a console sits at its seat they are refused. A request
+/// that finds the seat free has it until it is answered; a visit has it for all that follow.
+fn answer_visits<J, H, K, R>(
     alloc: Global,
     rt: &R,
     room: &SharedRoom<J, H, K>,
     service: &Service<J>,
     port: u16,
     number: u8,
-    arrivals: Arrivals<'_, R>,
+    visits: Visits<'_, J, R>,
 )
 where
     J: RoomId,
@@ -182,33 +199,25 @@ where
     R: Wait + Clock + AllocGlobal + RandomSource,
     requires { (0 < number) × (number ≤ J.seats) }
 {
-    let mut arrivals = arrivals;
+    let mut visits = visits;
     for _ in rt.forever() {
-        let Some(stream) = arrivals.next_connection() else {
+        if !visits.wait() {
             return;
-        };
+        }
         match service.take_free(rt, number) {
             Some(seat) => {
-                let seat = answer_at(
-                    alloc,
-                    rt,
-                    room,
-                    seat,
-                    service.seats(),
-                    port,
-                    stream,
-                    &mut arrivals,
-                );
+                let seats = service.seats();
+                let seat = answer_at(alloc, rt, room, seat, seats, port, &mut visits);
                 service.put_back(rt, seat);
             }
-            None => {
-                let _failed = answer_connection(rt, &mut TakenSeat, &stream);
-            }
+            None => answer_each(rt, &mut TakenSeat, &mut visits),
         }
+        visits.leave();
     }
 }
 
-/// Answers a connection and all that follow at the page of a seat; or closes it, if there is no memory for the page.
+/// Answers requests at the page of a seat, until the page gives the seat back; or none, if there is no memory for the
+/// page.
 fn answer_at<J, H, K, R>(
     alloc: Global,
     rt: &R,
@@ -216,8 +225,7 @@ fn answer_at<J, H, K, R>(
     seat: Seat<J>,
     seats: u8,
     port: u16,
-    stream: TcpStream,
-    arrivals: &mut Arrivals<'_, R>,
+    visits: &mut Visits<'_, J, R>,
 ) -> Seat<J>
 where
     J: RoomId,
@@ -230,8 +238,7 @@ where
     match SeatPage::new(alloc, rt, room, seat, seats, port, PAGE, POLICY) {
         Ok(page) => {
             let mut page = page;
-            arrivals.put_back(stream);
-            answer_page(rt, &mut page, arrivals);
+            answer_page(rt, &mut page, visits);
             page.into_seat()
         }
         Err(seat) => seat,

@@ -2,6 +2,7 @@
 ghost use Rattle.std.specs.Prelude.{◌≡◌, ◌≢◌, ◌<◌, ◌≤◌, ◌^◌, Some, IfSome, length};
 ghost use Rattle.lone_room_1401.specs.Journal.{IsLegal};
 ghost use Rattle.lone_room_1401.specs.Kept.{IsKeptAs};
+ghost use Rattle.room_1401.specs.Keeping.{kept_part};
 ghost use Rattle.console_1401.specs.Served.{AreAllSeats};
 ghost use Rattle.serving_1401.specs.Accounted.{IsAccounted};
 
@@ -9,9 +10,9 @@ use crate::paging::{PagePort, start_pages};
 use console_1401::Door;
 use desk_1401::{SeatsFault, Service, accept_each};
 use room_1401::{Keeper, Room, RoomId, Seat, SharedRoom};
+use sockets_1401::shut_down;
 use std::alloc::{AllocGlobal, Global};
 use std::net::TcpListener;
-use std::os::fd::AsRawFd;
 use std::random::RandomSource;
 use std::sync::Wait;
 use std::thread;
@@ -36,10 +37,12 @@ pub struct SeatsServed<K: Keeper + Drop> {
 ///
 /// A line of the input that says QUIT, or the end of the input, closes the room: the listener is shut down, and accepts
 /// no connection any more; each console ends as at the end of its input, with its last reply out, and the room is
-/// closed. Other lines of the input say nothing. A peer that doesn't take its replies can keep the room from closing.
+/// closed. Other lines of the input say nothing. A peer that doesn't take its replies keeps the room from closing for
+/// two seconds or so.
 ///
-/// A connection whose thread is refused is closed, and the room goes on. Once a connection couldn't be accepted, none
-/// is accepted any more; the consoles go on until the room is closed.
+/// A connection whose thread is refused is closed, and the room goes on. What keeps a connection from being accepted
+/// and passes is waited for. If anything else does, the listener is shut down, which standard error reports at once;
+/// the consoles go on until the room is closed.
 pub fn serve_seats<J, H, K, R, S, D>(
     alloc: Global,
     rt: &R,
@@ -53,7 +56,7 @@ where
     J: RoomId + Send + Sync,
     H: Wait + Drop + Send + Sync,
     K: Keeper + Drop + Send + Sync,
-    R: Threads + Wait + Sync + Clock + AllocGlobal + RandomSource,
+    R: Threads + Wait + Sync + Clock + Eprint + AllocGlobal + RandomSource,
     S: Source + Drop + Send,
     D: Door + Sync,
     requires ledger { J.parts ≡ J.seats }
@@ -66,22 +69,25 @@ where
     ensures kept { IsKeptAs K.form J.size result.room.journal (K.has_failed result.keeper) K.first
         (K.kept result.keeper) }
 
-    // Whatever was refused, the room is closed with all of its seats.
-    ensures accounted { result.fault ≢ Some SeatsFault.Unreturned → IsAccounted J.seats result.room.journal }
+    // Whatever was refused, the room is closed with all of its seats, which made all commands that are kept.
+    ensures accounted { result.fault ≢ Some SeatsFault.Unreturned
+        → IsAccounted J.seats (kept_part (K.has_failed result.keeper) result.room.journal) }
 {
     serve_pages(alloc, rt, room, seats, Some(listener), &[], input, door)
 }
 
 /// Serves a page for each seat that has a port among these: the first is that of seat 1, the next that of seat 2, and
 /// so on; and consoles too, as `serve_seats` does, if there is a listener for them. A seat goes to whoever comes
-/// first, the page or a console. A page that was opened keeps its seat until the room is closed; while a console sits
-/// there, each request of the page is refused.
+/// first, the page or a console. A page takes its seat by the first picture or line that is accepted from the page
+/// itself, and gives it back if there is none for a minute and no other seat is free; while a console sits there, each
+/// request of the page is refused.
 ///
 /// It ends as `serve_seats` does: all listeners are shut down, the request of each page that is being answered is
 /// answered, and the connections that still wait are closed.
 ///
-/// A page isn't served any more once a connection to it couldn't be accepted, nor at all if its threads are refused,
-/// or the memory for those who wait; the room goes on. A connection whose thread is refused is closed.
+/// A page isn't served any more once a connection to it can't be accepted for a reason that doesn't pass, nor at all if
+/// its threads are refused, or the memory for those who wait: its listener is shut down, and the room goes on. A
+/// connection whose thread or memory is refused is closed.
 pub fn serve_pages<J, H, K, R, S, D>(
     alloc: Global,
     rt: &R,
@@ -96,7 +102,7 @@ where
     J: RoomId + Send + Sync,
     H: Wait + Drop + Send + Sync,
     K: Keeper + Drop + Send + Sync,
-    R: Threads + Wait + Sync + Clock + AllocGlobal + RandomSource,
+    R: Threads + Wait + Sync + Clock + Eprint + AllocGlobal + RandomSource,
     S: Source + Drop + Send,
     D: Door + Sync,
     requires ledger { J.parts ≡ J.seats }
@@ -110,8 +116,9 @@ where
     ensures kept { IsKeptAs K.form J.size result.room.journal (K.has_failed result.keeper) K.first
         (K.kept result.keeper) }
 
-    // Whatever was refused, the room is closed with all of its seats.
-    ensures accounted { result.fault ≢ Some SeatsFault.Unreturned → IsAccounted J.seats result.room.journal }
+    // Whatever was refused, the room is closed with all of its seats, which made all commands that are kept.
+    ensures accounted { result.fault ≢ Some SeatsFault.Unreturned
+        → IsAccounted J.seats (kept_part (K.has_failed result.keeper) result.room.journal) }
 {
     let (seats, fault) = match Service::new(alloc, seats) {
         Ok(service) => {
@@ -135,7 +142,8 @@ fn end_service<J: RoomId, H: Wait + Drop, K: Keeper + Drop>(
     ensures legal { IsLegal J.size result.room.journal }
     ensures kept { IsKeptAs K.form J.size result.room.journal (K.has_failed result.keeper) K.first
         (K.kept result.keeper) }
-    ensures accounted { result.fault ≢ Some SeatsFault.Unreturned → IsAccounted J.seats result.room.journal }
+    ensures accounted { result.fault ≢ Some SeatsFault.Unreturned
+        → IsAccounted J.seats (kept_part (K.has_failed result.keeper) result.room.journal) }
 {
     let room = match seats {
         Some(seats) => match room.close_kept(seats) {
@@ -173,7 +181,7 @@ where
     J: RoomId + Send + Sync,
     H: Wait + Drop + Send + Sync,
     K: Keeper + Drop + Send + Sync,
-    R: Threads + Wait + Sync + Clock + AllocGlobal + RandomSource,
+    R: Threads + Wait + Sync + Clock + Eprint + AllocGlobal + RandomSource,
     S: Source + Drop + Send,
     D: Door + Sync,
     requires pages { length pages.now ≤ J.seats }
@@ -192,7 +200,8 @@ where
     );
 }
 
-/// Starts the thread that waits for the input's end, and those of the pages, and accepts consoles until then.
+/// Starts the threads that wait for the input's end and for a port that is closed, and those of the pages, and accepts
+/// consoles until then.
 fn listen<'s, E: 's, J, H, K, R, S, D>(
     scope: &Scope<'s, E>,
     alloc: Global,
@@ -208,7 +217,7 @@ where
     J: RoomId + Send + Sync + 's,
     H: Wait + Drop + Send + Sync + 's,
     K: Keeper + Drop + Send + Sync + 's,
-    R: Threads + Wait + Sync + Clock + AllocGlobal + RandomSource + 's,
+    R: Threads + Wait + Sync + Clock + Eprint + AllocGlobal + RandomSource + 's,
     S: Source + Drop + Send + 's,
     D: Door + Sync + 's,
     requires pages { length pages.now ≤ J.seats }
@@ -219,14 +228,27 @@ where
         service.note(rt, SeatsFault::Thread);
         return;
     }
+    if scope
+        .spawn(move || report_closed_port(rt, service))
+        .is_err()
+    {
+        service.note(rt, SeatsFault::Thread);
+    }
     start_pages(scope, alloc, rt, room, service, pages);
     if let Some(listener) = consoles {
         accept_each(scope, alloc, rt, room, service, listener, door);
     }
 }
 
-/// Waits until the input closes the room, and shuts the listeners down.
-fn close_by_input<J: RoomId, R: Wait, S: Source + Drop>(
+/// Reports at once that a port was closed while the room is open.
+fn report_closed_port<J: RoomId, R: Wait + Clock + Eprint>(rt: &R, service: &Service<J>) {
+    if service.await_closed_port(rt) {
+        let _reported = eprintln!(rt; "ibm1401: a port was closed; the room goes on");
+    }
+}
+
+/// Waits until the input closes the room, shuts the listeners down, and gives the consoles a second to end.
+fn close_by_input<J: RoomId, R: Wait + Clock, S: Source + Drop>(
     rt: &R,
     service: &Service<J>,
     consoles: Option<&TcpListener>,
@@ -241,10 +263,5 @@ fn close_by_input<J: RoomId, R: Wait, S: Source + Drop>(
     for page in pages {
         shut_down(&page.listener);
     }
-}
-
-/// Shuts a listener down: a thread that waits for its next connection waits no more, and whoever connects is refused.
-/// A connection would wake the thread too, but needs a handle of the system, which may have none left.
-fn shut_down(listener: &TcpListener) {
-    let _shut = libc::net::shutdown(listener.as_raw_fd(), libc::net::SHUT_RD);
+    service.end_consoles(rt);
 }

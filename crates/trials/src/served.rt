@@ -16,6 +16,7 @@ use std::sync::Wait;
 use std::sync::atomic::AtomicBool;
 use std::sync::atomic::Ordering::SeqCst;
 use std::thread::{Threads, yield_now};
+use std::time::Clock;
 
 /// How often a held console looks whether it may go on.
 const TURNS: u32 = 1_000_000;
@@ -98,7 +99,7 @@ fn show_served(teller: &mut Teller, served: &Served, streams: &mut (TcpStream, T
 
 /// Serves the two that the listener has, at the seats of a room, and then listens no more. The second one's line is
 /// carried out first.
-fn serve_two<J: RoomId + Send + Sync, R: Threads + Wait + Sync>(
+fn serve_two<J: RoomId + Send + Sync, R: Threads + Wait + Sync + Clock>(
     rt: &R,
     alloc: Global,
     room: SharedRoom<J, &R>,
@@ -118,7 +119,7 @@ fn serve_two<J: RoomId + Send + Sync, R: Threads + Wait + Sync>(
 /// Serves two at the seats of a room, and shows how that ended, their replies, the journal and the machine.
 fn serve_room<
     J: RoomId + Send + Sync,
-    R: Threads + Wait + Sync + Net<Listener = TcpListener, Stream = TcpStream>,
+    R: Threads + Wait + Sync + Clock + Net<Listener = TcpListener, Stream = TcpStream>,
 >(rt: &R, teller: &mut Teller, alloc: Global, room: SharedRoom<J, &R>, seats: Vec<Seat<J>>)
     requires ledger { J.parts ≡ J.seats }
     requires named { 2 ≡ J.seats }
@@ -137,7 +138,7 @@ fn serve_room<
 /// Serves two in a room of this name, and shows how that ended, their replies, the journal and the machine.
 fn operate<
     J: RoomId + Send + Sync,
-    R: Threads + Wait + Sync + Net<Listener = TcpListener, Stream = TcpStream>,
+    R: Threads + Wait + Sync + Clock + Net<Listener = TcpListener, Stream = TcpStream>,
 >(rt: &R, teller: &mut Teller, alloc: Global, opened: Opened)
     requires history { opened.book ≡ J.book }
     requires ledger { (opened.ledger ≡ J.name) × (opened.parts ≡ J.parts) × (J.parts ≡ J.seats) }
@@ -150,7 +151,7 @@ fn operate<
 }
 
 /// Two consoles that have sent their lines before the room listens. The second one's is carried out first.
-pub fn serve<R: Threads + Wait + Sync + Net<Listener = TcpListener, Stream = TcpStream>>(
+pub fn serve<R: Threads + Wait + Sync + Clock + Net<Listener = TcpListener, Stream = TcpStream>>(
     rt: &R,
     teller: &mut Teller,
     alloc: Global,

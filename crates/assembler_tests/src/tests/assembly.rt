@@ -1,5 +1,5 @@
 //! Each call of the assembler on a source, worked out by hand. What it makes of others, and what it refuses and why, is
-//! shown by the program: the texts in `checks/sources/`, and the tables of `checks/sources.py` and `checks/assembling.py`.
+//! shown by the program: the texts in `tests/sources/`, and `tests/test_assembling.py`.
 
 use super::expecting::{expect_bytes, expect_same, put_bytes};
 use autocoder_1401::{

@@ -7,8 +7,8 @@ use bcd_1401::Char;
 use cpu_1401::{Machine, Stop};
 use devices_1401::{Card, PrintLine};
 use job_1401::{
-    Cards, Collected, Deck, DeckFault, JobEnd, JobFault, Output, Place, ReadDeck, press_load_key,
-    put_cards, put_paper, read_deck, run_job,
+    CardList, Cards, Collected, Deck, DeckFault, JobEnd, JobFault, Output, Place, ReadDeck,
+    press_load_key, put_cards, put_paper, read_deck, run_job,
 };
 use std::process::Abort;
 
@@ -40,6 +40,13 @@ fn numbered(rt: &(impl Abort + AllocGlobal), count: u16) -> Vec<Card> {
         cards.push(Card(digits(number))).expect(rt, "room");
     }
     cards
+}
+
+/// These cards as a deck.
+fn list_of(rt: &(impl Abort + AllocGlobal), cards: &[Card]) -> CardList {
+    let mut text = Vec::new(rt.alloc());
+    put_cards(&mut text, cards).expect(rt, "room");
+    deck_of(rt, text.as_slice()).cards
 }
 
 /// Runs a job, and compares how it ends.
@@ -92,7 +99,8 @@ fn output_of(
     limit: u32,
     wanted: JobEnd,
 ) -> Collected {
-    let mut deck = Deck::new(cards);
+    let list = list_of(rt, cards);
+    let mut deck = Deck::new(&list);
     let mut output = Collected::new(rt.alloc());
     expect_end(rt, machine, &mut deck, limit, &mut output, Ok(wanted));
     output
@@ -197,7 +205,8 @@ fn expect_jammed(rt: &(impl Abort + AllocGlobal), machine: &mut Machine, wanted:
 /// Runs a job of three cards with a broken printer and punch, and compares how it ends.
 fn expect_broken(rt: &(impl Abort + AllocGlobal), machine: &mut Machine, wanted: JobFault) {
     let cards = numbered(rt, 3);
-    let mut deck = Deck::new(cards.as_slice());
+    let list = list_of(rt, cards.as_slice());
+    let mut deck = Deck::new(&list);
     expect_end(rt, machine, &mut deck, 10, &mut Broken, Err(wanted));
 }
 
@@ -224,7 +233,7 @@ fn deck_of(rt: &(impl Abort + AllocGlobal), text: &[u8]) -> ReadDeck {
 }
 
 /// Loads the first of two cards, which moves on to the second one and halts.
-fn expect_first_card(rt: &(impl Abort + AllocGlobal), machine: &mut Machine, cards: &[Card]) {
+fn expect_first_card(rt: &(impl Abort + AllocGlobal), machine: &mut Machine, cards: &CardList) {
     let mut deck = Deck::new(cards);
     let mut output = Collected::new(rt.alloc());
     expect_loaded(rt, machine, &mut deck, Ok(true));
@@ -239,7 +248,7 @@ fn expect_first_card(rt: &(impl Abort + AllocGlobal), machine: &mut Machine, car
 fn the_load_key_reads_the_first_card(rt: HostRuntime) {
     let read = deck_of(&rt, b",008009.\nREST\n");
     let mut machine = machine_of(&rt, 1_400);
-    expect_first_card(&rt, &mut machine, read.cards.as_slice());
+    expect_first_card(&rt, &mut machine, &read.cards);
 }
 
 /// Presses the load key, and compares what it finds; the registers stay as they are.
@@ -257,7 +266,8 @@ fn expect_not_loaded<R: Cards>(
 #[test]
 fn the_load_key_finds_no_card_or_a_jammed_reader(rt: HostRuntime) {
     let mut machine = machine_of(&rt, 1_400);
-    expect_not_loaded(&rt, &mut machine, &mut Deck::new(&[]), Ok(false));
+    let none = CardList::new(rt.alloc());
+    expect_not_loaded(&rt, &mut machine, &mut Deck::new(&none), Ok(false));
     expect_not_loaded(&rt, &mut machine, &mut Jammed, Err(JobFault::Read));
 }
 
@@ -265,13 +275,18 @@ fn the_load_key_finds_no_card_or_a_jammed_reader(rt: HostRuntime) {
 fn expect_deck(rt: &(impl Abort + AllocGlobal), text: &[u8], small: bool, wanted: &[u8]) {
     let deck = deck_of(rt, text);
     expect_same(rt, &deck.has_small_letters, &small, text.escape_ascii());
-    expect_cards(rt, deck.cards.as_slice(), wanted);
+    expect_cards(rt, &deck.cards, wanted);
 }
 
 /// Compares the text of cards.
-fn expect_cards(rt: &(impl Abort + AllocGlobal), cards: &[Card], wanted: &[u8]) {
+fn expect_cards(rt: &(impl Abort + AllocGlobal), cards: &CardList, wanted: &[u8]) {
+    let mut deck = Deck::new(cards);
     let mut text = Vec::new(rt.alloc());
-    put_cards(&mut text, cards).expect(rt, "room");
+    for _ in 0..cards.len() {
+        if let Ok(Some(card)) = deck.next_card() {
+            put_cards(&mut text, &[card]).expect(rt, "room");
+        }
+    }
     expect_bytes(rt, text.as_slice(), wanted);
 }
 

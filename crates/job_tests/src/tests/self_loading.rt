@@ -6,7 +6,7 @@ use cpu_1401::Machine;
 use deck_1401::{DeckFault, write_deck};
 use devices_1401::Card;
 use image_1401::{Image, read_image};
-use job_1401::read_deck;
+use job_1401::{Cards, Deck, read_deck};
 use std::process::Abort;
 
 /// The steps in which each deck here is loaded.
@@ -57,8 +57,11 @@ fn feed(rt: &impl Abort, machine: &mut Machine, card: Card) {
 /// Puts the cards of a deck in the hopper.
 fn feed_deck(rt: &(impl Abort + AllocGlobal), machine: &mut Machine, deck: &[u8]) {
     let read = read_deck(rt.alloc(), deck).expect(rt, "a deck");
-    for card in read.cards.as_slice() {
-        feed(rt, machine, *card);
+    let mut cards = Deck::new(&read.cards);
+    for _ in 0..read.cards.len() {
+        if let Ok(Some(card)) = cards.next_card() {
+            feed(rt, machine, card);
+        }
     }
 }
 

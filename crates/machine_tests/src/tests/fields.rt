@@ -1,6 +1,6 @@
 //! Operations on fields by their own calls, worked out by hand from the manual's rules. Cells are written as on the
 //! console: `~` before a graphic is its word mark. What each leaves and refuses of all kinds of fields is shown at the
-//! console, in `checks/fields.py` and in `checks/sessions/fields.txt`.
+//! console, in `tests/test_fields.py` and in `tests/sessions/fields.txt`.
 
 use super::characters::char_of;
 use super::expecting::expect_same_at;

@@ -1,5 +1,5 @@
 //! What a console doesn't show of the processor: a size that is none, threads, and names. Its steps and runs are
-//! sessions, in `checks/sessions/processor.txt` and `rewritten.txt`.
+//! sessions, in `tests/sessions/processor.txt` and `rewritten.txt`.
 
 use super::expecting::{expect_same, expect_text};
 use core_1401::CoreFault;

@@ -38,9 +38,9 @@ fn quit_closes_the_room_after_the_last_reply(rt: HostRuntime) {
 }
 
 /// One operator, whose connection the listener has had from the beginning. It accepts the one that has come, and then
-/// none is there.
+/// none is there. That passes, and is tried again until the room is closed.
 const EARLY: Evening = Evening {
-    closings: &[(b"QUIT\n", false, Some(SeatsFault::Accept))],
+    closings: &[(b"QUIT\n", false, None)],
     is_early: true,
     acts: &[
         (HearLine, 0, "EXAMINE 1\n"),
@@ -54,7 +54,7 @@ const EARLY: Evening = Evening {
 };
 
 #[test]
-fn consoles_go_on_after_a_refused_connection(rt: HostRuntime) {
+fn consoles_go_on_while_no_connection_is_there(rt: HostRuntime) {
     expect_evening(&rt, 2, &EARLY);
 }
 

@@ -120,5 +120,6 @@ fn a_foreign_seat_is_found_before_anything_is_given(rt: HostRuntime) {
 fn giving_ends_at_a_command_that_is_not_kept(rt: HostRuntime) {
     let ended = Err(GiveFault::Refused(RoomFault::Unkept));
     let kept = "1\t2\tSTART 0702\tOK\n";
-    expect_given(&rt, 1, &[2, 1, 2], ended, [1, 1], kept);
+    // The command that isn't kept is none that its seat made.
+    expect_given(&rt, 1, &[2, 1, 2], ended, [0, 1], kept);
 }

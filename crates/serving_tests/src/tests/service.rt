@@ -111,6 +111,7 @@ pub fn expect_evening<
         + Wait
         + Sync
         + Clock
+        + Eprint
         + AllocGlobal
         + RandomSource
         + Net<Listener = TcpListener, Stream = TcpStream>,
@@ -129,6 +130,7 @@ fn expect_closing<
         + Wait
         + Sync
         + Clock
+        + Eprint
         + AllocGlobal
         + RandomSource
         + Net<Listener = TcpListener, Stream = TcpStream>,
@@ -160,6 +162,7 @@ fn open<
         + Wait
         + Sync
         + Clock
+        + Eprint
         + AllocGlobal
         + RandomSource
         + Net<Listener = TcpListener, Stream = TcpStream>,
@@ -205,6 +208,7 @@ where
         + Wait
         + Sync
         + Clock
+        + Eprint
         + AllocGlobal
         + RandomSource
         + Net<Listener = TcpListener, Stream = TcpStream>
@@ -235,6 +239,7 @@ where
         + Wait
         + Sync
         + Clock
+        + Eprint
         + AllocGlobal
         + RandomSource
         + Net<Listener = TcpListener, Stream = TcpStream>,

@@ -3,13 +3,19 @@ use Rattle.std.proofs.Common.{◌≡◌, ℕ, true, List, subst, sym, ◌∙◌}
 use Rattle.core_1401.specs.Storage.{is_core_size}
 use Rattle.lone_room_1401.specs.declared.entry.Entry.{Entry}
 use Rattle.lone_room_1401.specs.Journal.{IsLegal}
-use Rattle.journal_1401.proofs.ReadsLemmas.{Reads, memory_alone, memory_first, next_line, refused_line, shorter, start}
-use Rattle.journal_1401.proofs.ReadsLemmas.{that_journal}
+use Rattle.journal_1401.specs.Reading.IsReached.{at_header}
+use Rattle.journal_1401.proofs.ReadsLemmas.{Reads, first_line, memory_alone, memory_first, next_line, refused_line}
+use Rattle.journal_1401.proofs.ReadsLemmas.{shorter, start, that_journal}
 use Rattle.journal_1401.proofs.reading.recover_journal.Goals as goal
 
 pub returns-in-Err-clause-memory : goal.returns-in-Err-clause-memory
 returns-in-Err-clause-memory c =
     λ size journal rest is. memory_first c.args.text.now c.in-Err.why size journal rest c.in-Err.ensures.err is
+
+pub returns-in_default-clause-fault : goal.returns-in_default-clause-fault
+returns-in_default-clause-fault c =
+    let text = c.args.text.now in
+    at_header text (first_line text c.in-Ok.header.0 c.in-Ok.header.1.now c.in-Ok.ensures.ok)
 
 pub lines-init : goal.lines-init
 lines-init c =

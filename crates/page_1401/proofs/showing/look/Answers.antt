@@ -11,6 +11,7 @@ returns-in-Ok-picture_text g c =
     let after = c.picture.new.self in
     let looked : HasLooked g.J.RoomId.size c.args.asked before after = search rules in (
       looked,
+      search rules,
       same_text c.in-Ok-picture_text.text.items c.args.seats c.number.result before.number c.made.result before.made
           c.in-Ok.picture (picture_after g.J.RoomId.size after.list c.args.asked.window)
           c.in-Ok-picture_text.ensures (c.number.ensures ∙ looked.number_is) (c.made.ensures.made ∙ looked.made_is)

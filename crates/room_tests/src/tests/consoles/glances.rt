@@ -1,4 +1,4 @@
-//! Lines that ask for a glance. What they are answered is a session, in `checks/sessions/glances.txt`.
+//! Lines that ask for a glance. What they are answered is a session, in `tests/sessions/glances.txt`.
 
 use crate::tests::is_told;
 use console_1401::parse_line;

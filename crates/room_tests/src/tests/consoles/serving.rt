@@ -12,6 +12,7 @@ use std::sync::Wait;
 use std::sync::atomic::AtomicBool;
 use std::sync::atomic::Ordering::SeqCst;
 use std::thread::{Threads, yield_now};
+use std::time::Clock;
 
 /// How often a held console looks whether it may go on.
 const TURNS: u32 = 1_000_000;
@@ -108,6 +109,7 @@ fn serve_room<
     J: RoomId + Send + Sync,
     R: Threads
         + Wait
+        + Clock
         + Abort
         + AllocGlobal
         + Sync
@@ -130,6 +132,7 @@ fn serve_room<
 fn expect_served<
     R: Threads
         + Wait
+        + Clock
         + Abort
         + AllocGlobal
         + Sync

@@ -13,7 +13,7 @@ use Rattle.running_1401.proofs.deck_running.run_deck.Goals as goal
 
 pub loop-stretch-init : goal.loop-stretch-init
 loop-stretch-init g c =
-    let s = with_deck (drop c.args.deck.now.next c.args.deck.now.cards.now) c.args.machine.now in
+    let s = with_deck c.args.deck.now c.args.machine.now in
     let first = received (g.W.Sink.received c.args.paper.now) (g.P.Sink.received c.args.punch.now) in
     let file = c.begin.ensures.file in
     record {
@@ -81,7 +81,7 @@ run_stretch-requires-clause-file g c =
 
 pub returns-in_err-begin-clause-traced_part : goal.returns-in_err-begin-clause-traced_part
 returns-in_err-begin-clause-traced_part g c =
-    let s = with_deck (drop c.args.deck.now.next c.args.deck.now.cards.now) c.args.machine.now in
+    let s = with_deck c.args.deck.now c.args.machine.now in
     let first = option_and_then g.F.Sink.received c.args.trace.now.file in
     let text = traced (is_some c.args.trace.now.file) (trace_text c.args.limit s) in
     let part = subst (λ each. AppendsPart first each text)

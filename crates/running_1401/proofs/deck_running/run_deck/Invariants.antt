@@ -10,15 +10,15 @@ use Rattle.running_1401.proofs.deck_running.run_deck.Given as goal
 
 abbrev pub invariant-loop-stretch : goal.invariant-loop-stretch
 invariant-loop-stretch g l = record {
-  so_far : SoFar l.fn.limit l.left (with_deck (drop l.fn.deck.next l.fn.deck.cards.now) l.fn.machine)
-      (with_deck (drop l.deck.next l.deck.cards.now) l.machine)
+  so_far : SoFar l.fn.limit l.left (with_deck l.fn.deck l.fn.machine)
+      (with_deck l.deck l.machine)
       (received (g.W.Sink.received l.fn.paper) (g.P.Sink.received l.fn.punch))
       (received (g.W.Sink.received l.paper) (g.P.Sink.received l.punch)) l.place l.printed l.punched;
   paper : g.W.Sink.has_failed l.paper ≡ g.W.Sink.has_failed l.fn.paper;
   punch : g.P.Sink.has_failed l.punch ≡ g.P.Sink.has_failed l.fn.punch;
   traced : TraceSoFar (is_some l.fn.trace.file) l.fn.limit l.left
-      (with_deck (drop l.fn.deck.next l.fn.deck.cards.now) l.fn.machine)
-      (with_deck (drop l.deck.next l.deck.cards.now) l.machine)
+      (with_deck l.fn.deck l.fn.machine)
+      (with_deck l.deck l.machine)
       (option_and_then g.F.Sink.received l.fn.trace.file) (option_and_then g.F.Sink.received l.trace.file);
   seen : l.trace.before ≡ seen_if (is_some l.fn.trace.file) l.machine;
   file : is_some l.trace.file ≡ is_some l.fn.trace.file;

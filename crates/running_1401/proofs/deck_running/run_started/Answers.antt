@@ -13,10 +13,10 @@ pub returns-then-loaded-clause-traced_part : goal.returns-then-loaded-clause-tra
 returns-then-loaded-clause-traced_part g c =
     let m = c.args.machine.now in
     let s = with_deck c.args.cards.now m in
-    let same : with_deck (drop c.new-deck.result.next c.new-deck.result.cards.now) m ≡ s =
+    let same : with_deck c.new-deck.result m ≡ s =
     ap (λ deck. with_deck deck m) c.new-deck.ensures in
     let after =
-    with_deck (drop c.press_load_key.new.cards.next c.press_load_key.new.cards.cards.now) c.press_load_key.new.machine in
+    with_deck c.press_load_key.new.cards c.press_load_key.new.machine in
     let card : c.in-Ok.loaded ≡ not (length s.devices.hopper == 0) =
     c.in-Ok.ensures.card ∙ ap (λ (x : State). not (length x.devices.hopper == 0)) same in
     let loaded : after ≡ load s = c.in-Ok.ensures.loaded ∙ ap (λ (x : State). load x) same in
@@ -32,7 +32,7 @@ pub returns-else-loaded-clause-traced_part : goal.returns-else-loaded-clause-tra
 returns-else-loaded-clause-traced_part g c =
     let m = c.args.machine.now in
     let s = with_deck c.args.cards.now m in
-    let same : with_deck (drop c.new-deck.result.next c.new-deck.result.cards.now) m ≡ s =
+    let same : with_deck c.new-deck.result m ≡ s =
     ap (λ deck. with_deck deck m) c.new-deck.ensures in
     let card : c.in-Ok.loaded ≡ not (length s.devices.hopper == 0) =
     c.in-Ok.ensures.card ∙ ap (λ (x : State). not (length x.devices.hopper == 0)) same in

@@ -16,8 +16,8 @@ use Rattle.running_1401.proofs.deck_running.run_stretch.Goals as goal
 
 pub returns-in_err-next-clause-part : goal.returns-in_err-next-clause-part
 returns-in_err-next-clause-part g c =
-    let s = with_deck (drop c.args.deck.now.next c.args.deck.now.cards.now) c.args.machine.now in
-    let after = with_deck (drop c.run_job.new.cards.next c.run_job.new.cards.cards.now) c.run_job.new.machine in
+    let s = with_deck c.args.deck.now c.args.machine.now in
+    let after = with_deck c.run_job.new.cards c.run_job.new.machine in
     let whole = ran_part (unattended c.min-limit.result s) after c.in-Ok.end.steps c.in-Ok.end.stop
     c.new-output.ensures.lines c.new-output.ensures.cards c.in-Ok.ensures.job c.as_slice-lines.ensures.value
     c.as_slice-cards.ensures.value in
@@ -31,8 +31,8 @@ returns-in_err-next-clause-part g c =
 
 pub returns-in_err-write_cards-clause-part : goal.returns-in_err-write_cards-clause-part
 returns-in_err-write_cards-clause-part g c =
-    let s = with_deck (drop c.args.deck.now.next c.args.deck.now.cards.now) c.args.machine.now in
-    let after = with_deck (drop c.run_job.new.cards.next c.run_job.new.cards.cards.now) c.run_job.new.machine in
+    let s = with_deck c.args.deck.now c.args.machine.now in
+    let after = with_deck c.run_job.new.cards c.run_job.new.machine in
     let whole = ran_part (unattended c.min-limit.result s) after c.in-Ok.end.steps c.in-Ok.end.stop
     c.new-output.ensures.lines c.new-output.ensures.cards c.in-Ok.ensures.job c.as_slice-lines.ensures.value
     c.as_slice-cards.ensures.value in
@@ -46,8 +46,8 @@ returns-in_err-write_cards-clause-part g c =
 
 pub returns-clause-ran : goal.returns-clause-ran
 returns-clause-ran g c =
-    let s = with_deck (drop c.args.deck.now.next c.args.deck.now.cards.now) c.args.machine.now in
-    let after = with_deck (drop c.run_job.new.cards.next c.run_job.new.cards.cards.now) c.run_job.new.machine in
+    let s = with_deck c.args.deck.now c.args.machine.now in
+    let after = with_deck c.run_job.new.cards c.run_job.new.machine in
     let whole = ran_part (unattended c.min-limit.result s) after c.in-Ok.end.steps c.in-Ok.end.stop
     c.new-output.ensures.lines c.new-output.ensures.cards c.in-Ok.ensures.job c.as_slice-lines.ensures.value
     c.as_slice-cards.ensures.value in
@@ -69,8 +69,8 @@ returns-clause-traced g c =
     let is = is_some c.args.trace.now.before in
     let m = c.args.machine.now in
     let m' = c.run_job.new.machine in
-    let deck = drop c.args.deck.now.next c.args.deck.now.cards.now in
-    let deck' = drop c.run_job.new.cards.next c.run_job.new.cards.cards.now in
+    let deck = c.args.deck.now in
+    let deck' = c.run_job.new.cards in
     let told = stretch_told is deck deck' m m' c.args.left c.min-limit.ensures
     c.most_at_once.ensures c.new-output.ensures.lines c.new-output.ensures.cards c.in-Ok.ensures.job
     c.as_slice-lines.ensures.value c.as_slice-cards.ensures.value c.in-Ok.ensures.limit c.stop_of_step.ensures.none
@@ -94,8 +94,8 @@ returns-in_err-put_line-clause-traced_part g c =
     let is = is_some c.args.trace.now.before in
     let m = c.args.machine.now in
     let m' = c.run_job.new.machine in
-    let deck = drop c.args.deck.now.next c.args.deck.now.cards.now in
-    let deck' = drop c.run_job.new.cards.next c.run_job.new.cards.cards.now in
+    let deck = c.args.deck.now in
+    let deck' = c.run_job.new.cards in
     let told = stretch_told is deck deck' m m' c.args.left c.min-limit.ensures
     c.most_at_once.ensures c.new-output.ensures.lines c.new-output.ensures.cards c.in-Ok.ensures.job
     c.as_slice-lines.ensures.value c.as_slice-cards.ensures.value c.in-Ok.ensures.limit c.stop_of_step.ensures.none
@@ -116,8 +116,8 @@ returns-in_err-put_line-clause-traced_part g c =
 
 pub returns-in_err-put_line-clause-part : goal.returns-in_err-put_line-clause-part
 returns-in_err-put_line-clause-part g c =
-    let s = with_deck (drop c.args.deck.now.next c.args.deck.now.cards.now) c.args.machine.now in
-    let after = with_deck (drop c.run_job.new.cards.next c.run_job.new.cards.cards.now) c.run_job.new.machine in
+    let s = with_deck c.args.deck.now c.args.machine.now in
+    let after = with_deck c.run_job.new.cards c.run_job.new.machine in
     let whole = ran_part (unattended c.min-limit.result s) after c.in-Ok.end.steps c.in-Ok.end.stop
     c.new-output.ensures.lines c.new-output.ensures.cards c.in-Ok.ensures.job c.as_slice-lines.ensures.value
     c.as_slice-cards.ensures.value in
@@ -132,7 +132,7 @@ returns-in_err-put_line-clause-part g c =
 
 pub returns-in_err-next-clause-traced_part : goal.returns-in_err-next-clause-traced_part
 returns-in_err-next-clause-traced_part g c =
-    let s = with_deck (drop c.args.deck.now.next c.args.deck.now.cards.now) c.args.machine.now in
+    let s = with_deck c.args.deck.now c.args.machine.now in
     let part = nothing_yet (option_and_then g.F.Sink.received c.args.trace.now.file)
     (traced (is_some c.args.trace.now.before) (trace_text c.args.left s)) in
     search (rules, part)

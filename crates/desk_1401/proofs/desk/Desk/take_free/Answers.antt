@@ -1,7 +1,7 @@
 -- The place of a number is one less from the first, and keeps its number.
-use Rattle.std.proofs.Common.{◌≡◌, IfSome, ℕ, ◌-◌, ◌<◌, arith, ap, get_or, slice_set, subst, sym, ◌∙◌}
-use Rattle.desk_1401.specs.Places.{PlaceView, is_free_at}
-use Rattle.desk_1401.proofs.PlacesLemmas.{free_at, free_at_new, indexed_number, length_places, numbers_stay}
+use Rattle.std.proofs.Common.{◌≡◌, IfSome, ℕ, ◌-◌, ◌<◌, arith, ap, length, subst, ◌∙◌}
+use Rattle.desk_1401.specs.Places.{DeskView, PlaceView, free_seat, place_at, without_free_seat}
+use Rattle.desk_1401.proofs.PlacesLemmas.{changed, indexed_number, length_places, number_kept, numbers_stay, place_read}
 use Rattle.desk_1401.proofs.desk.Desk.take_free.Goals as goal
 
 pub index_mut-requires : goal.index_mut-requires
@@ -17,29 +17,31 @@ index_mut-requires g c =
 pub invariant_of-self : goal.invariant_of-self
 invariant_of-self g c = (
   numbers_stay c.self.inside.places.items (c.from.result - 1) c.take_free.new.self c.index_mut.result.now
-      (c.take_free.ensures.number ∙ ap (λ (place : PlaceView). place.number) c.index_mut.ensures.value)
+      (ap (λ (place : PlaceView). place.number) c.take_free.ensures.taken ∙ number_kept c.index_mut.result.now
+      ∙ ap (λ (place : PlaceView). place.number) c.index_mut.ensures.value)
       ∙ c.self.invariant.0,
   c.self.invariant.1,
   c.self.invariant.2,
   c.self.invariant.3,
 )
 
-pub returns-clause-free : goal.returns-clause-free
-returns-clause-free g c =
+pub returns-clause-seat : goal.returns-clause-seat
+returns-clause-seat g c =
     let places = c.self.inside.places.items in
-    let place = c.index_mut.result.now in
-    let here = subst (λ (number : ℕ). place ≡ get_or places (number - 1) place) c.from.ensures c.index_mut.ensures.value in
-    c.take_free.ensures.free
-    ∙ sym (free_at g.J.RoomId.seats places c.args.number place c.self.invariant.0 c.requires.0 c.requires.1 here)
-    ∙ ap (is_free_at c.args.number) c.self.view_is
+    let inside : c.from.result - 1 < length places =
+    omega (arith, c.requires, c.from.ensures, length_places g.J.RoomId.seats places c.self.invariant.0) in
+    c.take_free.ensures.seat ∙ ap free_seat
+    (place_read places c.from.result c.index_mut.result.now inside c.index_mut.ensures.value)
+    ∙ ap (λ of. free_seat (place_at of places)) c.from.ensures
+    ∙ ap (λ (desk : DeskView). free_seat (place_at c.args.number desk.places)) c.self.view_is
 
 pub returns-clause-taken : goal.returns-clause-taken
 returns-clause-taken g c =
     let places = c.self.inside.places.items in
-    let number = c.args.number in
-    ap (λ (of : ℕ). is_free_at number (slice_set places (of - 1) c.take_free.new.self)) c.from.ensures
-    ∙ free_at_new g.J.RoomId.seats places number c.take_free.new.self c.self.invariant.0 c.requires.0 c.requires.1
-    ∙ c.take_free.ensures.taken
+    changed places c.self.inside.fault c.args.number c.from.result without_free_seat c.index_mut.result.now
+    c.take_free.new.self c.args.self.now c.self.view_is c.from.ensures
+    (omega (arith, c.requires, c.from.ensures, length_places g.J.RoomId.seats places c.self.invariant.0))
+    c.index_mut.ensures.value c.take_free.ensures.taken
 
 pub returns-clause-number : goal.returns-clause-number
 returns-clause-number g c =
@@ -48,4 +50,4 @@ returns-clause-number g c =
     indexed_number g.J.RoomId.seats c.self.inside.places.items (c.from.result - 1) c.index_mut.result.now
     c.self.invariant.0 less c.index_mut.ensures.value in
     let same : c.index_mut.result.now.number ≡ c.args.number = omega (arith, number, c.requires, c.from.ensures) in
-    subst (λ (wanted : ℕ). IfSome c.take_free.result (λ seat. seat.number ≡ wanted)) same c.take_free.ensures.seat
+    subst (λ (wanted : ℕ). IfSome c.take_free.result (λ seat. seat.number ≡ wanted)) same c.take_free.ensures.number

@@ -7,7 +7,14 @@ use Rattle.lone_room_1401.specs.declared.entry.Entry.{Entry}
 use Rattle.lone_room_1401.specs.declared.entry.SeatedCommand.{SeatedCommand}
 use Rattle.room_1401.specs.Rule.{Publishes}
 use Rattle.lone_room_1401.proofs.KeptLemmas.{kept_before}
+use Rattle.room_1401.proofs.KeepingLemmas.{all_shown}
 use Rattle.room_1401.proofs.recording.Recorder.carry.Goals as goal
+
+pub reserve-requires : goal.reserve-requires
+reserve-requires g c =
+    let room = c.self.inside.room in
+    let failed = g.K.Keeper.has_failed c.self.inside.keeper in
+    c.self.invariant.1 ∙ all_shown failed room.journal (sym c.has_failed.ensures ∙ c.if-has_failed.false)
 
 pub record-requires : goal.record-requires
 record-requires g c =
@@ -23,28 +30,21 @@ record-requires g c =
     let failed = g.K.Keeper.has_failed c.self.inside.keeper in
     let good : failed ≡ false = sym c.has_failed.ensures ∙ c.if-has_failed.false in
     let text : Appends first kept (kept_text form room.size room.journal) =
-    kept_before form room.size room.journal failed first kept c.self.invariant.3 good in
+    kept_before form room.size room.journal failed first kept c.self.invariant.4 good in
+    let all : c.self.inside.front ≡ pairs_of now.journal =
+    c.self.invariant.1 ∙ all_shown failed room.journal good ∙ ap pairs_of (sym journal) in
     record {
       size = size ∙ c.self.invariant.0;
       spare = c.in_ok-front.ensures.spare;
       not_full = ap is_full journal ∙ c.in_ok-front.ensures.not_full;
       front = c.in_ok-front.ensures.front
-          ∙ ap (λ (list : List SeatedCommand). list ++ c.new-next.result ∷ [])
-          (c.self.invariant.1 ∙ ap pairs_of (sym journal));
-      published = subst (λ (entries : List Entry). Publishes g.J.RoomId.book g.J.RoomId.size writer.desk.shown.value
-          pending (pairs_of entries)) (sym journal) c.self.invariant.2;
+          ∙ ap (λ (list : List SeatedCommand). list ++ c.new-next.result ∷ []) all;
+      published = subst (λ (list : List SeatedCommand). Publishes g.J.RoomId.book g.J.RoomId.size
+          writer.desk.shown.value pending list) all (c.self.invariant.3 good);
       good = good;
       kept = subst (λ n. Appends first kept (kept_text form n now.journal)) (sym size)
           (subst (λ (entries : List Entry). Appends first kept (kept_text form room.size entries)) (sym journal) text);
     }
 
-pub show_kept-requires : goal.show_kept-requires
-show_kept-requires g c = c.record.ensures.published.follows
-
-pub invariant_of-self-2 : goal.invariant_of-self-2
-invariant_of-self-2 g c = (
-  c.record.ensures.size,
-  c.in_ok-carried.ensures.front,
-  c.show_kept.ensures (pairs_of c.record.new.room.journal) c.record.ensures.published,
-  c.record.ensures.kept,
-)
+pub show-requires : goal.show-requires
+show-requires g c = c.record.ensures.published.follows

@@ -1,0 +1,6 @@
+use Rattle.std.proofs.Common.{rules}
+use Rattle.arguments_1401.proofs.journals.resumed_call.Goals as goal
+
+-- it is called with the journal and the operators that were read
+pub returns : goal.returns
+returns c = (c.in_ok-resuming.resuming, c.operators_in.result, search rules, search rules, search rules)

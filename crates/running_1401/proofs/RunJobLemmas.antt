@@ -1,0 +1,93 @@
+-- What a run of files reports, by what it began with.
+use Rattle.std.proofs.Common.{◌≡◌, ℕ, ◌+◌, ◌<◌, ◌≤◌, Bool, false, List, length, drop, get_or, Option, option_map, ap}
+use Rattle.std.proofs.Common.{OnOk, IfErr, Result, Ok, Err, refl, string_bytes}
+use Rattle.std.proofs.lemmas.List.{drop_all, drop_more}
+use Rattle.std.specs.Prelude.{⊤}
+use Rattle.calls_1401.specs.declared.call.Job.{Job}
+use Rattle.calls_1401.specs.declared.call.Start.{Start}
+use Rattle.cpu_1401.specs.State.{State, with_switch}
+use Rattle.devices_1401.specs.declared.card.Card.{Card}
+use Rattle.job_1401.specs.Unattended.{with_deck}
+use Rattle.panel_1401.specs.declared.stop.Stop.TheVariants as stop
+use Rattle.running_1401.specs.RunFile.{InputNames, IsUnread, IsUnwritten, WrittenNames}
+use Rattle.running_1401.specs.RunJob.{HasHalted, IsBegun, IsReportOf, ReportsJob, ReportsStop, report_on, turned}
+use Rattle.running_1401.specs.RunJob.{with_switches}
+use Rattle.running_1401.specs.declared.fault.RunFault.{RunFault}
+use Rattle.running_1401.specs.declared.fault.RunFault.TheVariants as fault
+use Rattle.running_1401.specs.declared.job_report.JobReport.{JobReport}
+
+-- one switch more is turned, and then none is left
+pub turned_more : (switches : List Bool) (n : ℕ) (s : State) → n < length switches
+    → turned n (drop n switches) s ≡ turned (n + 1) (drop (n + 1) switches) (with_switch s n (get_or switches n false))
+turned_more switches n s within = ap (λ (left : List Bool). turned n left s) (drop_more switches n false within)
+
+pub turned_none : (switches : List Bool) (n : ℕ) (s : State) → length switches ≤ n → turned n (drop n switches) s ≡ s
+turned_none switches n s all = ap (λ (left : List Bool). turned n left s) (drop_all n switches all)
+
+-- a file that isn't written is no stop
+pub unwritten_reports : (names : WrittenNames) (report : JobReport) (why : RunFault) → IsUnwritten names why
+    → ReportsStop report why
+unwritten_reports names report fault.Output is = tt
+unwritten_reports names report fault.Size is = tt
+unwritten_reports names report (fault.File name why) is = tt
+unwritten_reports names report (fault.Unwritten name) is = tt
+unwritten_reports names report (fault.OneFile first second) is = tt
+unwritten_reports names report (fault.Deck name why) is = tt
+unwritten_reports names report (fault.Stopped ending) is = absurd is
+unwritten_reports names report (fault.Source why) is = tt
+unwritten_reports names report (fault.Image why) is = tt
+unwritten_reports names report fault.Memory is = tt
+
+-- nor is a file that isn't read
+pub unread_reports : (job : Job) (how : Start) (size : Option ℕ) (names : InputNames) (why : RunFault)
+    → IsUnread how size names why → ReportsJob job why
+unread_reports job how size names fault.Output is = tt
+unread_reports job how size names fault.Size is = tt
+unread_reports job how size names (fault.File name why) is = tt
+unread_reports job how size names (fault.Unwritten name) is = tt
+unread_reports job how size names (fault.OneFile first second) is = tt
+unread_reports job how size names (fault.Deck name why) is = tt
+unread_reports job how size names (fault.Stopped ending) is = absurd is
+unread_reports job how size names (fault.Source why) is = tt
+unread_reports job how size names (fault.Image why) is = tt
+unread_reports job how size names fault.Memory is = tt
+
+-- what a job begins with, and its report
+abbrev pub IsBegunFor : Job → State → List Card → Type 0
+IsBegunFor job machine cards =
+    IsBegun job.start job.language job.size (option_map string_bytes job.cards) machine cards
+
+abbrev pub report_for : Job → State → List Card → JobReport
+report_for job machine cards = report_on job.start job.limit (with_deck cards (with_switches job.switches machine))
+
+report_is_of : (job : Job) (machine : State) (cards : List Card) → IsBegunFor job machine cards
+    → IsReportOf job (report_for job machine cards)
+report_is_of job machine cards begun = record { machine = machine; cards = cards; begun = begun; report_is = refl }
+
+pub job_reports : (job : Job) (machine : State) (cards : List Card) (why : RunFault) → IsBegunFor job machine cards
+    → ReportsStop (report_for job machine cards) why → ReportsJob job why
+job_reports job machine cards fault.Output begun is = tt
+job_reports job machine cards fault.Size begun is = tt
+job_reports job machine cards (fault.File name why) begun is = tt
+job_reports job machine cards (fault.Unwritten name) begun is = tt
+job_reports job machine cards (fault.OneFile first second) begun is = tt
+job_reports job machine cards (fault.Deck name why) begun is = tt
+job_reports job machine cards (fault.Stopped ending) begun is =
+    record { machine = machine; cards = cards; begun = begun; report_is = is }
+job_reports job machine cards (fault.Source why) begun is = tt
+job_reports job machine cards (fault.Image why) begun is = tt
+job_reports job machine cards fault.Memory begun is = tt
+
+-- the end of a run, as its call says it
+pub run_halted : (job : Job) (machine : State) (cards : List Card) (result : Result ⊤ RunFault)
+    → IsBegunFor job machine cards → OnOk result ((report_for job machine cards).stop ≡ stop.Halt)
+    → OnOk result (HasHalted job)
+run_halted job machine cards (Ok done) begun is =
+    (report_for job machine cards, report_is_of job machine cards begun, is)
+run_halted job machine cards (Err why) begun is = is
+
+pub run_stopped : (job : Job) (machine : State) (cards : List Card) (result : Result ⊤ RunFault)
+    → IsBegunFor job machine cards → IfErr result (ReportsStop (report_for job machine cards))
+    → IfErr result (ReportsJob job)
+run_stopped job machine cards (Ok done) begun is = is
+run_stopped job machine cards (Err why) begun is = job_reports job machine cards why begun is

@@ -1,0 +1,112 @@
+-- What a run of files has run (own): a program and a deck that texts are read as. Nothing is said of which texts the
+-- files have.
+use Rattle.std.specs.Prelude.{◌≡◌, ℕ, ◌+◌, ⊤, true, false, Bool, List, [], ◌∷◌, ◌++◌, length, Option, None, Some, Ok}
+use Rattle.std.specs.Prelude.{option_map, string_bytes, unwrap_or}
+use Rattle.calls_1401.specs.declared.call.Job.{Job}
+use Rattle.calls_1401.specs.declared.call.Start.{Start}
+use Rattle.calls_1401.specs.declared.call.Start.TheVariants as start
+use Rattle.calls_1401.specs.Sizes.{size_for}
+use Rattle.cpu_1401.specs.State.{State, power_on, with_switch}
+use Rattle.devices_1401.specs.declared.card.Card.{Card}
+use Rattle.job_1401.specs.DeckText.{deck_of}
+use Rattle.job_1401.specs.Unattended.{with_deck}
+use Rattle.panel_1401.specs.declared.stop.Stop.TheVariants as stop
+use Rattle.source_1401.specs.declared.language.Language.{Language}
+use Rattle.running_1401.specs.Program.{IsAssembled, IsImageOf, is_meant_as_image, with_image}
+use Rattle.running_1401.specs.RunDeck.{report_of, started_job}
+use Rattle.running_1401.specs.declared.fault.RunFault.{RunFault}
+use Rattle.running_1401.specs.declared.fault.RunFault.TheVariants as fault
+use Rattle.running_1401.specs.declared.job_report.JobReport.{JobReport}
+use Rattle.running_1401.specs.declared.programs.Program.{Program}
+
+-- a program that a text is the image of, or the source
+pub record IsProgramOf (language : Language) (size : Option ℕ) (text : List ℕ) (program : Program) : Type 0 where
+  pub image : is_meant_as_image text ≡ true → IsImageOf text (Ok program)
+  pub source : is_meant_as_image text ≡ false → IsAssembled language (size_for size language text) text (Ok program)
+
+-- a machine with the program of a text, and no cards
+pub record HasProgram (language : Language) (size : Option ℕ) (machine : State) (cards : List Card) : Type 0 where
+  pub text : List ℕ
+  pub program : Program
+  pub program_of : IsProgramOf language size text program
+  pub machine_is : machine ≡ with_image program.image
+  pub cards_are : cards ≡ []
+
+-- a machine at power-on, and the cards of a text
+pub record HasLoader (size : Option ℕ) (machine : State) (cards : List Card) : Type 0 where
+  pub text : List ℕ
+  pub deck : deck_of text ≡ Ok cards
+  pub machine_is : machine ≡ power_on (unwrap_or size 4000)
+
+-- what the program's file gives: a machine, and its own cards
+abbrev pub HasFile : Start → Language → Option ℕ → State → List Card → Type 0
+HasFile start.Entry language size machine cards = HasProgram language size machine cards
+HasFile start.LoadKey language size machine cards = HasLoader size machine cards
+
+-- the cards of some text
+abbrev pub IsDeckText : List Card → Type 0
+IsDeckText cards = (text : List ℕ) × (deck_of text ≡ Ok cards)
+
+-- the cards of the deck's file, if there is one
+abbrev pub HasCards : Option (List ℕ) → List Card → Type 0
+HasCards None cards = cards ≡ []
+HasCards (Some name) cards = IsDeckText cards
+
+-- what a run begins with: a machine, and the cards of its program's file and then those of its deck's
+pub record IsBegun (how : Start) (language : Language) (size : Option ℕ) (deck : Option (List ℕ)) (machine : State)
+    (cards : List Card) : Type 0 where
+  pub own : List Card
+  pub behind : List Card
+  pub file : HasFile how language size machine own
+  pub those : HasCards deck behind
+  pub cards_are : cards ≡ own ++ behind
+
+-- sense switches from a number on, each turned on or off
+abbrev pub turned : ℕ → List Bool → State → State
+turned number [] s = s
+turned number (on ∷ others) s = turned (number + 1) others (with_switch s number on)
+
+-- the sense switches as the call names them, from A on
+abbrev pub with_switches : List Bool → State → State
+with_switches switches s = turned 0 switches s
+
+-- what is reported of a machine that is started so
+abbrev pub report_on : Start → ℕ → State → JobReport
+report_on how limit s = report_of (length s.devices.hopper) (started_job how limit s)
+
+-- the report of a job: its files are read, its switches set, and it is started and goes on to its limit at most
+pub record IsReportOf (job : Job) (report : JobReport) : Type 0 where
+  pub machine : State
+  pub cards : List Card
+  pub begun : IsBegun job.start job.language job.size (option_map string_bytes job.cards) machine cards
+  pub report_is : report ≡ report_on job.start job.limit (with_deck cards (with_switches job.switches machine))
+
+-- a job that ran to a halt
+abbrev pub HasHalted : Job → Type 0
+HasHalted job = (report : JobReport) × IsReportOf job report × (report.stop ≡ stop.Halt)
+
+-- a fault that reports a stop has this report
+abbrev pub ReportsStop : JobReport → RunFault → Type 0
+ReportsStop report fault.Output = ⊤
+ReportsStop report fault.Size = ⊤
+ReportsStop report (fault.File name why) = ⊤
+ReportsStop report (fault.Unwritten name) = ⊤
+ReportsStop report (fault.OneFile first second) = ⊤
+ReportsStop report (fault.Deck name why) = ⊤
+ReportsStop report (fault.Stopped ending) = ending.report ≡ report
+ReportsStop report (fault.Source why) = ⊤
+ReportsStop report (fault.Image why) = ⊤
+ReportsStop report fault.Memory = ⊤
+
+-- a fault that reports a stop has the report of a job
+abbrev pub ReportsJob : Job → RunFault → Type 0
+ReportsJob job fault.Output = ⊤
+ReportsJob job fault.Size = ⊤
+ReportsJob job (fault.File name why) = ⊤
+ReportsJob job (fault.Unwritten name) = ⊤
+ReportsJob job (fault.OneFile first second) = ⊤
+ReportsJob job (fault.Deck name why) = ⊤
+ReportsJob job (fault.Stopped ending) = IsReportOf job ending.report
+ReportsJob job (fault.Source why) = ⊤
+ReportsJob job (fault.Image why) = ⊤
+ReportsJob job fault.Memory = ⊤

@@ -1,0 +1,195 @@
+"""Chromium without a window, driven over its debugging pipe, and a page that is open in it.
+
+    python3 -m tests.chromium    writes docs/page-wide.png and docs/page-narrow.png, on the built program"""
+import base64
+import json
+import os
+import select
+import subprocess
+import tempfile
+import time
+
+from tests.support import REPLY_SECONDS, SECONDS, TOP, Server, wait_until
+
+# The sizes of windows, in pixels.
+WIDE = (1500, 1000)
+NARROW = (390, 844)
+# A made-up name that the browser looks for on the loopback.
+OTHER_NAME = "museum.example"
+
+
+class Chromium:
+    """A headless Chromium with a profile of its own. Each message is JSON, ended by a NUL: what it reads on its
+    descriptor 3, and what it writes on 4."""
+
+    def __init__(self):
+        self.profile = tempfile.TemporaryDirectory(ignore_cleanup_errors=True)
+        reads, self.out = os.pipe()
+        self.come, writes = os.pipe()
+
+        def descriptors():
+            os.dup2(reads, 103)
+            os.dup2(writes, 104)
+            os.dup2(103, 3)
+            os.dup2(104, 4)
+
+        call = ["chromium", "--headless=new", "--disable-gpu", "--remote-debugging-pipe", "--hide-scrollbars",
+                f"--host-resolver-rules=MAP {OTHER_NAME} 127.0.0.1", f"--user-data-dir={self.profile.name}"]
+        call += ["--no-sandbox"] if os.geteuid() == 0 else []
+        quiet = {"stdin": subprocess.DEVNULL, "stdout": subprocess.DEVNULL, "stderr": subprocess.DEVNULL}
+        self.process = subprocess.Popen(call, pass_fds=(3, 4), preexec_fn=descriptors, **quiet)
+        os.close(reads)
+        os.close(writes)
+        self.number, self.rest, self.events = 0, b"", []
+
+    def call(self, method, session=None, **params):
+        """The result of a call, once it has come."""
+        self.number += 1
+        message = {"id": self.number, "method": method, "params": params}
+        if session:
+            message["sessionId"] = session
+        os.write(self.out, json.dumps(message).encode() + b"\0")
+        late = time.monotonic() + SECONDS
+        while time.monotonic() < late:
+            answered = self.read(late - time.monotonic())
+            if answered is None:
+                break
+            if answered.get("id") == self.number:
+                if "error" in answered:
+                    raise RuntimeError(f"{method}: {answered['error']}")
+                return answered["result"]
+            self.events.append(answered)
+        raise TimeoutError(method)
+
+    def read(self, seconds):
+        """The next message, or None if none comes within this time."""
+        while b"\0" not in self.rest:
+            if not select.select([self.come], [], [], max(0, seconds))[0]:
+                return None
+            more = os.read(self.come, 1 << 20)
+            if not more:
+                raise EOFError("the browser has ended")
+            self.rest += more
+        message, _, self.rest = self.rest.partition(b"\0")
+        return json.loads(message)
+
+    def end(self):
+        """Ends the browser."""
+        self.process.terminate()
+        self.process.wait()
+        os.close(self.out)
+        os.close(self.come)
+        self.profile.cleanup()
+
+
+class Page:
+    """A page that is open in the browser."""
+
+    def __init__(self, browser, address, size=WIDE):
+        self.browser = browser
+        self.target = browser.call("Target.createTarget", url="about:blank")["targetId"]
+        self.session = browser.call("Target.attachToTarget", targetId=self.target, flatten=True)["sessionId"]
+        for part in "Page", "Runtime", "Log", "DOM":
+            self.call(f"{part}.enable")
+        self.call("Emulation.setFocusEmulationEnabled", enabled=True)
+        self.resize(size)
+        self.call("Page.navigate", url=address)
+
+    def call(self, method, **params):
+        """A call for this page."""
+        return self.browser.call(method, self.session, **params)
+
+    def close(self):
+        """Closes the page."""
+        self.browser.call("Target.closeTarget", targetId=self.target)
+
+    def resize(self, size):
+        """Gives the window another size."""
+        width, height = size
+        self.call("Emulation.setDeviceMetricsOverride", width=width, height=height, deviceScaleFactor=1, mobile=False)
+
+    def value(self, expression):
+        """The value of an expression of JavaScript in the page; of a promise, once it is kept."""
+        asked = {"expression": expression, "awaitPromise": True, "returnByValue": True}
+        found = self.call("Runtime.evaluate", **asked)
+        if "exceptionDetails" in found:
+            return f"exception: {found['exceptionDetails'].get('exception', {}).get('description')}"
+        return found["result"].get("value")
+
+    def until(self, expression, wanted=True):
+        """The value of an expression once it is the wanted one, or the last one."""
+        found = []
+
+        def is_wanted():
+            found[:] = [self.value(expression)]
+            return found == [wanted]
+
+        wait_until(is_wanted, 2 * REPLY_SECONDS)
+        return found[0]
+
+    def is_ready(self):
+        """Waits until the page has seen the machine, and returns whether it has."""
+        return self.until("typeof view === 'object' && view.picture !== null && view.link === 'fine'") is True
+
+    def click(self, element):
+        """Presses a button of the page."""
+        self.value(f"document.getElementById('{element}').click()")
+
+    def press(self, key, code=None, held=0):
+        """Presses a key of the keyboard, with others held: 1 for Alt, 8 for Shift."""
+        codes = {"Tab": 9, "Enter": 13, "Escape": 27, " ": 32, "ArrowUp": 38, "ArrowDown": 40, "ArrowRight": 39}
+        number = codes.get(key, ord(key.upper()[0]))
+        asked = {"key": key, "code": code or key, "modifiers": held, "windowsVirtualKeyCode": number}
+        if key in ("Enter", " "):
+            asked["text"] = "\r" if key == "Enter" else " "
+        self.call("Input.dispatchKeyEvent", type="keyDown", **asked)
+        asked.pop("text", None)
+        self.call("Input.dispatchKeyEvent", type="keyUp", **asked)
+
+    def write(self, text):
+        """Writes a text where the keyboard's focus is."""
+        self.call("Input.insertText", text=text)
+
+    def picture(self, path):
+        """Writes a picture of the whole page to a file."""
+        shot = self.call("Page.captureScreenshot", captureBeyondViewport=True)["data"]
+        path.write_bytes(base64.b64decode(shot))
+
+    def complaints(self):
+        """What the page has written to the browser's console: its errors and its warnings."""
+        found = []
+        for event in self.browser.events:
+            params = event.get("params", {})
+            if event.get("sessionId") != self.session:
+                continue
+            if event["method"] == "Runtime.exceptionThrown":
+                found.append(params["exceptionDetails"].get("exception", {}).get("description", "exception"))
+            elif event["method"] == "Log.entryAdded":
+                found.append(params["entry"]["text"] + " " + params["entry"].get("url", ""))
+            elif event["method"] == "Runtime.consoleAPICalled":
+                found.append(str([each.get("value") for each in params["args"]]))
+        return found
+
+
+def write_pictures():
+    """Writes pictures of the page at two widths, in the middle of a program."""
+    room, browser = Server("serve", seats=8, pages=True, consoles=False), Chromium()
+    try:
+        page = Page(browser, room.address())
+        page.is_ready()
+        page.value("feedDeck(LISTING, TEXTS.fedListing)")
+        for line in "SWITCH A ON", "SWITCH F ON", "LOAD", "RUN 214":
+            page.value(f"say('{line}')")
+        page.value("choose(404), tell(TEXTS.told.welcome)")
+        page.click("step-key")
+        for name, size in ("wide", WIDE), ("narrow", NARROW):
+            page.resize(size)
+            page.until("view.link === 'fine' && document.getAnimations().length", 0)
+            page.picture(TOP / f"docs/page-{name}.png")
+    finally:
+        room.kill()
+        browser.end()
+
+
+if __name__ == "__main__":
+    write_pictures()

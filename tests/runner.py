@@ -1,0 +1,112 @@
+"""Runs the tests of modules and counts them: each subtest, and each test without one. Only failures are printed, and a
+line for each module.
+
+    python3 -m tests.runner [MODULE ..]    as: python3 -m tests.runner test_console test_docs
+
+`python3 -m unittest -k WORD` runs single tests."""
+import os
+import re
+import subprocess
+import sys
+import time
+import unittest
+from concurrent.futures import ThreadPoolExecutor, as_completed
+
+from tests.support import TESTS, TOP
+
+# The modules that take longest, which begin first: none is waited for alone at the end.
+LONGEST = "test_browser", "test_running", "test_served_journals", "test_serving"
+
+
+class Counts(unittest.TestResult):
+    """How many subtests, and tests without one, passed and failed."""
+
+    def __init__(self):
+        super().__init__()
+        self.passed = self.failed = self.parts = 0
+
+    def startTest(self, test):
+        super().startTest(test)
+        self.parts = 0
+
+    def addSubTest(self, test, subtest, err):
+        super().addSubTest(test, subtest, err)
+        self.parts += 1
+        if err is None:
+            self.passed += 1
+        else:
+            self.show("FAILED", subtest, self._exc_info_to_string(err, test))
+
+    def addSuccess(self, test):
+        super().addSuccess(test)
+        self.passed += self.parts == 0
+
+    def addFailure(self, test, err):
+        super().addFailure(test, err)
+        self.show("FAILED", test, self._exc_info_to_string(err, test))
+
+    def addError(self, test, err):
+        super().addError(test, err)
+        self.show("FAILED", test, self._exc_info_to_string(err, test))
+
+    def addUnexpectedSuccess(self, test):
+        super().addUnexpectedSuccess(test)
+        self.show("FAILED", test, "it succeeds, and wasn't expected to\n")
+
+    def addSkip(self, test, reason):
+        super().addSkip(test, reason)
+        print(f"LEFT OUT  {test}: {reason}", flush=True)
+
+    def show(self, word, test, text):
+        """Counts a failure and prints it."""
+        self.failed += 1
+        print(f"{word}  {test}\n{text}", flush=True)
+
+
+def count_module(name):
+    """Runs the tests of a module in this process, and prints its line."""
+    began, counts = time.monotonic(), Counts()
+    unittest.defaultTestLoader.loadTestsFromName(f"tests.{name}").run(counts)
+    if counts.testsRun == 0 and not counts.errors:
+        print(f"FAILED  {name} has no test", flush=True)
+        counts.failed += 1
+    took = time.monotonic() - began
+    print(f"{name}: {counts.passed} passed, {counts.failed} failed, in {took:.0f} seconds", flush=True)
+
+
+def run_module(name):
+    """Runs the tests of a module in a process of its own: what it printed, and how many passed and failed."""
+    call = [sys.executable, "-m", "tests.runner", "--here", name]
+    ran = subprocess.run(call, cwd=TOP, stdin=subprocess.DEVNULL, stdout=subprocess.PIPE, stderr=subprocess.STDOUT)
+    text = ran.stdout.decode(errors="replace")
+    counts = re.search(rf"^{name}: (\d+) passed, (\d+) failed, .*\n\Z", text, re.MULTILINE)
+    if ran.returncode != 0 or counts is None:
+        return f"{text}FAILED  {name} ended with status {ran.returncode}\n", 0, 1
+    return text, int(counts[1]), int(counts[2])
+
+
+def run_modules(names=()):
+    """Runs modules, all of them where none is named, as many at once as there are processors: the counts."""
+    names = list(names) or sorted(file.stem for file in TESTS.glob("test_*.py"))
+    names.sort(key=lambda name: name not in LONGEST)
+    passed = failed = 0
+    with ThreadPoolExecutor(len(os.sched_getaffinity(0))) as pool:
+        for ended in as_completed([pool.submit(run_module, name) for name in names]):
+            text, good, bad = ended.result()
+            print(text, end="", flush=True)
+            passed, failed = passed + good, failed + bad
+    return passed, failed
+
+
+def main(words):
+    """Runs the modules that the command line names, and returns the status."""
+    if words[:1] == ["--here"]:
+        count_module(words[1])
+        return 0
+    passed, failed = run_modules(words)
+    print(f"{passed} passed, {failed} failed")
+    return 0 if failed == 0 else 1
+
+
+if __name__ == "__main__":
+    sys.exit(main(sys.argv[1:]))

@@ -1,0 +1,358 @@
+"""The command line: each option of each subcommand, alone, changes what the program does, or is refused.
+
+A row is a call with and without the option, and what differs: the status, the output, or a file. The last test reads
+the options from the program's own help, so an option without a row is noticed.
+"""
+import os
+import re
+import resource
+import shutil
+import signal
+import socket
+import subprocess
+import sys
+import tempfile
+import unittest
+from pathlib import Path
+
+sys.dont_write_bytecode = True
+TOP = Path(__file__).resolve().parent.parent
+PROGRAM = Path(os.environ.get("IBM1401", TOP / "crates/ibm1401/out/ibm1401"))
+SECONDS = 120
+MISUSE = 2
+
+# A source that both languages take, one that the wider language alone takes, and one with two faults.
+SOURCE = """\
+     START     MLC  A,B
+               H
+     A         DCW  @X@
+     B         DCW  @Y@
+               END  START
+"""
+WIDE = SOURCE.replace("MLC", "mlc")
+FAULTY = "               BOO\n               BOO\n               END  333\n"
+# A program that reads two cards if there are two, prints and punches the first, and halts on if switch B is on.
+JOB = """\
+               ORG  400
+     START     SW   1
+               R
+               MLC  80,280
+               MLC  80,180
+               W
+               P
+               BSS  ON,B
+               H
+     ON        H
+               DCW  @ @
+               END  START
+"""
+# A program that is beyond a small core.
+HIGH = """\
+               ORG  1399
+     START     NOP
+     HIGH      H
+               DCW  @ @
+               END  START
+"""
+JOURNAL = "JOURNAL1 1400\n1\t1\tDEPOSIT 0500 ~A\tOK\n2\t2\tDEPOSIT 0500 ~B\tOK\n3\t1\tEXAMINE 0500 1\t~B\n"
+
+
+def free_ports(count):
+    """The first of so many ports in a row that nobody has."""
+    for first in range(20_000, 60_000, 10):
+        taken = []
+        try:
+            for port in range(first, first + count):
+                taken.append(socket.create_server(("127.0.0.1", port)))
+            return first
+        except OSError:
+            continue
+        finally:
+            for each in taken:
+                each.close()
+    raise OSError("no ports are free")
+
+
+def refuse_writes():
+    """Has each write to a file fail in a process that is begun."""
+    signal.signal(signal.SIGXFSZ, signal.SIG_IGN)
+    resource.setrlimit(resource.RLIMIT_FSIZE, (0, 0))
+
+
+class Room:
+    """A folder of its own for a call, with the files that calls name."""
+
+    def __init__(self, test):
+        folder = tempfile.TemporaryDirectory()
+        test.addCleanup(folder.cleanup)
+        self.path = Path(folder.name)
+        texts = {"source": SOURCE, "wide": WIDE, "faulty": FAULTY, "job": JOB, "high": HIGH, "journal": JOURNAL}
+        for name, text in {**texts, "cards": "FIRST\nSECOND\n"}.items():
+            (self.path / name).write_text(text)
+        shutil.copy(TOP / "examples/five_and_five.image", self.path / "image")
+        (self.path / "folder").mkdir()
+
+    def run(self, words, lines=""):
+        """The status of a call, its output, its standard error, and the files that it made or changed, by name."""
+        before = {each.name: each.read_bytes() for each in self.path.iterdir() if each.is_file()}
+        ran = subprocess.run([PROGRAM, *words], cwd=self.path, input=lines, text=True, capture_output=True,
+                             timeout=SECONDS, check=False)
+        files = {each.name: each.read_text() for each in self.path.iterdir()
+                 if each.is_file() and each.read_bytes() != before.get(each.name)}
+        return ran.returncode, ran.stdout, ran.stderr, files
+
+
+SYNC_LIBRARY = next(each for each in (TOP / "tests/refuse_sync.c", TOP / "checks/refuse_sync.c") if each.exists())
+ONE_EACH = "1 card read, 1 line printed, 1 card punched\n"
+NONE = "0 cards read, 0 lines printed, 0 cards punched\n"
+HALTED = f"ibm1401: HALT at 0426 (line 9, H) after 8 steps; {ONE_EACH}"
+NO_CARD = f"ibm1401: READER at 0404 (line 3, R): no card in the hopper after 1 step; {NONE}"
+STEPS = "00400\t~,001    \tSW   001            \t00000\t00000\t00001| |~ \n"
+STEPS += "00404\t~1       \tR                   \t00000\t00000\tREADER\n"
+IMAGE = "IMAGE2 04000\n00333 10 ~M341342~.~X~Y\nEND 00333\n"
+SYMBOLS = "START  00333 00007 0001\nA      00341 00001 0003\nB      00342 00001 0004\n"
+REFERENCES = "START  0001 0005\nA      0003 0001\nB      0004 0001\n"
+LISTING = "".join(f"{front} {line}\n" for front, line in zip(
+    ["0001 00333 M341342 ", "0002 00340 .       ", "0003 00341 X       ", "0004 00342 Y       ", "0005 00333         "],
+    SOURCE.splitlines(), strict=True))
+LOADED = "1\t0\tDEPOSIT 0400 ~?423420~A423420~.414~   ~HI~E\tOK\n2\t0\tSTART 0400\tOK\n"
+LAST_PLACE = "EXAMINE 1400\nQUIT\n"
+CELL = "EXAMINE 0500\nQUIT\n"
+SHOWN = ["1 seat 1  DEPOSIT 0500 ~A              OK\n", "2 seat 2  DEPOSIT 0500 ~B              OK\n",
+         "3 seat 1  EXAMINE 0500 1               ~B\n"]
+WITHOUT_2 = "JOURNAL1 1400\n1\t1\tDEPOSIT 0500 ~A\tOK\n2\t1\tEXAMINE 0500 1\t~A\n3\t0\tEXAMINE 0500 1\t~A\n"
+
+# A call, the lines that it is given, and its status, output, standard error (None: some) and files. The first row of a
+# block is a call without the option that each next row adds.
+ROWS = [
+    ("console", LAST_PLACE, 0, " \nBYE\n", "", {}),
+    ("console --size 1400", LAST_PLACE, 0, "REFUSED 1 ADDRESS\nBYE\n", "", {}),
+    ("console --journal new", LAST_PLACE, 0, " \nBYE\n", "", {"new": "JOURNAL1 4000\n1\t0\tEXAMINE 1400 1\t \n"}),
+    ("console --sync", LAST_PLACE, MISUSE, "", None, {}),
+    ("assemble source", "", 0, IMAGE, "", {}),
+    ("assemble --output new source", "", 0, "", "", {"new": IMAGE}),
+    ("assemble -o new source", "", 0, "", "", {"new": IMAGE}),
+    ("assemble --list source", "", 0, LISTING, "", {}),
+    ("assemble --symbols source", "", 0, SYMBOLS, "", {}),
+    ("assemble --xref source", "", 0, REFERENCES, "", {}),
+    ("assemble --size 1400 source", "", 0, IMAGE.replace("04000", "01400"), "", {}),
+    ("assemble faulty", "", 1, "", "ibm1401: line 1: 6 OPERATION\n", {}),
+    ("assemble --all faulty", "", 1, "",
+     "faulty:1:16: OPERATION: BOO is no operation\nfaulty:2:16: OPERATION: BOO is no operation\n", {}),
+    ("assemble wide", "", 1, "", "ibm1401: line 1: 3 GRAPHIC\n", {}),
+    ("assemble --language ibm wide", "", 0, IMAGE, "", {}),
+    ("load image", LAST_PLACE, 0, " \nBYE\n", "", {}),
+    ("load --journal new image", LAST_PLACE, 0, " \nBYE\n", "",
+     {"new": f"JOURNAL1 4000\n{LOADED}3\t0\tEXAMINE 1400 1\t \n"}),
+    ("load --sync image", LAST_PLACE, MISUSE, "", None, {}),
+    ("run job", "", 1, "", NO_CARD, {}),
+    ("run --cards cards job", "", 0, "FIRST\n", HALTED, {}),
+    ("run --cards cards --punch new job", "", 0, "FIRST\n", HALTED, {"new": "FIRST\n"}),
+    ("run --cards cards --paper new job", "", 0, "", HALTED, {"new": "FIRST\n"}),
+    ("run --cards cards --switches B job", "", 0, "FIRST\n", HALTED.replace("0426 (line 9, H)", "0427 (line 10, ON H)"),
+     {}),
+    ("run --trace new job", "", 1, "", NO_CARD, {"new": STEPS}),
+    ("run --limit 1 job", "", 1, "", NO_CARD.replace("READER", "LIMIT").replace(
+        "no card in the hopper", "the limit of steps was reached"), {}),
+    ("run --load job", "", 1, "",
+     "ibm1401: OPCODE at 0001 ( 000,000,): the character blank is no operation after 0 steps; "
+     f"{NONE.replace('0 cards', '1 card', 1)}", {}),
+    ("run wide", "", 1, "", "ibm1401: line 1: 3 GRAPHIC\n", {}),
+    ("run --language ibm wide", "", 0, "", f"ibm1401: HALT at 0340 (line 2, H) after 2 steps; {NONE}", {}),
+    ("run high", "", 0, "", f"ibm1401: HALT at 1400 (line 3, HIGH H) after 2 steps; {NONE}", {}),
+    ("run --size 1400 high", "", 1, "", "ibm1401: line 3: 9 OUT OF CORE\n", {}),
+    ("journal journal", "", 0, "".join(SHOWN), "", {}),
+    ("journal --seat 1 journal", "", 0, SHOWN[0] + SHOWN[2], "", {}),
+    ("journal --from 3 journal", "", 0, SHOWN[2], "", {}),
+    ("journal --check journal", "", 0, "3 entries\n", "", {}),
+    ("resume journal", CELL, 0, "~B\nBYE\n", "", {"journal": f"{JOURNAL}4\t0\tEXAMINE 0500 1\t~B\n"}),
+    ("resume --journal new journal", CELL, 0, "~B\nBYE\n", "", {"new": f"{JOURNAL}4\t0\tEXAMINE 0500 1\t~B\n"}),
+    ("resume --until 1 journal", CELL, 0, "~A\nBYE\n", "", {}),
+    ("resume --without 2 journal", CELL, MISUSE, "", None, {}),
+    ("resume --without 1,x --journal new journal", CELL, MISUSE, "", None, {}),
+    ("resume --without 2 --journal new journal", CELL, 0, "~A\nBYE\n", "", {"new": WITHOUT_2}),
+    ("resume --until 1 --sync journal", CELL, MISUSE, "", None, {}),
+    ("resume --port 1401 journal", CELL, MISUSE, "", None, {}),
+    ("resume --page 1401 journal", CELL, MISUSE, "", None, {}),
+    ("resume --seats 2 journal", CELL, MISUSE, "", None, {}),
+    ("serve --port 1401", "", MISUSE, "", None, {}),
+    ("serve --page 1401", "", MISUSE, "", None, {}),
+    ("serve --seats 2", "", MISUSE, "", None, {}),
+    ("serve --port 1401 --seats 2 --sync", "", MISUSE, "", None, {}),
+    ("serve --port 1401 --seats 2 --image image --size 4000", "", MISUSE, "", None, {}),
+    ("assemble -o new --deck new source", "", MISUSE, "", None, {}),
+]
+
+# The calls that read a file. What those of an image or a source alone say is shorter, and as old as they are.
+UNREAD = [
+    "assemble FILE", "load FILE", "serve --port 1401 --seats 1 --image FILE",
+    "disassemble FILE", "run FILE", "run --load FILE", "run --cards FILE job",
+    "serve --port 1401 --seats 1 --cards FILE",
+    "journal FILE", "journal --check FILE", "resume FILE", "resume --journal new FILE",
+]
+UNREAD_FILES = [("nothing", "no such file"), ("folder", "is a folder"), ("job/nothing", "no such file"),
+                ("n" * 300, "cannot be read")]
+
+
+class Served:
+    """The program serving at free ports, from its first line on."""
+
+    def __init__(self, test, room, words, environment=()):
+        self.test, self.port = test, free_ports(4)
+        words = words.replace("PORT", str(self.port)).replace("PAGE", str(self.port + 1)).split()
+        pipes = dict.fromkeys(("stdin", "stdout", "stderr"), subprocess.PIPE)
+        self.process = subprocess.Popen([PROGRAM, *words], cwd=room.path, env={**os.environ, **dict(environment)},
+                                        text=True, **pipes)
+        test.addCleanup(self.stop)
+        test.assertEqual(self.process.stdout.readline(), "READY\n")
+
+    def stop(self):
+        """Ends the program if it hasn't ended."""
+        self.process.kill()
+        for each in (self.process.stdin, self.process.stdout, self.process.stderr):
+            each.close()
+        self.process.wait(SECONDS)
+
+    def say(self, lines):
+        """What a new console is answered until its connection ends."""
+        with socket.create_connection(("127.0.0.1", self.port), SECONDS) as console:
+            console.sendall(lines.encode())
+            return b"".join(iter(lambda: console.recv(4096), b"")).decode()
+
+    def end(self, lines=""):
+        """What the program writes further until it ends."""
+        return self.process.communicate(lines, timeout=SECONDS)[0]
+
+
+class Options(unittest.TestCase):
+    """Each option, beside the same call without it."""
+
+    def test_each_call_does_what_its_options_say(self):
+        for words, lines, *wanted in ROWS:
+            with self.subTest(words):
+                status, output, error, files = Room(self).run(words.split(), lines)
+                if wanted[2] is None:
+                    self.assertNotEqual(error, "")
+                    error = None
+                self.assertEqual([status, output, error, files], wanted)
+
+    def test_a_file_that_cannot_be_read_is_reported_alike(self):
+        for words in UNREAD:
+            for name, reason in UNREAD_FILES:
+                with self.subTest(words, file=name):
+                    fixed = words.split()[0] in ("assemble", "load") or "--image" in words
+                    text = f"cannot read {name}" if fixed else f"{name}: {reason}"
+                    status, output, error, files = Room(self).run(words.replace("FILE", name).split())
+                    self.assertEqual((status, output, error, files), (1, "", f"ibm1401: {text}\n", {}))
+
+    def test_a_deck_is_one_that_runs(self):
+        room = Room(self)
+        status, output, error, files = room.run(["assemble", "--deck", "new", "source"])
+        self.assertEqual((status, output, error, [*files]), (0, "", "", ["new"]))
+        self.assertEqual(room.run(["run", "--load", "new"])[0], 0)
+
+    def test_sync_forces_each_entry_onto_the_disk(self):
+        room = Room(self)
+        library = room.path / "refuse_sync.so"
+        subprocess.run(["cc", "-shared", "-fPIC", "-O2", "-o", library, SYNC_LIBRARY], check=True)
+        for words in ["console --journal N", "load --journal N image", "resume journal", "resume --journal N journal"]:
+            counts = []
+            for option in ("", " --sync"):
+                room.path.joinpath("N").unlink(missing_ok=True)
+                room.path.joinpath("events").unlink(missing_ok=True)
+                subprocess.run([PROGRAM, *(words + option).split()], cwd=room.path, input="EXAMINE 0\n" * 3 + "QUIT\n",
+                               env={**os.environ, "LD_PRELOAD": str(library), "EVENTS_FILE": str(room.path / "events")},
+                               stdout=subprocess.PIPE, text=True, timeout=SECONDS, check=True)
+                counts.append((room.path / "events").read_text().count("s"))
+            with self.subTest(words):
+                self.assertGreaterEqual(counts[1] - counts[0], 3)
+        counts = []
+        for option in ("", " --sync"):
+            (room.path / "events").unlink(missing_ok=True)
+            environment = {"LD_PRELOAD": str(library), "EVENTS_FILE": str(room.path / "events")}
+            served = Served(self, room, f"serve --port PORT --seats 1 --journal J{option}", environment)
+            self.assertEqual(served.say("EXAMINE 0\n" * 3 + "QUIT\n"), " \n" * 3 + "BYE\n")
+            served.end("QUIT\n")
+            (room.path / "J").unlink()
+            counts.append((room.path / "events").read_text().count("s"))
+        with self.subTest("serve"):
+            self.assertGreaterEqual(counts[1] - counts[0], 3)
+
+    def test_serve_has_as_many_seats_as_it_is_told(self):
+        served = Served(self, Room(self), "serve --port PORT --seats 1")
+        self.assertEqual(served.say(LAST_PLACE), " \nBYE\n")
+        self.assertEqual(served.end(), "JOURNAL 1\n")
+        served = Served(self, Room(self), "serve --port PORT --seats 2")
+        self.assertEqual(served.say(LAST_PLACE), " \nBYE\n")
+        self.assertEqual(served.say(LAST_PLACE), " \nBYE\n")
+        self.assertEqual(served.end(), "JOURNAL 2\n")
+
+    def test_a_served_machine_has_the_size_that_is_named(self):
+        served = Served(self, Room(self), "serve --port PORT --seats 1 --size 1400")
+        self.assertEqual(served.say(LAST_PLACE), "REFUSED 1 ADDRESS\nBYE\n")
+
+    def test_a_seat_that_is_kept_is_given_again(self):
+        served = Served(self, Room(self), "serve --port PORT --seats 1 --keep-seats")
+        for _ in range(2):
+            self.assertEqual(served.say(LAST_PLACE), " \nBYE\n")
+        self.assertEqual(served.end("QUIT\n"), "JOURNAL 2\n")
+
+    def test_a_room_begins_with_an_image_or_a_deck(self):
+        served = Served(self, Room(self), "serve --port PORT --seats 1 --image image")
+        self.assertEqual(served.say("EXAMINE 0400 8\nQUIT\n"), "~?423420~A\nBYE\n")
+        served = Served(self, Room(self), "serve --port PORT --seats 1 --cards cards")
+        self.assertIn(" HOPPER=002 ", served.say("REGS\nQUIT\n"))
+        served = Served(self, Room(self), "serve --port PORT --seats 1")
+        self.assertEqual(served.say("EXAMINE 0400 8\nQUIT\n"), " " * 8 + "\nBYE\n")
+
+    def test_a_journal_is_the_one_of_the_room(self):
+        room = Room(self)
+        served = Served(self, room, "serve --port PORT --seats 1 --journal new")
+        self.assertEqual(served.say("EXAMINE 0500\nQUIT\n"), " \nBYE\n")
+        served.end("QUIT\n")
+        self.assertEqual((room.path / "new").read_text(), "JOURNAL1 4000\n1\t1\tEXAMINE 0500 1\t \n")
+
+    def test_no_file_is_left_if_a_new_journal_cannot_begin(self):
+        for words in ("console --journal new", "load --journal new image", "resume --journal new journal",
+                      f"serve --port {free_ports(1)} --seats 1 --journal new"):
+            with self.subTest(words):
+                room = Room(self)
+                ran = subprocess.run([PROGRAM, *words.split()], cwd=room.path, stdin=subprocess.DEVNULL,
+                                     capture_output=True, timeout=SECONDS, check=False, preexec_fn=refuse_writes)
+                self.assertEqual((ran.returncode, (room.path / "new").exists()), (1, False), ran.stderr)
+
+    def test_a_page_is_at_its_own_port(self):
+        for words in ("serve --page PAGE --seats 1", "serve --port PORT --page PAGE --seats 2",
+                      "resume --page PAGE --seats 2 journal"):
+            with self.subTest(words):
+                served = Served(self, Room(self), words)
+                with socket.create_connection(("127.0.0.1", served.port + 1), SECONDS) as page:
+                    page.sendall(f"GET / HTTP/1.1\r\nHost: 127.0.0.1:{served.port + 1}\r\n\r\n".encode())
+                    self.assertEqual(page.recv(12), b"HTTP/1.1 200")
+                if "--port" in words:
+                    with socket.create_connection(("127.0.0.1", served.port), SECONDS) as console:
+                        console.sendall(b"EXAMINE 0\n")
+                        self.assertEqual(console.recv(2), b" \n")
+                else:
+                    with self.assertRaises(OSError):
+                        socket.create_connection(("127.0.0.1", served.port), 1)
+
+    def test_a_journal_is_taken_up_at_seats(self):
+        served = Served(self, Room(self), "resume --port PORT --seats 2 journal")
+        self.assertEqual(served.say(CELL), "~B\nBYE\n")
+        self.assertEqual(served.end("QUIT\n"), "JOURNAL 4\n")
+
+    def test_each_option_that_help_lists_is_tried_here(self):
+        listed = subprocess.run([PROGRAM, "--help"], capture_output=True, text=True, check=True).stdout
+        tried = Path(__file__).read_text()
+        for name in re.findall(r"^  (\w+)  ", listed, re.MULTILINE):
+            if name == "help":
+                continue
+            text = subprocess.run([PROGRAM, name, "--help"], capture_output=True, text=True, check=True).stdout
+            for option in set(re.findall(r"^ +(?:-\w, )?(--[\w-]+)", text, re.MULTILINE)) - {"--help"}:
+                with self.subTest(f"{name} {option}"):
+                    self.assertRegex(tried, rf'"{name}\b[^"]* {option}\b')
+
+
+if __name__ == "__main__":
+    unittest.main()

@@ -1,0 +1,329 @@
+"""The page of a seat in a browser, where chromium is installed."""
+import http.server
+import shutil
+import threading
+import unittest
+
+from tests.chromium import NARROW, OTHER_NAME, WIDE, Chromium, Page
+from tests.support import EXAMPLES, ProgramTest, wait_until
+
+# How many looks make up ten minutes, at four a second.
+LOOKS = 2_400
+TELEPHONE = (360, 740)
+BEAMER = (1920, 950)
+
+
+@unittest.skipIf(shutil.which("chromium") is None, "chromium isn't installed")
+class Browser(ProgramTest):
+    """Tests with a browser, each with a room of its own."""
+
+    @classmethod
+    def setUpClass(cls):
+        cls.browser = Chromium()
+        cls.addClassCleanup(cls.browser.end)
+
+    def setUp(self):
+        self.served = self.room("serve", seats=2, pages=True, consoles=False)
+        self.pages = []
+        self.page = self.open_page()
+
+    def tearDown(self):
+        """The pages have no complaint."""
+        for page in self.pages:
+            self.assertEqual([], page.complaints())
+
+    def open(self, address):
+        """A page at an address, which is closed with the test."""
+        page = Page(self.browser, address)
+        self.addCleanup(page.close)
+        return page
+
+    def open_page(self, seat=1):
+        """The page of a seat, which has seen the machine."""
+        page = self.open(self.served.address(seat))
+        self.check(f"the page of seat {seat} sees the machine", "" if page.is_ready() else "it doesn't")
+        self.pages.append(page)
+        return page
+
+    def shows(self, name, expression, wanted=True, page=None):
+        """A subtest: an expression in the page comes to a value."""
+        self.same(name, (page or self.page).until(expression, wanted), wanted)
+
+
+class Window(Browser):
+    """What a page has when it is loaded."""
+
+    def test_it_loads(self):
+        addresses = ",".join(f"{self.served.address(seat)}/" for seat in range(1, self.served.seats + 1))
+        self.shows("its title names the seat", "document.title", "IBM 1401, seat 1")
+        links = "[...document.querySelectorAll('#seats a')].map(a => a.href).join()"
+        self.shows("it links to the other seats", links, addresses)
+        self.shows("it has no banner", "byId('banner').hidden")
+        self.shows("every part has its text", "[...document.querySelectorAll('[data-text]')].every(e => e.textContent)")
+        self.shows("no text is missing", "document.body.innerText.includes('undefined')", False)
+
+    def test_it_fits_each_width(self):
+        for name, size in [("a telephone", TELEPHONE), ("a narrow window", NARROW), ("a wide window", WIDE),
+                           ("a beamer", BEAMER)]:
+            self.page.resize(size)
+            self.shows(name, "document.documentElement.scrollWidth <= innerWidth")
+
+
+class DeckToPaper(Browser):
+    """A deck from a file is fed, loaded and run, and the paper is the one that the deck's run prints."""
+
+    def setUp(self):
+        super().setUp()
+        deck = EXAMPLES / "listing.deck"
+        self.cards = [card.rstrip() for card in deck.read_text().splitlines()]
+        self.paper = (EXAMPLES / "listing.paper").read_text()
+        root = self.page.call("DOM.getDocument")["root"]["nodeId"]
+        file = self.page.call("DOM.querySelector", nodeId=root, selector="#file")["nodeId"]
+        self.page.call("DOM.setFileInputFiles", nodeId=file, files=[str(deck)])
+        self.shows("a deck from a file is fed", "byId('HOPPER').textContent", f"{len(self.cards):03}")
+
+    def run_the_deck(self):
+        """Presses the keys that load and run the deck."""
+        self.page.value("document.querySelector('#switches button').click()")
+        pressed = "document.querySelector('#switches button').getAttribute('aria-pressed')"
+        self.shows("a sense switch is on", pressed, "true")
+        self.page.click("load-key")
+        self.shows("the load key", "byId('told-words').textContent === TEXTS.told.load")
+        self.shows("the next instruction is shown", "byId('next').textContent.startsWith('SW')")
+        self.shows("and lit", "document.querySelectorAll('#grid td.next').length", 7)
+        self.page.value("byId('pace').selectedIndex = 1")
+        self.page.click("run-key")
+        self.shows("lines are printed while the program runs", "run !== null && view.paper.length > 3")
+        self.page.value("byId('pace').selectedIndex = FASTEST")
+        self.shows("the program halts", "byId('told-words').textContent === TEXTS.stops.HALT")
+
+    def test_the_paper(self):
+        next_card = "byId('card-next').querySelector('.typed').textContent"
+        self.shows("the first card is shown", next_card, self.cards[0].ljust(80))
+        self.run_the_deck()
+        self.shows("the paper, as `run` writes it", "paperText(view.paper)", self.paper)
+        heading = "[...sheets.values()].map(sheet => sheet.rows[3].textContent).join()"
+        self.shows("each form has its heading at line 4, and one follows", heading, 2 * "LISTING OF THE DECK,")
+        self.page.browser.call("Browser.setDownloadBehavior", behavior="allow", downloadPath=str(self.folder))
+        self.page.click("save-key")
+        saved = self.folder / "paper.txt"
+        wait_until(saved.exists)
+        self.holds("the paper is saved as text", saved, self.paper)
+        self.page.value("tearOff() && 0")
+        self.shows("the paper isn't torn off unasked", "byId('ask').open")
+        self.page.click("ask-yes")
+        self.shows("the paper is torn off", "view.paper.length === 0 && torn.length", 23)
+        self.shows("the page keeps it", "paperText(torn)", self.paper)
+        self.page.value("layOutForPrint()")
+        self.shows("it is laid out for print", "byId('sheets-to-print').querySelectorAll('.sheet').length", 2)
+
+    def test_punched_cards(self):
+        self.run_the_deck()
+        self.shows("21 cards were punched", "byId('STACKER').textContent", "021")
+        self.page.click("card-key")
+        self.shows("a punched card is taken", "taken.join()", self.cards[6])
+        self.shows("20 are left", "byId('STACKER').textContent", "020")
+
+
+class TwoPages(Browser):
+    """Two pages see each other's work, and a line that doesn't go on from the seat's count isn't carried out."""
+
+    def test_they_see_each_other(self):
+        second = self.open_page(2)
+        second.value("say('DEPOSIT 0700 ~BY SEAT 2')")
+        self.page.value("byId('find-at').value = '0700', byId('find').requestSubmit()")
+        cell = "view.picture.cells[100].graphic + view.picture.cells[100].mark"
+        self.shows("a page sees what the other seat does", cell, "Btrue")
+        self.shows("and says so", "byId('others').textContent.length > 0")
+        self.shows("the place is chosen", "byId('cell').textContent.startsWith('0700: B')")
+        second.value("say('FEED FROM SEAT 2')")
+        next_card = "byId('card-next').querySelector('.typed').textContent.trim()"
+        self.shows("and its card", next_card, "FROM SEAT 2")
+
+    def test_a_place_that_has_changed_glows(self):
+        second = self.open_page(2)
+        self.page.value("byId('find-at').value = '0700', byId('find').requestSubmit()")
+        self.shows("the place is chosen", "byId('cell').textContent.startsWith('0700')")
+        count = "glowed += core.cells[110].getAnimations().length"
+        self.page.value(f"window.glowed = 0, setInterval(() => {{ {count}; }}, 20)")
+        second.value("say('DEPOSIT 0710 Z')")
+        self.shows("it glows", "glowed > 0")
+        reduced = [{"name": "prefers-reduced-motion", "value": "reduce"}]
+        self.page.call("Emulation.setEmulatedMedia", features=reduced)
+        glowing = "glow(core.cells[5]), core.cells[5].getAnimations().length"
+        self.shows("but not where motion is to be reduced", glowing, 0)
+
+    def test_a_second_window_of_a_seat(self):
+        self.page.value("say('START 0003')")
+        window = self.open_page()
+        count = self.served.after()
+        window.value("window.outcome = inTurn(() => { view.made -= 1; return send('START 0001'); })")
+        told = "outcome.then(told => told.failed === TEXTS.outcomes[409])"
+        self.shows("a count from before is reported in words", told, page=window)
+        self.unchanged("and its line isn't carried out", self.served, count)
+        line = "say('START 000{}').then(outcome => outcome.reply)"
+        self.shows("a line with the count of a picture is", line.format(1), "OK", window)
+        self.page.value("inTurn(look)")
+        self.shows("the first window of the seat goes on too", line.format(2), "OK")
+        # The browser itself reports the line that was refused.
+        self.same("one complaint, of that line", ["409" in each for each in window.complaints()], [True])
+        self.pages.remove(window)
+
+
+class KeysAlone(Browser):
+    """All of it with the keyboard alone."""
+
+    def test_the_console_line(self):
+        page = self.page
+        page.press("c", "KeyC", 1)
+        self.shows("Alt+C goes to the console line", "document.activeElement.id", "line")
+        page.write("deposit 0500 ~b500~.")
+        page.press("Enter")
+        last = "[...document.querySelectorAll('#log .you')].at(-1).textContent"
+        self.shows("a line is sent by Enter, in capitals", last, "DEPOSIT 0500 ~B500~.")
+        page.write("START 0500")
+        page.press("Enter")
+        self.shows("START is carried out", "byId('I').getAttribute('aria-label')", "00500")
+        page.press("ArrowUp")
+        page.press("ArrowUp")
+        self.shows("the arrow keys bring earlier lines back", "byId('line').value", "DEPOSIT 0500 ~B500~.")
+        page.press("r", "KeyR", 1)
+        self.shows("Alt+R runs an endless program", "run !== null && run.slices > 2")
+        page.press("Escape")
+        stopped = "run === null && byId('told-words').textContent.startsWith('Stopped by you')"
+        self.shows("Escape stops it", stopped)
+        page.press("n", "KeyN", 1)
+        self.shows("Alt+N is a step", "byId('told-words').textContent === TEXTS.told.step")
+
+    def test_the_keypunch(self):
+        page = self.page
+        page.press("k", "KeyK", 1)
+        self.shows("Alt+K opens the keypunch", "document.activeElement.id", "keyed")
+        page.write("hello, 1401")
+        holes = "byId('card-keyed').querySelector('.holes').getAttribute('d').split('M').length - 1"
+        self.shows("the card has its holes", holes, 17)
+        page.press("Enter")
+        self.shows("Enter releases the card", "byId('HOPPER').textContent", "001")
+
+    def test_an_address_and_the_paper(self):
+        page = self.page
+        page.value("say('DEPOSIT 0500 ~B500~.')")
+        page.press("a", "KeyA", 1)
+        page.write("0500")
+        page.press("Enter")
+        here = "document.activeElement.getAttribute('aria-label')"
+        self.shows("an address is found", here, "0500 B with a word mark")
+        page.press("ArrowRight")
+        self.shows("an arrow key goes to the next place", here, "0501 5")
+        page.press("p", "KeyP", 1)
+        self.shows("Alt+P goes to the paper", "document.activeElement.id", "fold")
+
+    def test_tab_goes_to_every_part(self):
+        page = self.page
+        punched = "for (const line of ['DEPOSIT 0400 ~4~.', 'START 0400', 'RUN 1']) await say(line);"
+        page.value(f"(async () => {{ {punched} }})()")
+        self.shows("a card is punched", "byId('STACKER').textContent", "001")
+        page.press("k", "KeyK", 1)
+        self.shows("the keypunch is open", "document.activeElement.id", "keyed")
+        page.value("document.activeElement.blur(), window.outlineOf = e => getComputedStyle(e).outlineStyle, 0")
+        reached, unseen = set(), []
+        for _ in range(100):
+            page.press("Tab")
+            here = page.value("(e => e.id || e.value || e.textContent.slice(0, 20))(document.activeElement)")
+            focus = "document.activeElement === document.body || outlineOf(document.activeElement)"
+            if page.value(focus) == "none":
+                unseen.append(here)
+            reached.add(here)
+        wanted = {"help-key", "load-key", "start-at", "run-key", "step-key", "pace", "A", "600", "find-at", "follow",
+                  "fold", "save-key", "print-key", "pick-key", "sample-hello", "card-key", "keyed", "release-key",
+                  "log", "line"}
+        self.same("parts that it doesn't reach", sorted(wanted - reached), [])
+        self.same("what has the focus is marked", unseen, [])
+
+
+class Feeding(Browser):
+    """Decks that are fed, dropped or refused."""
+
+    def test_a_full_hopper(self):
+        """Feeding waits while it is full, and goes on when the machine has read some cards."""
+        self.page.value("feedDeck(Array.from({length: 502}, (_, n) => `CARD ${n}`)) && 0")
+        self.shows("feeding waits at 500 cards", "byId('HOPPER').textContent === '500' && feed.waits")
+        self.page.value("(async () => { for (let n = 0; n < 4; n++) await say('LOAD'); })()")
+        self.shows("and goes on", "feed === null && byId('HOPPER').textContent", "498")
+
+    def test_a_file_that_is_dropped(self):
+        self.page.value("""(data => { data.items.add(new File(['one\\ntwo\\377'], 'a deck'));
+            byId('reader').dispatchEvent(new DragEvent('drop', {dataTransfer: data, cancelable: true}));
+        })(new DataTransfer())""")
+        fault = "Nothing was fed. Line 2, column 4: no card has this character"
+        self.shows("it is read", "byId('deck-told').textContent", fault)
+
+    def test_a_fault_of_a_deck(self):
+        self.shows("its line and its column", "feedText('GOOD\\nBAD ~').then(() => byId('deck-told').textContent)",
+                   "Nothing was fed. Line 2, column 5: no card has this character")
+
+
+class Looking(Browser):
+    """A page that only looks."""
+
+    def test_ten_minutes_leave_the_journal_as_it_was(self):
+        count = self.served.after()
+        self.shows(f"{LOOKS} looks are answered", f"""(async () => {{
+            for (let n = 0; n < {LOOKS}; n++) if (!(await inTurn(look))) return n;
+            return true;
+        }})()""")
+        self.unchanged("the machine", self.served, count)
+
+
+class Other(http.server.BaseHTTPRequestHandler):
+    """An empty page of another origin."""
+
+    def do_GET(self):
+        self.send_response(200)
+        self.send_header("content-type", "text/html")
+        self.end_headers()
+        self.wfile.write(b"<!doctype html><title>other</title>")
+
+    def log_message(self, *_):
+        pass
+
+
+class Foreign(Browser):
+    """A page of another origin, and the page by another name, reach nothing."""
+
+    def test_a_page_of_another_origin(self):
+        count = self.served.after()
+        with http.server.ThreadingHTTPServer(("127.0.0.1", 0), Other) as other:
+            threading.Thread(target=other.serve_forever, daemon=True).start()
+            page = self.open(f"http://127.0.0.1:{other.server_address[1]}/")
+            self.shows("it is there", "document.title", "other", page)
+            sent = "{method: 'POST', mode: '%s', body: 'START 0001', headers: {%s}}"
+            for mode, fields in ("no-cors", ""), ("cors", ""), ("cors", "'X-1401-Line': '0'"):
+                asked = sent % (mode, fields)
+                page.value(f"fetch('{self.served.address()}/line', {asked}).then(r => r.status, () => 'refused')")
+            picture = f"{self.served.address()}/picture?core=0&paper=0"
+            found = page.value(f"fetch('{picture}').then(r => r.text(), () => 'refused')")
+            self.same("it doesn't read a picture", found, "refused")
+            other.shutdown()
+        self.unchanged("its lines aren't carried out", self.served, count)
+
+    def test_the_page_by_another_name(self):
+        named = self.open(f"http://{OTHER_NAME}:{self.served.page}/")
+        named.until("document.readyState", "complete")
+        self.shows("it isn't served", "typeof TEXTS", "undefined", named)
+
+
+class Unplugged(Browser):
+    """A server that is gone."""
+
+    def test_it_is_reported_in_words(self):
+        """A line that was on its way isn't sent again."""
+        self.served.kill()
+        self.shows("the banner", "byId('banner').textContent === TEXTS.lost")
+        self.page.value("say('START 0003') && 0")
+        self.shows("a line that got no answer", "byId('log').textContent.includes(TEXTS.lostAsking)")
+        self.pages.remove(self.page)
+
+
+if __name__ == "__main__":
+    unittest.main()

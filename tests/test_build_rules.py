@@ -1,0 +1,103 @@
+"""What ./ibm1401 proves again: the rules that it writes for make, tried with a stand-in for the toolchain."""
+import os
+import shutil
+import subprocess
+import sys
+import tempfile
+import unittest
+from pathlib import Path
+
+sys.dont_write_bytecode = True
+TOP = Path(__file__).resolve().parent.parent
+SECONDS = 60
+
+# A program over three libraries, two of which need nothing of each other.
+CRATES = {"low": "", "left": " low", "right": " low thiserror", "ibm1401": " left right"}
+
+# The prover notes each crate, and changes a source meanwhile if it is asked to. A program is a script.
+KIT = {
+    "rt": 'echo "$VERSION"',
+    "rattle": """while [ $# -gt 0 ]; do
+    case $1 in
+    --crate-name) crate=$2 ;;
+    -o) made=$2 ;;
+    esac
+    shift
+done
+echo "$crate" >> "$CALLS"
+[ "$crate" != "$CHANGED" ] || { sleep 0.1; echo "// changed" >> src/lib.rt; }
+case $made in
+*.rlib) mkdir "$made" ;;
+*.o) printf '#!/bin/sh\\necho "ran $*"\\n' > "$made" ;;
+esac""",
+    "rattle-link": """while [ "$1" != -o ]; do shift; done
+cp "$3" "$2" && chmod +x "$2" """,
+}
+
+
+class BuildRules(unittest.TestCase):
+    def setUp(self):
+        folder = tempfile.TemporaryDirectory()
+        self.addCleanup(folder.cleanup)
+        self.room = Path(folder.name).resolve()
+        shutil.copy(TOP / "ibm1401", self.room / "ibm1401")
+        self.write_crates(CRATES)
+        for name in CRATES:
+            source = self.room / "crates" / name / "src" / ("main.rt" if name == "ibm1401" else "lib.rt")
+            source.parent.mkdir(parents=True)
+            source.write_text("//!\n")
+        (self.room / "kit/bin").mkdir(parents=True)
+        for command, text in KIT.items():
+            (self.room / "kit/bin" / command).write_text(f"#!/bin/sh\n{text}\n")
+            (self.room / "kit/bin" / command).chmod(0o755)
+
+    def write_crates(self, crates):
+        """Writes crates.txt."""
+        (self.room / "crates.txt").write_text("".join(f"{name}:{below}\n" for name, below in crates.items()))
+
+    def proved(self, words=("--build",), **environment):
+        """The crates that a call proves, in order, once it has ended well, and what it writes to standard output."""
+        calls = self.room / "calls"
+        calls.write_text("")
+        path = f"{self.room}/kit/bin:{os.environ['PATH']}"
+        own = {"PATH": path, "CALLS": str(calls), "CHANGED": "", "VERSION": "one"}
+        ran = subprocess.run([self.room / "ibm1401", *words], env={**os.environ, **own, **environment}, text=True,
+                             stdin=subprocess.DEVNULL, capture_output=True, timeout=SECONDS, check=False)
+        self.assertEqual(ran.returncode, 0, ran.stderr)
+        return calls.read_text().split(), ran.stdout
+
+    def test_build_proves_each_crate_once_after_those_below_it_and_runs_nothing(self):
+        order, output = self.proved()
+        self.assertEqual((sorted(order), order[0], order[-1], output), (sorted(CRATES), "low", "ibm1401", ""))
+        self.assertEqual(self.proved(), ([], ""))
+        self.assertEqual(self.proved(["run", "a deck"]), ([], "ran run a deck\n"))
+
+    def test_a_changed_source_takes_the_crates_above_it(self):
+        self.proved()
+        (self.room / "crates/left/src/lib.rt").write_text("// another\n")
+        self.assertEqual(self.proved()[0], ["left", "ibm1401"])
+
+    def test_a_new_file_of_a_crate_is_a_changed_source(self):
+        self.proved()
+        (self.room / "crates/right/proofs").mkdir()
+        (self.room / "crates/right/proofs/Lib.antt").write_text("")
+        self.assertEqual(self.proved()[0], ["right", "ibm1401"])
+
+    def test_other_libraries_are_a_change_and_another_crate_is_none(self):
+        self.proved()
+        self.write_crates({"alone": "", **CRATES, "right": " low left"})
+        self.assertEqual(self.proved()[0], ["right", "ibm1401"])
+
+    def test_another_toolchain_proves_all_again(self):
+        self.proved()
+        (self.room / "crates/left/src/lib.rt").write_text("// another\n")
+        self.assertEqual(sorted(self.proved(VERSION="two")[0]), sorted(CRATES))
+
+    def test_a_source_that_changes_while_it_is_proved_is_proved_again(self):
+        self.proved(CHANGED="right")
+        self.assertEqual(self.proved()[0], ["right", "ibm1401"])
+        self.assertEqual(self.proved()[0], [])
+
+
+if __name__ == "__main__":
+    unittest.main()

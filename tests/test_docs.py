@@ -1,0 +1,126 @@
+"""The pages: their links, the sessions and the sources that they show, and the definitions that they name."""
+import re
+import unittest
+
+from tests.support import EXAMPLES, TOP, ProgramTest, program, run
+
+PAGES = [TOP / "README.md", *sorted((TOP / "docs").glob("*.md"))]
+
+
+def rows_of(page):
+    """What is typed and what is answered, in the tables of a page that have these two columns first."""
+    rows, inside = [], False
+    for line in page.read_text().splitlines():
+        cells = [cell.strip() for cell in line.split(" | ")]
+        if line.startswith("| You type | It answers |"):
+            inside = True
+        elif not line.startswith("|"):
+            inside = False
+        elif inside and not line.startswith("|---"):
+            typed, answered = re.fullmatch(r"\|? ?`(.*)`", cells[0]), re.fullmatch(r"`(.*)`", cells[1])
+            rows.append((typed[1], answered[1] if answered else None))
+    return rows
+
+
+def lost_links(page):
+    """The links of a page that lead to no file, or to no heading of it."""
+    lost = []
+    for link, heading in re.findall(r"\]\(([^)#:]*)(?:#([^)]*))?\)", page.read_text()):
+        target = (page.parent / link) if link else page
+        text = target.read_text(errors="replace") if target.is_file() else ""
+        headings = re.findall(r"^#+ (.*)$", text, re.MULTILINE)
+        anchors = [re.sub(r"[^\w -]", "", each).lower().replace(" ", "-") for each in headings]
+        if not target.exists() or (heading and heading not in anchors):
+            lost.append(f"{link}#{heading}" if heading else link)
+    return lost
+
+
+def named_definitions():
+    """The definitions that MACHINE names below its sections: the file of specs/ and the name of each."""
+    text = (TOP / "docs/MACHINE.md").read_text()
+    for block in re.findall(r"^\*(\w+/specs/.*?)\*$", text, re.MULTILINE | re.DOTALL):
+        crate = ""
+        for part in re.split(r";\s+", " ".join(block.split())):
+            place, _, names = part.partition(": ")
+            crate, _, file = place.rpartition("/specs/") if "/" in place else (crate, "", place)
+            for name in re.findall(r"`(.*?)`", names):
+                yield TOP / "crates" / crate / "specs" / f"{file}.antt", name
+
+
+class Pages(ProgramTest):
+    """What a page shows is what the program does."""
+
+    def test_links(self):
+        for page in [*PAGES, TOP / "benches/README.md", TOP / "tests/README.md"]:
+            self.same(str(page.relative_to(TOP)), lost_links(page), [])
+
+    def test_definitions_that_machine_names(self):
+        named = list(named_definitions())
+        self.assertTrue(named)
+        for specs, name in named:
+            text = specs.read_text() if specs.exists() else ""
+            defined = re.search(rf"^(?:abbrev|unfoldable|record)(?: pub)? {name}\b", text, re.MULTILINE)
+            self.check(f"{specs.stem}: {name}", "" if defined else f"{specs.relative_to(TOP)} doesn't define it")
+
+    def test_sessions_with_a_table(self):
+        """Each table of lines and replies: its replies to the byte, and what its page has to paste is its lines."""
+        found = {page: rows_of(page) for page in PAGES}
+        shown = {page.name for page, rows in found.items() if rows}
+        self.same("these have one at least", {"README.md", "OPERATING.md", "TUTORIAL.md"} - shown, set())
+        for page, rows in found.items():
+            if rows:
+                self.hold_session(page, rows)
+
+    def hold_session(self, page, rows):
+        """Subtests of the session of a page."""
+        lines = "".join(f"{typed}\n" for typed, _ in rows)
+        replies = "".join(f"{answered}\n" for _, answered in rows if answered is not None)
+        self.expect(f"{page.name}: its session", program("console", lines=lines.encode()), 0, replies)
+        for block in re.findall(r"```sh\n(\./ibm1401 console .*?)```", page.read_text(), re.DOTALL):
+            pasted = run(["bash", "-c", block], cwd=self.top)
+            self.expect(f"{page.name}: what it has to paste", pasted, 0, replies)
+            self.check(f"{page.name}: that is its session", "" if lines in block else "its lines are others")
+
+    def test_what_readme_assembles_and_runs(self):
+        block = re.search(r"```sh\n(\./ibm1401 assemble .*?)```", (TOP / "README.md").read_text(), re.DOTALL)
+        replies = (EXAMPLES / "five_and_five.out").read_bytes()
+        self.expect("it", run(["bash", "-c", block[1]], cwd=self.top), 0, replies)
+
+
+class Autocoder(ProgramTest):
+    """The sources that AUTOCODER.md shows."""
+
+    text = (TOP / "docs/AUTOCODER.md").read_text()
+
+    def test_listings(self):
+        listed = re.findall(r"```autocoder\n(.*?)```\n.*?```text\n(.*?)```", self.text, re.DOTALL)
+        self.assertEqual(2, len(listed))
+        source = self.folder / "a source"
+        for lines, listing in listed:
+            source.write_text(lines)
+            self.expect(lines.splitlines()[0].strip(), program("assemble", "--list", source), 0, listing)
+
+    def test_faults(self):
+        """A source for each fault but that of memory."""
+        faults = re.findall(r"```text\n(line \d+: \d+ [A-Z ]+)\n(.*?)```", self.text, re.DOTALL)
+        self.assertEqual(list(range(2, 12)), sorted(int(fault.split()[2]) for fault, _ in faults))
+        source = self.folder / "a source"
+        for fault, lines in faults:
+            source.write_text(lines)
+            self.expect(fault, program("assemble", source), 1, "", f"ibm1401: {fault}\n")
+
+    def test_warnings(self):
+        warned = re.findall(r"```text\n(warned\.source:[^\n]*\n)(.*?)```", self.text, re.DOTALL)
+        self.assertEqual(5, len(warned))
+        for warning, lines in warned:
+            (self.folder / "warned.source").write_text(lines)
+            for language in ["ibm"] if "this machine has no instruction" in warning else ["plain", "ibm"]:
+                call = ["assemble", "--language", language, "warned.source"]
+                image = program(*call, cwd=self.folder)
+                self.expect(f"{warning.strip()}, {language}: without --all", image, 0, "...")
+                ran = program(*call, "--all", cwd=self.folder)
+                self.expect(f"{warning.strip()}, {language}", ran, 0, image.stdout, warning)
+
+
+if __name__ == "__main__":
+    unittest.main()

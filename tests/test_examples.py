@@ -1,0 +1,50 @@
+"""The examples: sessions with their replies, sources with their images and listings, and decks with their paper."""
+import re
+import unittest
+
+from tests.support import EXAMPLES, ProgramTest, program
+
+# Examples that are tried elsewhere, by what a user does with them: systemd's units, operators who share a machine.
+ELSEWHERE = {".service", ".socket", ".consoles"}
+
+
+def examples(suffix):
+    """The examples with this suffix."""
+    return sorted(EXAMPLES.glob(f"*{suffix}"))
+
+
+class Examples(ProgramTest):
+    """What examples/ has is what the program does."""
+
+    def test_each_file_belongs_to_a_session_a_source_or_a_deck(self):
+        known = {each.stem for suffix in (".console", ".source", ".deck") for each in examples(suffix)}
+        others = [each.name for each in sorted(EXAMPLES.iterdir()) if each.suffix not in ELSEWHERE]
+        self.assertTrue(known)
+        self.assertEqual([], [each for each in others if each.split(".")[0].removesuffix("_version_1") not in known])
+
+    def test_sessions(self):
+        """Each session, on the image of its name where there is one: its replies, to the byte."""
+        self.assertTrue(examples(".console"))
+        for lines in examples(".console"):
+            image = lines.with_suffix(".image")
+            call = ["load", image] if image.exists() else ["console"]
+            ran = program(*call, lines=lines.read_bytes())
+            self.expect(lines.name, ran, 0, lines.with_suffix(".out").read_bytes())
+
+    def test_sources(self):
+        """Each source: its image and its listing, to the byte."""
+        self.assertTrue(examples(".source"))
+        for source in examples(".source"):
+            for words, suffix in ([], ".image"), (["--list"], ".listing"):
+                wanted = source.with_suffix(suffix).read_bytes()
+                self.expect(f"{source.name}: its {suffix[1:]}", program("assemble", *words, source), 0, wanted)
+
+    def test_the_session_with_a_deck_feeds_the_deck_that_run_takes(self):
+        deck = (EXAMPLES / "listing.deck").read_text().splitlines()
+        lines = (EXAMPLES / "listing.console").read_text()
+        fed = re.findall(r"^FEED (.*)$", lines, re.MULTILINE)
+        self.assertEqual([card.rstrip() for card in deck], [card.rstrip() for card in fed])
+
+
+if __name__ == "__main__":
+    unittest.main()

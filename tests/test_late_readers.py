@@ -1,0 +1,131 @@
+"""What a client gets that reads its replies late: nothing that was carried out loses its reply, for a bounded time."""
+import resource
+import signal
+import socket
+import threading
+import time
+import unittest
+
+from tests.support import SECONDS, ProgramTest
+
+# How late a client begins to read.
+LATE = 0.2
+# How long a room may take to its end for a client that takes nothing; it needs two seconds of its own.
+LONG = 30
+
+
+def send_ahead(console, lines):
+    """Sends lines, as far as the connection takes them."""
+    try:
+        console.sendall(lines)
+    except OSError:
+        pass
+
+
+def send_until_none_is_taken(console, lines):
+    """Sends these lines again and again, until the connection has taken no byte for five seconds."""
+    console.settimeout(5)
+    rest = lines
+    try:
+        while True:
+            rest = rest[console.send(rest):] or lines
+    except TimeoutError:
+        pass
+
+
+def hear_late(console, found):
+    """Reads what was sent, late, and closes the connection."""
+    time.sleep(LATE)
+    found.append(console.hear())
+    try:
+        console.shutdown(socket.SHUT_RDWR)
+    except OSError:
+        pass
+    console.close()
+
+
+class LateReaders(ProgramTest):
+    """Clients that send ahead, and read late."""
+
+    def test_at_the_rooms_quit_each_kept_command_has_its_reply(self):
+        """Eight clients have sent 10,000 lines each, and begin to read 0.2 seconds after QUIT."""
+        room = self.room("serve", "--keep-seats", seats=8)
+        consoles, found = [room.console() for _ in range(8)], []
+        for each in consoles:
+            self.same("a seat", each.say(b"DEPOSIT 0700 A\n"), b"OK\n")
+        senders = [threading.Thread(target=send_ahead, args=(each, b"DEPOSIT 0700 A\n" * 10_000)) for each in consoles]
+        for each in senders:
+            each.start()
+        time.sleep(0.1)
+        room.type(b"QUIT\n")
+        readers = [threading.Thread(target=hear_late, args=(each, found)) for each in consoles]
+        for each in readers:
+            each.start()
+        for each in readers + senders:
+            each.join(SECONDS)
+        ran = room.end(b"")
+        replies = sum(text.count(b"OK\n") for text in found)
+        self.check("some lines were carried out, and some were left", "" if 0 < replies < 80_000 else f"{replies} were")
+        self.same("nothing but replies", {text.replace(b"OK\n", b"") for text in found}, {b""})
+        self.expect("a reply for each entry of the journal", ran, 0, f"{room.ready}JOURNAL {8 + replies}\n")
+
+    def quit_ahead(self, name, console):
+        """A subtest: a client that sends 300 lines, QUIT and 9,000 bytes more has all replies, though it reads late."""
+        with console:
+            console.sendall(b"EXAMINE 0\n" * 300 + b"QUIT\n" + b"x" * 9000)
+            time.sleep(LATE)
+            self.same(name, console.hear(), b" \n" * 300 + b"BYE\n")
+
+    def test_quit_and_more_bytes_where_seats_are_taken_again(self):
+        room = self.room("serve", "--keep-seats", seats=1)
+        for turn in range(20):
+            console, reply = room.seated(b"EXAMINE 0\n")
+            self.same(f"turn {turn}: a seat", reply, b" \n")
+            self.quit_ahead(f"turn {turn}", console)
+        self.ended(room, "the room", 20 * 301)
+
+    def test_quit_and_more_bytes_where_each_seat_is_taken_once(self):
+        room = self.plain_room(8)
+        for turn in range(8):
+            self.quit_ahead(f"seat {turn + 1}", room.console())
+        self.expect("the room", room.end(b""), 0, f"{room.ready}JOURNAL {8 * 300}\n")
+
+    def test_the_entry_that_was_not_kept_ends_the_console_and_loses_no_reply_before_it(self):
+        """The client has sent more than the journal's file may hold, and reads late."""
+
+        def limited():
+            signal.signal(signal.SIGXFSZ, signal.SIG_IGN)
+            resource.setrlimit(resource.RLIMIT_FSIZE, (6000, 6000))
+
+        path = self.folder / "full.journal"
+        room = self.room("serve", "--journal", path, seats=1, preexec_fn=limited)
+        with room.console() as console:
+            console.sendall(b"DEPOSIT 0700 A\n" * 2000)
+            time.sleep(LATE)
+            replies = console.hear()
+        kept = path.read_bytes().count(b"\tOK\n")
+        self.check("some were kept", "" if kept > 100 else f"{kept} were")
+        self.same("each kept entry has its reply", replies, b"OK\n" * kept)
+        error = "ibm1401: session ended: UNKEPT\n"
+        self.ended(room, "the room", kept + 1, status=1, error=error)
+
+    def test_a_client_that_never_reads_does_not_hold_the_rooms_end(self):
+        """It sends lines without an entry until nothing more is taken; then the room still ends."""
+        room = self.room("serve", "--keep-seats", seats=2)
+        with socket.socket() as mute, room.console() as other:
+            mute.setsockopt(socket.SOL_SOCKET, socket.SO_RCVBUF, 4096)
+            mute.connect(("127.0.0.1", room.port))
+            send_until_none_is_taken(mute, b"GLANCE 9999\n" * 1000)
+            self.same("another operator is answered", other.say(b"EXAMINE 0\n"), b" \n")
+            room.type(b"QUIT\n")
+            begun = time.monotonic()
+            self.same("the other console's end", other.hear(), b"")
+            other.close()
+            status = room.process.wait(LONG)
+            took = time.monotonic() - begun
+        self.same("the room has ended", status, 0)
+        self.check("in time", "" if took < LONG / 2 else f"it took {took:.1f} seconds")
+
+
+if __name__ == "__main__":
+    unittest.main()

@@ -1,0 +1,184 @@
+"""The pages are short, say what the tree has, and keep to our English."""
+import re
+import tempfile
+import unittest
+from pathlib import Path
+
+from tests import words
+
+TOP = Path(__file__).resolve().parent.parent
+DOCS = TOP / "docs"
+
+# How many lines a page may have. README and ARCHITECTURE are read in ten minutes.
+MOST_LINES = {
+    "README.md": 130,
+    "docs/ARCHITECTURE.md": 160,
+    "docs/CONTRIBUTING.md": 120,
+    "docs/COSTS.md": 120,
+    "docs/THEOREMS.md": 320,
+    "docs/DECISIONS.md": 490,
+    "docs/GLOSSARY.md": 60,
+}
+MOST_COLUMNS = 120
+
+
+def tables(page):
+    """The rows of a page's tables, a list of cells each, without their heads."""
+    rows = [line.strip("|\n").split(" | ") for line in page.read_text().splitlines() if line.startswith("|")]
+    return [[cell.strip() for cell in row] for row in rows]
+
+
+def names_in(text):
+    """What a text has as code."""
+    return re.findall(r"`([^`]+)`", text)
+
+
+class Lengths(unittest.TestCase):
+    def test_each_page_is_short(self):
+        for name, most in MOST_LINES.items():
+            with self.subTest(name):
+                self.assertLessEqual(len((TOP / name).read_text().splitlines()), most)
+
+    def test_no_line_of_prose_is_longer_than_120_columns(self):
+        for page in [TOP / "README.md", *sorted(DOCS.glob("*.md"))]:
+            with self.subTest(page.name):
+                prose = re.sub(r"```.*?```", "", page.read_text(), flags=re.DOTALL).splitlines()
+                self.assertEqual([line for line in prose if len(line) > MOST_COLUMNS and not line.startswith("|")], [])
+
+
+class Tree(unittest.TestCase):
+    """What the pages say of the tree is there."""
+
+    def crates(self):
+        lines = (TOP / "crates.txt").read_text().splitlines()
+        return {line.split(":")[0] for line in lines if line and not line.startswith("#")}
+
+    def test_architecture_has_each_crate_once_among_the_families(self):
+        text = (DOCS / "ARCHITECTURE.md").read_text()
+        families = re.search(r"^## Families\n(.*?)^## ", text, re.MULTILINE | re.DOTALL)[1]
+        listed = [name for name in names_in(families) if name in self.crates()]
+        self.assertEqual(sorted(set(listed)), sorted(self.crates()))
+        twice = {name for name in listed if len(re.findall(rf"`{name}`[:,]", families)) > 1}
+        self.assertEqual(twice, set())
+
+    def test_architecture_says_whose_lemmas_the_proofs_of_each_crate_use(self):
+        shown = set()
+        for row in tables(DOCS / "ARCHITECTURE.md"):
+            if len(row) == 3 and set(names_in(row[0])) & self.crates():
+                shown |= {(user, lower) for user in names_in(row[0]) for lower in names_in(row[1])}
+        found = set()
+        for crate in self.crates():
+            for path in (TOP / "crates" / crate).rglob("*.antt"):
+                lemmas = re.findall(r"^use Rattle\.(\w+)\.proofs\.", path.read_text(), re.MULTILINE)
+                found |= {(crate, lower) for lower in lemmas if lower in self.crates() - {crate}}
+        self.assertEqual(sorted(shown), sorted(found))
+
+    def test_readme_says_how_many_crates_are_proved(self):
+        below = {}
+        for line in (TOP / "crates.txt").read_text().splitlines():
+            if line and not line.startswith("#"):
+                crate, _, lower = line.partition(":")
+                below[crate] = set(lower.split())
+        counts = {}
+        for program in "ibm1401", "lone_console":
+            needed, more = set(), {program}
+            while more:
+                needed |= more
+                more = {lower for crate in more for lower in below[crate] if lower in below} - needed
+            counts[program] = len(needed)
+        readme = " ".join((TOP / "README.md").read_text().split())
+        self.assertIn(f"{counts['lone_console']} crates and 0.4 GB of disk for `console`", readme)
+        self.assertIn(f"{counts['ibm1401']} crates, ", readme)
+
+    def test_no_other_page_lists_the_crates(self):
+        for page in [TOP / "README.md", *sorted(DOCS.glob("*.md"))]:
+            if page.name in ("ARCHITECTURE.md", "THEOREMS.md"):
+                continue
+            with self.subTest(page.name):
+                named = set(names_in(page.read_text())) & self.crates()
+                self.assertLess(len(named), len(self.crates()) / 2)
+
+    def test_readme_leads_to_each_page(self):
+        linked = set(re.findall(r"\]\(docs/(\w+\.md)", (TOP / "README.md").read_text()))
+        self.assertEqual({page.name for page in DOCS.glob("*.md")} - linked, set())
+
+    def test_each_file_that_a_page_names_is_there(self):
+        for page in sorted(DOCS.glob("*.md")):
+            text = page.read_text()
+            named = re.findall(r"\b(\w+/src/\w+\.rt)\b", text)
+            named += [f"{file}.antt" for file in re.findall(r"\b(\w+_1401/specs/[A-Z]\w+)\b", text)]
+            for name in named:
+                with self.subTest(page=page.name, file=name):
+                    self.assertTrue((TOP / "crates" / name).exists())
+
+    def test_theorems_names_calls_clauses_and_definitions_that_exist(self):
+        known = set(self.crates())
+        for path in (TOP / "crates").glob("*/src/**/*.rt"):
+            text = path.read_text()
+            known |= set(re.findall(r"\b(?:fn|struct|enum|trait|mod) (\w+)", text))
+            known |= set(re.findall(r"\bensures\*? (\w+) \{", text))
+            known |= set(re.findall(r"^    (\w+)(?:,| \{|\()", text, re.MULTILINE))
+        for path in (TOP / "crates").glob("*/specs/**/*.antt"):
+            found = re.findall(r"^(?:pub )?(?:abbrev|unfoldable|record|data)(?: pub)? (\w+)", path.read_text(), re.M)
+            known |= set(found)
+        for row in tables(DOCS / "THEOREMS.md"):
+            if len(row) < 4:
+                continue
+            for name in names_in(row[0] + " " + row[1]):
+                last = re.split(r"::", name)[-1]
+                if not re.fullmatch(r"\w+", last):
+                    continue
+                with self.subTest(call=row[0], name=name):
+                    self.assertTrue(last in known, "no call, clause or definition has this name")
+
+
+    def test_the_clauses_of_a_theorem_are_those_of_its_call(self):
+        contracts, clauses = {}, set()
+        for path in (TOP / "crates").glob("*/src/**/*.rt"):
+            text = path.read_text()
+            clauses |= set(re.findall(r"\bensures\*? (\w+) \{", text))
+            for part in re.split(r"^ *(?:pub(?:\(crate\))? )?fn (?=\w)", text, flags=re.MULTILINE)[1:]:
+                name = re.match(r"\w+", part)[0]
+                contracts[name] = contracts.get(name, "") + re.split(r"^ *\{$", part, maxsplit=1, flags=re.MULTILINE)[0]
+        contract = ""
+        for row in tables(DOCS / "THEOREMS.md"):
+            if len(row) < 4 or row[0].startswith("---"):
+                continue
+            if row[0]:
+                contract = "".join(contracts.get(name.split("::")[-1], "") for name in names_in(row[0]))
+            for name in set(names_in(row[1])) & clauses if contract else ():
+                with self.subTest(call=row[0], clause=name):
+                    self.assertRegex(contract, rf"\b{name}\b")
+
+
+class English(unittest.TestCase):
+    def test_no_file_has_more_of_our_worn_words_than_its_ceiling(self):
+        most = words.ceilings()
+        for place, count in words.counts().items():
+            with self.subTest(place):
+                self.assertLessEqual(count, most.get(place, 0))
+
+    def test_words_are_found_in_prose_and_not_in_code(self):
+        shown = "It tells so, and who stands\n```\nbeside\n```\n`told` of the\n"
+        found = [found[0] for _, line in words.of_page(shown) for found in words.WORDS.finditer(line)]
+        self.assertEqual(found, ["tells", "and who", "stands"])
+
+    def test_a_phrase_is_found_across_two_lines(self):
+        with tempfile.TemporaryDirectory() as folder:
+            page = Path(folder) / "a page.md"
+            page.write_text("What is\nkept, so\nthat it stays.\n")
+            self.assertEqual([word for _, _, word in words.words_in([page])], ["is kept", "so that"])
+
+    def test_a_ceiling_goes_down_and_never_up(self):
+        now = {"README.md": 5, "docs/JOURNAL.md": 1, "docs/NEW.md": 2}
+        most = {"README.md": 3, "docs/JOURNAL.md": 4, "docs/GONE.md": 7}
+        self.assertEqual(words.lowered(now, most), {"README.md": 3, "docs/JOURNAL.md": 1, "docs/NEW.md": 0})
+
+    def test_comments_and_texts_of_a_source_are_read_and_its_code_is_not(self):
+        source = 'fn tell(beside: u8) { print("the line is told"); } // which stands\n'
+        found = [found[0] for _, line in words.of_rattle(source) for found in words.WORDS.finditer(line)]
+        self.assertEqual(found, ["stands", "told"])
+
+
+if __name__ == "__main__":
+    unittest.main()

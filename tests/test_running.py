@@ -1,0 +1,309 @@
+"""`run`: paper, punched cards, trace and the last line, of programs that end, stop or go on without an end."""
+import os
+import pty
+import re
+import select
+import subprocess
+import unittest
+
+from tests.jobs import (DONE, LIMIT, LINES_WITHOUT_END, LIST_AND_PUNCH, NO_CARD, ONE_LINE, ROUND, SALES, SALES_CALL,
+                        SALES_ENDING, STEPS, SWITCHED, ending, paper_of, statement)
+from tests.support import EXAMPLES, PROGRAM, REPLY_SECONDS, SECONDS, TOP, ProgramTest, program, run, wait_until
+
+
+class Examples(ProgramTest):
+    """The examples, and what pages show of them."""
+
+    def test_a_source_and_an_image(self):
+        paper = SALES.with_suffix(".paper").read_bytes()
+        self.expect("sales.source", program("run", *SALES_CALL), 0, paper, SALES_ENDING)
+        ran = program("run", f"{SALES}.image", *SALES_CALL[1:])
+        self.expect("sales.image", ran, 0, paper, ending("HALT", 463, 24, 3, 2, shown="H 463"))
+
+    def test_programs_without_a_deck(self):
+        ends = ("five_and_five", 0, 414, 3, "line 4"), ("sum_to_ten", 10, 446, 73, "line 12")
+        for name, lines, address, steps, shown in ends:
+            source = EXAMPLES / f"{name}.source"
+            paper = source.with_suffix(".paper").read_bytes() if lines else b""
+            end = ending("HALT", address, steps, printed=lines, shown=f"{shown}, H *-3")
+            self.expect(source.name, program("run", source), 0, paper, end)
+
+    def test_programs_with_a_deck(self):
+        """Paper, punched cards and counts are those of the example's session at the console."""
+        decks = [deck for deck in sorted(EXAMPLES.glob("*.cards")) if deck.with_suffix(".console").exists()]
+        self.assertTrue(decks)
+        for deck in decks:
+            self.hold_to_session(deck)
+
+    def hold_to_session(self, deck):
+        """Subtests: the run of an example is its session."""
+        lines, replies = (deck.with_suffix(suffix).read_text() for suffix in (".console", ".out"))
+        steps, address = re.search(r"^STOP 02 HALT STEPS (\d+) I (\d+)$", replies, re.MULTILINE).groups()
+        counts = [len(re.findall(f"^{word} ", text, re.MULTILINE)) for word, text in
+                  (("FEED", lines), ("LINE", replies), ("CARD", replies))]
+        switches = ["--switches", "A"] if "SWITCH A ON\n" in lines else []
+        punch = self.folder / f"{deck.stem}.punch"
+        ran = program("run", deck.with_suffix(".source"), "--cards", deck, "--punch", punch, *switches)
+        shown = statement(deck.with_suffix(".listing").read_text(), int(address))
+        end = ending("HALT", int(address), int(steps), *counts, shown)
+        self.expect(f"{deck.name}: its paper", ran, 0, deck.with_suffix(".paper").read_bytes(), end)
+        punched = deck.with_suffix(".punched")
+        self.holds(f"{deck.name}: its punched cards", punch, punched.read_bytes() if punched.exists() else b"")
+
+    def test_what_pages_run(self):
+        of_sum = ending("HALT", 446, 73, printed=10, shown="line 12, H *-3")
+        for name, end in ("README.md", SALES_ENDING), ("docs/RUNNING.md", SALES_ENDING), ("docs/TUTORIAL.md", of_sum):
+            text = (TOP / name).read_text()
+            shown = re.search(r"```sh\n(\./ibm1401 run [^\n]*)\n```\n\n```text\n(.*?)```", text, re.DOTALL)
+            self.expect(name, run(["bash", "-c", shown[1]], cwd=self.top), 0, shown[2], end)
+            self.check(f"{name}: the end", "" if end[:-1] in " ".join(text.split()) else "it is another")
+
+    def test_the_source_of_tutorial_is_its_example(self):
+        shown = re.search(r"```autocoder\n(.*?)```", (TOP / "docs/TUTORIAL.md").read_text(), re.DOTALL)
+        self.assertEqual((EXAMPLES / "sum_to_ten.source").read_text(), shown[1])
+
+
+class Traces(ProgramTest):
+    """A run with a trace: the trace, and paper, cards and counts as without one."""
+
+    def setUp(self):
+        self.trace = self.folder / "trace"
+        self.wanted = SALES.with_suffix(".trace").read_bytes()
+
+    def test_the_trace_of_an_example(self):
+        paper = SALES.with_suffix(".paper").read_bytes()
+        self.expect("its paper", program("run", *SALES_CALL, "--trace", self.trace), 0, paper, SALES_ENDING)
+        self.holds("its trace", self.trace, self.wanted)
+        shown = re.search(r"## The trace\n.*?```text\n(.*?)```", (TOP / "docs/RUNNING.md").read_text(), re.DOTALL)
+        self.check("RUNNING.md shows lines of it", "" if shown and shown[1].encode() in self.wanted else "others")
+
+    def test_up_to_a_limit(self):
+        ran = program("run", *SALES_CALL, "--trace", self.trace, "--limit", "3")
+        self.expect("the run", ran, 1, "", ending("LIMIT", 409, 3, shown="line 6, CC S", why=LIMIT))
+        self.holds("three lines", self.trace, b"".join(self.wanted.splitlines(True)[:3]))
+        source = self.folder / "one line"
+        source.write_text(ONE_LINE)
+        for limit, status, steps, end in [
+            (9, 0, STEPS, ending("HALT", 401, 2, printed=1, shown="line 3, H")),
+            (1, 1, STEPS[:1], ending("LIMIT", 401, 1, printed=1, shown="line 3, H", why=LIMIT)),
+            (0, 1, [], ending("LIMIT", 400, 0, shown="line 2, START W", why=LIMIT)),
+        ]:
+            ran = program("run", source, "--trace", self.trace, "--limit", str(limit))
+            self.expect(f"{limit} steps at most", ran, status, "\n" if steps else "", end)
+            self.holds(f"{limit} steps at most: its lines", self.trace, "".join(steps))
+
+    def test_a_trace_that_cannot_be_written(self):
+        for out in self.folder, "/dev/full", self.folder / "none" / "trace":
+            ran = program("run", *SALES_CALL, "--trace", out, "--paper", "/dev/null")
+            self.expect(f"{out}", ran, 1, "", f"ibm1401: cannot write {out}\n")
+
+    def hold_alike(self, name, ran, traced):
+        """A subtest: two runs ended and wrote alike."""
+        self.expect(name, traced, ran.returncode, ran.stdout, ran.stderr)
+
+    def test_a_deck_that_loads_itself(self):
+        call = ["run", EXAMPLES / "listing.deck", "--load", "--switches", "A"]
+        self.hold_alike("the run", program(*call), program(*call, "--trace", self.trace))
+        self.same("it begins where the load key starts", self.trace.read_bytes().split(b"\t")[0], b"00001")
+
+    def test_a_long_deck(self):
+        source, deck, punched, plain = (self.folder / each for each in ("source", "deck", "punched", "plain"))
+        source.write_text(LIST_AND_PUNCH)
+        deck.write_text("".join(f"{number:04}\n" for number in range(700)))
+        call = ["run", source, "--cards", deck, "--switches", "A", "--punch"]
+        self.hold_alike("the run", program(*call, plain), program(*call, punched, "--trace", self.trace))
+        self.holds("its cards", punched, plain.read_bytes())
+        self.same("a line for each step", self.trace.read_bytes().count(b"\n"), 1 + 700 * 7)
+
+
+class Decks(ProgramTest):
+    """Decks, and the paper and the cards that are made of them."""
+
+    def setUp(self):
+        names = ("source", "deck", "punch", "paper", "trace")
+        self.source, self.deck, self.punch, self.paper, self.trace = (self.folder / each for each in names)
+
+    def test_more_cards_than_hopper_stacker_and_paper_hold(self):
+        """What was punched is a deck again."""
+        self.source.write_text(LIST_AND_PUNCH)
+        cards, again = [f"{number:04}\n" for number in range(1_203)], self.folder / "again"
+        self.deck.write_text("".join(f"{card[:-1]} AND MORE\n" for card in cards))
+        words = ["--punch", self.punch, "--paper", self.paper, "--switches", "A"]
+        for given in self.deck, again:
+            ran = program("run", self.source, "--cards", given, *words)
+            self.expect(given.name, ran, 0, "", ending("HALT", 433, 8_422, 1_203, 1_203, 1_203, DONE))
+            self.holds(f"{given.name}: the paper", self.paper, paper_of("".join(cards)))
+            self.holds(f"{given.name}: the cards", self.punch, "".join(cards))
+            self.punch.rename(again)
+
+    def test_the_last_card_and_the_limit(self):
+        self.source.write_text(LIST_AND_PUNCH)
+        self.deck.write_text("".join(f"{number:04} AND MORE\n" for number in range(1_203)))
+        words, counts = ["run", self.source, "--cards", self.deck, "--paper", self.paper], (1_203, 1_203, 1_203)
+        end = ending("READER", 407, 8_422, *counts, "line 3, NEXT R", NO_CARD)
+        self.expect("a deck that runs out", program(*words), 1, "", end)
+        ran = program(*words, "--switches", "A", "--limit", "8421")
+        self.expect("a limit one step too low", ran, 1, "", ending("LIMIT", 433, 8_421, *counts, DONE, LIMIT))
+        ran = program(*words, "--switches", "A", "--limit", "8422")
+        self.expect("a halt as the last step", ran, 0, "", ending("HALT", 433, 8_422, *counts, DONE))
+        ran = program("run", self.source, "--limit", "0")
+        end = ending("LIMIT", 400, 0, shown="line 2, START SW 1,101", why=LIMIT)
+        self.expect("a limit of no step", ran, 1, "", end)
+
+    def test_each_file_and_number_named(self):
+        self.source.write_text(SWITCHED)
+        self.deck.write_text("CARD\n")
+        names = ["--cards", self.deck, self.source, "--punch", self.punch, "--paper", self.paper, "--trace", self.trace]
+        for limit, switches, status, end in [
+            ("7", "GA", 1, ending("LIMIT", 439, 7, 1, 1, 1, "line 15, DONE H *-3", LIMIT)),
+            ("8", "AG", 0, ending("HALT", 439, 8, 1, 1, 1, "line 15, DONE H *-3")),
+            ("8", "G", 0, ending("HALT", 435, 8, 1, 1, 1, "line 14, H *-3")),
+            ("8", "A", 0, ending("HALT", 410, 3, shown="line 8, WRONG H *-3")),
+            ("8", "GAB", 0, ending("HALT", 410, 2, shown="line 8, WRONG H *-3")),
+        ]:
+            name = f"--limit {limit} --switches {switches}"
+            ran = program("run", *names, "--size", "1400", "--limit", limit, "--switches", switches)
+            self.expect(name, ran, status, "", end)
+            made = "" if "410" in end else "CARD\n"
+            self.holds(f"{name}: the cards", self.punch, made)
+            self.holds(f"{name}: the paper", self.paper, made)
+            steps = self.trace.read_bytes().count(b"\n")
+            self.check(f"{name}: the trace", "" if f" after {steps} steps;" in end else f"it has {steps} lines")
+
+    def test_nothing_named(self):
+        self.source.write_text("               END  3999\n")
+        end = ending("NOMARK", 3999, 0, why="no word mark at 3999")
+        self.expect("the last place where no size is named", program("run", self.source), 1, "", end)
+        self.source.write_text(ROUND)
+        end = ending("LIMIT", 400, 1_000_000_000, shown="line 2, START B START", why=LIMIT)
+        ran = program("run", self.source, timeout=5 * SECONDS)
+        self.expect("1,000,000,000 steps where no limit is named", ran, 1, "", end)
+
+    def test_a_place_of_five_digits(self):
+        self.source.write_text("IMAGE2 16000\n15999 01 ~N\nEND 15999\n")
+        end = ending("LIMIT", 15999, 0, shown="NOP", why=LIMIT)
+        self.expect("it", program("run", self.source, "--limit", "0"), 1, "", end)
+
+    def test_lines_of_decks(self):
+        """Short and long lines, small letters, which are reported once, and the ends of lines."""
+        self.source.write_text(LIST_AND_PUNCH)
+        small = f"ibm1401: {self.deck}: small letters are read as capitals\n"
+        for text, wanted, letters in [
+            ("ab\r\nAB12\n\nlast", "AB\nAB12\n\nLAST\n", small),
+            ("\n" * 600 + "z", "\n" * 600 + "Z\n", small),
+            ("A" * 80 + "\n" + "B" * 80, "AAAA\nBBBB\n", ""),
+            ("A\r\nB\r\n", "A\nB\n", ""),
+            ("A", "A\n", ""),
+        ]:
+            self.deck.write_text(text, newline="")
+            name, count = f"{text[-20:]!r}", wanted.count("\n")
+            ran = program("run", self.source, "--cards", self.deck, "--punch", self.punch, "--switches", "A")
+            end = ending("HALT", 433, 7 * count + 1, count, count, count, DONE)
+            self.expect(name, ran, 0, paper_of(wanted), letters + end)
+            self.holds(f"{name}: punched", self.punch, wanted)
+
+    def test_lines_at_their_places_of_the_form(self):
+        self.source.write_text("""\
+               ORG  400
+     START     CC   1
+               CC   I
+               MLC  ONE,201
+               W
+               MLC  TWO,201
+               W
+               CC   1
+               CC   @
+               W
+               W
+     DONE      H    *-3
+     ONE       DCW  @1@
+     TWO       DCW  @2@
+               END  START
+""")
+        paper = "\n" * 3 + "1\n" + "\n" * 55 + "2\n" + "\f" + "\n" * 62 + "2\n2\n"
+        end = ending("HALT", 426, 11, 0, 4, shown="line 12, DONE H *-3")
+        self.expect("the paper", program("run", self.source), 0, paper, end)
+
+
+class Stops(ProgramTest):
+    """What is said of each stop of the machine: the statement, or the instruction, and why."""
+
+    def test_each_stop(self):
+        source = self.folder / "source"
+        for lines, address, stop, shown, why in [
+            (["     PRINT     MLC  10,210"], 400, "ADDRESS", "line 2, PRINT MLC 10,210",
+             "no word mark from 010 down to 000 in the A field, nor from 210 down to 200 in the B field"),
+            (["               MLC  10,10"], 400, "ADDRESS", "line 2, MLC 10,10", "no word mark from 010 down to 000"),
+            (["               LCA  10,500"], 400, "ADDRESS", "line 2, LCA 10,500",
+             "no word mark from 010 down to 000 in the A field"),
+            (["               DCW  @.1@"], 400, "LENGTH", "line 2, DCW @.1@",
+             "the operation . has no instruction of 2 characters"),
+            (["               DCW  @X@"], 400, "NOTFITTED", "line 2, DCW @X@", "the operation X isn't fitted"),
+            (["               DCW  @$@"], 400, "OPCODE", "line 2, DCW @$@", "the character $ is no operation"),
+            (["               CC   5"], 400, "CARRIAGE", "line 2, CC 5", "the carriage tape has no hole in channel 5"),
+            (["               DC   @A@"], 400, "NOMARK", "", "no word mark at 400"),
+            (["               B    3999", "               H    *-3"], 3999, "NOMARK", "", "no word mark at 3999"),
+        ]:
+            text = ["               ORG  400", *lines, "               DCW  @A@", "               END  400\n"]
+            source.write_text("\n".join(text))
+            steps = 0 if address == 400 else 1
+            ran = program("run", source)
+            self.expect(f"{stop}: {why}", ran, 1, "", ending(stop, address, steps, shown=shown, why=why))
+
+    def test_a_changed_instruction_is_disassembled(self):
+        source = self.folder / "source"
+        source.write_text("               ORG  400\n     START     MLC  NEW,CHANGE+3\n     CHANGE    B    403\n"
+                          "     NEW       DCW  @9@\n               END  START\n")
+        ran = program("run", source, "--limit", "1")
+        self.expect("it", ran, 1, "", ending("LIMIT", 407, 1, shown="B 409", why=LIMIT))
+
+
+def on_a_terminal(words):
+    """What a run writes to a terminal that is its standard error, until it ends or shows how far it is."""
+    ours, theirs = pty.openpty()
+    written = b""
+    ran = subprocess.Popen([PROGRAM, "run", *words], stdin=subprocess.DEVNULL, stdout=subprocess.DEVNULL, stderr=theirs)
+
+    def is_over():
+        nonlocal written
+        while select.select([ours], [], [], 0)[0]:
+            written += os.read(ours, 4_096)
+        return b"cards left" in written or (ran.poll() is not None and not select.select([ours], [], [], 0)[0])
+
+    try:
+        wait_until(is_over, REPLY_SECONDS)
+    finally:
+        ran.kill()
+        ran.wait()
+        os.close(theirs)
+        os.close(ours)
+    return written
+
+
+class WhileItRuns(ProgramTest):
+    """What is seen of a program that runs."""
+
+    def test_a_pipe_sees_the_paper_at_once_and_ends_the_run(self):
+        source = self.folder / "source"
+        source.write_text(LINES_WITHOUT_END)
+        call, pipe = [PROGRAM, "run", source, "--limit", "4000000000"], subprocess.PIPE
+        with subprocess.Popen(call, stdin=subprocess.DEVNULL, stdout=pipe, stderr=pipe) as ran:
+            first = ran.stdout.read(1_000)
+            goes_on = ran.poll() is None
+            ran.stdout.close()
+            error, status = ran.stderr.read(), ran.wait(SECONDS)
+        self.same("the paper", first.strip(b"\n\f"), b"")
+        self.check("it comes while the program runs", "" if goes_on else "it had ended")
+        self.same("the run ends with the pipe", (status, error), (1, b"ibm1401: cannot write\n"))
+
+    def test_how_far_it_is_on_a_terminal(self):
+        self.same("a short run", on_a_terminal(SALES_CALL), SALES_ENDING.replace("\n", "\r\n"))
+        source = self.folder / "source"
+        source.write_text(ROUND)
+        shown = on_a_terminal([source, "--limit", "4294967295"])
+        good = re.match(rb"\r\d+ steps, 0 cards left, 0 lines\x1b\[K", shown)
+        self.check("a run of more than a second", "" if good else f"it shows {shown!r}")
+
+
+if __name__ == "__main__":
+    unittest.main()
