@@ -76,7 +76,7 @@ class Kept(ProgramTest):
     def test_sync_needs_a_journal(self):
         """It is refused before anything is read or made."""
         missing = "the following required arguments were not provided:\n  --journal <NEW>"
-        nothing = "--until keeps nothing without --journal, so --sync has nothing to write"
+        nothing = "--until records nothing without --journal, so --sync has nothing to write"
         self.path.write_bytes(TEXT)
         for words, error in [
             (["console", "--sync"], misuse(missing, "console --journal <NEW> --sync")),
