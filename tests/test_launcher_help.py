@@ -53,12 +53,18 @@ class FreshClone(unittest.TestCase):
                 texts.append(file.read().decode())
             return (process.returncode, *texts), used.ru_utime + used.ru_stime
 
-    def test_help_and_version_are_answered_as_by_the_program_and_at_once(self):
-        for words in [*HELP, ["--version"]]:
+    def test_help_is_answered_as_by_the_program_and_at_once(self):
+        for words in HELP:
             with self.subTest(" ".join(words)):
                 answered, seconds = self.launch(words)
                 self.assertEqual(answered, said(PROGRAM, words))
                 self.assertLess(seconds, 1)
+        self.assertFalse((self.room / "called").exists(), "the toolchain was called")
+
+    def test_the_version_is_answered_at_once(self):
+        answered, seconds = self.launch(["--version"])
+        self.assertEqual(answered, (0, "ibm1401: not proved and built here yet\n", ""))
+        self.assertLess(seconds, 1)
         self.assertFalse((self.room / "called").exists(), "the toolchain was called")
 
     def test_any_other_call_needs_the_program(self):
