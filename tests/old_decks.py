@@ -68,7 +68,7 @@ REFUSED_TOGETHER = [
 
 
 def columns(statements):
-    """The lines of a source whose statements are 'label operation operands', parted by ' / ', a dash for no label."""
+    """The lines of a source whose statements are 'label operation operands', separated by ' / ', a dash for no label."""
     lines = []
     for statement in statements.split(" / "):
         label, operation, *operands = statement.split(" ")

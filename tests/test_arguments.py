@@ -225,7 +225,7 @@ class Served:
 
 
 class Options(unittest.TestCase):
-    """Each option, beside the same call without it."""
+    """Each option, next to the same call without it."""
 
     def test_each_call_does_what_its_options_say(self):
         for words, lines, *wanted in ROWS:
