@@ -153,7 +153,7 @@ ROWS = [
      {}),
     ("run --trace new job", "", 1, "", NO_CARD, {"new": STEPS}),
     ("run --limit 1 job", "", 1, "", NO_CARD.replace("READER", "LIMIT").replace(
-        "no card in the hopper", "the limit of steps was reached"), {}),
+        "no card in the hopper", "the step limit was reached"), {}),
     ("run --load job", "", 1, "",
      "ibm1401: OPCODE at 0001 ( 000,000,): the character blank is no operation after 0 steps; "
      f"{NONE.replace('0 cards', '1 card', 1)}", {}),

@@ -151,7 +151,7 @@ class JournalFilesTest(ProgramTest):
         self.expect("a session", self.meddled("unlinked", "console", "--journal", self.journal), 0, REPLIES)
         self.holds("the journal", self.journal, HEAD + FIRST)
         ran = self.meddled("unlinked", "console", "--journal", self.journal)
-        self.expect("it isn't overwritten", ran, 1, b"", f"ibm1401: {self.journal}: is there already\n")
+        self.expect("it isn't overwritten", ran, 1, b"", f"ibm1401: {self.journal}: already exists\n")
         self.holds("it stays", self.journal, HEAD + FIRST)
         self.same("no other file is left", self.left(), ["a journal"])
 
@@ -176,7 +176,7 @@ class JournalFilesTest(ProgramTest):
             path = self.folder / name
             make(path)
             ran = program("console", "--journal", path, lines=LINES)
-            self.expect(f"{name}", ran, 1, b"", f"ibm1401: {path}: is there already\n")
+            self.expect(f"{name}", ran, 1, b"", f"ibm1401: {path}: already exists\n")
         self.same("nothing else is left", self.left(), ["a file", "a folder", "a link"])
 
     def test_a_room_that_cannot_begin_leaves_no_journal(self):

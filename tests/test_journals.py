@@ -43,9 +43,9 @@ class Kept(ProgramTest):
     def test_a_file_that_cannot_be_made(self):
         self.path.write_bytes(TEXT)
         again = program("console", "--journal", self.path, lines=LINES)
-        self.expect("a journal isn't overwritten", again, 1, b"", f"ibm1401: {self.path}: is there already\n")
+        self.expect("a journal isn't overwritten", again, 1, b"", f"ibm1401: {self.path}: already exists\n")
         ran = program("console", "--journal", "/dev/full")
-        self.expect("nor a device", ran, 1, b"", "ibm1401: /dev/full: is there already\n")
+        self.expect("nor a device", ran, 1, b"", "ibm1401: /dev/full: already exists\n")
         path = self.folder / "no folder" / "a.journal"
         ran = program("console", "--journal", path)
         self.expect("no journal without its folder", ran, 1, b"", f"ibm1401: {path}: no such file\n")
@@ -153,7 +153,7 @@ class Refused(ProgramTest):
         shown, error = b"".join(LISTING.splitlines(True)[:2]), f"ibm1401: {self.path}: line 4: 8 UNFINISHED\n"
         self.expect("it is shown", program("journal", self.path), 1, shown, error)
         ran = program("resume", self.path, lines=b"START 1\n")
-        self.expect("it is taken up", ran, 0, b"OK\n", "ibm1401: line 4 was unfinished and is cut off\n")
+        self.expect("it is taken up", ran, 0, b"OK\n", "ibm1401: line 4 was unfinished and was discarded\n")
         text = b"".join(TEXT.splitlines(True)[:3]) + b"3\t0\tSTART 0001\tOK\n"
         self.holds("without that line", self.path, text)
 
