@@ -31,10 +31,9 @@ class FreshClone(unittest.TestCase):
         folder = tempfile.TemporaryDirectory()
         self.addCleanup(folder.cleanup)
         self.room = Path(folder.name)
-        for name in ("ibm1401", "crates.txt", "tests/help.txt"):
-            (self.room / name).parent.mkdir(exist_ok=True)
+        for name in ("ibm1401", "crates.txt", "tests/help.txt", "crates/arguments_1401/src/reading.rt"):
+            (self.room / name).parent.mkdir(parents=True, exist_ok=True)
             shutil.copy(TOP / name, self.room / name)
-        (self.room / "crates").mkdir()
         (self.room / "bin").mkdir()
         (self.room / "bin/rt").write_text(f"#!/bin/sh\necho \"$@\" >> {self.room}/called\nexit 1\n")
         (self.room / "bin/rt").chmod(0o755)
@@ -53,11 +52,20 @@ class FreshClone(unittest.TestCase):
                 texts.append(file.read().decode())
             return (process.returncode, *texts), used.ru_utime + used.ru_stime
 
-    def test_help_and_version_are_answered_as_by_the_program_and_at_once(self):
-        for words in [*HELP, ["--version"]]:
+    def test_help_is_answered_as_by_the_program_and_at_once(self):
+        for words in HELP:
             with self.subTest(" ".join(words)):
                 answered, seconds = self.launch(words)
                 self.assertEqual(answered, said(PROGRAM, words))
+                self.assertLess(seconds, 1)
+        self.assertFalse((self.room / "called").exists(), "the toolchain was called")
+
+    def test_the_version_is_answered_with_the_program_s_first_line_and_at_once(self):
+        for words in [["--version"], ["-V"]]:
+            with self.subTest(words[0]):
+                answered, seconds = self.launch(words)
+                first = said(PROGRAM, words)[1].splitlines()[0]
+                self.assertEqual(answered, (0, f"{first}\nnot proved and built here yet\n", ""))
                 self.assertLess(seconds, 1)
         self.assertFalse((self.room / "called").exists(), "the toolchain was called")
 
