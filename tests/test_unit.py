@@ -11,9 +11,9 @@ from tests.support import EXAMPLES, PROGRAM, REPLY_SECONDS, Console, ProgramTest
 UNIT = EXAMPLES / "ibm1401@.service"
 
 
-def words_of(field, instance, state):
+def words_of(field, instance, state, unit=UNIT):
     """The words of a command line of the unit, as systemd gives them to the instance of this name."""
-    line = re.search(rf"^{field}=\+?(.*)$", UNIT.read_text(), re.MULTILINE)[1]
+    line = re.search(rf"^{field}=\+?(.*)$", unit.read_text(), re.MULTILINE)[1]
     meant = {"%i": instance, "%S": str(state), "%t": str(state), "%%": "%", "$$": "$"}
     return [re.sub(r"%.|\$\$", lambda each: meant[each[0]], word) for word in shlex.split(line)]
 
