@@ -26,11 +26,11 @@ LIBRARY_FLAGS = $(foreach each,$(LIBRARIES_$*),--extern \
 RATTLE = $(KIT)/bin/rattle build --crate-name $* --jobs $$(nproc) --extern std=$(KIT)/rlibs/std.rlib $(LIBRARY_FLAGS) \
 	-L dependency=$(KIT)/rlibs $$(find .. -maxdepth 4 -path '*/out/proved/stamp' -printf '-L dependency=%h ') \
 	--antt-project $(KIT)/rattle/logic/antt-project.json --logic-built $(KIT)/logic_built
-# A library has its statements alone: the crates above need no more.
+# A library has its statements alone: the crates above need no more. A program ends with what --version says of it.
 LIBRARY = $(RATTLE) src/lib.rt --statements -o out/proved/$*.rlib
 BINARY = $(RATTLE) src/main.rt --toolchain $(KIT)/toolchain --backend llvm -o out/$*.o && \
 	$(KIT)/bin/rattle-link --target x86_64-unknown-linux-gnu --toolchain $(KIT)/toolchain -o out/$* out/$*.o \
-	$(KIT)/c/libos_c.a $(KIT)/c/liblibc_c.a
+	$(KIT)/c/libos_c.a $(KIT)/c/liblibc_c.a && printf '\0%s\n' "$$RECORD" >> out/$*
 # A stamp has the time at which its proof began, so a source that has changed meanwhile is newer.
 crates/%/out/proved/stamp:
 	@cd crates/$* && rm -rf out/proved && mkdir -p out/proved && \

@@ -19,10 +19,10 @@ OTHER_NAME = "museum.example"
 
 
 class Chromium:
-    """A headless Chromium with a profile of its own. Each message is JSON, ended by a NUL: what it reads on its
-    descriptor 3, and what it writes on 4."""
+    """A headless Chromium with a profile of its own, started by a command and with further words. Each message is JSON,
+    ended by a NUL: what it reads on its descriptor 3, and what it writes on 4."""
 
-    def __init__(self):
+    def __init__(self, by=(), *words):
         self.profile = tempfile.TemporaryDirectory(ignore_cleanup_errors=True)
         reads, self.out = os.pipe()
         self.come, writes = os.pipe()
@@ -33,8 +33,8 @@ class Chromium:
             os.dup2(103, 3)
             os.dup2(104, 4)
 
-        call = ["chromium", "--headless=new", "--disable-gpu", "--remote-debugging-pipe", "--hide-scrollbars",
-                f"--host-resolver-rules=MAP {OTHER_NAME} 127.0.0.1", f"--user-data-dir={self.profile.name}"]
+        call = [*by, "chromium", "--headless=new", "--disable-gpu", "--remote-debugging-pipe", "--hide-scrollbars",
+                f"--host-resolver-rules=MAP {OTHER_NAME} 127.0.0.1", f"--user-data-dir={self.profile.name}", *words]
         call += ["--no-sandbox"] if os.geteuid() == 0 else []
         quiet = {"stdin": subprocess.DEVNULL, "stdout": subprocess.DEVNULL, "stderr": subprocess.DEVNULL}
         self.process = subprocess.Popen(call, pass_fds=(3, 4), preexec_fn=descriptors, **quiet)

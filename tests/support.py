@@ -80,6 +80,17 @@ def shell(text, *words, **how):
     return run(["bash", "-c", text, PROGRAM, *words], **how)
 
 
+def repository(folder):
+    """Makes a repository of a folder, with one commit of all that is there but what is built, and returns the
+    commit."""
+    (folder / ".gitignore").write_text("out/\n__pycache__/\ndist/\n")
+    git = ["git", "-C", folder, "-c", "user.name=A Museum", "-c", "user.email=desk@museum.example"]
+    date = {"GIT_AUTHOR_DATE": "1700000000 +0000", "GIT_COMMITTER_DATE": "1700000000 +0000"}
+    for words in ["init", "-q"], ["add", "-A"], ["commit", "-q", "-m", "All"]:
+        run([*git, *words], env={**os.environ, **date})
+    return run([*git, "rev-parse", "HEAD"]).stdout.decode().strip()
+
+
 def wait_until(condition, seconds=SECONDS):
     """Waits until a condition holds, and returns its last value."""
     late = time.monotonic() + seconds

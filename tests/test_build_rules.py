@@ -28,7 +28,7 @@ echo "$crate" >> "$CALLS"
 [ "$crate" != "$CHANGED" ] || { sleep 0.1; echo "// changed" >> src/lib.rt; }
 case $made in
 *.rlib) mkdir "$made" ;;
-*.o) printf '#!/bin/sh\\necho "ran $*"\\n' > "$made" ;;
+*.o) printf '#!/bin/sh\\necho "ran $*"\\nexit\\n' > "$made" ;;
 esac""",
     "rattle-link": """while [ "$1" != -o ]; do shift; done
 cp "$3" "$2" && chmod +x "$2" """,

@@ -6,12 +6,15 @@ import signal
 import subprocess
 import unittest
 
-from tests.support import LAUNCHER, PROGRAM, REPLY_SECONDS, SECONDS, TOP, ProgramTest, run, wait_until
+from tests.support import (
+    LAUNCHER, PROGRAM, REPLY_SECONDS, SECONDS, TOP, ProgramTest, repository, run, wait_until,
+)
 
 # What takes the toolchain's place next to a copy of the launcher: the prover notes each crate, takes a while, and fails
 # in the crate that FAILS names. What it makes of a program is a script, which the linker copies.
+VERSION = "stand-in"
 TOOLCHAIN = {
-    "rt": '[ "$1" = version ] && echo stand-in',
+    "rt": f'[ "$1" = version ] && echo {VERSION}',
     "rattle": """while [ $# -gt 0 ]; do
     case $1 in
     --crate-name) crate=$2 ;;
@@ -24,7 +27,7 @@ sleep "$WHILE"
 [ "$crate" != "$FAILS" ] || exit 1
 case $made in
 *.rlib) [ -e src/lib.rt ] && mkdir "$made" ;;
-*.o) printf '#!/bin/sh\\necho "$@"\\n' > "$made" ;;
+*.o) printf '#!/bin/sh\\necho "$@"\\nexit\\n' > "$made" ;;
 esac""",
     "rattle-link": """while [ "$1" != -o ]; do shift; done
 cp "$3" "$2" && chmod +x "$2" """,
@@ -128,7 +131,7 @@ class Building(ProgramTest):
         numbers = [str(place + 1) for place in range(len(names))]
         wrong += [] if [each[2] for each in proved] == numbers else ["numbers"]
         begins = f"ibm1401: {len(names)} crates are proved and built, which takes {time} the first time"
-        ends = rf"ibm1401: {len(names)} crates proved and built in \d+:\d\d by stand-in"
+        ends = rf"ibm1401: {len(names)} crates proved and built in \d+:\d\d by {VERSION}"
         wrong += [lines[0]] if lines[0] != begins else []
         wrong += [lines[-1]] if not re.fullmatch(ends, lines[-1]) else []
         self.check(name, wrong)
@@ -165,6 +168,19 @@ class Building(ProgramTest):
         self.launch("load")
         self.expect("it is run", self.launch("load"), 0, "load\n")
         self.expect("a console is one of it", self.launch("console"), 0, "console\n")
+
+    def test_the_record_of_a_build(self):
+        """It is at the end of the program, and says which commit was built, and by which toolchain."""
+        built = self.folder / "crates/ibm1401/out/ibm1401"
+        source = self.folder / "crates" / self.names[0] / "src/lib.rt"
+        self.launch("load")
+        self.same("no repository", built.read_bytes().rpartition(b"\0")[2], f"commit unknown\nproved by {VERSION}\n")
+        commit = repository(self.folder)
+        for text, changes in ("//!\n", ""), ("", ", with changes"):
+            source.write_text(text)
+            self.launch("load")
+            self.same(f"a commit{changes}", built.read_bytes().rpartition(b"\0")[2],
+                      f"commit {commit}{changes}\nproved by {VERSION}\n")
 
     def test_a_source_that_is_newer(self):
         self.launch("load")

@@ -19,6 +19,9 @@ use clap::{ArgMatches, Command, Error};
 use std::alloc::{AllocError, Global};
 use std::convert::AsStr;
 
+/// The version of the program.
+const VERSION: &str = "0.9.0";
+
 /// The most instructions that are carried out if no number is named.
 const DEFAULT_LIMIT: u32 = 1_000_000_000;
 
@@ -225,7 +228,7 @@ fn name_files(alloc: Global, matches: &ArgMatches<'_>, job: &mut Job) -> Result<
 ///
 /// # Errors
 ///
-/// What is wrong with the command line, the text of the help, or want of memory.
+/// What is wrong with the command line, the text of the help, name and version, or want of memory.
 pub fn read_call(alloc: Global, words: &[impl AsStr]) -> Result<Call, Error> {
     let sizes = SizeTexts::new(alloc)?;
     call_with(alloc, words, &sizes)
@@ -266,6 +269,7 @@ fn put_each<'a>(
 fn program<'a>(alloc: Global, commands: Vec<Command<'a>>) -> Result<Command<'a>, AllocError> {
     Command::new(alloc, "ibm1401")
         .about("An IBM 1401 card system, every operation proved")
+        .version(VERSION)
         .subcommand_required(true)
         .subcommands(commands)
 }
