@@ -1,4 +1,4 @@
-//! The page itself and its policy. Written by page/embed from page/index.html: change that file, and run it.
+//! The page itself and its policy. Written by page/embed from page/: change the files there, and run it.
 
 /// The page: HTML with one style and one script, and nothing from elsewhere.
 pub const PAGE: &[u8] = br##"<!doctype html>
@@ -33,7 +33,6 @@ button:disabled { cursor: default; }
 .skip { position: absolute; left: 8px; top: -60px; background: var(--ivory); color: var(--ink); padding: 8px 14px;
   z-index: 9; }
 .skip:focus { top: 8px; }
-
 /* the head */
 header { display: flex; flex-wrap: wrap; align-items: center; gap: 8px 22px; padding: 9px 22px;
   background: var(--panel); color: var(--ivory); border-bottom: 4px solid var(--blue); }
@@ -53,7 +52,6 @@ header button { background: none; border: 1px solid var(--faint); border-radius:
   color: var(--ivory); font-size: 13px; }
 header button:hover { background: var(--panel-light); }
 .banner { background: var(--red); color: #fff; font-weight: 700; padding: 11px 22px; }
-
 /* the parts */
 main { display: grid; gap: 16px; padding: 16px 18px; max-width: 1900px; margin: auto;
   grid-template: "panel printer" auto "core printer" 1fr "console cards" auto / minmax(0, 1fr) minmax(0, 1fr); }
@@ -77,7 +75,6 @@ h2 { margin: 0; font-size: 12px; letter-spacing: .14em; text-transform: uppercas
 .small-key.main:disabled { background: #e4e0d4; border-color: #8d8878; color: #66665e; }
 details > summary { cursor: pointer; padding: 7px 14px; font-size: 13px; color: var(--soft); }
 details > summary:hover { color: var(--ink); }
-
 /* operator's panel */
 .board { background: linear-gradient(var(--panel-light), var(--panel)); color: var(--ivory); padding: 13px 16px;
   display: flex; flex-wrap: wrap; gap: 14px 16px; align-items: flex-end; align-content: space-between; flex: 1; }
@@ -117,7 +114,6 @@ details > summary:hover { color: var(--ink); }
 .told { padding: 9px 16px; min-height: 62px; }
 .told p { margin: 0; font-size: 16px; font-weight: 700; }
 .told code { font: 13px var(--mono); color: var(--soft); }
-
 /* core storage */
 .tabs { display: flex; flex-wrap: wrap; gap: 4px; }
 .tabs button { border: 1px solid #8d8878; background: #fffdf6; border-radius: 3px; padding: 2px 8px;
@@ -155,7 +151,6 @@ details > summary:hover { color: var(--ink); }
 .legend .next { background: var(--warm); }
 .legend .mark { background: #fff; border-bottom: 3px solid #14181c; }
 .as-text { margin: 0; padding: 0 14px 10px; font: 13px/18px var(--mono); white-space: pre; overflow-x: auto; }
-
 /* cards */
 .cards { display: grid; grid-template-columns: 80px minmax(0, 1fr) 80px; gap: 12px; padding: 10px 14px;
   align-items: end; }
@@ -199,7 +194,6 @@ textarea { width: 100%; font: 13px/18px var(--mono); border: 1px solid #8d8878; 
 .keyboard button.wide { background: var(--ivory); color: #1f2225; box-shadow: 0 2px 0 #8f8a79;
   font: 700 12px var(--sans); }
 .keyboard button:active { transform: translateY(2px); box-shadow: none; }
-
 /* the printer */
 .printer { display: grid; grid-template: minmax(0, 1fr) / 38px minmax(0, 1fr); gap: 10px; padding: 10px 14px;
   flex: 1 1 0; min-height: 440px; }
@@ -226,7 +220,6 @@ textarea { width: 100%; font: 13px/18px var(--mono); border: 1px solid #8d8878; 
 .paper-keys { display: flex; flex-wrap: wrap; gap: 8px; padding: 0 14px 11px; align-items: center; font-size: 13px;
   color: var(--soft); }
 #sheets-to-print { display: none; }
-
 /* the console */
 .log { flex: 1 1 170px; height: 170px; min-height: 170px; overflow: auto; padding: 9px 15px;
   font: 14px/20px var(--mono); background: var(--log); border-bottom: 1px solid var(--edge); }
@@ -245,7 +238,6 @@ textarea { width: 100%; font: 13px/18px var(--mono); border: 1px solid #8d8878; 
 .lines td { padding: 2px 16px 2px 0; vertical-align: top; }
 .lines td:first-child { font: 13px/19px var(--mono); white-space: nowrap; }
 footer { font-size: 13px; color: #45463f; padding: 0 22px 16px; max-width: 1900px; margin: auto; }
-
 /* dialogs */
 dialog { border: 1px solid var(--edge); border-radius: 8px; background: var(--cabinet); color: var(--ink);
   padding: 18px 22px; max-width: min(46em, calc(100vw - 24px)); box-shadow: 0 8px 40px #0008; }
@@ -255,7 +247,6 @@ dialog h2:first-child { margin-top: 0; }
 dialog ol { margin: 0; padding-left: 1.4em; }
 dialog .row { justify-content: flex-end; margin-top: 16px; }
 dialog .lines { margin: 0; }
-
 @media (max-width: 1300px) {
   main { grid-template: "panel" "core" "printer" "cards" "console" / minmax(0, 1fr); }
   .printer { flex: none; height: min(760px, 85vh); }
@@ -643,8 +634,7 @@ const TEXTS = {
     ['Tab, arrow keys', 'from part to part; in core storage the arrow keys go from place to place'],
   ],
 };
-
-/* ---- the machine, as far as the page knows it ---- */
+/* The machine, as far as the page knows it. */
 const PLACES_SHOWN = 600;
 const FORM_LINES = 66;
 const FORMS = 10000;
@@ -708,8 +698,7 @@ function instructionLength(cells, at) {
   if (operation === 'B' && length > 4 && cells[at + 4].graphic === ' ') return 4;
   return length;
 }
-
-/* ---- small helpers ---- */
+/* Small helpers. */
 const byId = id => document.getElementById(id);
 const pad = (number, width) => String(number).padStart(width, '0');
 const delay = ms => new Promise(done => setTimeout(done, ms));
@@ -748,8 +737,7 @@ function saveFile(name, text) {
   link.remove();
   setTimeout(() => URL.revokeObjectURL(address), RETRY_MS);
 }
-
-/* ---- a picture: all that is shown, of one moment ---- */
+/* A picture: all that is shown, of one moment. */
 class Unreadable extends Error {}
 
 /* The parts of a line that has this form, or the picture can't be read. */
@@ -799,8 +787,7 @@ function printedLineOf(line) {
   return {form: Number(form), line: Number(at), text};
 }
 const sameLine = (one, other) => one.form === other.form && one.line === other.line && one.text === other.text;
-
-/* ---- looking: what the page has seen, and the next look ---- */
+/* Looking: what the page has seen, and the next look. */
 const view = {
   core: 0,          // the first place that is asked for
   picture: null,    // the picture that is drawn
@@ -899,8 +886,7 @@ function setLink(link) {
   view.link = link;
   drawBanner();
 }
-
-/* ---- lines: each is sent once ---- */
+/* Lines: each is sent once. */
 const COMMANDS = /^ *(DEPOSIT|START|SWITCH|FEED|LOAD|RUN|LINE|CARD)( |$)/;
 const RECORDED = /^(OK|STOP |LINE |CARD |REFUSED )/;
 
@@ -996,8 +982,7 @@ function tellOutcome(outcome, words) {
   if (outcome.failed) tell(outcome.failed);
   else tell(wordsOf(outcome.reply) || words, outcome.reply);
 }
-
-/* ---- the keys of the panel ---- */
+/* The keys of the panel. */
 let run = null;     // the run that goes on
 
 async function pressLoad() {
@@ -1048,8 +1033,7 @@ function drawRun() {
   byId('run-key').disabled = byId('step-key').disabled = run !== null;
   setText(byId('running'), run ? filled(TEXTS.running, {steps: withCommas(run.steps)}) : '');
 }
-
-/* ---- decks ---- */
+/* Decks. */
 let feed = null;    // the deck that is being fed
 
 /* The cards of a text, or the first fault of it. */
@@ -1127,8 +1111,7 @@ function drawFeed() {
   byId('feed-bar').value = feed.fed / feed.all;
   setText(byId('feed-count'), filled(feed.waits ? TEXTS.feedWaits : TEXTS.feedingCount, {n: feed.fed, all: feed.all}));
 }
-
-/* ---- what is taken from the machine ---- */
+/* What is taken from the machine. */
 async function takeCard() {
   const outcome = await say('CARD');
   const text = outcome.reply && outcome.reply.startsWith('CARD ') ? outcome.reply.slice(5) : null;
@@ -1193,8 +1176,7 @@ function confirmed(question) {
     dialog.addEventListener('close', () => done(dialog.returnValue === 'yes'), {once: true});
   });
 }
-
-/* ---- drawing ---- */
+/* Drawing. */
 function draw() {
   drawHead();
   drawPanel();
@@ -1256,8 +1238,7 @@ function drawPanel() {
     setAttribute(button, 'aria-pressed', String(registers.SWITCHES.includes(button.value)));
   }
 }
-
-/* ---- core storage ---- */
+/* Core storage. */
 const core = {columns: 0, heads: [], cells: [], shown: [], from: null, size: 0, chosen: 0};
 
 function columnsWanted() {
@@ -1399,8 +1380,7 @@ function moveInCore(event) {
   choose(to);
   core.cells[to].focus();
 }
-
-/* ---- cards ---- */
+/* Cards. */
 const CARD = {width: 516, height: 176, left: 20, column: 6, top: 17, row: 12.6};
 const rowOrder = [12, 11, 0, 1, 2, 3, 4, 5, 6, 7, 8, 9];
 const columnsAt = Array.from({length: CARD_COLUMNS}, (_, at) => CARD.left + at * CARD.column).join(' ');
@@ -1465,8 +1445,7 @@ function drawCards() {
   setText(byId('card-punched-name'), punched === null ? TEXTS.cardNoPunched : TEXTS.cardPunched);
   byId('card-key').disabled = registers.STACKER === 0;
 }
-
-/* ---- the keypunch ---- */
+/* The keypunch. */
 let released = '';  // the card released last, which DUP copies
 
 const keyed = () => byId('keyed').value.replace(/[a-z]/g, letter => letter.toUpperCase());
@@ -1526,8 +1505,7 @@ function buildKeyboard() {
     if (name === 'dup') key.title = TEXTS.dupTitle;
   }
 }
-
-/* ---- the printer ---- */
+/* The printer. */
 const sheets = new Map();   // the forms that are shown, each with its rows
 let followsPaper = true, handOnPaper = -Infinity;
 
@@ -1631,8 +1609,7 @@ function layOutForPrint() {
   target.replaceChildren();
   for (const [form, texts] of textsByForm([...torn, ...view.paper])) drawSheet(sheetIn(target, form), texts, 0, false);
 }
-
-/* ---- the console line ---- */
+/* The console line. */
 const typed = {lines: [], at: 0};
 
 async function sendLine(event) {
@@ -1663,8 +1640,7 @@ function recallLine(event) {
   typed.at = to;
   byId('line').value = typed.lines[to] || '';
 }
-
-/* ---- keys of the keyboard ---- */
+/* Keys of the keyboard. */
 function openKeypunch() {
   byId('keypunch').open = true;
   byId('keyed').focus();
@@ -1681,8 +1657,7 @@ function pressKey(event) {
   event.preventDefault();
   if (!event.repeat) action();
 }
-
-/* ---- the beginning ---- */
+/* The beginning. */
 function putTexts() {
   document.documentElement.lang = TEXTS.language;
   for (const element of document.querySelectorAll('[data-text], [data-label], [data-title], [data-hint]')) {
@@ -1824,8 +1799,8 @@ poll();
 /// The `content-security-policy` of the page: its own script and style by their SHA-256, exchanges with its own server,
 /// and nothing else.
 pub const POLICY: &str = "default-src 'none'; \
-    script-src 'sha256-GFXZAPktEotSEgW+r+G4Cv4ItbwPKbW7+HUrtn3BJiI='; \
-    style-src 'sha256-iCePqYiqYxRX/6vm808e0HphUEqmBPevsWcLvpHN28s='; \
+    script-src 'sha256-b3pNm40cjM7JB0kHcstvAXVr/8BVQuqaHYZlePV3lYg='; \
+    style-src 'sha256-CqKl0ISW/JkoTMS3Y8r+09/hr0uhau9b62m9KPDLdlo='; \
     img-src data:; \
     connect-src 'self'; \
     form-action 'none'; \
