@@ -2,7 +2,7 @@
 import re
 import unittest
 
-from tests.support import PAGE, TOP
+from tests.support import PAGE, TOP, ProgramTest, program
 
 PARTS = TOP / "page"
 MOST_LINES = 40
@@ -63,6 +63,18 @@ class Parts(unittest.TestCase):
 
     def test_the_document_is_in_ascii(self):
         self.assertTrue(PAGE.isascii())
+
+
+class Programs(ProgramTest):
+    """The programs that a visitor can choose."""
+
+    def test_each_deck_is_its_source_assembled(self):
+        sources = sorted((PARTS / "programs").glob("*.source"))
+        self.same("their names", [source.stem for source in sources], ["banner", "calculation", "game", "payroll"])
+        for source in sources:
+            deck = self.folder / f"{source.stem}.deck"
+            self.expect(f"{source.stem} is assembled", program("assemble", source, "--deck", deck))
+            self.same(f"the deck of {source.stem}", deck.read_bytes(), source.with_suffix(".deck").read_bytes())
 
 
 if __name__ == "__main__":

@@ -1,4 +1,4 @@
-/* The beginning. */
+/* The beginning: texts, parts that are built once, and what listens. */
 function putTexts() {
   document.documentElement.lang = TEXTS.language;
   for (const element of document.querySelectorAll('[data-text], [data-label], [data-title], [data-hint]')) {
@@ -9,15 +9,42 @@ function putTexts() {
     if (hint) element.placeholder = TEXTS[hint];
   }
   byId('after').title = TEXTS.afterTitle;
-  for (const pace of TEXTS.paces) added(byId('pace'), 'option', {textContent: pace});
-  byId('pace').selectedIndex = FASTEST;
-  for (const step of TEXTS.steps) added(byId('help-steps'), 'li', {textContent: step});
+  putChoices();
   for (const [table, rows] of [['lines', TEXTS.lines], ['help-shortcuts', TEXTS.shortcuts]]) {
+    byId(table).replaceChildren();
     for (const row of rows) {
       const line = added(byId(table), 'tr');
       for (const text of row) added(line, 'td', {textContent: text});
     }
   }
+  byId('guide-steps').replaceChildren();
+  for (const step of TEXTS.guideSteps) added(byId('guide-steps'), 'li', {textContent: step});
+  buildAbout();
+  buildKeyboard();
+  namePanel();
+}
+/* What can be chosen, by its names. */
+function putChoices() {
+  const pace = byId('pace').selectedIndex, program = byId('program').value;
+  byId('pace').replaceChildren();
+  for (const name of TEXTS.paces) added(byId('pace'), 'option', {textContent: name});
+  byId('pace').selectedIndex = pace < 0 ? FASTEST : pace;
+  byId('program').replaceChildren();
+  for (const {name} of PROGRAMS) {
+    added(byId('program'), 'option', {value: name, textContent: TEXTS.programs[name].name});
+  }
+  byId('program').value = program || 'hello';
+  byId('language').replaceChildren();
+  for (const [name, texts] of Object.entries(LANGUAGES)) {
+    added(byId('language'), 'option', {value: name, textContent: texts.name, lang: name});
+  }
+  byId('language').value = TEXTS.language;
+}
+function namePanel() {
+  for (const button of byId('switches').children) {
+    button.setAttribute('aria-label', filled(TEXTS.switchLabel, {name: button.value}));
+  }
+  for (const [name, lamp] of lamps) setText(lamp.previousElementSibling, TEXTS.lamps[name]);
 }
 function buildPanel() {
   for (const name of ['I', 'A', 'B']) {
@@ -25,26 +52,30 @@ function buildPanel() {
   }
   for (const name of SWITCHES) {
     const button = added(byId('switches'), 'button', {type: 'button', value: name, textContent: name});
-    button.setAttribute('aria-label', filled(TEXTS.switchLabel, {name}));
     button.setAttribute('aria-pressed', 'false');
-    button.onclick = () => say(`SWITCH ${name} ${button.getAttribute('aria-pressed') === 'true' ? 'OFF' : 'ON'}`);
+    button.addEventListener('click', () => turnSwitch(button));
   }
-  return Object.keys(TEXTS.lamps).map(name => {
+  return ['UNEQUAL', 'LOW', 'HIGH', 'OVERFLOW'].map(name => {
     const part = added(byId('lamps'), 'div');
-    const label = added(part, 'span', {className: 'name', textContent: TEXTS.lamps[name]});
-    label.setAttribute('aria-hidden', 'true');
+    added(part, 'span', {className: 'name'}).setAttribute('aria-hidden', 'true');
     const lamp = added(part, 'div', {className: 'lamp'});
     lamp.setAttribute('role', 'img');
     return [name, lamp];
   });
 }
 
+function turnSwitch(button) {
+  const isOn = button.getAttribute('aria-pressed') === 'true';
+  if (!isOff(button)) say(`SWITCH ${button.value} ${isOn ? 'OFF' : 'ON'}`);
+}
+
 function listenForClicks() {
   const clicks = {
     'load-key': pressLoad, 'run-key': pressRun, 'stop-key': pressStop, 'step-key': pressStep,
     'pick-key': () => byId('file').click(), 'card-key': takeCard, 'deck-key': () => feedText(byId('deck').value),
-    'sample-hello': () => feedDeck([HELLO], TEXTS.fedHello),
-    'sample-listing': () => feedDeck(LISTING, TEXTS.fedListing),
+    'feed-key': feedChosen, 'all-cards-key': takeAllCards, 'afresh-key': pressAfresh, 'guide-key': () => guide.press(),
+    'view-key': pressView, 'sound-key': pressSound, 'card-print-key': printCard,
+    'about-key': () => byId('about').showModal(), 'about-close': () => byId('about').close(),
     'feed-again-key': () => feedDeck([...taken]),
     'save-cards-key': () => saveFile('taken.cards', `${taken.join('\n')}\n`),
     'release-key': releaseCard, 'program-key': takeProgram, 'tear-key': tearOff, 'drop-key': dropTorn,
@@ -53,8 +84,11 @@ function listenForClicks() {
     'help-key': () => byId('help').showModal(), 'help-close': () => byId('help').close(),
     'ask-yes': () => byId('ask').close('yes'), 'ask-no': () => byId('ask').close(),
   };
-  for (const [id, action] of Object.entries(clicks)) byId(id).addEventListener('click', action);
+  for (const [id, action] of Object.entries(clicks)) {
+    byId(id).addEventListener('click', event => { if (!isOff(byId(id))) action(event); });
+  }
   byId('feed-stop').addEventListener('click', () => { if (feed) feed.stop = true; });
+  byId('take-stop').addEventListener('click', () => { if (taking) taking.stop = true; });
 }
 function listen() {
   byId('file').addEventListener('change', () => {
@@ -62,6 +96,10 @@ function listen() {
     byId('file').value = '';
     if (file) feedFile(file);
   });
+  byId('program').addEventListener('change', drawProgram);
+  byId('language').addEventListener('change', () => chooseLanguage(byId('language').value));
+  byId('name-form').addEventListener('submit', punchName);
+  byId('keyboard').addEventListener('keydown', moveOnKeyboard);
   byId('start-form').addEventListener('submit', pressStart);
   byId('find').addEventListener('submit', findPlace);
   byId('line-form').addEventListener('submit', sendLine);
@@ -81,6 +119,9 @@ function listen() {
   document.addEventListener('keydown', pressKey);
   document.addEventListener('visibilitychange', () => { if (!document.hidden) inTurn(look); });
   window.addEventListener('beforeprint', layOutForPrint);
+  window.addEventListener('beforeunload', keepsPaper);
+  for (const hand of ['keydown', 'pointerdown', 'click']) window.addEventListener(hand, touch, {capture: true});
+  for (const hand of ['pointermove', 'wheel']) window.addEventListener(hand, noteHand, {passive: true});
   window.addEventListener('resize', resized);
 }
 function listenForPlaces(places) {
@@ -91,13 +132,16 @@ function listenForPlaces(places) {
   });
   places.addEventListener('click', event => { if (event.target.tagName === 'TD') event.target.focus(); });
 }
-function listenForFiles(reader) {
-  reader.addEventListener('dragover', event => {
+/* A deck may be dropped anywhere on the page. */
+function listenForFiles() {
+  document.addEventListener('dragover', event => {
     event.preventDefault();
-    reader.classList.add('over');
+    byId('feeder').classList.add('over');
   });
-  for (const name of ['dragleave', 'drop']) reader.addEventListener(name, () => reader.classList.remove('over'));
-  reader.addEventListener('drop', event => {
+  for (const name of ['dragleave', 'drop']) {
+    document.addEventListener(name, () => byId('feeder').classList.remove('over'));
+  }
+  document.addEventListener('drop', event => {
     event.preventDefault();
     const [file] = event.dataTransfer.files;
     if (file) feedFile(file);
@@ -108,27 +152,40 @@ function resized() {
   if (view.picture) draw();
 }
 
-/* Looks again and again: four times a second while the page is seen, once a second else. */
+/* Looks again and again: four times a second while the page is seen, once a second else; not while many lines are sent,
+   which would wait for each look. */
 async function poll() {
   for (;;) {
-    await inTurn(look);
+    if (!taking && !(feed && !feed.waits)) await inTurn(look);
+    if (view.picture) drawOthers();
+    guide.look();
+    attractIfIdle();
     await delay(view.link !== 'fine' ? RETRY_MS : document.hidden ? HIDDEN_POLL_MS : POLL_MS);
   }
 }
+async function begin() {
+  tell(TEXTS.said.welcome);
+  note('words', TEXTS.said.firstNote);
+  while (!(await inTurn(look))) await delay(RETRY_MS);
+  tell(welcomeWords());
+  guide.begin();
+  poll();
+}
 
-putTexts();
+TEXTS = LANGUAGES[languageWanted()];
 const lamps = buildPanel();
 const tapePointer = buildTape();
 const cards = {read: cardIn(byId('card-read')), next: cardIn(byId('card-next')), punched: cardIn(byId('card-punched')),
-  keyed: cardIn(byId('card-keyed'))};
+  keyed: cardIn(byId('card-keyed')), toPrint: cardIn(byId('card-to-print'))};
 for (const card of [cards.read, cards.next, cards.punched]) card(null);
-buildKeyboard();
+putTexts();
 buildCore();
 drawKeyed();
-tell(TEXTS.told.welcome);
-note('words', TEXTS.told.firstNote);
+drawProgram();
+guide.draw();
+drawKeys();
 listenForClicks();
 listen();
 listenForPlaces(byId('core'));
-listenForFiles(byId('reader'));
-poll();
+listenForFiles();
+begin();

@@ -61,5 +61,7 @@ function drawCards() {
   cards.punched(punched);
   setText(byId('card-next-name'), hopper === null ? TEXTS.cardNoNext : TEXTS.cardNext);
   setText(byId('card-punched-name'), punched === null ? TEXTS.cardNoPunched : TEXTS.cardPunched);
-  byId('card-key').disabled = registers.STACKER === 0;
+  const station = read.trim() === '' ? TEXTS.cardBlank : filled(TEXTS.cardLabel, {text: read.trim()});
+  setAttribute(byId('transport'), 'aria-label',
+    filled(TEXTS.transportLabel, {hopper: registers.HOPPER, station, stacker: registers.STACKER}));
 }

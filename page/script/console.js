@@ -3,6 +3,7 @@ const typed = {lines: [], at: 0};
 
 async function sendLine(event) {
   event.preventDefault();
+  if (!mayCommand()) return;
   const line = byId('line').value.replace(/[a-z]/g, letter => letter.toUpperCase());
   if (line.trim() === '') return;
   byId('line').value = '';
@@ -17,9 +18,11 @@ async function sendLine(event) {
     byId('lines-details').scrollIntoView({block: 'nearest'});
     return;
   }
+  view.ended = null;
   const outcome = await say(line);
   const stop = stopOf(outcome.reply);
-  if (stop) tellOutcome(outcome, filled(TEXTS.told.limit, {steps: withCommas(stop.steps)}));
+  if (stop) tellOutcome(outcome, counted(TEXTS.said.limit, stop.steps));
+  if (stop) noteStop(stop);
 }
 function recallLine(event) {
   const by = {ArrowUp: -1, ArrowDown: 1}[event.key];

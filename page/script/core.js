@@ -2,7 +2,7 @@
 const core = {columns: 0, heads: [], cells: [], shown: [], from: null, size: 0, chosen: 0};
 
 function columnsWanted() {
-  return byId('core').clientWidth < 620 ? 20 : 50;
+  return byId('core').clientWidth < 560 ? 20 : 50;
 }
 
 /* The table of 600 places, for a number of columns that fits. */

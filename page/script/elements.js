@@ -5,10 +5,15 @@ const delay = ms => new Promise(done => setTimeout(done, ms));
 const still = matchMedia('(prefers-reduced-motion: reduce)');
 
 function filled(text, values = {}) {
-  return text.replace(/\{(\w+)\}/g, (_, name) => String(values[name]));
+  return text.replace(/\{(\w+)\}/g, (whole, name) => name in values ? String(values[name]) : whole);
+}
+/* A text with a form for one thing and a form for several. */
+function counted(forms, n, values = {}) {
+  const {one, many} = forms;
+  return filled(n === 1 ? one : many, {n: withCommas(n), ...values});
 }
 function withCommas(number) {
-  return String(number).replace(/\B(?=(\d{3})+$)/g, ',');
+  return String(number).replace(/\B(?=(\d{3})+$)/g, TEXTS.thousands);
 }
 function setText(element, text) {
   if (element.textContent !== text) element.textContent = text;
@@ -27,6 +32,11 @@ function drawn(parent, name, attributes) {
   parent.append(element);
   return element;
 }
+/* A key that is off keeps the focus, and does nothing. */
+function setOff(key, off) {
+  setAttribute(key, 'aria-disabled', String(off));
+}
+const isOff = key => key.getAttribute('aria-disabled') === 'true';
 function glow(element) {
   if (!still.matches) element.animate([{backgroundColor: '#ffb238'}, {}], 1400);
 }

@@ -4,7 +4,7 @@ function openKeypunch() {
   byId('keyed').focus();
 }
 const SHORTCUTS = {
-  KeyL: pressLoad, KeyR: pressRun, KeyN: pressStep, KeyT: tearOff, KeyK: openKeypunch,
+  KeyF: feedChosen, KeyL: pressLoad, KeyR: pressRun, KeyN: pressStep, KeyT: tearOff, KeyK: openKeypunch,
   KeyC: () => byId('line').focus(), KeyA: () => byId('find-at').select(), KeyP: () => byId('fold').focus(),
 };
 function pressKey(event) {

@@ -5,10 +5,10 @@ const keyed = () => byId('keyed').value.replace(/[a-z]/g, letter => letter.toUpp
 function drawKeyed() {
   const text = keyed(), wrong = [...text].findIndex(graphic => !GRAPHICS.includes(graphic));
   cards.keyed(text);
-  byId('keyed-told').classList.toggle('wrong', wrong >= 0);
-  setText(byId('keyed-told'), wrong >= 0
-    ? filled(TEXTS.deckWrong, {line: 1, column: wrong + 1, what: TEXTS.noGraphic})
-    : filled(TEXTS.columnTold, {n: Math.min(text.length + 1, CARD_COLUMNS)}));
+  byId('keyed-words').classList.toggle('wrong', wrong >= 0);
+  setText(byId('keyed-words'), wrong >= 0
+    ? filled(TEXTS.columnWrong, {column: wrong + 1, what: noCard(text[wrong])})
+    : text.length >= CARD_COLUMNS ? TEXTS.cardFull : filled(TEXTS.columnTold, {n: text.length + 1}));
 }
 function keyIn(graphic) {
   const field = byId('keyed');
@@ -34,15 +34,17 @@ async function releaseCard() {
   if (feed) return tellDeck(TEXTS.alreadyFeeding, true);
   released = keyed();
   KEY_ACTIONS.clear();
+  sound('punch');
   await feedDeck(deck.cards);
 }
 function takeProgram() {
   byId('keyed').value = HELLO;
   drawKeyed();
   byId('keyed').focus();
-  byId('keyed').setSelectionRange(40, HELLO.length);
+  byId('keyed').setSelectionRange(NAME_COLUMN, HELLO.length);
 }
 function buildKeyboard() {
+  byId('keyboard').replaceChildren();
   for (const row of KEYBOARD) {
     const line = added(byId('keyboard'), 'div');
     for (const graphic of row) {
@@ -57,4 +59,17 @@ function buildKeyboard() {
     key.textContent = TEXTS.keys[name];
     if (name === 'dup') key.title = TEXTS.dupTitle;
   }
+  keysOf(byId('keyboard'))[0].tabIndex = 0;
+}
+/* The keyboard is one place for Tab; the arrow keys go from key to key. */
+const keysOf = keyboard => [...keyboard.querySelectorAll('button')];
+function moveOnKeyboard(event) {
+  const keys = keysOf(byId('keyboard')), at = keys.indexOf(event.target);
+  const by = {ArrowLeft: -1, ArrowRight: 1, ArrowUp: -10, ArrowDown: 10}[event.key];
+  if (at < 0 || by === undefined || event.altKey) return;
+  event.preventDefault();
+  const to = Math.max(0, Math.min(keys.length - 1, at + by));
+  keys[at].tabIndex = -1;
+  keys[to].tabIndex = 0;
+  keys[to].focus();
 }

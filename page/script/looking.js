@@ -6,9 +6,14 @@ const view = {
   made: null,       // how many commands this seat has made, null where only a picture can tell
   link: 'lost',     // whether the server answers, and else why not
   status: 0,
+  breaks: 0,        // how often the server was gone, or another room was there
   unkept: false, full: false,
   since: null,      // the counts of the first picture
+  others: {count: 0, at: -Infinity},    // how many commands others gave since then, and when the last one was seen
+  changed: 0,       // when the count of commands was last seen to change
+  ended: null,      // the I register after a halt, until this page gives another command
 };
+const OTHERS_MS = 6000;
 const torn = [];    // the printed lines that this page has taken
 const taken = [];   // the punched cards that this page has taken
 
@@ -24,7 +29,7 @@ function statusOf(response) {
   return response.status === 503 && response.headers.has('Retry-After') ? 'busy' : response.status;
 }
 
-/* One exchange with the server after the other, so that counts and pictures are in order. */
+/* One exchange with the server after the other, which puts counts and pictures in order. */
 let queue = Promise.resolve();
 function inTurn(task) {
   const result = queue.then(task);
@@ -32,7 +37,7 @@ function inTurn(task) {
   return result;
 }
 
-/* A picture, whose paper begins with the last line that is kept; null where the machine is still as it was. */
+/* A picture, whose paper begins with the last line that the page has; null where the machine is still as it was. */
 async function askForPicture(kept, after) {
   const part = `core=${pad(view.core, 4)}&paper=${Math.max(0, kept.length - 1)}`;
   const query = after === null ? part : `${part}&after=${after}`;
@@ -43,7 +48,7 @@ async function askForPicture(kept, after) {
   return pictureOf(text);
 }
 
-/* The lines of a picture behind those that are kept; null where somebody has taken lines, so that they don't go on. */
+/* The lines of a picture after those that the page has; null if they don't go on, since somebody has taken lines. */
 function joined(kept, picture) {
   if (picture.first === 0) return picture.lines;
   const goesOn = kept.length === picture.first + 1 && picture.lines.length > 0
@@ -53,7 +58,7 @@ function joined(kept, picture) {
 
 /* Takes a picture in, and asks for further ones until all printed lines are there. */
 async function takeIn(picture) {
-  const isNewRoom = view.picture && picture.after < view.picture.after;
+  const isNewRoom = view.picture && (picture.after < view.picture.after || picture.made < view.picture.made);
   let lines = joined(isNewRoom ? [] : view.paper, picture);
   for (let turns = 0; turns < 2 * MOST_CARDS / FORM_LINES; turns++) {
     if (lines !== null && lines.length === picture.registers.PAPER) break;
@@ -61,12 +66,27 @@ async function takeIn(picture) {
     lines = joined(lines || [], picture);
   }
   if (isNewRoom || view.since === null) view.since = {after: picture.after, made: picture.made};
-  if (isNewRoom) view.full = view.unkept = false;
+  if (isNewRoom) enterRoom();
+  noteOthers(picture);
   view.paper = lines || [];
   view.made = picture.made;
   view.picture = picture;
   draw();
 }
+/* The server has another machine: what was meant for the old one isn't sent. */
+function enterRoom() {
+  Object.assign(view, {full: false, unkept: false, ended: null, breaks: view.breaks + 1});
+  view.others.count = 0;
+  note('words', TEXTS.said.newRoom);
+  tell(TEXTS.said.newRoom);
+}
+function noteOthers({after, made}) {
+  const count = after - view.since.after - (made - view.since.made), now = performance.now();
+  if (count > view.others.count) view.others.at = now;
+  view.others.count = count;
+  if (!view.picture || after !== view.picture.after) view.changed = now;
+}
+const othersAtWork = () => performance.now() - view.others.at < OTHERS_MS;
 
 /* Looks once, and draws what is new. False where there was nothing to see; the banner then says why. */
 async function look() {
@@ -94,6 +114,8 @@ function blame(why) {
   }
 }
 function setLink(link) {
+  if (link === 'lost' && view.link === 'fine') view.breaks++;
   view.link = link;
   drawBanner();
+  drawKeys();
 }

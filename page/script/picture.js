@@ -7,8 +7,8 @@ function partsOf(line, form) {
   if (!parts) throw new Unreadable(line);
   return parts.slice(1);
 }
-/* What stands behind the word of a line, or null where the word stands alone. */
-function behind(line, word) {
+/* What follows the word of a line, or null if nothing does. */
+function afterWord(line, word) {
   if (line === word) return null;
   return partsOf(line, new RegExp(`^${word} (.*)$`))[0];
 }
@@ -33,8 +33,8 @@ function pictureOf(text) {
   const [from, size] = partsOf(lines[7], /^CORE (\d+) OF (\d+)$/).map(Number);
   const picture = {
     seat, seats, made, after, from, size, cells: [], lines: [], registers: registersOf(lines[2]),
-    next: behind(lines[3], 'NEXT'), read: behind(lines[4], 'READ') || '',
-    hopper: behind(lines[5], 'HOPPER'), punched: behind(lines[6], 'PUNCHED'),
+    next: afterWord(lines[3], 'NEXT'), read: afterWord(lines[4], 'READ') || '',
+    hopper: afterWord(lines[5], 'HOPPER'), punched: afterWord(lines[6], 'PUNCHED'),
   };
   for (const line of lines.slice(8, 23)) cellsOf(line, picture.cells);
   if (picture.cells.length !== PLACES_SHOWN) throw new Unreadable('cells');

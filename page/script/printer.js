@@ -10,7 +10,7 @@ function sheetIn(parent, form) {
   return {element, rows: Array.from({length: FORM_LINES}, () => added(text, 'span'))};
 }
 
-/* The forms with lines, the carriage's, and the blank one that follows it. */
+/* The forms with lines, the carriage's, and the blank form after it. */
 function formsShown() {
   const {FORM} = view.picture.registers;
   return [...new Set([...view.paper.map(line => line.form), FORM, (FORM + 1) % FORMS])];
@@ -30,9 +30,8 @@ function drawPaper() {
   for (const [form, sheet] of sheets) {
     drawSheet(sheet, texts.get(form) || [], form === registers.FORM ? registers.LINE : 0, !isFirst);
   }
-  const place = {form: pad(registers.FORM, 4), line: registers.LINE, lines: view.paper.length};
-  setText(byId('paper-at'), filled(TEXTS.paperAt, place));
-  byId('tear-key').disabled = view.paper.length === 0;
+  const place = {form: pad(registers.FORM, 4), line: registers.LINE};
+  setText(byId('paper-at'), counted(TEXTS.paperAt, view.paper.length, place));
   drawTape(registers.LINE);
   followPaper();
 }
@@ -54,7 +53,7 @@ function drawSheet(sheet, texts, carriage, glows) {
   });
 }
 
-/* Moves the paper so that the carriage's line is seen, unless somebody has moved it to read. */
+/* Moves the paper to show the carriage's line, unless somebody has moved it to read. */
 function followPaper() {
   byId('to-carriage').hidden = followsPaper;
   if (!followsPaper) return;
