@@ -263,6 +263,73 @@ class Feeding(Browser):
                    "Nothing was fed. Line 2, column 5: no card has this character")
 
 
+class Languages(Browser):
+    """The page in each of its languages."""
+
+    # The texts of a language by their paths, each with the values that it takes.
+    TEXTS_OF = """(name => {
+        const found = [];
+        const walk = (texts, path) => {
+            if (typeof texts === 'string') found.push(path + ' ' + [...new Set(texts.match(/\\{\\w+\\}/g))].sort());
+            else for (const [key, inner] of Object.entries(texts)) walk(inner, path + '.' + key);
+        };
+        walk(LANGUAGES[name], '');
+        return found.filter(text => !/one {n}$|one $|\\.one\\b/.test(text)).sort().join('|');
+    })"""
+
+    def test_each_has_the_same_texts(self):
+        english = self.page.value(f"{self.TEXTS_OF}('en')")
+        self.shows("German", f"{self.TEXTS_OF}('de')", english)
+
+    def test_german(self):
+        """Chosen on the page, it is all of the page."""
+        self.page.value("byId('language').value = 'de', byId('language').dispatchEvent(new Event('change'))")
+        self.shows("the key of a program", "byId('feed-key').textContent", "Programm einlegen")
+        self.shows("the guide", "byId('guide-now').textContent === LANGUAGES.de.guideWords[0]")
+        self.shows("the head says its language", "document.documentElement.lang", "de")
+        self.page.click("feed-key")
+        self.shows("what is said", "byId('deck-words').textContent === LANGUAGES.de.programs.hello.fed")
+        self.shows("the title", "document.title", "IBM 1401, Platz 1")
+        self.shows("no text is missing", "/undefined|\\{\\w+\\}/.test(document.body.innerText)", False)
+
+
+class Amounts(Browser):
+    """Many cards and many lines: how far it is is shown, and each can be stopped."""
+
+    def test_a_deck_that_is_larger_than_the_hopper(self):
+        """A run that goes on reads it while it is fed, and no run has to be started again."""
+        for line in "DEPOSIT 0500 ~1~B500~.", "START 0500":
+            self.page.value(f"say('{line}')")
+        self.page.value("feedDeck(Array.from({length: 620}, (_, n) => `CARD ${n}`)), 0")
+        self.shows("cards are in the hopper", "feed !== null && feed.fed > 20")
+        self.page.value("byId('pace').selectedIndex = 3, pressRun(), 0")
+        self.shows("all are fed", "feed", None)
+        self.shows("the words are true", "byId('deck-words').textContent.startsWith('620 cards were fed; cards in')")
+        self.shows("all are read", "byId('said-words').textContent === TEXTS.stops.READER")
+        self.shows("the last one too", "view.picture.read", "CARD 619")
+
+    def test_tearing_off_is_stopped(self):
+        for line in "DEPOSIT 0500 ~2~B500~.", "START 0500", "RUN 400":
+            self.page.value(f"say('{line}')")
+        self.shows("200 lines are printed", "view.paper.length", 200)
+        self.page.value("tearOff() && 0")
+        self.shows("the page asks", "byId('ask').open")
+        self.page.click("ask-yes")
+        words = "/^[1-9][0-9]* of 200 lines taken$/.test(byId('torn-words').textContent)"
+        self.shows("it is shown how far it is", words)
+        self.page.click("take-stop")
+        self.shows("it is stopped", "taking === null && torn.length > 0 && torn.length < 200 "
+                   "&& torn.length + view.paper.length", 200)
+
+    def test_all_punched_cards(self):
+        for line in "DEPOSIT 0500 ~4~B500~.", "START 0500", "RUN 60":
+            self.page.value(f"say('{line}')")
+        self.shows("30 cards are punched", "byId('STACKER').textContent", "030")
+        self.page.click("all-cards-key")
+        self.shows("all are taken", "taken.length === 30 && byId('STACKER').textContent", "000")
+        self.shows("and counted", "byId('taken-words').textContent", "30 cards were taken.")
+
+
 class Looking(Browser):
     """A page that only looks."""
 

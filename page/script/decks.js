@@ -67,7 +67,7 @@ async function feedDeck(cards, words) {
   note('', counted(TEXTS.fedInLog, fed));
   await inTurn(look);
   const n = view.picture ? view.picture.registers.HOPPER : 0;
-  const done = words || filled(counted(TEXTS.fedAll, all), {all: withCommas(all), n});
+  const done = words || counted(TEXTS.fedAll, all, {all: withCommas(all), n});
   tellDeck(why ? filled(TEXTS.fedPart, {n: fed, all, why}) : done, why !== '');
   if (!why) happened('fed');
 }

@@ -234,10 +234,8 @@ LANGUAGES.en = {
   programs: {
     hello: {name: 'Hello', about: 'One card: its first columns are instructions, the rest is the text that they print.',
       fed: 'The card is in the hopper. Press LOAD, then RUN, and look at the printer.'},
-    banner: {name: 'Banner', about: 'Reads cards, and prints each one spaced out in a frame of asterisks, as on a '
-      + 'poster. '
-      + 'Feed cards of your own from the keypunch after it.', fed: 'Press LOAD, then RUN. Then punch a card with '
-        + 'a name, and RUN.'},
+    banner: {name: 'Banner', about: 'Reads cards, and prints the letters of columns 1 to 20, each seven lines high.',
+      fed: 'Press LOAD, then RUN. Then punch a card with a name, and RUN.'},
     calculation: {name: 'Calculation', about: 'A table of the powers of two, each added to itself.',
       fed: 'Press LOAD, then RUN. At a pace of 100 steps a second you can watch it add.'},
     payroll: {name: 'Payroll', about: 'Reads a card for each worker, with hours and the rate in cents; multiplies '

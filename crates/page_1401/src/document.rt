@@ -72,10 +72,10 @@ h2 { margin: 0; font-size: 12px; letter-spacing: .14em; text-transform: uppercas
 .title small { font-size: 13px; color: var(--soft); margin-left: auto; }
 .small-key { border: 1px solid #8d8878; background: #fffdf6; border-radius: 4px; padding: 4px 11px; font-size: 13px; }
 .small-key:hover:not([aria-disabled=true]) { background: var(--warm); }
-.small-key[aria-disabled=true] { color: #66665e; background: #e4e0d4; }
+.small-key[aria-disabled=true] { color: #585851; background: #e4e0d4; }
 .small-key.main { background: var(--blue); border-color: var(--blue); color: #fff; font-weight: 700; }
 .small-key.main:hover:not([aria-disabled=true]) { background: #1e4a6e; }
-.small-key.main[aria-disabled=true] { background: #e4e0d4; border-color: #8d8878; color: #66665e; }
+.small-key.main[aria-disabled=true] { background: #e4e0d4; border-color: #8d8878; color: #585851; }
 details > summary { cursor: pointer; padding: 7px 14px; font-size: 13px; color: var(--soft); }
 details > summary:hover { color: var(--ink); }
 /* The guide, next to the machine: its steps, and the key that it lights. */
@@ -303,7 +303,7 @@ dialog svg path { stroke: #ffb238; stroke-width: 3; fill: none; }
 }
 @media (max-width: 1299px) {
   .stage { grid-template: "stand" "printer" "console" / minmax(0, 1fr); }
-  .printing { position: static; height: min(760px, 80vh); }
+  .printing { position: static; height: max(400px, min(760px, 80vh)); }
   .console { min-height: 260px; }
   .below { grid-template-columns: minmax(0, 1fr); }
 }
@@ -325,11 +325,11 @@ dialog svg path { stroke: #ffb238; stroke-width: 3; fill: none; }
   * { animation: none !important; transition: none !important; scroll-behavior: auto !important; }
 }
 @media (forced-colors: active) {
-  .core td { forced-color-adjust: none; background: Canvas; color: CanvasText; border-bottom-color: Canvas;
-    border-top-color: Canvas; }
-  .core td.mark { border-bottom-color: CanvasText; }
-  .core td.next { background: Highlight; color: HighlightText; }
-  .core td.next.mark { border-bottom-color: HighlightText; }
+  .core td, .core td.read, .core td.punch, .core td.print { forced-color-adjust: none; background: Canvas;
+    color: CanvasText; border-bottom-color: Canvas; border-top-color: Canvas; }
+  .core td.mark.mark { border-bottom-color: CanvasText; }
+  .core td.next.next { background: Highlight; color: HighlightText; }
+  .core td.next.mark.mark { border-bottom-color: HighlightText; }
   .lamp, .bulbs i, header .after i { forced-color-adjust: none; background: Canvas; color: CanvasText;
     border: 1px solid CanvasText; }
   .lamp.on, .bulbs i.on { background: Highlight; color: HighlightText; border: 3px solid CanvasText; }
@@ -890,10 +890,8 @@ LANGUAGES.en = {
   programs: {
     hello: {name: 'Hello', about: 'One card: its first columns are instructions, the rest is the text that they print.',
       fed: 'The card is in the hopper. Press LOAD, then RUN, and look at the printer.'},
-    banner: {name: 'Banner', about: 'Reads cards, and prints each one spaced out in a frame of asterisks, as on a '
-      + 'poster. '
-      + 'Feed cards of your own from the keypunch after it.', fed: 'Press LOAD, then RUN. Then punch a card with '
-        + 'a name, and RUN.'},
+    banner: {name: 'Banner', about: 'Reads cards, and prints the letters of columns 1 to 20, each seven lines high.',
+      fed: 'Press LOAD, then RUN. Then punch a card with a name, and RUN.'},
     calculation: {name: 'Calculation', about: 'A table of the powers of two, each added to itself.',
       fed: 'Press LOAD, then RUN. At a pace of 100 steps a second you can watch it add.'},
     payroll: {name: 'Payroll', about: 'Reads a card for each worker, with hours and the rate in cents; multiplies '
@@ -943,7 +941,308 @@ LANGUAGES.en = {
   ],
 };
 /* Every text for visitors, in German. */
-LANGUAGES.de = {...LANGUAGES.en, language: 'de', name: 'Deutsch'};
+LANGUAGES.de = {
+  language: 'de', name: 'Deutsch', languageLabel: 'Sprache', thousands: '.',
+  documentTitle: 'IBM 1401, Platz {seat}',
+  skip: 'Zum Stapel und zu den Tasten',
+  headline: 'Datenverarbeitungssystem', subline: 'Gemeinsamer Maschinenraum',
+  seatsLabel: 'Die Pl\u00e4tze dieses Raums', seats: 'Pl\u00e4tze', seat: 'Platz {n}', thisSeat: 'Platz {n}, dieser hier',
+  after: {one: '1 Befehl', many: '{n} Befehle'}, afterTitle: 'wie viele Befehle die Maschine von allen Pl\u00e4tzen bekam',
+  answers: 'Die Maschine antwortet.',
+  aboutKey: 'Was sehe ich hier?', soundKey: 'Ton', helpKey: 'Tasten', closeKey: 'Schlie\u00dfen', yesKey: 'Ja',
+    noKey: 'Nein',
+
+  panel: 'Bedienfeld', registerI: 'I-Register', registerA: 'A-Register', registerB: 'B-Register',
+  lamps: {UNEQUAL: 'ungleich', LOW: 'kleiner', HIGH: 'gr\u00f6\u00dfer', OVERFLOW: '\u00dcberlauf'},
+  lampLabel: '{name}: {state}', on: 'an', off: 'aus',
+  next: 'n\u00e4chster Befehl', nextNone: 'bei I beginnt keiner', nextEnded: 'das Programm ist zu Ende',
+  viewKey: 'Lampen', bulbAddress: 'I',
+  switches: 'Schalter', switchLabel: 'Schalter {name}',
+  loadKey: 'LOAD', loadTitle: 'liest die erste Karte des Magazins nach 001 bis 080 und geht zu 001 (Alt+L)',
+  startKey: 'START AT', startLabel: 'Adresse des n\u00e4chsten Befehls', startTitle: 'setzt das I-Register; RUN startet',
+  runKey: 'RUN', runTitle: 'f\u00fchrt Befehle aus, bis das Programm anh\u00e4lt (Alt+R)',
+  stopKey: 'STOP', stopTitle: 'beendet den Lauf nach seinem jetzigen Teil (Escape)',
+  stepKey: 'STEP', stepTitle: 'f\u00fchrt einen Befehl aus (Alt+N)',
+  pace: 'Tempo von RUN',
+  paces: ['10 Schritte je Sekunde', '100 je Sekunde', '1.000 je Sekunde', '4.000 je Sekunde', '1.000.000 je Sekunde',
+    'das Tempo von 1960'],
+  running: 'l\u00e4uft: {steps} Schritte',
+  waits: {READER: 'wartet auf Karten', FORMS: 'wartet auf das Papier', STACKER: 'wartet auf die Ablage'},
+
+  core: 'Kernspeicher', tabsLabel: 'welche 600 Stellen gezeigt werden',
+  findLabel: 'Adresse', findKey: 'Zeigen', follow: 'I folgen',
+  findWrong: 'Der Kernspeicher hat die Stellen 0000 bis {last}.',
+  coreLabel: 'Kernspeicher ab {from}; die Pfeiltasten gehen von Stelle zu Stelle',
+  operations: {
+    A: 'addieren', S: 'subtrahieren', ZA: 'l\u00f6schen und addieren', ZS: 'l\u00f6schen und subtrahieren',
+    MCW: 'Zeichen \u00fcbertragen', LCA: 'Zeichen laden', MN: 'Ziffer \u00fcbertragen', MZ: 'Zone \u00fcbertragen',
+    SW: 'Wortmarken setzen', CW: 'Wortmarken l\u00f6schen', CS: 'Speicher l\u00f6schen', C: 'vergleichen',
+    MCS: '\u00fcbertragen, Nullen unterdr\u00fccken', MCE: '\u00fcbertragen und aufbereiten', B: 'springen',
+    BWZ: 'springen bei Wortmarke oder Zone', BW: 'springen bei Wortmarke', BU: 'springen, wenn ungleich',
+    BE: 'springen, wenn gleich', BL: 'springen, wenn kleiner', BH: 'springen, wenn gr\u00f6\u00dfer',
+    BAV: 'springen bei \u00dcberlauf', BLC: 'springen nach der letzten Karte', BC9: 'springen bei Kanal 9',
+    BCV: 'springen bei Kanal 12', BSS: 'springen nach einem Schalter', BCE: 'springen, wenn das Zeichen gleich ist',
+    SAR: 'A-Register speichern', SBR: 'B-Register speichern', NOP: 'keine Operation', H: 'anhalten',
+    SS: 'Ablage w\u00e4hlen', R: 'Karte lesen', W: 'Zeile drucken', WM: 'Wortmarken drucken', P: 'Karte stanzen',
+    WR: 'drucken und lesen', RP: 'lesen und stanzen', WP: 'drucken und stanzen', WRP: 'drucken, lesen und stanzen',
+    CC: 'Vorschub steuern',
+  },
+  legendRead: 'gelesene Karte 001-080', legendPunch: 'gestanzte Karte 101-180', legendPrint: 'Druckzeile 201-332',
+  legendNext: 'n\u00e4chster Befehl', legendMark: 'Wortmarke',
+  coreText: 'Diese Stellen als Text (~ vor einer Wortmarke)',
+  blank: 'leer', withMark: ' mit Wortmarke', cellLabel: '{at} {graphic}{mark}', noBits: 'keine', noHoles: 'kein Loch',
+  cell: '{at}: {graphic}{mark}. Bits {bits}; auf einer Karte {holes}.',
+  cellHint: 'Eine Stelle zeigt ihre Bits und ihre L\u00f6cher.',
+
+  sourceTitle: 'Das Programm: {name}', sourceLabel: 'der Quelltext des Programms',
+
+  feeder: 'Kartenleser', programLabel: 'Programm', feedKey: 'Programm einlegen', readStation: 'Lesestation',
+  transportLabel: 'Magazin: {hopper} Karten; gelesen: {station}; Ablage: {stacker} Karten',
+  cards: 'Karten', dropHere: 'ein Stapel kann \u00fcberall abgelegt werden', hopper: 'Magazin', stacker: 'gestanzt',
+  cardRead: 'Stellen 001 bis 080 als Karte',
+  cardNext: 'N\u00e4chste Karte im Magazin', cardNoNext: 'Das Magazin ist leer',
+  cardPunched: 'Zuletzt gestanzte Karte', cardNoPunched: 'Keine gestanzte Karte wartet',
+  cardLabel: 'Lochkarte: {text}', cardBlank: 'leere Karte', cardNone: 'keine Karte',
+  cardPrintKey: 'Karte mit Ihrem Namen drucken',
+  pickKey: 'Aus einer Datei',
+  cardKey: 'Gestanzte Karte nehmen', cardTitle: 'nimmt die \u00e4lteste Karte aus der Ablage, endg\u00fcltig',
+  allCardsKey: 'Alle gestanzten Karten nehmen', takingCards: '{n} von {all} Karten genommen', takeStop: 'Aufh\u00f6ren',
+  takenAll: {one: '1 Karte wurde genommen.', many: '{n} Karten wurden genommen.'},
+  saveCardsKey: 'Genommene Karten sichern', feedAgainKey: 'Genommene Karten wieder einlegen',
+  taken: 'Karte genommen: {text}', takenBlank: 'Eine leere Karte wurde genommen.',
+  typedDeck: 'Einen Stapel tippen oder einf\u00fcgen, eine Karte je Zeile', deckKey: 'Diese Karten einlegen',
+  feedingLabel: 'eingelegte Karten', feedingCount: '{n} von {all} Karten eingelegt', feedStop: 'Aufh\u00f6ren',
+  feedWaits: 'Das Magazin ist voll. Es geht weiter, wenn die Maschine Karten gelesen hat. {n} von {all} eingelegt.',
+  fedAll: {one: 'Die Karte wurde eingelegt; Karten im Magazin: {n}.',
+    many: '{all} Karten wurden eingelegt; Karten im Magazin: {n}.'},
+  fedName: 'Die Karte von {name} liegt im Magazin.',
+  fedPart: '{n} von {all} Karten wurden eingelegt, dann war Schluss: {why}', stoppedByYou: 'Sie haben aufgeh\u00f6rt',
+  alreadyFeeding: 'Ein anderer Stapel wird gerade eingelegt.', deckEmpty: 'Der Stapel hat keine Karten.',
+  deckLarge: 'Die Datei ist gr\u00f6\u00dfer als ein Stapel von 10.000 Karten.', deckUnread: 'Die Datei lie\u00df sich nicht lesen.',
+  deckWrong: 'Nichts wurde eingelegt. Zeile {line}, Spalte {column}: {what}',
+  noGraphic: 'keine Karte hat dieses Zeichen', noAccent: 'keine Karte hat {letter}; schreiben Sie {spelt}',
+  tooLong: 'eine Karte hat 80 Spalten',
+  keypunch: 'Kartenlocher: eine Karte machen', keyedLabel: 'die Spalten der Karte',
+    releaseKey: 'RELEASE: Karte einlegen',
+  programKey: 'Die Hallo-Karte, um ihre Spalten 41 bis 80 zu \u00e4ndern', columnTold: 'n\u00e4chste Spalte: {n}',
+  cardFull: 'alle 80 Spalten sind voll', columnWrong: 'Spalte {column}: {what}.',
+  keyboardLabel: 'die Tasten des Lochers; die Pfeiltasten gehen von Taste zu Taste',
+  keys: {space: 'LEER', back: 'ZUR\u00dcCK', dup: 'DUP', clear: 'L\u00d6SCHEN'},
+  dupTitle: 'kopiert diese Spalte der letzten Karte', keyTitle: 'Taste {graphic}',
+
+  printer: 'Drucker', paperLabel: 'das Papier im Drucker', formLabel: 'Blatt {form}',
+  paperAt: {one: 'Blatt {form}, Zeile {line}; 1 Zeile gedruckt', many: 'Blatt {form}, Zeile {line}; {n} Zeilen '
+    + 'gedruckt'},
+  tapeLabel: 'Vorschubstreifen: Kanal 1 bei Zeile 4, Kanal 9 bei Zeile 60, Kanal 12 bei Zeile 63; '
+    + 'der Vorschub ist bei Zeile {line}',
+  tearKey: 'Abrei\u00dfen', tearTitle: 'nimmt die gedruckten Zeilen aus dem Drucker, endg\u00fcltig (Alt+T)',
+  tearAsk: {one: 'Das nimmt die gedruckte Zeile aus dem Drucker, und kein anderer Platz sieht sie mehr. '
+    + 'Diese Seite beh\u00e4lt sie, zum Sichern oder Drucken. Abrei\u00dfen?',
+  many: 'Das nimmt {n} gedruckte Zeilen aus dem Drucker, und kein anderer Platz sieht sie mehr. '
+    + 'Diese Seite beh\u00e4lt sie, zum Sichern oder Drucken. Abrei\u00dfen?'},
+  tearing: '{n} von {all} Zeilen genommen', noPaper: 'Es gibt keine gedruckte Zeile.',
+  torn: {one: 'abgerissen und noch hier: 1 Zeile', many: 'abgerissen und noch hier: {n} Zeilen'},
+  dropKey: 'Wegwerfen', dropAsk: 'Das abgerissene Papier wegwerfen?',
+  saveKey: 'Als Text sichern', printKey: 'Drucken', largeKey: 'Gr\u00f6\u00dfer', toCarriage: 'Zum Vorschub',
+
+  console: 'Konsole', logLabel: 'Zeilen und Antworten', lineLabel: 'eine Zeile der Konsole',
+    lineHint: 'EXAMINE 0500 11',
+  sendKey: 'SENDEN', linesTitle: 'Die Zeilen, und was sie tun (oder HELP)',
+  others: {one: 'andere gaben 1 Befehl, seit Sie da sind', many: 'andere gaben {n} Befehle, seit Sie da sind'},
+  othersNow: 'Ein anderer Platz arbeitet: seine Tasten wirken auch auf diese Maschine.',
+  fedInLog: {one: '(1 Karte eingelegt)', many: '({n} Karten eingelegt)'},
+  tornInLog: {one: '(1 Zeile genommen)', many: '({n} Zeilen genommen)'},
+  cardsInLog: {one: '(1 Karte genommen)', many: '({n} Karten genommen)'},
+  notText: 'Eine Zeile hat nur Buchstaben, Ziffern und Zeichen der 1401.',
+
+  footer: 'Eine simulierte IBM 1401. Alles, was Sie sehen, ist von einem Augenblick, nach so vielen Befehlen wie oben.',
+
+  lost: 'Die Maschine antwortet nicht, darum sind die Tasten aus. Diese Seite versucht es weiter.',
+  closed: 'Der Raum ist geschlossen: die Maschine wurde wegger\u00e4umt. Diese Seite versucht es weiter.',
+  taken503: 'An diesem Platz sitzt jemand mit einer Konsole. Diese Seite geht weiter, wenn er gegangen ist.',
+  busy: 'Zu viele Anfragen warten bei dieser Seite. Sie versucht es weiter.',
+  unkept: 'Die Datei des Journals l\u00e4sst sich nicht schreiben; die Maschine nimmt keine Befehle an. Bitte das '
+    + 'Personal rufen.',
+  full: 'Das Journal ist voll; die Maschine nimmt keine Befehle mehr an. Bitte das Personal rufen.',
+  nearlyFull: 'Das Journal hat {n} seiner 100.000 Eintr\u00e4ge. Bitte das Personal rufen.',
+  refusedStatus: 'Der Server hat abgelehnt, was diese Seite wollte ({status}).',
+  unread: 'Diese Seite versteht nicht, was der Server zeigt. Ist sie von einer anderen Version?',
+  noMemory: 'Der Server hatte keinen Speicher f\u00fcr ein Bild. Diese Seite versucht es weiter.',
+
+  outcomes: {
+    off: 'Nicht gesendet: die Maschine nimmt jetzt keine Befehle an.',
+    broken: 'Nicht gesendet: es war f\u00fcr die Maschine vor dem Abbruch der Verbindung gemeint.',
+    409: 'Nicht ausgef\u00fchrt: dieser Platz hat inzwischen etwas anderes befohlen, vielleicht in einem anderen Fenster. '
+      + 'Sehen Sie nach, und senden Sie es noch einmal.',
+    403: 'Nicht ausgef\u00fchrt: der Server nimmt keine Zeilen von dieser Seite.',
+    410: 'Nicht ausgef\u00fchrt: der Raum ist geschlossen.',
+    503: 'Nicht ausgef\u00fchrt: an diesem Platz sitzt eine Konsole.',
+    busy: 'Nicht ausgef\u00fchrt: zu viele Anfragen warten bei dieser Seite.',
+    507: 'Ausgef\u00fchrt, aber f\u00fcr die Antwort war kein Speicher da.',
+    500: 'Ausgef\u00fchrt, aber der Eintrag steht nicht in der Datei des Journals.',
+    other: 'Nicht ausgef\u00fchrt: der Server hat es abgelehnt ({status}).',
+  },
+  lostAsking: 'Die Verbindung brach ab, als diese Zeile gesendet wurde. Diese Seite sendet sie nicht noch einmal, '
+    + 'sie sieht erst nach.',
+  lostDone: 'Sie wurde ausgef\u00fchrt; ihre Antwort ging verloren.',
+  lostNotDone: 'Sie wurde bis jetzt nicht ausgef\u00fchrt.',
+  lostNewRoom: 'Jetzt ist eine andere Maschine da, auf die sie keine Wirkung hat.',
+  lostUnclear: 'Dieser Platz hat seitdem {n} Befehle gegeben; ob sie ausgef\u00fchrt wurde, l\u00e4sst sich nicht sagen.',
+
+  said: {
+    firstNote: 'Hier steht jede Zeile, die Sie und die Tasten an die Maschine senden, mit ihrer Antwort.',
+    welcome: 'W\u00e4hlen Sie ein Programm und legen Sie es ein; dann LOAD, dann RUN.',
+    welcomeCards: {one: 'Im Magazin liegt 1 Karte. LOAD liest sie.',
+      many: 'Im Magazin liegen {n} Karten. LOAD liest die erste.'},
+    welcomeProgram: 'Ein Programm ist im Kernspeicher. RUN f\u00fchrt es aus.',
+    load: 'Die erste Karte wurde nach 001 bis 080 gelesen. RUN f\u00fchrt sie aus.',
+    start: 'Das I-Register ist gesetzt. RUN beginnt dort.',
+    step: 'Ein Befehl wurde ausgef\u00fchrt.',
+    limit: {one: '1 Befehl wurde ausgef\u00fchrt, wie verlangt. RUN geht weiter.',
+      many: '{n} Befehle wurden ausgef\u00fchrt, wie verlangt. RUN geht weiter.'},
+    stopped: {one: 'Von Ihnen angehalten nach 1 Schritt. RUN geht weiter.',
+      many: 'Von Ihnen angehalten nach {n} Schritten. RUN geht weiter.'},
+    pause: 'Pause nach {slices} Teilen, {steps} Schritten, denn jeder Teil ist ein Eintrag im Journal. RUN geht '
+      + 'weiter.',
+    afterEnd: 'Das Programm ist zu Ende. Legen Sie ein anderes ein und dr\u00fccken Sie LOAD. (Noch einmal: weiter '
+      + 'nach dem Halt.)',
+    newRoom: 'Das Personal hat eine andere Maschine gestartet. Was Sie vorher taten, ist nicht darin.',
+    clearing: 'Die Maschine wird geleert ..', clear: 'Die Maschine ist leer: keine Karte, kein Papier, nichts im '
+      + 'Speicher.',
+    notClear: 'Die Maschine lie\u00df sich nicht leeren, weil jemand anders arbeitet. Versuchen Sie es noch einmal.',
+  },
+  stops: {
+    HALT: 'Das Programm ist zu Ende. Sein Ergebnis ist auf dem Papier; f\u00fcr ein anderes: einlegen, LOAD.',
+    READER: 'Der Leser ist leer: Karten einlegen, dann RUN.',
+    FORMS: 'Der Drucker hat 500 Zeilen: Papier abrei\u00dfen, dann RUN.',
+    STACKER: 'Die Ablage hat 500 Karten: Karten nehmen, dann RUN.',
+    NOMARK: 'Bei I beginnt kein Befehl: dort ist keine Wortmarke.',
+    OPCODE: 'Das Zeichen bei I ist keine Operation.',
+    NOTFITTED: 'Die Operation bei I geh\u00f6rt zu einer Einrichtung, die diese Maschine nicht hat.',
+    LENGTH: 'Der Befehl bei I hat eine L\u00e4nge, die seine Operation nicht hat. Fehlt eine Wortmarke?',
+    ADDRESS: 'Der Befehl bei I braucht eine Stelle, die es nicht gibt, oder ein Feld ohne Ende.',
+    OVERLAP: 'Die Felder des Befehls bei I teilen sich Stellen.',
+    CARRIAGE: 'Ein Sprung zu einem Kanal ohne Loch im Vorschubstreifen: er hat 1, 9 und 12.',
+    DCHAR: 'Das letzte Zeichen des Befehls bei I verlangt nichts, was er kann.',
+  },
+  replies: {
+    'REFUSED 1': 'Diese Stelle gibt es nicht.',
+    'REFUSED 2': 'Das Magazin fasst 500 Karten und ist voll.',
+    'REFUSED 3': 'Im Magazin ist keine Karte. Legen Sie erst einen Stapel ein.',
+    'REFUSED 4': 'Es gibt nichts zu nehmen.',
+    'REFUSED 5': 'RUN nimmt 1 bis 1.000.000 Befehle.',
+    'REFUSED 6': 'EXAMINE zeigt 1 bis 40 Stellen.',
+    'ERROR 1': 'Ein Wort ist nicht bekannt. HELP zeigt die Zeilen.',
+    'ERROR 2': 'Eine Zahl oder Adresse fehlt oder ist keine.',
+    'ERROR 3': 'Ein Zeichen, das keine Karte und keine Stelle hat, oder ein ~ ohne Zeichen danach.',
+    'ERROR 4': 'Der Text ist leer oder zu lang.',
+    'ERROR 5': 'Nach dem Ende des Befehls kommt noch etwas.',
+    'FAULT 1': 'F\u00fcr den n\u00e4chsten Eintrag des Journals war kein Speicher da.',
+    'FAULT 2': 'Das Journal ist voll.',
+    'FAULT 3': 'Nicht ausgef\u00fchrt: der Platz lie\u00df sich nicht mit dem Journal vergleichen.',
+    'FAULT 4': 'Die Datei des Journals l\u00e4sst sich nicht schreiben.',
+    'GLANCE FAULT 1': 'Diese Stelle gibt es nicht.',
+    'GLANCE FAULT 2': 'Es gab nichts zu lesen.',
+    BYE: 'Der Platz bleibt; die n\u00e4chste Zeile nimmt ihn wieder ein.',
+  },
+  lines: [
+    ['DEPOSIT 0500 ~ABC', 'schreibt Zeichen ab 0500; ~ setzt eine Wortmarke beim n\u00e4chsten'],
+    ['EXAMINE 0500 11', 'zeigt 11 Stellen ab 0500, h\u00f6chstens 40'],
+    ['REGS', 'zeigt Register, Anzeigen, Schalter, Karten und Papier'],
+    ['START 0600', 'setzt das I-Register'],
+    ['SWITCH A ON', 'legt einen Schalter um, ON oder OFF; A bis G'],
+    ['FEED HELLO', 'legt eine Karte ein; FEED allein eine leere'],
+    ['LOAD', 'die Taste LOAD'],
+    ['RUN 1000', 'f\u00fchrt h\u00f6chstens 1.000 Befehle aus; mehr als 1.000.000 gehen nicht'],
+    ['LINE', 'nimmt die \u00e4lteste gedruckte Zeile'],
+    ['CARD', 'nimmt die \u00e4lteste gestanzte Karte'],
+    ['GLANCE 0500', 'zeigt eine Stelle ohne einen Befehl'],
+    ['HELP', 'zeigt diese Liste; es wird nicht gesendet'],
+  ],
+  guideTitle: 'Ihr erstes Programm', guideOn: 'F\u00fchrung beginnen', guideOff: 'Ohne F\u00fchrung',
+  guideSteps: ['Einlegen', 'LOAD', 'STEP', 'RUN', 'Ihr Name'], stepDone: 'Schritt {n}, {name}: getan',
+  stepOpen: 'Schritt {n}, {name}',
+  guideWords: [
+    'Dr\u00fccken Sie "Programm einlegen": eine Karte mit dem Programm Hallo kommt ins Magazin. Sie ist ein ganzes '
+      + 'Programm.',
+    'Dr\u00fccken Sie LOAD: die Maschine liest die Karte in ihre Stellen 001 bis 080.',
+    'Dr\u00fccken Sie STEP: die Maschine f\u00fchrt einen Befehl aus. Die ersten setzen Wortmarken, die die Karte teilen.',
+    'Dr\u00fccken Sie RUN: die Maschine f\u00fchrt die anderen aus, druckt eine Zeile und h\u00e4lt an. Sehen Sie aufs Papier.',
+    'Die Zeile ist auf dem Papier. Nun Ihr Name: schreiben Sie ihn hier, und stanzen Sie eine eigene Karte.',
+    'Ihre Karte ist im Magazin. Dr\u00fccken Sie LOAD, um sie zu lesen.',
+    'Dr\u00fccken Sie RUN, und sehen Sie aufs Papier.',
+  ],
+  guide: {
+    off: 'Die F\u00fchrung bringt Sie in etwa zwei Minuten zu einer gedruckten Zeile mit Ihrem Namen.',
+    left: 'Jemand hat Karten, Papier oder ein Programm in der Maschine gelassen. "Von vorn" leert sie; '
+      + 'oder machen Sie damit weiter.',
+    aside: 'Die F\u00fchrung ist zur Seite getreten. Sie beginnt wieder, wenn Sie wollen.',
+    done: 'Ihr Name ist auf dem Papier. Sichern Sie es, drucken Sie die Karte, oder w\u00e4hlen Sie ein anderes Programm.',
+    attract: 'Niemand ist hier, darum l\u00e4uft die Maschine allein. Ein Druck auf den Bildschirm oder eine Taste '
+      + '\u00fcbernimmt sie.',
+    waits: '(Die F\u00fchrung wartet hier.)',
+  },
+  nameLabel: 'Ihr Name', nameKey: 'Stanzen und einlegen', nameEmpty: 'Schreiben Sie erst einen Namen.',
+  nameWrong: 'Keine Karte hat {letter}.',
+  afreshKey: 'Von vorn', afreshTitle: 'leert die Maschine: Karten, Papier, Schalter und Kernspeicher',
+  afreshAsk: 'Das leert die Maschine f\u00fcr alle: Karten, Papier, Schalter und Kernspeicher. Von vorn beginnen?',
+  afreshOthers: 'Ein anderer Platz arbeitet gerade und verl\u00f6re Karten, Papier und Programm. Trotzdem von vorn '
+    + 'beginnen?',
+  programs: {
+    hello: {name: 'Hallo', about: 'Eine Karte: die ersten Spalten sind Befehle, der Rest ist der Text, den sie '
+      + 'drucken.',
+      fed: 'Die Karte ist im Magazin. Dr\u00fccken Sie LOAD, dann RUN, und sehen Sie auf den Drucker.'},
+    banner: {name: 'Banner', about: 'Liest Karten und druckt die Buchstaben der Spalten 1 bis 20 sieben Zeilen hoch.',
+      fed: 'Dr\u00fccken Sie LOAD, dann RUN. Stanzen Sie dann eine Karte mit einem Namen, und RUN.'},
+    calculation: {name: 'Rechnung', about: 'Eine Tafel der Zweierpotenzen, jede zu sich selbst addiert.',
+      fed: 'Dr\u00fccken Sie LOAD, dann RUN. Bei 100 Schritten je Sekunde sehen Sie zu.'},
+    payroll: {name: 'Lohnliste', about: 'Liest f\u00fcr jeden Arbeiter eine Karte mit Stunden und Stundenlohn in Cent, '
+      + 'multipliziert durch Addieren, bereitet die Betr\u00e4ge auf und druckt die Summe.',
+      fed: 'Dr\u00fccken Sie LOAD, dann RUN.'},
+    game: {name: 'Gr\u00f6\u00dfer oder kleiner', about: 'Die letzte Karte des Stapels hat eine geheime Zahl von 01 bis 99. '
+      + 'Stanzen '
+      + 'Sie Ihren Tipp, zwei Ziffern, dann RELEASE und RUN: die Maschine druckt, ob die Zahl gr\u00f6\u00dfer oder kleiner ist.',
+      fed: 'Dr\u00fccken Sie LOAD, dann RUN. Stanzen Sie dann eine Karte mit zwei Ziffern, und wieder RUN.'},
+    listing: {name: 'Liste', about: 'Druckt und kopiert die Karten nach ihm. Mit Schalter A h\u00e4lt es nach der '
+      + 'letzten Karte an.',
+      fed: 'Schalter A an, LOAD, dann RUN. Bei 100 Schritten je Sekunde sehen Sie zu.'},
+  },
+  aboutFirst: 'Das ist eine simulierte IBM 1401, ein Rechner von 1959, mit Kartenleser, Stanzer und Drucker. '
+    + 'Alles, was '
+    + 'Sie sehen, ist eine Maschine, die alle in diesem Raum teilen.',
+  aboutDrawing: 'Karten gehen vom Leser zur Recheneinheit, Ergebnisse von dort zum Drucker und zum Stanzer.',
+  aboutParts: {reader: ['Kartenleser', 'und Stanzer'], unit: ['Recheneinheit', 'mit Kernspeicher'],
+    printer: ['Drucker', '132 Spalten'],
+    below: ['800 Karten je Minute', '1.400 bis 16.000 Stellen', '600 Zeilen je Minute']},
+  wordsTitle: 'Zehn W\u00f6rter',
+  aboutWords: [
+    ['Karte', 'ein St\u00fcck Karton mit 80 Spalten; die L\u00f6cher einer Spalte sind ein Buchstabe, eine Ziffer oder ein '
+      + 'Zeichen'],
+    ['Magazin', 'wo die Karten liegen, die als n\u00e4chste gelesen werden'],
+    ['LOAD', 'die Taste, die die erste Karte nach 001 bis 080 liest und dort beginnt'],
+    ['Kernspeicher', 'der Speicher aus kleinen Magnetringen: jede Stelle hat ein Zeichen'],
+    ['Wortmarke', 'ein Bit neben einem Zeichen; es sagt, wo ein Feld oder ein Befehl beginnt'],
+    ['Befehl', 'ein Buchstabe f\u00fcr die Operation und Adressen, mit denen sie arbeitet'],
+    ['I-Register', 'die Stelle des n\u00e4chsten Befehls'],
+    ['Schalter', 'nach ihm kann ein Programm fragen'],
+    ['Blatt', 'eine Seite des endlosen Papiers, mit 66 Zeilen'],
+    ['Vorschubstreifen', 'eine Schleife aus Papier mit L\u00f6chern, die sagt, wo das Papier anh\u00e4lt'],
+  ],
+  numbersTitle: 'Woher die Zahlen kommen',
+  aboutNumbers: 'Die Seite fragt die Maschine viermal in der Sekunde, und jedes Bild ist von einem Augenblick. Im '
+    + 'Tempo von '
+    + '1960 wartet sie so lange, wie Leser, Stanzer und Drucker brauchten. Jede Operation des Simulators wurde '
+      + 'bewiesen.',
+  shortcutsTitle: 'Tasten',
+  shortcuts: [
+    ['Alt+F', 'legt das gew\u00e4hlte Programm ein'], ['Alt+L', 'LOAD'], ['Alt+R', 'RUN'], ['Escape', 'STOP'],
+    ['Alt+N', 'STEP'], ['Alt+T', 'rei\u00dft das Papier ab'],
+    ['Alt+C', 'zur Konsole; die Pfeiltasten bringen fr\u00fchere Zeilen zur\u00fcck'],
+    ['Alt+A', 'zur Adresse des Kernspeichers'], ['Alt+K', 'zum Locher; Enter legt die Karte ein'],
+    ['Alt+P', 'zum Papier; die Pfeiltasten bewegen es'],
+    ['Tab, Pfeiltasten', 'von Teil zu Teil; im Kernspeicher gehen die Pfeiltasten von Stelle zu Stelle'],
+  ],
+};
 /* The machine, as far as the page knows it. */
 const PLACES_SHOWN = 600;
 const FORM_LINES = 66;
@@ -1589,7 +1888,7 @@ async function feedDeck(cards, words) {
   note('', counted(TEXTS.fedInLog, fed));
   await inTurn(look);
   const n = view.picture ? view.picture.registers.HOPPER : 0;
-  const done = words || filled(counted(TEXTS.fedAll, all), {all: withCommas(all), n});
+  const done = words || counted(TEXTS.fedAll, all, {all: withCommas(all), n});
   tellDeck(why ? filled(TEXTS.fedPart, {n: fed, all, why}) : done, why !== '');
   if (!why) happened('fed');
 }
@@ -2787,8 +3086,8 @@ begin();
 /// The `content-security-policy` of the page: its own script and style by their SHA-256, exchanges with its own server,
 /// and nothing else.
 pub const POLICY: &str = "default-src 'none'; \
-    script-src 'sha256-YHhGJG224wyJrh9DGV9LDFVILFTcgv+SSEBfOB3ULCI='; \
-    style-src 'sha256-bHHoC6d1iiI+ckptBstvDLPyWsaqhsN6O1m54dRqTgc='; \
+    script-src 'sha256-Pv2ViubKg/qmC2OJmTgqE1aqDsIyRRczz3E/IbDSrqo='; \
+    style-src 'sha256-XNiNC5RXOC3vxl08YmvFPb0CXJ0oOv3fnL9mYy5XOWo='; \
     img-src data:; \
     connect-src 'self'; \
     form-action 'none'; \
