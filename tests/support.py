@@ -28,8 +28,8 @@ PROGRAM = Path(os.environ.get("IBM1401", TOP / "crates/ibm1401/out/ibm1401")).ab
 LONE = Path(os.environ.get("LONE_CONSOLE", TOP / "crates/lone_console/out/lone_console")).absolute()
 TRIALS = Path(os.environ.get("TRIALS", TOP / "crates/trials/out/trials")).absolute()
 
-# The page that is served.
-PAGE = (TOP / "page/index.html").read_bytes()
+# The page that is served: what page/embed joins of the files in page/.
+PAGE = subprocess.run([TOP / "page/embed", "--show"], stdout=subprocess.PIPE, check=True).stdout
 MOST_BYTES = 16_777_216
 MOST_ENTRIES = 100_000
 # How long a test waits for a run to end, and for one reply.
