@@ -7,13 +7,13 @@ import time
 from pathlib import Path
 
 TOP = Path(__file__).resolve().parent.parent
-# The built program, or the one that the environment variable IBM1401 names.
+# The built program, or else what the environment variable IBM1401 names.
 PROGRAM = Path(os.environ.get("IBM1401", TOP / "crates/ibm1401/out/ibm1401")).absolute()
 
 
 def prepare(page):
-    """Ends with this page if the command line asks for help. Else the program is proved and built where it isn't, but
-    for one that the environment names."""
+    """Ends with this page if the command line asks for help. Else the program is proved and built where it isn't,
+    unless the environment names another."""
     if sys.argv[1:] in (["--help"], ["-h"]):
         print(page.strip())
         sys.exit(0)
