@@ -5,6 +5,7 @@ use crate::fault::{OpenFault, not_told};
 use calls_1401::Operators;
 use holding_1401::HoldFault;
 use serving_1401::PagePort;
+use sockets_1401::let_wait;
 use std::net::{Ipv4Addr, Net, TcpListener, TcpStream};
 
 /// The listeners at these ports.
@@ -21,7 +22,9 @@ fn listener_at(
     rt: &impl Net<Listener = TcpListener, Stream = TcpStream>,
     port: u16,
 ) -> Result<TcpListener, OpenFault> {
-    TcpListener::bind(rt, (Ipv4Addr::LOCALHOST, port)).map_err(|_| OpenFault::Port)
+    let listener = TcpListener::bind(rt, (Ipv4Addr::LOCALHOST, port)).map_err(|_| OpenFault::Port)?;
+    let_wait(&listener);
+    Ok(listener)
 }
 
 /// The listeners for these operators.
