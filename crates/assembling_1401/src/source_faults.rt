@@ -48,9 +48,7 @@ fn operand_help(alloc: Global, flaw: OperandFlaw, word: &str) -> Result<String, 
         OperandFlaw::NoTape => format!(in alloc; "{word} isn't a tape, such as 1 or %U1"),
         OperandFlaw::NoTimes => format!(in alloc; "{word} isn't a number from 1 to 99"),
         OperandFlaw::NoOptions => {
-            format!(in alloc;
-                "{word} isn't G, C, 0 or one of X1 to X3, each once, after the areas"
-            )
+            format!(in alloc; "{word} isn't G, C, 0 or one of X1 to X3, each once, after the areas")
         }
         OperandFlaw::Literal => format!(in alloc;
             "{word} is a literal, but an address is needed here"
@@ -183,9 +181,7 @@ fn warning_help(alloc: Global, kind: WarningKind) -> Result<String, AllocError> 
         WarningKind::UnusedLabel => "no operand names the label",
         WarningKind::NotFitted => "this machine has no instruction of this operation and length",
         WarningKind::UnsetIndicator => "no instruction sets the indicator that the branch tests",
-        WarningKind::UnlikeSigns => {
-            "a signed literal never equals a number without a sign"
-        }
+        WarningKind::UnlikeSigns => { "a signed literal never equals a number without a sign" }
         WarningKind::ReadOn(place) => {
             return format!(in alloc; "no word mark is at {place:05}: the instruction runs on");
         }
