@@ -33,7 +33,7 @@ def file_name(page):
 def manual_page(page, pages, version, date):
     """The manual page of the program or of a subcommand."""
     title = page.call.replace(" ", "-")
-    lines = [f".TH {escaped(title.upper())} 1 {date} \"ibm1401 {version}\" \"IBM 1401\"", ".SH NAME",
+    lines = [f".TH {escaped(title.upper())} 1 {date} \"ibm1401 {version}\" \"IBM 1401\"", ".nh", ".ad l", ".SH NAME",
              f"{escaped(title)} \\- {escaped(page.about[:1].lower() + page.about[1:])}" if page.name else
              f"ibm1401 \\- {escaped(page.about)}", ".SH SYNOPSIS", f"\\fB{escaped(page.call)}\\fR "
              + escaped(page.usage.removeprefix(page.call).strip())]

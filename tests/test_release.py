@@ -1,6 +1,5 @@
 """`./release`, in a copy of the repository in which a gate of its own has been noted: what it makes, and what it
 refuses. That the gate proves the program is for ./check to show."""
-import json
 import os
 import re
 import shutil
@@ -10,7 +9,7 @@ import unittest
 
 from releasing.completion import for_bash, for_fish, for_zsh
 from releasing.helps import pages_of
-from releasing.proved import bare, checksum, note_of, program_of, sources, with_record, write_note
+from releasing.proved import bare, checksum, note_of, program_of, sources, write_note
 from tests.support import PROGRAM, TOP, ProgramTest, program, repository, run
 
 COPIED = "release", "releasing", "README.md", "CHANGELOG.md", "docs", "examples", "benches", "crates.txt", "HANDLES"
@@ -125,6 +124,15 @@ class Made(ReleaseTest):
             self.check(name, "" if first[name] == second[name] else "it differs")
         other = self.made("later", SOURCE_DATE_EPOCH="1800000000")
         self.check("another time", "" if other[PACKAGE] != first[PACKAGE] else "it is the same")
+
+    def test_the_program_that_the_gate_has_built(self):
+        """It has the record of its commit as soon as the gate is noted."""
+        record = f"ibm1401 0.9.0\ncommit {self.commit}\nproved by a toolchain\n"
+        self.expect("it", run([program_of(self.place), "--version"]), 0, record)
+        (self.place / "crates.txt").write_text("bcd_1401:\n")
+        self.prove()
+        changed = record.replace(self.commit, f"{self.commit}, with changes")
+        self.expect("with changes", run([program_of(self.place), "--version"]), 0, changed)
 
     def test_its_checksums(self):
         made = self.made()
