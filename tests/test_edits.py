@@ -13,7 +13,7 @@ def crate_of(edit):
 
 
 def wrong_with(edit):
-    """Why an edit can't be made, or nothing. Each pair of an old and a new text applies to what the earlier ones made."""
+    """Why an edit can't be made, or nothing. Each pair of texts applies to what the earlier ones made."""
     path, old, texts = None, None, {}
     for line in edit.read_text().splitlines():
         word, _, text = line.partition(" ")

@@ -1,7 +1,8 @@
 -- The numbers of the ends of a session (own).
 use Rattle.std.specs.Prelude.{ℕ}
 use Rattle.answering_1401.specs.declared.session_end.SessionEnd.{SessionEnd}
-use Rattle.answering_1401.specs.declared.session_end.SessionEnd.TheVariants.{Quit, EndOfInput, Read, Write, Bound, Memory, Unkept}
+use Rattle.answering_1401.specs.declared.session_end.SessionEnd.TheVariants.{Quit, EndOfInput, Read, Write, Bound}
+use Rattle.answering_1401.specs.declared.session_end.SessionEnd.TheVariants.{Memory, Unkept}
 
 -- how a session ends
 abbrev pub end_number : SessionEnd → ℕ

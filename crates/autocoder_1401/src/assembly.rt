@@ -193,7 +193,7 @@ pub fn assemble_image(
     source: &[u8],
     size: u16,
 ) -> Result<Image, AsmFault>
-    // With the listing of the source it is what `assemble_in` makes of it, or its first fault, unless memory is refused.
+    // With the listing of the source it is what `assemble_in` makes, or the first fault, unless memory is refused.
     ensures exact { Gives (with_listing language source.now) result (assembly_in language size source.now) }
 
     // What the plain language takes means the same in each language.

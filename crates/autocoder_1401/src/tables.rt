@@ -89,8 +89,8 @@ fn faultless_tables(
     make_assembly_tables(alloc, hashing, &all, source, lines, size)
 }
 
-/// The core image and the listing of a source in this language, as `assemble_in` answers them, with its symbol table and
-/// its cross-reference. Each has a line for each label, in the order of the lines that declare them: the symbol table
+/// The core image and the listing of a source in this language, as `assemble_in` answers them, with its symbol table
+/// and its cross-reference. Each has a line for each label, in the order of the lines that declare them: the symbol table
 /// with its address, how many places it names, and the number of its line; the cross-reference with the number of its
 /// line and of each line that names it.
 ///

@@ -13,6 +13,11 @@ pub(super) fn card_of(rt: &impl Abort, graphic: u8) -> Card {
     Card([char_of(rt, graphic); 80])
 }
 
+/// A line with this graphic at each place.
+fn text_of(rt: &impl Abort, graphic: u8) -> [Char; 132] {
+    [char_of(rt, graphic); 132]
+}
+
 /// The devices at power-on.
 fn devices_of(rt: &(impl Abort + AllocGlobal)) -> Devices {
     let made: Result<Devices, AllocError> = Devices::power_on(rt.alloc());
@@ -33,55 +38,68 @@ fn expect_counts(rt: &impl Abort, devices: &Devices, counts: [u16; 4], line: u8)
 
 #[test]
 fn columns_of_a_card(rt: HostRuntime) {
+    let columns = [2_304; 80];
+    expect_same(&rt, "columns", &card_of(&rt, b'A').columns(), &columns);
     let card = card_of(&rt, b'A');
-    let columns = card.columns();
-    expect_same(&rt, "columns", &columns, &[2_304; 80]);
     expect_same(
         &rt,
         "from_columns",
         &Card::from_columns(&columns),
         &Some(card),
     );
-    expect_same(
-        &rt,
-        "from_columns",
-        &Card::from_columns(&[3_072; 80]),
-        &None,
-    );
+    let unread = Card::from_columns(&[3_072; 80]);
+    expect_same(&rt, "from_columns", &unread, &None);
+}
+
+/// Feeds a card of the graphic A.
+fn expect_feed(rt: &impl Abort, devices: &mut Devices, wanted: Result<(), HopperFull>) {
+    expect_same(rt, "feed", &devices.feed(card_of(rt, b'A')), &wanted);
+}
+
+/// Punches one.
+fn expect_punch(rt: &impl Abort, devices: &mut Devices, wanted: Result<(), StackerFull>) {
+    expect_same(rt, "punch", &devices.punch(card_of(rt, b'A')), &wanted);
+}
+
+/// Prints a line of it.
+fn expect_print(rt: &impl Abort, devices: &mut Devices, wanted: Result<(), FormsFull>) {
+    expect_same(rt, "print", &devices.print(text_of(rt, b'A')), &wanted);
 }
 
 #[test]
 fn cards_go_through(rt: HostRuntime) {
     let mut devices = devices_of(&rt);
     expect_counts(&rt, &devices, [0, 0, 0, 1], 1);
-    let card = card_of(&rt, b'A');
     expect_same(&rt, "read", &devices.read(), &Err(ReaderEmpty));
-    expect_same(&rt, "feed", &devices.feed(card), &Ok(()));
-    expect_same(&rt, "punch", &devices.punch(card), &Ok(()));
+    expect_feed(&rt, &mut devices, Ok(()));
+    expect_punch(&rt, &mut devices, Ok(()));
     expect_counts(&rt, &devices, [1, 1, 0, 1], 1);
-    expect_same(&rt, "read", &devices.read(), &Ok(card));
-    expect_same(&rt, "take_card", &devices.take_card(), &Some(card));
+    expect_same(&rt, "read", &devices.read(), &Ok(card_of(&rt, b'A')));
+    expect_same(
+        &rt,
+        "take_card",
+        &devices.take_card(),
+        &Some(card_of(&rt, b'A')),
+    );
     expect_same(&rt, "take_card", &devices.take_card(), &None);
 }
 
 /// Fills the hopper, the stacker and the paper.
-fn fill(rt: &impl Abort, devices: &mut Devices, card: Card, text: [Char; 132]) {
+fn fill(rt: &impl Abort, devices: &mut Devices) {
     for _ in 0..500 {
-        expect_same(rt, "feed", &devices.feed(card), &Ok(()));
-        expect_same(rt, "punch", &devices.punch(card), &Ok(()));
-        expect_same(rt, "print", &devices.print(text), &Ok(()));
+        expect_feed(rt, devices, Ok(()));
+        expect_punch(rt, devices, Ok(()));
+        expect_print(rt, devices, Ok(()));
     }
 }
 
 #[test]
 fn each_ring_holds_500(rt: HostRuntime) {
     let mut devices = devices_of(&rt);
-    let card = card_of(&rt, b'A');
-    let text = [char_of(&rt, b'A'); 132];
-    fill(&rt, &mut devices, card, text);
-    expect_same(&rt, "feed", &devices.feed(card), &Err(HopperFull));
-    expect_same(&rt, "punch", &devices.punch(card), &Err(StackerFull));
-    expect_same(&rt, "print", &devices.print(text), &Err(FormsFull));
+    fill(&rt, &mut devices);
+    expect_feed(&rt, &mut devices, Err(HopperFull));
+    expect_punch(&rt, &mut devices, Err(StackerFull));
+    expect_print(&rt, &mut devices, Err(FormsFull));
 }
 
 /// Compares how the carriage is controlled.
@@ -97,11 +115,14 @@ fn a_line_is_printed_at_channel_1(rt: HostRuntime) {
     expect_same(&rt, "at_channel", &devices.at_channel(1), &true);
     expect_control(&rt, &mut devices, b'2', Err(ControlFault::Carriage));
     expect_control(&rt, &mut devices, b'M', Err(ControlFault::DChar));
-    let text = [char_of(&rt, b'A'); 132];
-    expect_same(&rt, "print", &devices.print(text), &Ok(()));
-    let (form, line) = (1, 4);
-    let wanted = Some(PrintLine { form, line, text });
-    expect_same(&rt, "take_line", &devices.take_line(), &wanted);
+    expect_print(&rt, &mut devices, Ok(()));
+    let (form, line, text) = (1, 4, text_of(&rt, b'A'));
+    let wanted = PrintLine { form, line, text };
+    expect_same(&rt, "take_line", &devices.take_line(), &Some(wanted));
+}
+
+#[test]
+fn numbers_of_control_faults(rt: HostRuntime) {
     let numbers = [
         ControlFault::DChar.number(),
         ControlFault::Carriage.number(),
