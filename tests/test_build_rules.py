@@ -11,7 +11,7 @@ sys.dont_write_bytecode = True
 TOP = Path(__file__).resolve().parent.parent
 SECONDS = 60
 
-# A program over three libraries, two of which need nothing of each other.
+# A program over three libraries; two of them need nothing of each other.
 CRATES = {"low": "", "left": " low", "right": " low thiserror", "ibm1401": " left right"}
 
 # The prover notes each crate, and changes a source meanwhile if it is asked to. A program is a script.
@@ -58,7 +58,7 @@ class BuildRules(unittest.TestCase):
         (self.room / "crates.txt").write_text("".join(f"{name}:{below}\n" for name, below in crates.items()))
 
     def environment(self, **more):
-        """The environment in which the stand-in is the toolchain."""
+        """The environment of a call, with the toolchain that is here."""
         path = f"{self.room}/kit/bin:{os.environ['PATH']}"
         return {**os.environ, "PATH": path, "CALLS": str(self.room / "calls"), "CHANGED": "", "VERSION": "one", **more}
 
