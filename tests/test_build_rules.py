@@ -11,7 +11,7 @@ sys.dont_write_bytecode = True
 TOP = Path(__file__).resolve().parent.parent
 SECONDS = 60
 
-# A program over three libraries, two of which need nothing of each other.
+# A program over three libraries; two of them need nothing of each other.
 CRATES = {"low": "", "left": " low", "right": " low thiserror", "ibm1401": " left right"}
 
 # The prover notes each crate, and changes a source meanwhile if it is asked to. A program is a script.
@@ -57,16 +57,18 @@ class BuildRules(unittest.TestCase):
         """Writes crates.txt."""
         (self.room / "crates.txt").write_text("".join(f"{name}:{below}\n" for name, below in crates.items()))
 
+    def environment(self, **more):
+        """The environment of a call, with the toolchain that is here."""
+        path = f"{self.room}/kit/bin:{os.environ['PATH']}"
+        return {**os.environ, "PATH": path, "CALLS": str(self.room / "calls"), "CHANGED": "", "VERSION": "one", **more}
+
     def proved(self, words=("--build",), **environment):
         """The crates that a call proves, in order, once it has ended well, and what it writes to standard output."""
-        calls = self.room / "calls"
-        calls.write_text("")
-        path = f"{self.room}/kit/bin:{os.environ['PATH']}"
-        own = {"PATH": path, "CALLS": str(calls), "CHANGED": "", "VERSION": "one"}
-        ran = subprocess.run([self.room / "ibm1401", *words], env={**os.environ, **own, **environment}, text=True,
+        (self.room / "calls").write_text("")
+        ran = subprocess.run([self.room / "ibm1401", *words], env=self.environment(**environment), text=True,
                              stdin=subprocess.DEVNULL, capture_output=True, timeout=SECONDS, check=False)
         self.assertEqual(ran.returncode, 0, ran.stderr)
-        return calls.read_text().split(), ran.stdout
+        return (self.room / "calls").read_text().split(), ran.stdout
 
     def test_build_proves_each_crate_once_after_those_below_it_and_runs_nothing(self):
         order, output = self.proved()
@@ -87,6 +89,21 @@ class BuildRules(unittest.TestCase):
         self.proved()
         (self.room / "crates/ibm1401/out/ibm1401").unlink()
         self.assertEqual(self.proved(), (["ibm1401"], ""))
+
+    def test_rules_that_make_cannot_read_build_nothing(self):
+        """An old program isn't taken for a new one."""
+        self.proved()
+        (self.room / "crates/left/src/lib.rt").write_text("// another\n")
+        rules = (self.room / "Makefile").read_text()
+        (self.room / "Makefile").write_text("no rule\n")
+        ran = subprocess.run([self.room / "ibm1401", "run"], env=self.environment(), stdin=subprocess.DEVNULL, text=True,
+                             capture_output=True, timeout=SECONDS, check=False)
+        log = self.room / "crates/ibm1401/out/ibm1401.log"
+        self.assertEqual((ran.returncode, ran.stdout), (1, ""))
+        self.assertIn(f"ibm1401: the program wasn't built; what the prover said is in {log}\n", ran.stderr)
+        self.assertIn("missing separator", log.read_text())
+        (self.room / "Makefile").write_text(rules)
+        self.assertEqual(self.proved()[0], ["left", "ibm1401"])
 
     def test_a_changed_source_takes_the_crates_above_it(self):
         self.proved()
