@@ -7,7 +7,7 @@ import unittest
 from tests.support import ProgramTest, program
 
 # Prints and punches the same line and the same card again and again.
-LOOP = ("               ORG  400\n     START     MCW  @AN ANSWER@,209\n               MCW  209,109\n"
+LOOP = ("               ORG  400\n     START     MCW  @AN ANSWER@,209\n               MCW  @AN ANSWER@,109\n"
         "     AGAIN     W\n               P\n               B    AGAIN\n               END  START\n")
 HALT = "               ORG  400\n     START     H\n               NOP\n               END  START\n"
 STEPS = 3_000

@@ -5,7 +5,6 @@ use crate::fault::{OpenFault, not_told};
 use calls_1401::Operators;
 use holding_1401::HoldFault;
 use serving_1401::PagePort;
-use sockets_1401::let_wait;
 use std::net::{Ipv4Addr, Net, TcpListener, TcpStream};
 
 /// The listeners at these ports.
@@ -22,9 +21,7 @@ fn listener_at(
     rt: &impl Net<Listener = TcpListener, Stream = TcpStream>,
     port: u16,
 ) -> Result<TcpListener, OpenFault> {
-    let listener = TcpListener::bind(rt, (Ipv4Addr::LOCALHOST, port)).map_err(|_| OpenFault::Port)?;
-    let_wait(&listener);
-    Ok(listener)
+    TcpListener::bind(rt, (Ipv4Addr::LOCALHOST, port)).map_err(|_| OpenFault::Port)
 }
 
 /// The listeners for these operators.

@@ -14,20 +14,11 @@ const GONE: [i32; 11] = [4, 64, 71, 92, 100, 101, 103, 110, 111, 112, 113];
 /// the process (24) has no handle left.
 const SHORT: [i32; 5] = [11, 12, 23, 24, 105];
 
-/// How many connections may wait to be accepted, as far as the system lets them.
-const WAITING: i32 = 1024;
-
 /// How long the first pause is, in milliseconds.
 const FIRST: u64 = 10;
 
 /// How long a pause is at most, in milliseconds.
 const LONGEST: u64 = 1000;
-
-/// Lets more connections wait at a listener than std does. If more come at once than may wait, the system drops some,
-/// and these try again only after a second.
-pub fn let_wait(listener: &TcpListener) {
-    let _wait = libc::net::listen(listener.as_raw_fd(), WAITING);
-}
 
 /// Whether a connection wasn't accepted because it was gone by then. The next one may be accepted.
 pub fn is_gone(error: &Error) -> bool {

@@ -12,5 +12,5 @@ pub mod accepting;
 // a peer
 pub mod patience;
 
-pub use accepting::{Pause, is_gone, let_wait, passes, shut_down};
+pub use accepting::{Pause, is_gone, passes, shut_down};
 pub use patience::{Patient, has_begun, has_unread, linger};
