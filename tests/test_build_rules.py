@@ -40,7 +40,9 @@ class BuildRules(unittest.TestCase):
         folder = tempfile.TemporaryDirectory()
         self.addCleanup(folder.cleanup)
         self.room = Path(folder.name).resolve()
-        shutil.copy(TOP / "ibm1401", self.room / "ibm1401")
+        for name in ("ibm1401", "Makefile", "tests/help.txt"):
+            (self.room / name).parent.mkdir(exist_ok=True)
+            shutil.copy(TOP / name, self.room / name)
         self.write_crates(CRATES)
         for name in CRATES:
             source = self.room / "crates" / name / "src" / ("main.rt" if name == "ibm1401" else "lib.rt")
@@ -71,6 +73,20 @@ class BuildRules(unittest.TestCase):
         self.assertEqual((sorted(order), order[0], order[-1], output), (sorted(CRATES), "low", "ibm1401", ""))
         self.assertEqual(self.proved(), ([], ""))
         self.assertEqual(self.proved(["run", "a deck"]), ([], "ran run a deck\n"))
+
+    def test_the_longest_chain_begins_first(self):
+        self.write_crates({"alone": "", **CRATES, "ibm1401": " alone left right"})
+        (self.room / "crates/alone/src").mkdir(parents=True)
+        (self.room / "crates/alone/src/lib.rt").write_text("//!\n")
+        processors = os.sched_getaffinity(0)
+        self.addCleanup(os.sched_setaffinity, 0, processors)
+        os.sched_setaffinity(0, {min(processors)})
+        self.assertEqual(self.proved()[0][0], "low")
+
+    def test_a_program_that_was_removed_is_built_again(self):
+        self.proved()
+        (self.room / "crates/ibm1401/out/ibm1401").unlink()
+        self.assertEqual(self.proved(), (["ibm1401"], ""))
 
     def test_a_changed_source_takes_the_crates_above_it(self):
         self.proved()

@@ -3,11 +3,10 @@ import random
 import resource
 import signal
 import subprocess
-import time
 import unittest
 
 from tests.preloaded import needs_compiler, preloading
-from tests.support import PROGRAM, REPLY_SECONDS, ProgramTest, misuse, program
+from tests.support import PROGRAM, REPLY_SECONDS, ProgramTest, misuse, program, wait_until
 
 LINES = b"DEPOSIT 0700 ~999\nEXAMINE 0700 3\nSTART 4000\nQUIT\n"
 REPLIES = b"OK\n~999\nREFUSED 1 ADDRESS\nBYE\n"
@@ -76,7 +75,7 @@ class Kept(ProgramTest):
     def test_sync_needs_a_journal(self):
         """It is refused before anything is read or made."""
         missing = "the following required arguments were not provided:\n  --journal <NEW>"
-        nothing = "--until keeps nothing without --journal, so --sync has nothing to write"
+        nothing = "--until records nothing without --journal, so --sync has nothing to write"
         self.path.write_bytes(TEXT)
         for words, error in [
             (["console", "--sync"], misuse(missing, "console --journal <NEW> --sync")),
@@ -272,7 +271,8 @@ class Killed(ProgramTest):
             given.write_bytes(b"".join(lines))
             with given.open("rb") as typed, replies.open("wb") as paper:
                 with subprocess.Popen([PROGRAM, "console", "--journal", path], stdin=typed, stdout=paper) as session:
-                    time.sleep(0.01 + chance.random() * 0.2)
+                    many = 3 * chance.randrange(10_000)
+                    wait_until(lambda: path.exists() and replies.stat().st_size >= many)
                     session.kill()
             answered = replies.read_bytes().count(b"\n")
             self.check(f"turn {turn}, killed after {answered} replies", wrong_with(path, lines, answered))

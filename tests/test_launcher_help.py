@@ -31,9 +31,10 @@ class FreshClone(unittest.TestCase):
         folder = tempfile.TemporaryDirectory()
         self.addCleanup(folder.cleanup)
         self.room = Path(folder.name)
-        for name in ("ibm1401", "crates.txt", "tests/help.txt", "crates/arguments_1401/src/reading.rt"):
-            (self.room / name).parent.mkdir(parents=True, exist_ok=True)
+        for name in ("ibm1401", "crates.txt", "tests/help.txt"):
+            (self.room / name).parent.mkdir(exist_ok=True)
             shutil.copy(TOP / name, self.room / name)
+        (self.room / "crates").mkdir()
         (self.room / "bin").mkdir()
         (self.room / "bin/rt").write_text(f"#!/bin/sh\necho \"$@\" >> {self.room}/called\nexit 1\n")
         (self.room / "bin/rt").chmod(0o755)
@@ -60,13 +61,11 @@ class FreshClone(unittest.TestCase):
                 self.assertLess(seconds, 1)
         self.assertFalse((self.room / "called").exists(), "the toolchain was called")
 
-    def test_the_version_is_answered_with_the_program_s_first_line_and_at_once(self):
-        for words in [["--version"], ["-V"]]:
-            with self.subTest(words[0]):
-                answered, seconds = self.launch(words)
-                first = said(PROGRAM, words)[1].splitlines()[0]
-                self.assertEqual(answered, (0, f"{first}\nnot proved and built here yet\n", ""))
-                self.assertLess(seconds, 1)
+    def test_the_version_is_answered_at_once(self):
+        for word in "--version", "-V":
+            answered, seconds = self.launch([word])
+            self.assertEqual(answered, (0, "ibm1401: not proved and built here yet\n", ""))
+            self.assertLess(seconds, 1)
         self.assertFalse((self.room / "called").exists(), "the toolchain was called")
 
     def test_any_other_call_needs_the_program(self):

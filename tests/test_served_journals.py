@@ -7,11 +7,10 @@ import shutil
 import signal
 import socket
 import threading
-import time
 import unittest
 
 from tests.preloaded import needs_compiler, preloading
-from tests.support import PROGRAM, SECONDS, ProgramTest, a_port, program, shell
+from tests.support import PROGRAM, SECONDS, ProgramTest, a_port, program, shell, wait_until
 
 # How many served rooms are killed, and how many operators each of them has.
 KILLS = 200
@@ -272,7 +271,8 @@ class Killed(ProgramTest):
             operators = [Operator(room, number) for number in range(OPERATORS)]
             for operator in operators:
                 operator.start()
-            time.sleep(chance.random() * 0.1)
+            many = chance.randrange(200)
+            wait_until(lambda: sum(operator.answered for operator in operators) >= many)
             room.kill()
             for operator in operators:
                 operator.join()

@@ -113,7 +113,8 @@ def places():
         for test in sorted((TOP / folder).glob(form)):
             if test != Path(__file__).resolve():
                 found[str(test.relative_to(TOP))] = [test]
-    for path in TOP / "check", TOP / "ibm1401", TOP / "page/index.html", *sorted((TOP / "benches").iterdir()):
+    scripts = [TOP / name for name in ("check", "ibm1401", "Makefile", "page/index.html")]
+    for path in [*scripts, *sorted((TOP / "benches").iterdir())]:
         if path.is_file() and path.suffix != ".console":
             found[str(path.relative_to(TOP))] = [path]
     return found

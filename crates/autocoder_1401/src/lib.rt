@@ -9,15 +9,15 @@
 //! The passes are in `assembly`. What they are made of is in crates of its own: `symbols_1401` reads the lines and
 //! follows the chains of EQUs, `faults_1401` looks for the first fault, `explanations_1401` for all of them,
 //! `placing_1401` places lines and makes their cells, `placed_image_1401` makes the image, `listing_1401` what is
-//! printed, and `warnings_1401` says what a good source hardly means. What a source is refused for, and what is wrong
-//! at a fault, is handed on from there.
+//! printed, and `warnings_1401` reports likely mistakes in a source that assembles. What a source is refused for, and
+//! what is wrong at a fault, is handed on from there.
 #![tactic(auto)]
 
 pub mod assembly; // the passes, in their order
 pub mod tables; // an assembly with its symbol table and its cross-reference
 pub mod all_faults; // all faults of a source
 pub mod explaining; // all faults of a source, each with what is wrong
-pub mod warning; // what a source without a fault says and hardly means
+pub mod warning; // likely mistakes in a source without a fault
 
 pub use all_faults::faults;
 pub use assembly::{Assembly, assemble, assemble_image};
