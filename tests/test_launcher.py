@@ -178,8 +178,8 @@ class Building(ProgramTest):
         commit = repository(self.folder)
         for text, changes in ("//!\n", ""), ("", ", with changes"):
             source.write_text(text)
-            self.launch("load")
-            self.same(f"a commit{changes}", built.read_bytes().rpartition(b"\0")[2],
+            self.expect(f"a commit{changes}", self.launch("load"), 0, "load\n", "...")
+            self.same(f"its record{changes}", built.read_bytes().rpartition(b"\0")[2],
                       f"commit {commit}{changes}\nproved by {VERSION}\n")
 
     def test_a_source_that_is_newer(self):
