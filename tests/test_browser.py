@@ -330,6 +330,65 @@ class Amounts(Browser):
         self.shows("and counted", "byId('taken-words').textContent", "30 cards were taken.")
 
 
+class Words(Browser):
+    """What the page says is true of the machine."""
+
+    def test_after_the_end(self):
+        """One more STEP isn't carried out unless it is pressed again."""
+        self.page.value("feedChosen().then(pressLoad).then(pressRun)")
+        self.shows("the program has ended", "byId('next').textContent === TEXTS.nextEnded")
+        count = self.served.after()
+        self.page.click("step-key")
+        self.shows("a step is asked about", "byId('said-words').textContent === TEXTS.said.afterEnd")
+        self.unchanged("and not carried out", self.served, count)
+        self.page.click("step-key")
+        self.shows("but the next one is", "view.picture.after", count + 1)
+
+    def test_a_run_that_is_stopped(self):
+        for line in "DEPOSIT 0500 ~B500~.", "START 0500":
+            self.page.value(f"say('{line}')")
+        self.page.value("byId('pace').selectedIndex = 0, pressRun(), 0")
+        self.shows("it goes on", "run !== null && run.steps > 2")
+        self.page.click("stop-key")
+        words = "/^Stopped by you after [0-9]+ steps/.test(byId('said-words').textContent)"
+        self.shows("its steps are counted once", f"{words} && byId('said-reply').textContent", "")
+
+    def test_counts(self):
+        self.shows("one", "counted(TEXTS.takenAll, 1)", "1 card was taken.")
+        self.shows("several", "counted(TEXTS.takenAll, 1200)", "1,200 cards were taken.")
+        self.page.value("byId('keyed').value = 'A'.repeat(80), drawKeyed()")
+        self.shows("a full card", "byId('keyed-words').textContent", "all 80 columns are full")
+
+    def test_the_first_words(self):
+        """They say what is in the machine."""
+        self.page.value("say('FEED ONE').then(() => say('FEED TWO')).then(() => inTurn(look))")
+        wanted = "There are 2 cards in the hopper. LOAD reads the first one."
+        self.shows("cards in the hopper", "welcomeWords()", wanted)
+
+    def test_a_journal_that_cannot_be_written(self):
+        """Its banner stays when the room is closed a moment later."""
+        self.page.value("view.unkept = true, setLink('closed')")
+        self.shows("the banner", "byId('banner').textContent === TEXTS.unkept")
+
+    def test_decks_of_other_systems(self):
+        self.shows("a mark at the head", "deckOf('\\ufeffone\\r\\ntwo\\n').cards.join()", "ONE,TWO")
+        self.shows("UTF-8", "textOf(new Uint8Array([0xc3, 0x84]))", "\u00c4")
+        self.shows("a hint", "deckOf('\u00c4').fault.endsWith('write AE')")
+
+    def test_a_reload_asks(self):
+        """As long as something would be lost."""
+        asked = "(event => (keepsPaper(event), event.defaultPrevented))(new Event('beforeunload', {cancelable: true}))"
+        self.shows("not without paper", asked, False)
+        self.page.value("torn.push({form: 1, line: 1, text: 'A'}), 0")
+        self.shows("but with paper", asked)
+
+    def test_paper_that_was_torn_off_further_down(self):
+        """It is as `run` writes it: a form feed for each form before it."""
+        self.shows("form 3, line 2", "paperText([{form: 3, line: 2, text: 'A'}])", "\f\f\nA\n")
+        self.shows("past form 9999", "paperText([{form: 9999, line: 1, text: 'A'}, {form: 0, line: 1, text: 'B'}])"
+                   ".slice(9998)", "A\n\fB\n")
+
+
 class Looking(Browser):
     """A page that only looks."""
 
