@@ -4,7 +4,7 @@ import signal
 import socket
 import unittest
 
-from tests.support import SECONDS, ProgramTest
+from tests.support import SECONDS, ProgramTest, wait_until
 
 # A journal's file may have the head and one entry of this test, and only a part of the next.
 MOST_BYTES = 50
@@ -98,6 +98,7 @@ class AnEntryThatIsNotKept(ProgramTest):
 
     def test_another_page_shows_the_machine_after_a_refused_command(self):
         self.fail_at_a_console().close()
+        wait_until(lambda: self.picture(2)[0] == 200)
         self.assertEqual(self.line(2, 0, b"EXAMINE 0700"), (200, b"FAULT 4 UNKEPT\n"))
         status, text = self.picture(2)
         self.assertEqual(status, 200)

@@ -31,10 +31,9 @@ class FreshClone(unittest.TestCase):
         folder = tempfile.TemporaryDirectory()
         self.addCleanup(folder.cleanup)
         self.room = Path(folder.name)
-        for name in ("ibm1401", "crates.txt", "tests/help.txt"):
-            (self.room / name).parent.mkdir(exist_ok=True)
+        for name in ("ibm1401", "crates.txt", "tests/help.txt", "crates/arguments_1401/src/reading.rt"):
+            (self.room / name).parent.mkdir(parents=True, exist_ok=True)
             shutil.copy(TOP / name, self.room / name)
-        (self.room / "crates").mkdir()
         (self.room / "bin").mkdir()
         (self.room / "bin/rt").write_text(f"#!/bin/sh\necho \"$@\" >> {self.room}/called\nexit 1\n")
         (self.room / "bin/rt").chmod(0o755)
