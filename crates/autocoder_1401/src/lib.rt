@@ -18,6 +18,7 @@ pub mod tables; // an assembly with its symbol table and its cross-reference
 pub mod all_faults; // all faults of a source
 pub mod explaining; // all faults of a source, each with what is wrong
 pub mod warning; // what a source without a fault says and hardly means
+pub mod messages; // faults and warnings as editors read them
 
 pub use all_faults::faults;
 pub use assembly::{Assembly, assemble, assemble_image};
@@ -26,6 +27,7 @@ pub use explanations_1401::explanation;
 pub use explanations_1401::explanation::{Cause, Explanation};
 pub use listing_1401::listing;
 pub use listing_1401::listing::{Listing, ListingLine};
+pub use messages::{fault_lines, warning_lines};
 pub use symbols_1401::fault;
 pub use symbols_1401::fault::{AsmFault, AsmKind};
 pub use tables::{AssemblyTables, assemble_with_tables};
