@@ -1,7 +1,7 @@
 //! The faults and the warnings of a source, as editors read them.
 
 use explanations_1401::{Cause, Explanation};
-use source_1401::{LABEL_LENGTH, Language, OperandFlaw, Stretch, TEXT_LENGTH, split_line};
+use source_1401::{LABEL_LENGTH, Language, OperandFlaw, Stretch, split_line};
 use std::alloc::{AllocError, Global};
 use std::str;
 use symbols_1401::AsmFault;
@@ -26,13 +26,20 @@ fn name_in(columns: &[u8]) -> &str {
     str::from_utf8(columns).unwrap_or("").trim_end()
 }
 
-/// Whether a word is a text or a number but for its length.
+/// Whether a word is a number but for its length.
 fn is_long(word: &str) -> bool {
+    let digits = match word.as_bytes() {
+        [b'+' | b'-', digits @ ..] => digits,
+        digits => digits,
+    };
+    digits.len() > MOST_DIGITS && digits.iter().all(|digit| digit.is_ascii_digit())
+}
+
+/// Whether a word is a text without a second at sign.
+fn is_open(word: &str) -> bool {
     match word.as_bytes() {
-        [b'@', text @ .., b'@'] => text.len() > TEXT_LENGTH && !text.contains(&b'@'),
-        [b'+' | b'-', digits @ ..] | digits => {
-            digits.len() > MOST_DIGITS && digits.iter().all(|digit| digit.is_ascii_digit())
-        }
+        [b'@', text @ ..] => !text.contains(&b'@'),
+        _ => false,
     }
 }
 
@@ -50,9 +57,10 @@ fn operand_help(alloc: Global, flaw: OperandFlaw, word: &str) -> Result<String, 
         OperandFlaw::TooMuch => format!(in alloc; "{word} is more than the operation takes"),
         _ if word.is_empty() => String::from_str(alloc, "an operand is missing"),
         OperandFlaw::NoAddress | OperandFlaw::NoConstant if is_long(word) => {
-            format!(in alloc;
-                "{word} is longer than a text of 50 characters or a number of 20 digits"
-            )
+            format!(in alloc; "{word} is longer than a number of 20 digits")
+        }
+        OperandFlaw::NoAddress | OperandFlaw::NoConstant if is_open(word) => {
+            format!(in alloc; "{word} has no second at sign up to column 72; a text has at most 50")
         }
         OperandFlaw::NoAddress => format!(in alloc; "{word} is neither an address nor a literal"),
         OperandFlaw::NoConstant => format!(in alloc; "{word} is no constant"),
