@@ -1,5 +1,5 @@
 //! What a line loses: operands after a text, or after the last column for them.
-ghost use Rattle.std.specs.Prelude.{◌≡◌, ◌≤◌, false, length, IfOk, IfErr};
+ghost use Rattle.std.specs.Prelude.{◌≡◌, ◌≤◌, false, drop, length, take, IfOk, IfErr};
 ghost use Rattle.std.specs.List.{list_any};
 ghost use Rattle.source_1401.specs.Constant.{is_at_sign};
 ghost use Rattle.symbols_1401.specs.Fault.{IsMemory};
@@ -21,12 +21,25 @@ pub enum Loss {
 /// How many columns are for operands: 21 to 72.
 const OPERAND_COLUMNS: usize = 52;
 
+/// What a line has from column 21 on.
+fn from_column_21(line: &[u8]) -> &[u8]
+    ensures { result.now ≡ drop 20 line.now }
+{
+    line.get(20..).unwrap_or(&[])
+}
+
+/// As much of a text as there are columns for operands.
+fn cut_to_operands(text: &[u8]) -> &[u8]
+    ensures { result.now ≡ take 52 text.now }
+{
+    &text[..text.len().min(OPERAND_COLUMNS)]
+}
+
 /// What a line has in columns 21 to 72.
 fn operand_columns(line: &[u8]) -> &[u8]
     ensures { result.now ≡ operand_columns line.now }
 {
-    let behind = line.get(20..).unwrap_or(&[]);
-    &behind[..behind.len().min(OPERAND_COLUMNS)]
+    cut_to_operands(from_column_21(line))
 }
 
 /// How many columns the operands take: up to the first blank that no two at signs enclose.

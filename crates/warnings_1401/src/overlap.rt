@@ -30,12 +30,12 @@ fn filler_of(fillers: &[u32], place: usize) -> u32
 
 /// The first of places that a line fills.
 #[tactic(auto, using(crate::proofs::OverlapLemmas::one_place_more))]
-fn first_filled(fillers: &[u32], places: FilledPlaces) -> Result<Option<usize>, AsmFault>
-    ensures ok { IfOk result (λ place. place ≡ first_filled fillers.now places.first places.count) }
+fn first_filled(fillers: &[u32], first: u16, count: usize) -> Result<Option<usize>, AsmFault>
+    ensures ok { IfOk result (λ place. place ≡ first_filled fillers.now first count) }
     ensures err { IfErr result IsMemory }
 {
-    let mut at = usize::from(places.first);
-    let mut left = places.count;
+    let mut at = usize::from(first);
+    let mut left = count;
     while left > 0 {
         if filler_of(fillers, at) != 0 {
             return Ok(Some(at));
@@ -48,12 +48,12 @@ fn first_filled(fillers: &[u32], places: FilledPlaces) -> Result<Option<usize>, 
 
 /// Has places filled by the line of this number; those that aren't in core are left out.
 #[tactic(auto, using(crate::proofs::OverlapLemmas::one_filler_more))]
-fn put_filler(fillers: &mut [u32], places: FilledPlaces, number: u32) -> Result<(), AsmFault>
-    ensures ok { OnOk result (fillers.new ≡ with_filler number places.first places.count fillers.old) }
+fn put_filler(fillers: &mut [u32], first: u16, count: usize, number: u32) -> Result<(), AsmFault>
+    ensures ok { OnOk result (fillers.new ≡ with_filler number first count fillers.old) }
     ensures err { IfErr result IsMemory }
 {
-    let mut at = usize::from(places.first);
-    let mut left = places.count;
+    let mut at = usize::from(first);
+    let mut left = count;
     while left > 0 {
         if at < fillers.len() {
             fillers[at] = number;
@@ -135,7 +135,7 @@ fn first_overlap(
     ensures ok { IfOk result (λ overlap. overlap ≡ first_overlap fillers.now above.now places) }
     ensures err { IfErr result IsMemory }
 {
-    match first_filled(fillers, places)? {
+    match first_filled(fillers, places.first, places.count)? {
         Some(place) => Ok(Some(overlap_at(fillers, above, place))),
         None => Ok(None),
     }
@@ -159,7 +159,7 @@ fn put_overlap(
 {
     let overlap = first_overlap(fillers, &lines[..n], places)?;
     overlaps.push(overlap)?;
-    put_filler(fillers, places, n as u32 + 1)
+    put_filler(fillers, places.first, places.count, n as u32 + 1)
 }
 
 /// Adds the overlaps of lines that fill these places.

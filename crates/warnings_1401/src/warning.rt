@@ -7,6 +7,7 @@ ghost use Rattle.symbols_1401.specs.Fault.{IsMemory};
 ghost use Rattle.explanations_1401.specs.Noted.{known_of};
 ghost use Rattle.explanations_1401.specs.Notes.{known_in};
 ghost use Rattle.placing_1401.specs.Filling.{filled, addresses_of};
+ghost use Rattle.placing_1401.specs.Fitted.{is_one_of};
 ghost use Rattle.placing_1401.specs.Placement.{instruction_length};
 ghost use Rattle.warnings_1401.specs.Warnings.{is_unit, is_unfitted, is_unfitted_chain, is_not_fitted, is_unused};
 ghost use Rattle.warnings_1401.specs.Warnings.{tests_comparison, is_unset, branches_unset, is_signed_literal};
@@ -291,14 +292,21 @@ fn read_on(storage: &[Cell], address: u16, contents: Contents) -> Option<u32>
     }
 }
 
+/// Whether a graphic is one of these.
+fn is_one_of(graphics: &[u8], graphic: u8) -> bool
+    ensures { result ≡ is_one_of graphics.now graphic }
+{
+    graphics.iter().any(|each| *each == graphic)
+}
+
 /// Whether a branch of this operation, with a second address or without, never branches with this d-character.
 fn is_idle(operation: u8, has_second: bool, d: u8) -> bool
     ensures { result ≡ is_idle operation has_second d }
 {
-    match operation {
-        b'V' => !b"12BKS3CLT".iter().any(|each| *each == d),
-        b'B' => !has_second && !b"/STUZABCDEFG9@".iter().any(|each| *each == d),
-        _ => false,
+    if operation == b'V' {
+        !is_one_of(b"12BKS3CLT", d)
+    } else {
+        operation == b'B' && !has_second && !is_one_of(b"/STUZABCDEFG9@", d)
     }
 }
 

@@ -6,7 +6,7 @@ use Rattle.warnings_1401.proofs.overlap.put_filler.Given as goal
 abbrev pub invariant-loop-left : goal.invariant-loop-left
 invariant-loop-left l =
     with_filler l.number l.at l.left l.fillers
-    ≡ with_filler l.number l.places.first l.places.count l.initial.fillers
+    ≡ with_filler l.number l.first l.count l.initial.fillers
 
 abbrev pub decreases-loop-left : goal.decreases-loop-left
 decreases-loop-left l = l.left
