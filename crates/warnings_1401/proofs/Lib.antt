@@ -1,3 +1,4 @@
 pub mod FittedLemmas
+pub mod OverlapLemmas
 pub mod PlainWarningsLemmas
 mod WarningsExamples
