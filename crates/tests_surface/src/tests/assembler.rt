@@ -19,7 +19,7 @@ const SOURCE: &str = "               ORG  400
 ";
 
 /// Its image.
-const IMAGE: &str = "IMAGE2 04000\n00400 24 ~?423420~A423420~.414~   ~HI~E\nEND 00400\n";
+pub(super) const IMAGE: &str = "IMAGE2 04000\n00400 24 ~?423420~A423420~.414~   ~HI~E\nEND 00400\n";
 
 /// Its listing.
 const LISTING: [&str; 9] = [
@@ -44,7 +44,7 @@ fn expect_listing(rt: &impl Abort, listing: &Listing) {
 }
 
 /// The image of five and five, made by hand.
-pub(super) fn five_and_five(rt: &(impl Abort + AllocGlobal)) -> Image {
+fn five_and_five(rt: &(impl Abort + AllocGlobal)) -> Image {
     let cells = cells_of(rt, "~?423420~A423420~.414~   ~HI~E");
     let address = 400;
     let segments = Vec::from_slice(rt.alloc(), &[Segment { address, cells }]).expect(rt, "room");
@@ -73,11 +73,11 @@ fn a_source_is_assembled(rt: HostRuntime) {
 }
 
 #[test]
-fn an_image_is_written_and_read(rt: HostRuntime) {
-    let text = write_image(rt.alloc(), &five_and_five(&rt)).expect(&rt, "room");
-    expect_text(&rt, "write_image", text.as_slice(), IMAGE);
+fn an_image_is_read_and_written(rt: HostRuntime) {
     let image = read_image(rt.alloc(), IMAGE.as_bytes()).expect(&rt, "an image");
     expect_image(&rt, "read_image", &image);
+    let text = write_image(rt.alloc(), &image).expect(&rt, "room");
+    expect_text(&rt, "write_image", text.as_slice(), IMAGE);
 }
 
 /// Compares the fault of a source.

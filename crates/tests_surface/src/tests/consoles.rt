@@ -1,8 +1,9 @@
 //! Lines, sessions, and consoles at a shared room.
 ghost use Rattle.std.specs.Prelude.{◌≡◌, ◌<◌};
 
-use super::assembler::five_and_five;
+use super::assembler::IMAGE;
 use super::{cells_of, expect_same, expect_text};
+use autocoder_1401::read_image;
 use console_1401::{
     Door, Failed, FromReader, Line, LineFault, OpenDoor, ServeFault, Served, SessionEnd, Sink,
     Source, ToWriter, attend, parse_line, put_image, reply_text, serve, session,
@@ -102,8 +103,8 @@ fn a_session(rt: HostRuntime) {
 
 #[test]
 fn an_image_is_put_into_a_room(rt: HostRuntime) {
-    let mut room = Room::power_on(rt.alloc(), 4_000).expect(&rt, "a room");
-    let image = five_and_five(&rt);
+    let image = read_image(rt.alloc(), IMAGE.as_bytes()).expect(&rt, "an image");
+    let mut room = Room::power_on(rt.alloc(), image.size).expect(&rt, "a room");
     expect_same(&rt, "put_image", &put_image(&mut room, &image), &Ok(()));
     let lines = "RUN 10\nEXAMINE 0418 3\nQUIT\n";
     let replies = "STOP 02 HALT STEPS 3 I 00414\n~01?\nBYE\n";

@@ -25,11 +25,13 @@ fn machine_with(rt: &(impl Abort + AllocGlobal), from: u16, text: &str) -> Machi
 fn steps_and_runs(rt: HostRuntime) {
     let mut machine = machine_with(&rt, 600, "~,I9I~,600~.~.~.");
     expect_same(&rt, "step", &machine.step(), &Some(Stop::Address));
+    assert!(rt; machine.core().in_core(604));
     machine.set_i(604);
     expect_same(&rt, "step", &machine.step(), &None);
     let (steps, stop) = (1, Stop::Halt);
     expect_same(&rt, "run", &machine.run(2), &Ran { steps, stop });
     expect_same(&rt, "step", &machine.step(), &Some(Stop::Halt));
+    assert!(rt; machine.core().in_core(600));
     expect_same(
         &rt,
         "core",
@@ -55,6 +57,7 @@ fn cards_and_lines(rt: HostRuntime) {
     let line = machine.take_line().map(|line| (line.form, line.line));
     expect_same(&rt, "take_line", &line, &Some((1, 1)));
     expect_same(&rt, "load_key", &machine.load_key(), &Ok(()));
+    assert!(rt; machine.core().in_core(1));
     expect_same(
         &rt,
         "core",

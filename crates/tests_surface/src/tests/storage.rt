@@ -53,7 +53,7 @@ fn numbers_of_core_faults(rt: HostRuntime) {
 
 /// The lengths that are found with a word mark at 63 alone.
 fn expect_lengths(rt: &impl Abort, core: &Core) {
-    assert!(rt; core.in_core(127) && core.in_core(0));
+    assert!(rt; core.in_core(127) && core.in_core(64) && core.in_core(0));
     expect_same(rt, "field_len", &core.field_len(64), &Some(2));
     expect_same(rt, "field_len", &core.field_len(0), &None);
     expect_same(rt, "pair_len", &core.pair_len(64, 127), &Some(2));
