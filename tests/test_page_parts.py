@@ -1,10 +1,15 @@
 """The files that a page of a seat is joined of."""
+import importlib.machinery
+import importlib.util
 import re
+import sys
 import unittest
 
 from tests.support import PAGE, TOP, ProgramTest, program
 
 PARTS = TOP / "page"
+# page/embed is loaded as a module, and leaves no file.
+sys.dont_write_bytecode = True
 MOST_LINES = 40
 MOST_COLUMNS = 120
 
@@ -58,11 +63,26 @@ class Parts(unittest.TestCase):
         """A text from the machine or of a visitor becomes text alone, never HTML or a program."""
         for path in self.scripts():
             with self.subTest(path.name):
-                made = r"innerHTML|outerHTML|insertAdjacentHTML|document\.write|\beval\(|new Function|setAttribute\('style'"
+                made = r"(?:inner|outer|Adjacent)HTML|document\.write|\beval\(|new Function|setAttribute\('style'"
                 self.assertEqual(re.findall(made, path.read_text()), [])
 
     def test_the_document_is_in_ascii(self):
         self.assertTrue(PAGE.isascii())
+
+    def test_the_document_fits_into_a_constant(self):
+        """A constant has 140,000 expressions at most, and each byte is one."""
+        self.assertLess(len(PAGE), 140_000)
+
+    def test_blanks_go_from_code_alone(self):
+        """Texts, templates and patterns of the script have theirs, and so have quoted texts of a style."""
+        loader = importlib.machinery.SourceFileLoader("embed", str(PARTS / "embed"))
+        embed = importlib.util.module_from_spec(importlib.util.spec_from_loader("embed", loader))
+        loader.exec_module(embed)
+        script = "const a = b ? 'c , d' : `e = ${f}`;\nif (/^ *(g) $/.test(h + 1)) i( 'it\\'s { j }' );"
+        wanted = "const a=b?'c , d':`e = ${f}`;\nif(/^ *(g) $/.test(h + 1))i('it\\'s { j }');"
+        self.assertEqual(embed.tight(script, embed.JS_LITERAL, embed.JS_SIGNS), wanted)
+        lines = "/* All.\n   Of it. */\nlet k = 1;    // a number\n\n  k++;\n"
+        self.assertEqual(embed.lean(lines), "let k = 1;\nk++;\n")
 
 
 class Programs(ProgramTest):

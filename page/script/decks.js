@@ -3,7 +3,7 @@ let feed = null;    // the deck that is being fed
 
 /* A text with letters that cards have: capitals, and no accents. */
 function plain(text) {
-  const own = {ä: 'AE', ö: 'OE', ü: 'UE', ß: 'SS', æ: 'AE', ø: 'OE', å: 'AA'};
+  const own = {'ä': 'AE', 'ö': 'OE', 'ü': 'UE', 'ß': 'SS', 'æ': 'AE', 'ø': 'OE', 'å': 'AA'};
   const spelt = [...text].map(letter => own[letter.toLowerCase()] || letter).join('');
   return spelt.normalize('NFD').replace(/[\u0300-\u036f]/g, '').toUpperCase();
 }

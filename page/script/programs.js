@@ -26,7 +26,12 @@ M080240        MLC  80,240      041 to 080 into the print area
 
 /* A card with a number from 1 to 99 that nobody has seen, for the game. */
 const secretCard = () => [pad(1 + Math.floor(Math.random() * 99), 2)];
-const assembled = name => PROGRAM_FILES[name];
+/* Three blanks and more are a ~ and a letter in the document, D for three. */
+const widened = text => text.replace(/~([D-Z])/g, (_, letter) => ' '.repeat(letter.charCodeAt() - 65));
+function assembled(name) {
+  const {source, cards} = PROGRAM_FILES[name];
+  return {source: widened(source), cards: cards.map(widened)};
+}
 const PROGRAMS = [
   {name: 'hello', cards: [HELLO], source: HELLO_SOURCE, alone: true},
   {name: 'banner', ...assembled('banner')},
