@@ -1,6 +1,6 @@
 -- Places in turn; as many overlaps as lines.
 use Rattle.std.proofs.Common.{◌≡◌, ℕ, zero, suc, ◌+◌, ◌-◌, ◌<◌, ◌==◌, List, [], ◌∷◌, cond, length, refl, arith, ap}
-use Rattle.std.proofs.Common.{Option, None, Some}
+use Rattle.std.proofs.Common.{Some}
 use Rattle.std.specs.Prelude.{map, replicate, slice_index_or, slice_set}
 use Rattle.std.proofs.Common.{◌∙◌}
 use Rattle.source_1401.specs.SourceLine.{lines_of}

@@ -1,5 +1,5 @@
 -- What a line loses: operands after a text or after the last column for them (own).
-use Rattle.std.specs.Prelude.{ℕ, ◌+◌, ◌==◌, Bool, true, false, not, ◌&&◌, ◌||◌, if◌then◌else◌, List, [], ◌∷◌, drop, take}
+use Rattle.std.specs.Prelude.{ℕ, ◌+◌, ◌==◌, Bool, false, not, ◌&&◌, if◌then◌else◌, List, [], ◌∷◌, drop, take}
 use Rattle.std.specs.Prelude.{map, slice_index_or, Option, None, Some}
 use Rattle.std.specs.List.{list_any}
 use Rattle.source_1401.specs.Constant.{is_at_sign}

@@ -32,7 +32,7 @@ fn from_column_21(line: &[u8]) -> &[u8]
 fn cut_to_operands(text: &[u8]) -> &[u8]
     ensures { result.now ≡ take 52 text.now }
 {
-    &text[..text.len().min(OPERAND_COLUMNS)]
+    &text[..OPERAND_COLUMNS.min(text.len())]
 }
 
 /// What a line has in columns 21 to 72.
