@@ -56,7 +56,7 @@ class Taken(Language):
         self.holds("-o: the image", self.folder / "out", program("assemble", plain).stdout)
         self.expect("run", program("run", "--language", "ibm", self.source), 0, "", "...")
         ran = program("run", self.source)
-        letters = [f"{place}: GRAPHIC: the small letter {letter} can't be in its column\n"
+        letters = [f"{place}: GRAPHIC: the small letter {letter} isn't allowed in this column\n"
                    for place, letter in (("1:21", "s"), ("2:16", "d"), ("3:16", "e"))]
         reported = "".join(f"{self.source}:{each}" for each in letters)
         self.expect("run in the plain language", ran, 1, "", f"{reported}ibm1401: line 1: 3 GRAPHIC\n")
