@@ -41,9 +41,10 @@ class Refused(ProgramTest):
     def test_sources_and_images(self):
         outside = "1:1: OUT OF CORE: a place or an address isn't in core, whose size --size names"
         for text, words, told, fault in [
-            ("               ZZZ\n", [], ["1:16: OPERATION: ZZZ is no operation"], "line 1: 6 OPERATION"),
+            ("               ZZZ\n", [], ["1:16: OPERATION: ZZZ isn't an operation"], "line 1: 6 OPERATION"),
             ("               MLL\n               B    Q\n               END  0\n", [],
-             ["1:16: OPERATION: MLL is no operation; did you mean MLC?", "2:21: UNDEFINED: Q is the label of no line"],
+             ["1:16: OPERATION: MLL isn't an operation; did you mean MLC?",
+              "2:21: UNDEFINED: Q isn't the label of any line"],
              "line 1: 6 OPERATION"),
             ("               END  4000\n", [], [outside], "line 1: 9 OUT OF CORE"),
             ("               END  1400\n", ["--size", "1400"], [outside], "line 1: 9 OUT OF CORE"),
