@@ -90,7 +90,7 @@ NOT_OF_OLD_DECKS = [
     ("     L         CTL  66", "4 LABEL", "6: LABEL: the operation takes no label"),
     ("     L         SFX  A", "4 LABEL", "6: LABEL: the operation takes no label"),
     ("     L         ENT  AUTOCODER", "4 LABEL", "6: LABEL: the operation takes no label"),
-    ("               JOB  A\x7fB", "3 GRAPHIC", "22: GRAPHIC: this byte isn't allowed in this column"),
+    ("               JOB  A\x7fB", "3 GRAPHIC", "22: GRAPHIC: the byte 127 isn't allowed in this column"),
     ("               JOB  A\tB", "3 GRAPHIC", "22: GRAPHIC: a tab isn't allowed in this column"),
     ("               CTL  37", "8 OPERAND", "22: OPERAND: CTL needs the size of core storage, 1 to 6, in column 22"),
     ("               SFX  AB", "8 OPERAND", "21: OPERAND: SFX takes one letter or digit"),
@@ -108,7 +108,7 @@ NOT_OF_OLD_DECKS = [
      "25: OPERAND: X4 isn't G, C, 0 or one of X1 to X3, each once, after the areas"),
     ("               DSA  UNDEF,1", "7 UNDEFINED", "21: UNDEFINED: UNDEF isn't the label of any line"),
     ("               DSA  +5", "8 OPERAND", "21: OPERAND: +5 is a literal, but an address is needed here"),
-    ("               DSA  4000", "9 OUT OF CORE", "1: OUT OF CORE: a place or an address isn't in core"),
+    ("               DSA  4000", "9 OUT OF CORE", "1: OUT OF CORE: a place or an address isn't in core, whose size --size names"),
     ("               DCW  -UNDEF", "7 UNDEFINED", "22: UNDEFINED: UNDEF isn't the label of any line"),
 ]
 
@@ -126,6 +126,10 @@ TOGETHER_REFUSED = [
      "6: DOUBLE LABEL: line 1 has the label X1 already"),
     ("               SFX  A\n     TAG       DCW  #1\n               SFX\n"
      "               B    TAG\n", 4, "7 UNDEFINED", None),
+    ("               SFX  A\n     LOOP      B    LOOQ\n               SFX\n", 2, "7 UNDEFINED",
+     "21: UNDEFINED: LOOQ with its suffix, LOOQ A, isn't the label of any line; did you mean LOOP A?"),
+    ("               sfx  b\n     LOOP      B    QQ+1\n               SFX\n", 2, "7 UNDEFINED",
+     "21: UNDEFINED: QQ with its suffix, QQ   B, isn't the label of any line"),
     # the suffix begins, whatever else is wrong with its line
     ("     L         SFX  A\n     ENTRY     DCW  #1\n               SFX\n               B    ENTRYA\n", 1, "4 LABEL",
      "6: LABEL: the operation takes no label"),

@@ -25,10 +25,10 @@ LINES_OF_FAULTY = [
 # A source with a fault of each kind but those above, and the lines that report it.
 FAULTS_OF_A_KIND = [
     (" " * 81 + "\n" + GOOD, ["1:81: LONG LINE: a line has at most 80 columns"]),
-    ("     A         h\n" + GOOD, ["1:16: GRAPHIC: a small letter isn't allowed in this column"]),
+    ("     A         h\n" + GOOD, ["1:16: GRAPHIC: the small letter h isn't allowed in this column"]),
     ("     A\tH\n" + GOOD, ["1:7: GRAPHIC: a tab isn't allowed in this column"]),
     ("     A         \a\n     * \tA TAB IN A COMMENT\n" + GOOD,
-     ["1:16: GRAPHIC: this byte isn't allowed in this column", "2:8: GRAPHIC: a tab isn't allowed in this column"]),
+     ["1:16: GRAPHIC: the byte 7 isn't allowed in this column", "2:8: GRAPHIC: a tab isn't allowed in this column"]),
     ("                H\n" + GOOD, ["1:17: OPERATION: the operation begins after column 16"]),
     ("     A        MLC  A,A\n" + GOOD,
      ["1:6: LABEL: columns 6 to 15 hold more than a label, and an operation begins in column 16"]),
@@ -48,8 +48,18 @@ FAULTS_OF_A_KIND = [
       "3:24: OPERAND: the d-character is missing", "4:22: OPERAND: ,2 is more than the operation takes"]),
     ("               DCW  X\n               DCW\n               DS   #4\n     A         EQU  *\n" + GOOD,
      ["1:21: OPERAND: X isn't a constant", "2:21: OPERAND: an operand is missing",
-      "3:21: OPERAND: #4 isn't a number of places",
+      "3:21: OPERAND: #4 isn't a number of places from 1 to 15999",
       "4:21: OPERAND: * has no value; a number or a label has one"]),
+    ("     TAG       MLC  TAG, TAG\n               BCE  TAG, TAG,X\n" + GOOD,
+     ["1:25: OPERAND: a blank after the comma ends the operands",
+      "2:25: OPERAND: a blank after the comma ends the operands"]),
+    ("     LONGLABEL H    5\n" + GOOD,
+     ["1:6: LABEL: LONGLABEL is longer than a label, which has at most six characters"]),
+    (f"               DCW  @{51 * 'A'}@\n               DCW  {21 * '1'}\n               MLC  +{21 * '2'},5\n" + GOOD,
+     [f"1:21: OPERAND: @{51 * 'A'} has no second at sign up to column 72; a text has at most 50",
+      f"2:21: OPERAND: {21 * '1'} is longer than a number of 20 digits",
+      f"3:21: OPERAND: +{21 * '2'} is longer than a number of 20 digits"]),
+    ("               DS   16000\n" + GOOD, ["1:21: OPERAND: 16000 isn't a number of places from 1 to 15999"]),
     ("     REC       DA   2X4\n     F              3,2\n" + GOOD, ["2:23: OPERAND: 2 isn't a valid place for a field"]),
     ("     REC       DA   2X4\n     F              3,5\n" + GOOD, ["2:23: OPERAND: the field ends after its area"]),
     ("     *\n" * 9, ["10:1: NO END: the source ends without END"]),
@@ -108,7 +118,7 @@ class Faults(ProgramTest):
 
     def test_a_place_outside_core(self):
         self.source.write_text("               ORG  4000\n               H\n               END  0\n")
-        outside = self.lines(["2:1: OUT OF CORE: a place or an address isn't in core"])
+        outside = self.lines(["2:1: OUT OF CORE: a place or an address isn't in core, whose size --size names"])
         self.expect("it", program("assemble", "--all", self.source), 1, "", outside)
 
     def test_standard_error_that_takes_nothing(self):

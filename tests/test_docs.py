@@ -111,7 +111,7 @@ class Autocoder(ProgramTest):
 
     def test_warnings(self):
         warned = re.findall(r"```text\n(warned\.source:[^\n]*\n)(.*?)```", self.text, re.DOTALL)
-        self.assertEqual(5, len(warned))
+        self.assertEqual(10, len(warned))
         for warning, lines in warned:
             (self.folder / "warned.source").write_text(lines)
             for language in ["ibm"] if "this machine has no instruction" in warning else ["plain", "ibm"]:

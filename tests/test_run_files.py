@@ -39,16 +39,40 @@ class Refused(ProgramTest):
             self.expect(f"{words[0]}: {fault}", ran, 1, "", f"ibm1401: {fault}\n")
 
     def test_sources_and_images(self):
-        for text, words, fault in [
-            ("               ZZZ\n", [], "line 1: 6 OPERATION"),
-            ("               END  4000\n", [], "line 1: 9 OUT OF CORE"),
-            ("               END  1400\n", ["--size", "1400"], "line 1: 9 OUT OF CORE"),
-            ("IMAGE1 4001\n", [], "image refused: 2 HEADER"),
-            ("IMAGE2 4001\n", [], "image refused: 2 HEADER"),
-            ("IMAGE1 4000\n", [], "image refused: 5 TRUNCATED"),
+        outside = "1:1: OUT OF CORE: a place or an address isn't in core, whose size --size names"
+        for text, words, told, fault in [
+            ("               ZZZ\n", [], ["1:16: OPERATION: ZZZ isn't an operation"], "line 1: 6 OPERATION"),
+            ("               MLL\n               B    Q\n               END  0\n", [],
+             ["1:16: OPERATION: MLL isn't an operation; did you mean MLC?",
+              "2:21: UNDEFINED: Q isn't the label of any line"],
+             "line 1: 6 OPERATION"),
+            ("               END  4000\n", [], [outside], "line 1: 9 OUT OF CORE"),
+            ("               END  1400\n", ["--size", "1400"], [outside], "line 1: 9 OUT OF CORE"),
+            ("IMAGE1 4001\n", [], [], "image refused: 2 HEADER"),
+            ("IMAGE2 4001\n", [], [], "image refused: 2 HEADER"),
+            ("IMAGE1 4000\n", [], [], "image refused: 5 TRUNCATED"),
         ]:
             self.source.write_text(text)
-            self.expect(f"{text.strip()}", program("run", self.source, *words), 1, "", f"ibm1401: {fault}\n")
+            error = "".join(f"{self.source}:{each}\n" for each in told) + f"ibm1401: {fault}\n"
+            self.expect(f"{text.strip()}", program("run", self.source, *words), 1, "", error)
+
+    def test_warnings(self):
+        """A run warns of what isn't read and of what isn't started, and of nothing else."""
+        self.source.write_text("""\
+     START     H    START
+     SPARE     DCW  @A @ B@
+               EX   START
+               ORG  START
+               H    START
+               DCW  0
+               END  START
+""")
+        told = ["2:21: WARNING: the text ends at its second at sign: the at sign after a blank is in the remark",
+                "3:16: WARNING: nothing is started here: all is loaded before the program runs"]
+        error = "".join(f"{self.source}:{each}\n" for each in told)
+        ran = program("run", self.source)
+        end = "ibm1401: HALT at 0333 (line 5, H START) after 1 step; 0 cards read, 0 lines printed, 0 cards punched\n"
+        self.expect("it", ran, 0, "", error + end)
 
     def test_files_that_cannot_be_read(self):
         self.make_unreadable_files()

@@ -35,10 +35,10 @@ class StopTest(SourceTest):
     """The statement at which a run stopped."""
 
     def last_line(self, lines, *words):
-        """What standard error has after a run of these lines."""
+        """The last line of standard error after a run of these lines, below the warnings."""
         self.source.write_text(lines)
         ran = subprocess.run([PROGRAM, "run", self.source, *words], capture_output=True, timeout=SECONDS)
-        return ran.stderr.decode()
+        return ran.stderr.decode().splitlines(keepends=True)[-1]
 
     def expect_limit(self, lines, shown, at="0400"):
         """At a limit of no step the statement at the entry is shown so."""

@@ -147,7 +147,7 @@ class Decks(ProgramTest):
         self.source.write_text(LIST_AND_PUNCH)
         self.deck.write_text("".join(f"{number:04} AND MORE\n" for number in range(1_203)))
         words, counts = ["run", self.source, "--cards", self.deck, "--paper", self.paper], (1_203, 1_203, 1_203)
-        end = ending("READER", 407, 8_422, *counts, "line 3, NEXT R", NO_CARD)
+        end = ending("READER", 407, 8_422, *counts, "line 3, NEXT R", f"{NO_CARD} (--switches A?)")
         self.expect("a deck that runs out", program(*words), 1, "", end)
         ran = program(*words, "--switches", "A", "--limit", "8421")
         self.expect("a limit one step too low", ran, 1, "", ending("LIMIT", 433, 8_421, *counts, DONE, LIMIT))
@@ -245,6 +245,8 @@ class Stops(ProgramTest):
              "no word mark from 010 down to 000 in the A field"),
             (["               DCW  @.1@"], 400, "LENGTH", "line 2, DCW @.1@",
              "the operation . has no instruction of 2 characters"),
+            (["               A    10,20", "               DC   @5@"], 400, "LENGTH", "A 010,020,5",
+             "the operation A has no instruction of 8 or more characters, and no word mark from 401 to 407 ends it"),
             (["               DCW  @X@"], 400, "NOTFITTED", "line 2, DCW @X@", "the operation X isn't fitted"),
             (["               DCW  @$@"], 400, "OPCODE", "line 2, DCW @$@", "the character $ is no operation"),
             (["               CC   5"], 400, "CARRIAGE", "line 2, CC 5", "the carriage tape has no hole in channel 5"),

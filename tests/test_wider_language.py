@@ -56,7 +56,10 @@ class Taken(Language):
         self.holds("-o: the image", self.folder / "out", program("assemble", plain).stdout)
         self.expect("run", program("run", "--language", "ibm", self.source), 0, "", "...")
         ran = program("run", self.source)
-        self.expect("run in the plain language", ran, 1, "", "ibm1401: line 1: 3 GRAPHIC\n")
+        letters = [f"{place}: GRAPHIC: the small letter {letter} isn't allowed in this column\n"
+                   for place, letter in (("1:21", "s"), ("2:16", "d"), ("3:16", "e"))]
+        reported = "".join(f"{self.source}:{each}" for each in letters)
+        self.expect("run in the plain language", ran, 1, "", f"{reported}ibm1401: line 1: 3 GRAPHIC\n")
         for output in ">&-", ">/dev/full":
             for words in "", "--list":
                 closed = shell(f'"$0" assemble --language ibm {words} "$1" {output}', self.source)
@@ -152,7 +155,8 @@ class SizeAskedFor(Language):
                                "               DCW  #1\n               END  GO\n")
         call = ["run", "--language", "ibm", self.source]
         self.expect("a halt at the end of CTL's places", program(*call), 0, "", "...")
-        fault = "ibm1401: line 2: 9 OUT OF CORE\n"
+        outside = "2:1: OUT OF CORE: a place or an address isn't in core, whose size --size names"
+        fault = f"{self.source}:{outside}\nibm1401: line 2: 9 OUT OF CORE\n"
         self.expect("--size goes before CTL", program(*call, "--size", "8000"), 1, "", fault)
         self.expect("a size refused", program(*call, "--size", "1401"), 1, "", "ibm1401: size refused\n")
         self.source.write_text("               ctl  66\n     GO        CS   332\n               W\n               H\n"

@@ -14,9 +14,6 @@ pub mod fault;
 pub mod assembling;
 pub mod disassembling;
 
-// what is told of a source, a line for each fault or warning
-pub mod source_faults;
-
 // the same from file to file
 pub mod image_file;
 pub mod source_file;

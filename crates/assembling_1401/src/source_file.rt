@@ -2,8 +2,7 @@
 
 use crate::assembling::{assembly_text, check_size, source_deck, write_assembly};
 use crate::fault::AssembleFault;
-use crate::source_faults::{fault_lines, warning_lines};
-use autocoder_1401::{AsmKind, explained_faults, warnings};
+use autocoder_1401::{AsmKind, explained_faults, fault_lines, warning_lines, warnings};
 use calls_1401::{Assembling, Product, Told, is_refused, size_for};
 use files_1401::{FileFault, WriteFault, is_one_file, read_whole, write_whole};
 use source_1401::Language;
@@ -164,7 +163,13 @@ fn all_told(
     first: AssembleFault,
 ) -> AssembleFault {
     match explained_faults(alloc, language, source, size) {
-        Ok(found) if !found.is_empty() => match fault_lines(alloc, name, source, found.as_slice()) {
+        Ok(found) if !found.is_empty() => match fault_lines(
+            alloc,
+            name,
+            language,
+            source,
+            found.as_slice(),
+        ) {
             Ok(lines) => AssembleFault::Faulty(lines),
             Err(_) => AssembleFault::Memory,
         },

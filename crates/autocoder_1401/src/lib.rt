@@ -19,6 +19,7 @@ pub mod tables; // an assembly with its symbol table and its cross-reference
 pub mod all_faults; // all faults of a source
 pub mod explaining; // all faults of a source, each with what is wrong
 pub mod warning; // likely mistakes in a source without a fault
+pub mod messages; // faults and warnings as editors read them
 
 pub use all_faults::faults;
 pub use assembly::{Assembly, assemble, assemble_image, assemble_in};
@@ -26,6 +27,7 @@ pub use explaining::explained_faults;
 pub use explanations_1401::explanation::{Cause, Explanation};
 pub use image_1401::{Image, ImageFault, Segment, Segments, read_image, write_image};
 pub use listing_1401::listing::{Listing, ListingLine};
+pub use messages::{fault_lines, warning_lines};
 pub use symbols_1401::fault::{AsmFault, AsmKind};
 pub use tables::{AssemblyTables, assemble_with_tables};
 pub use warning::{Warning, WarningKind, warnings};

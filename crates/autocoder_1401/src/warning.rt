@@ -25,7 +25,8 @@ pub fn warnings(
     source: &[u8],
     size: u16,
 ) -> Result<Vec<Warning>, AsmFault>
-    ensures ok { IfOk result (λ warnings. warnings.items ≡ all_warnings size (lines_in language source.now)) }
+    ensures ok { IfOk result (λ warnings. warnings.items
+        ≡ all_warnings size source.now (lines_in language source.now)) }
 
     // What the plain language takes says the same in each language, and so is warned of the same.
     ensures plain { AgreesWithPlain language size source.now }

@@ -5,6 +5,8 @@ ghost use Rattle.stop_reasons_1401.specs.Reason.{stop_named};
 use crate::instruction_text::instruction_text;
 use crate::job_report::JobReport;
 use autocoder_1401::Listing;
+use bcd_1401::Cell;
+use core_1401::Core;
 use cpu_1401::{Machine, Stop};
 use std::alloc::Global;
 use std::fmt;
@@ -21,6 +23,43 @@ pub struct Ending {
     pub instruction: Option<Vec<u8>>,
     /// Why the machine stopped; `None` after a halt, and at the limit.
     pub reason: Option<Reason>,
+    /// Whether the hopper was empty while sense switch A was off, and a branch on the last card is in core storage.
+    pub lacks_switch: bool,
+}
+
+/// The cell at a place, if it is in core.
+fn cell_at(core: &Core, at: u16) -> Option<Cell> {
+    if core.in_core(at) {
+        Some(core.get(at))
+    } else {
+        None
+    }
+}
+
+/// Whether a branch on the last card begins at a place: `B`, an address and `A`.
+fn is_last_card_branch(core: &Core, at: u16) -> bool {
+    let (Some(operation), Some(d)) = (cell_at(core, at), cell_at(core, at.saturating_add(4))) else {
+        return false;
+    };
+    let is_ended = match cell_at(core, at.saturating_add(5)) {
+        Some(cell) => cell.mark,
+        None => true,
+    };
+    is_ended
+        && operation.mark
+        && operation.char.graphic() == b'B'
+        && !d.mark
+        && d.char.graphic() == b'A'
+}
+
+/// Whether core storage has a branch on the last card, which is never taken while sense switch A is off.
+pub(crate) fn tests_last_card(core: &Core) -> bool {
+    for at in 0..core.size() {
+        if is_last_card_branch(core, at) {
+            return true;
+        }
+    }
+    false
 }
 
 impl Ending {
@@ -44,6 +83,7 @@ impl Ending {
             at,
             instruction,
             reason: reason_told(machine, report.stop),
+            lacks_switch: false,
         }
     }
 }
@@ -76,6 +116,13 @@ fn put_stop<W: fmt::Write>(f: &mut fmt::Formatter<W>, ending: &Ending) -> fmt::R
 fn put_reason<W: fmt::Write>(f: &mut fmt::Formatter<W>, ending: &Ending) -> fmt::Result {
     if let Some(why) = &ending.reason {
         write!(f, ": {why}")?;
+    }
+    if let Some(Reason::NoSuchLength { len: 8, .. }) = ending.reason {
+        let (first, last) = (u32::from(ending.at) + 1, u32::from(ending.at) + 7);
+        write!(f, ", and no word mark from {first:03} to {last:03} ends it")?;
+    }
+    if ending.lacks_switch {
+        f.write_str(" (--switches A?)")?;
     }
     if ending.report.stop == Stop::Limit {
         f.write_str(": the step limit was reached")?;

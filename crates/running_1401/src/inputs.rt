@@ -1,11 +1,14 @@
 //! The files that a run reads: its program, and its deck.
 ghost use Rattle.std.specs.Prelude.{◌≡◌, ◌++◌, true, false, None, Err, IfOk, IfErr, option_map, string_bytes};
-ghost use Rattle.calls_1401.specs.Sizes.{is_refused};
+ghost use Rattle.calls_1401.specs.Sizes.{is_refused, size_for};
+ghost use Rattle.image_1401.specs.Image.{IsInCore};
+ghost use Rattle.running_1401.specs.Program.{IsAssembled, IsImageOf, is_meant_as_image};
 ghost use Rattle.running_1401.specs.RunFile.{IsOfFile, IsUnread, IsUnreadFile, input_names};
 ghost use Rattle.running_1401.specs.RunJob.{HasFile, HasLoader, HasProgram, IsBegun, IsDeckText};
 
 use crate::fault::RunFault;
 use crate::programs::{Program, loaded_machine, program_of};
+use crate::source_reports::{report_faults, report_warnings};
 use autocoder_1401::Listing;
 use calls_1401::{DEFAULT_SIZE, Start, is_refused};
 use core_1401::CoreFault;
@@ -75,10 +78,33 @@ pub(crate) struct Inputs {
     pub listing: Option<Listing>,
 }
 
-/// A machine with the program of a source or an image, and no cards.
+/// The program of a text, as `program_of` makes it. What is wrong with a source of this name is reported.
+fn reported_program(
+    rt: &(impl Eprint + AllocGlobal),
+    name: &str,
+    language: Language,
+    text: &[u8],
+    size: Option<u16>,
+) -> Result<Program, RunFault>
+    requires { is_refused size ≡ false }
+    ensures image { is_meant_as_image text.now ≡ true → IsImageOf text.now result }
+    ensures source { is_meant_as_image text.now ≡ false
+        → IsAssembled language (size_for size language text.now) text.now result }
+    ensures in_core { IfOk result (λ program. IsInCore program.image) }
+{
+    let program = program_of(rt.alloc(), language, text, size);
+    match &program {
+        Ok(program) if program.listing.is_some() => report_warnings(rt, name, language, text, size),
+        Err(RunFault::Source(first)) => report_faults(rt, name, language, text, size, *first),
+        Ok(_) | Err(_) => {}
+    }
+    program
+}
+
+/// A machine with the program of a source or an image, and no cards. What is wrong with a source is reported.
 #[tactic(auto, using(crate::proofs::BegunLemmas::has_program))]
 fn read_program(
-    rt: &(impl Files + AllocGlobal),
+    rt: &(impl Files + Eprint + AllocGlobal),
     file: String,
     language: Language,
     size: Option<u16>,
@@ -87,8 +113,11 @@ fn read_program(
     ensures file { IfOk result (λ inputs. HasProgram language size inputs.machine inputs.cards) }
     ensures fault { IfErr result (IsUnread Start.Entry size (input_names (string_bytes file) None)) }
 {
+    let Ok(label) = file.clone() else {
+        return Err(RunFault::Memory);
+    };
     let text = read_file(rt, file)?;
-    let program = program_of(rt.alloc(), language, text.as_slice(), size)?;
+    let program = reported_program(rt, label.as_str(), language, text.as_slice(), size)?;
     let Program { image, listing } = program;
     let machine = loaded_machine(rt.alloc(), &image)?;
     Ok(Inputs {

@@ -11,6 +11,7 @@
 mod inputs;
 mod one_file;
 pub mod programs;
+mod source_reports;
 
 // a machine run with a deck; where what comes goes, and who is told
 pub mod deck_running;

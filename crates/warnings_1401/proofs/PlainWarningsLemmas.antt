@@ -20,9 +20,15 @@ use Rattle.faults_1401.specs.FirstFault.{first_place}
 use Rattle.explanations_1401.specs.Notes.{Known, known_in}
 use Rattle.faults_1401.proofs.SoundLemmas.{all_sound, lines_alike}
 use Rattle.placing_1401.specs.Filling.{addresses_of, filled}
+use Rattle.warnings_1401.specs.Loss.{losses_of}
+use Rattle.warnings_1401.specs.Overlap.{overlaps_of}
 use Rattle.warnings_1401.specs.Warnings.{is_not_fitted, is_unused, branches_unset, compares_unlike, read_on, warned_if}
 use Rattle.warnings_1401.specs.Warnings.{warned_of, statement_warnings, line_warnings, warnings_from, all_warnings}
-use Rattle.warnings_1401.specs.Warnings.{AllFitted, PlainIsCarriedOut}
+use Rattle.warnings_1401.specs.Warnings.{is_of_areas, never_branches, starts_nothing, overlap_warned, loss_warned}
+use Rattle.warnings_1401.specs.Warnings.{own_warnings, place_warnings, facts_of, AllFitted, PlainIsCarriedOut}
+use Rattle.warnings_1401.specs.declared.loss.Loss.{Loss}
+use Rattle.warnings_1401.specs.declared.overlap.Overlap.{Overlap}
+use Rattle.warnings_1401.specs.declared.warning.LineFacts.{LineFacts}
 use Rattle.warnings_1401.specs.declared.warning.Warning.{Warning}
 use Rattle.warnings_1401.specs.declared.warning.WarningKind.{WarningKind}
 use Rattle.warnings_1401.specs.declared.warning.WarningKind.TheVariants as kinds
@@ -50,20 +56,57 @@ read_on_warning None number = All-nil IsOther
 read_on_warning (Some place) number =
     All-cons IsOther (record { line = number; kind = kinds.ReadOn place }) [] (λ same. cc) (All-nil IsOther)
 
--- the warnings of a statement that is fitted
-of_statement : (known : Known) (storage : List Cell) (number address : ℕ) (this : Statement)
-    → is_not_fitted (describe this.body).contents ≡ false
-    → AllFitted (statement_warnings known storage number address this)
-of_statement known storage number address this fitted =
-    let contents = (describe this.body).contents in
+-- nor one of an overlap or a loss
+overlap_warning : (overlap : Option Overlap) (number : ℕ) → AllFitted (overlap_warned overlap number)
+overlap_warning None number = All-nil IsOther
+overlap_warning (Some overlap) number =
+    All-cons IsOther (record { line = number; kind = kinds.Overlaps overlap }) [] (λ same. cc) (All-nil IsOther)
+
+loss_warning : (loss : Option Loss) (number : ℕ) → AllFitted (loss_warned loss number)
+loss_warning None number = All-nil IsOther
+loss_warning (Some loss) number =
+    All-cons IsOther (record { line = number; kind = kinds.Loses loss }) [] (λ same. cc) (All-nil IsOther)
+
+loss_unless : (is_remark : Bool) (loss : Option Loss) (number : ℕ)
+    → AllFitted (cond is_remark [] (loss_warned loss number))
+loss_unless true loss number = All-nil IsOther
+loss_unless false loss number = loss_warning loss number
+
+-- the warnings of a statement that is fitted, by what it says
+by_own : (known : Known) (number : ℕ) (this : Statement) → is_not_fitted (describe this.body).contents ≡ false
+    → AllFitted (own_warnings known number this)
+by_own known number this fitted =
+    let row = describe this.body in
     search (
       All-append IsOther,
-      fitted_is_not_told (is_not_fitted contents) number fitted,
-      other_warning (is_unused known (well_formed this.label)) number kinds.UnusedLabel (λ same. cc),
-      other_warning (branches_unset known contents) number kinds.UnsetIndicator (λ same. cc),
-      other_warning (compares_unlike known contents) number kinds.UnlikeSigns (λ same. cc),
-      read_on_warning (read_on storage address contents) number,
+      fitted_is_not_told (is_not_fitted row.contents) number fitted,
+      other_warning (is_unused known (well_formed this.label) && not (is_of_areas row.areas)) number kinds.UnusedLabel
+          (λ same. cc),
+      other_warning (branches_unset known row.contents) number kinds.UnsetIndicator (λ same. cc),
+      other_warning (compares_unlike known row.contents) number kinds.UnlikeSigns (λ same. cc),
+      other_warning (never_branches row.contents) number kinds.NeverBranches (λ same. cc),
+      other_warning (starts_nothing row.addressing) number kinds.StartsNothing (λ same. cc),
     )
+
+-- and by where it is and what its line has
+by_place : (storage : List Cell) (number : ℕ) (facts : LineFacts) (this : Statement)
+    → AllFitted (place_warnings storage number facts this)
+by_place storage number facts this =
+    let row = describe this.body in
+    search (
+      All-append IsOther,
+      read_on_warning (read_on storage facts.address row.contents) number,
+      overlap_warning facts.overlap number,
+      loss_unless row.is_remark facts.loss number,
+    )
+
+-- the warnings of a statement that is fitted
+of_statement : (known : Known) (storage : List Cell) (number : ℕ) (facts : LineFacts) (this : Statement)
+    → is_not_fitted (describe this.body).contents ≡ false
+    → AllFitted (statement_warnings known storage number facts this)
+of_statement known storage number facts this fitted =
+    All-append IsOther (own_warnings known number this) (place_warnings storage number facts this)
+    (by_own known number this fitted) (by_place storage number facts this)
 
 -- a sound statement has the operands that its operation asks for
 has_good_operands : (this : Statement) → is_sound_statement (Some this) ≡ true → has_bad_operands this.body ≡ false
@@ -73,45 +116,49 @@ has_good_operands this sound =
     (not (has_bad_operands this.body)) sound).1
 
 -- the warnings of a sound line of the plain language
-of_line : (known : Known) (storage : List Cell) (number address : ℕ) (text : List ℕ) → is_sound (line_of text) ≡ true
-    → AllFitted (line_warnings known storage number address (line_of text))
-of_line known storage number address text sound =
+of_line : (known : Known) (storage : List Cell) (number : ℕ) (facts : LineFacts) (text : List ℕ)
+    → is_sound (line_of text) ≡ true → AllFitted (line_warnings known storage number facts (line_of text))
+of_line known storage number facts text sound =
     by (is_comment (columns_of text))
     (and_parts (are_good (line_of text).bytes) (is_sound_statement (line_of text).statement) sound).1
   where
     by : (b : Bool) → is_sound_statement (cond b None (Some (statement_of (columns_of text)))) ≡ true
-        → AllFitted (option_map_or (statement_warnings known storage number address)
+        → AllFitted (option_map_or (statement_warnings known storage number facts)
         (cond b None (Some (statement_of (columns_of text)))) [])
     by true sound = All-nil IsOther
     by false sound =
-        of_statement known storage number address (statement_of (columns_of text))
+        of_statement known storage number facts (statement_of (columns_of text))
         (plain_is_fitted (columns_in 16 20 (columns_of text)) (columns_in 21 72 (columns_of text))
         (has_good_operands (statement_of (columns_of text)) sound))
 
 -- the warnings of sound lines of the plain language
-of_lines : (known : Known) (storage : List Cell) (number : ℕ) (addresses : List ℕ) (texts : List (List ℕ))
-    → list_all is_sound (map line_of texts) ≡ true
-    → AllFitted (warnings_from known storage number addresses (map line_of texts))
-of_lines known storage number addresses [] sound = All-nil IsOther
-of_lines known storage number [] (text ∷ texts) sound = All-nil IsOther
-of_lines known storage number (address ∷ addresses) (text ∷ texts) sound =
+of_lines : (known : Known) (storage : List Cell) (number : ℕ) (addresses : List ℕ) (overlaps : List (Option Overlap))
+    (losses : List (Option Loss)) (texts : List (List ℕ)) → list_all is_sound (map line_of texts) ≡ true
+    → AllFitted (warnings_from known storage number addresses overlaps losses (map line_of texts))
+of_lines known storage number addresses overlaps losses [] sound = All-nil IsOther
+of_lines known storage number [] overlaps losses (text ∷ texts) sound = All-nil IsOther
+of_lines known storage number (address ∷ addresses) [] losses (text ∷ texts) sound = All-nil IsOther
+of_lines known storage number (address ∷ addresses) (overlap ∷ overlaps) [] (text ∷ texts) sound = All-nil IsOther
+of_lines known storage number (address ∷ addresses) (overlap ∷ overlaps) (loss ∷ losses) (text ∷ texts) sound =
     let parts = and_parts (is_sound (line_of text)) (list_all is_sound (map line_of texts)) sound in
-    All-append IsOther (line_warnings known storage number address (line_of text))
-    (warnings_from known storage (number + 1) addresses (map line_of texts))
-    (of_line known storage number address text parts.0)
-    (of_lines known storage (number + 1) addresses texts parts.1)
+    let facts = facts_of address overlap loss in
+    All-append IsOther (line_warnings known storage number facts (line_of text))
+    (warnings_from known storage (number + 1) addresses overlaps losses (map line_of texts))
+    (of_line known storage number facts text parts.0)
+    (of_lines known storage (number + 1) addresses overlaps losses texts parts.1)
 
 -- the warnings of all lines
-of_all : (size : ℕ) (texts : List (List ℕ)) → list_all is_sound (map line_of texts) ≡ true
-    → AllFitted (all_warnings size (map line_of texts))
-of_all size texts sound =
+of_all : (size : ℕ) (source : List ℕ) (texts : List (List ℕ)) → list_all is_sound (map line_of texts) ≡ true
+    → AllFitted (all_warnings size source (map line_of texts))
+of_all size source texts sound =
     let lines = map line_of texts in
-    of_lines (known_in lines) (filled size lines) 1 (addresses_of lines) texts sound
+    of_lines (known_in lines) (filled size lines) 1 (addresses_of lines) (overlaps_of size lines) (losses_of source)
+    texts sound
 
 -- the law of what the plain language takes
 pub plain_is_carried_out : (language : Language) (size : ℕ) (source : List ℕ)
-    → PlainIsCarriedOut source (all_warnings size (lines_in language source))
+    → PlainIsCarriedOut source (all_warnings size source (lines_in language source))
 plain_is_carried_out language size source none =
     rw (lines_alike language source none)
-    (of_all size (lines_of source)
+    (of_all size source (lines_of source)
     (all_sound (declared_at Plain (lines_in Plain source)) first_place (lines_in Plain source) none))

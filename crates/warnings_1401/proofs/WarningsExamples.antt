@@ -1,5 +1,5 @@
 -- Sources without a fault, and their warnings, worked out by hand.
-use Rattle.std.proofs.Common.{◌≡◌, ℕ, List, [], ◌∷◌, ◌++◌, refl}
+use Rattle.std.proofs.Common.{◌≡◌, ℕ, List, [], ◌∷◌, ◌++◌, Option, None, Some, refl}
 use Rattle.std.specs.Prelude.{codes}
 use Rattle.bcd_1401.specs.Graphic.{graphics}
 use Rattle.source_1401.specs.Language.{wider_line}
@@ -10,7 +10,9 @@ use Rattle.source_1401.specs.WideOperation.{wide_operations}
 use Rattle.source_1401.specs.WideStatement.{wide_line_with}
 use Rattle.source_1401.specs.declared.language.Language.TheVariants.{Ibm, Plain}
 use Rattle.symbols_1401.specs.Reading.{lines_in}
+use Rattle.warnings_1401.specs.Loss.{loss_of}
 use Rattle.warnings_1401.specs.Warnings.{all_warnings}
+use Rattle.warnings_1401.specs.declared.loss.Loss.TheVariants as losses
 use Rattle.warnings_1401.specs.declared.warning.Warning.{Warning}
 use Rattle.warnings_1401.specs.declared.warning.WarningKind.{WarningKind}
 use Rattle.warnings_1401.specs.declared.warning.WarningKind.TheVariants as kinds
@@ -18,7 +20,7 @@ use Rattle.warnings_1401.specs.declared.warning.WarningKind.TheVariants as kinds
 -- the warnings of a source in 350 places, with all tables open
 warned_of : List ℕ → List Warning
 unfolding columns_of instructions assembler_operations graphics
-warned_of source = all_warnings 350 (lines_in Plain source)
+warned_of source = all_warnings 350 source (lines_in Plain source)
 
 warned : ℕ → WarningKind → Warning
 warned line kind = record { line = line; kind = kind }
@@ -49,7 +51,7 @@ like = refl
 wide_warned_of : List ℕ → List Warning
 unfolding columns_of instructions assembler_operations wide_instructions wide_operations graphics wider_line
     wide_line_with
-wide_warned_of source = all_warnings 4000 (lines_in Ibm source)
+wide_warned_of source = all_warnings 4000 source (lines_in Ibm source)
 
 -- a label that only a literal names is used, and its number may get a sign by way of the literal
 named : List ℕ
@@ -71,3 +73,43 @@ a_chain_is_warned_of : wide_warned_of compared
     ∷ warned 3 (kinds.ReadOn 342) ∷ []
 unfolding wide_warned_of compared warned
 a_chain_is_warned_of = refl
+
+-- the second line fills the place of the first; between them EX would enter a phase
+overlap : ℕ → ℕ → Option ℕ → WarningKind
+overlap place line entered = kinds.Overlaps (record { place = place; line = line; entered = entered })
+
+overwritten : warned_of
+    (codes "     A         DCW  1\n               EX   A\n               ORG  A\n               DCW  2\n               END  A\n")
+    ≡ warned 2 kinds.StartsNothing ∷ warned 4 (overlap 333 1 (Some 2)) ∷ []
+unfolding warned_of warned overlap
+overwritten = refl
+
+overlapped : warned_of
+    (codes "     A         DCW  11\n               ORG  A\n               DCW  2\n               END  A\n")
+    ≡ warned 3 (overlap 334 1 None) ∷ []
+unfolding warned_of warned overlap
+overlapped = refl
+
+-- a text that ends before another at sign, and what is in column 73 after operands up to column 72
+lost : loss_of (codes "               DCW  @A @ B@") ≡ Some losses.Text
+lost = refl
+
+kept : loss_of (codes "               DCW  @A @ B") ≡ None
+kept = refl
+
+column_72 : List ℕ
+column_72 = codes "               DCW  @12345678901234567890123456789012345678901234567890@"
+
+goes_past : loss_of (column_72 ++ codes ",275") ≡ Some losses.Column73
+unfolding column_72
+goes_past = refl
+
+ends_there : loss_of (column_72 ++ codes " 275") ≡ None
+unfolding column_72
+ends_there = refl
+
+-- a switch A to G may be on; X is none
+idle : warned_of (codes "     A         B    A,X\n               B    A,G\n               DCW  0\n               END  A\n")
+    ≡ warned 1 kinds.NeverBranches ∷ []
+unfolding warned_of warned
+idle = refl

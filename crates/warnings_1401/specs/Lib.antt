@@ -1,1 +1,3 @@
+pub mod Loss
+pub mod Overlap
 pub mod Warnings

@@ -1,6 +1,6 @@
 -- What a source without a fault says and hardly means (own).
 use Rattle.std.specs.Prelude.{◌≡◌, ◌≢◌, ℕ, ◌+◌, ◌==◌, Bool, true, false, not, ◌&&◌, ◌||◌, if◌then◌else◌, List, [], ◌∷◌}
-use Rattle.std.specs.Prelude.{◌++◌, pos, nat_le, slice_get, All, Option, Some, None, unwrap_or}
+use Rattle.std.specs.Prelude.{◌++◌, codes, pos, nat_le, slice_get, All, Option, Some, None, unwrap_or}
 use Rattle.std.specs.Option.{option_map_or, option_and_then}
 use Rattle.std.specs.Ordering.{int_eq}
 use Rattle.std.specs.Str.{byte}
@@ -9,8 +9,14 @@ use Rattle.source_1401.specs.Description.{describe}
 use Rattle.source_1401.specs.Operands.{count_of}
 use Rattle.source_1401.specs.Statement.{well_formed}
 use Rattle.source_1401.specs.declared.address.Address.{Address}
+use Rattle.source_1401.specs.declared.address.Base.{Base}
+use Rattle.source_1401.specs.declared.address.Base.TheVariants as bases
 use Rattle.source_1401.specs.declared.constant.Constant.{Constant}
 use Rattle.source_1401.specs.declared.constant.Constant.TheVariants as constants
+use Rattle.source_1401.specs.declared.description.AreaRole.{AreaRole}
+use Rattle.source_1401.specs.declared.description.AreaRole.TheVariants as areas
+use Rattle.source_1401.specs.declared.description.Addressing.{Addressing}
+use Rattle.source_1401.specs.declared.description.Addressing.TheVariants as addressing
 use Rattle.source_1401.specs.declared.description.Contents.{Contents}
 use Rattle.source_1401.specs.declared.description.Contents.TheVariants as contents
 use Rattle.source_1401.specs.declared.label.Label.{Label}
@@ -30,7 +36,12 @@ use Rattle.faults_1401.specs.FirstFault.{first_fault, symbol_in_base}
 use Rattle.explanations_1401.specs.Notes.{Known, known_in}
 use Rattle.placing_1401.specs.Filling.{filled, addresses_of}
 use Rattle.placing_1401.specs.Placement.{instruction_length, chain_length}
-use Rattle.placing_1401.specs.Fitted.{is_fitted}
+use Rattle.placing_1401.specs.Fitted.{is_fitted, is_one_of}
+use Rattle.warnings_1401.specs.Loss.{losses_of}
+use Rattle.warnings_1401.specs.Overlap.{overlaps_of}
+use Rattle.warnings_1401.specs.declared.loss.Loss.{Loss}
+use Rattle.warnings_1401.specs.declared.overlap.Overlap.{Overlap}
+use Rattle.warnings_1401.specs.declared.warning.LineFacts.{LineFacts}
 use Rattle.warnings_1401.specs.declared.warning.Warning.{Warning}
 use Rattle.warnings_1401.specs.declared.warning.WarningKind.{WarningKind}
 use Rattle.warnings_1401.specs.declared.warning.WarningKind.TheVariants as warnings
@@ -67,6 +78,13 @@ is_not_fitted (contents.AddressConstant constant) = false
 abbrev pub is_unused : Known → Option Label → Bool
 is_unused known None = false
 is_unused known (Some label) = not (known.is_named label)
+
+-- a field of areas, which only describes a record
+abbrev pub is_of_areas : AreaRole → Bool
+is_of_areas areas.Ends = false
+is_of_areas areas.Keeps = false
+is_of_areas (areas.Makes made) = false
+is_of_areas (areas.Divides span) = true
 
 -- the d-characters of a branch by the last comparison: unequal, equal, low, high
 abbrev pub tests_comparison : ℕ → Bool
@@ -172,6 +190,48 @@ read_on storage address (contents.Areas areas) = None
 read_on storage address (contents.Chain chain) = chain_read_on storage address chain
 read_on storage address (contents.AddressConstant constant) = None
 
+-- a d-character with which a branch never branches: of five characters, and of V
+abbrev pub is_idle : ℕ → Bool → ℕ → Bool
+is_idle operation has_second d =
+    if operation == byte "V" then not (is_one_of (codes "12BKS3CLT") d)
+    else (operation == byte "B") && not has_second && not (is_one_of (codes "/STUZABCDEFG9@") d)
+
+-- a branch that its d-character never lets branch
+abbrev pub never_branches : Contents → Bool
+never_branches contents.Nothing = false
+never_branches (contents.Instruction instruction of) =
+    option_map_or (is_idle instruction.operation (count_of of.b == 1)) of.d false
+never_branches (contents.MarkedConstant constant) = false
+never_branches (contents.Constant constant) = false
+never_branches (contents.Space places) = false
+never_branches (contents.Areas areas) = false
+never_branches (contents.Chain chain) = false
+never_branches (contents.AddressConstant constant) = false
+
+-- a place at which a phase may begin: neither place 0 nor an asterisk, which only have literals placed
+abbrev pub may_begin : Base → Bool
+may_begin (bases.Number number) = not (number == 0)
+may_begin (bases.Symbol label) = true
+may_begin bases.Here = false
+may_begin (bases.Register number) = true
+may_begin bases.NextHundred = false
+
+abbrev pub names_phase : OperandField → Bool
+names_phase fields.Absent = false
+names_phase fields.Malformed = false
+names_phase (fields.Operand (operands.Address address)) = may_begin address.base
+names_phase (fields.Operand (operands.Literal literal)) = false
+names_phase (fields.Operand (operands.Unit unit)) = false
+
+-- an EX or XFR that names a phase, which nothing enters
+abbrev pub starts_nothing : Addressing → Bool
+starts_nothing addressing.Nothing = false
+starts_nothing (addressing.Addresses of) = false
+starts_nothing (addressing.EarlierValue of) = false
+starts_nothing (addressing.Equal of) = false
+starts_nothing (addressing.Value of) = names_phase of.a
+starts_nothing (addressing.Entry of) = false
+
 -- a warning of this kind at this line, if there is one
 abbrev pub warned_if : Bool → ℕ → WarningKind → List Warning
 warned_if is number kind = if is then record { line = number; kind = kind } ∷ [] else []
@@ -180,29 +240,61 @@ abbrev pub warned_of : Option ℕ → ℕ → List Warning
 warned_of None number = []
 warned_of (Some place) number = record { line = number; kind = warnings.ReadOn place } ∷ []
 
--- the warnings of a statement on the line of this number, which begins at this address
-abbrev pub statement_warnings : Known → List Cell → ℕ → ℕ → Statement → List Warning
-statement_warnings known storage number address this =
+abbrev pub overlap_warned : Option Overlap → ℕ → List Warning
+overlap_warned None number = []
+overlap_warned (Some overlap) number = record { line = number; kind = warnings.Overlaps overlap } ∷ []
+
+abbrev pub loss_warned : Option Loss → ℕ → List Warning
+loss_warned None number = []
+loss_warned (Some loss) number = record { line = number; kind = warnings.Loses loss } ∷ []
+
+-- the warnings of a statement by what it says, on the line of this number
+abbrev pub own_warnings : Known → ℕ → Statement → List Warning
+own_warnings known number this =
     warned_if (is_not_fitted (describe this.body).contents) number warnings.NotFitted
-    ++ warned_if (is_unused known (well_formed this.label)) number warnings.UnusedLabel
+    ++ warned_if (is_unused known (well_formed this.label) && not (is_of_areas (describe this.body).areas)) number
+    warnings.UnusedLabel
     ++ warned_if (branches_unset known (describe this.body).contents) number warnings.UnsetIndicator
     ++ warned_if (compares_unlike known (describe this.body).contents) number warnings.UnlikeSigns
-    ++ warned_of (read_on storage address (describe this.body).contents) number
+    ++ warned_if (never_branches (describe this.body).contents) number warnings.NeverBranches
+    ++ warned_if (starts_nothing (describe this.body).addressing) number warnings.StartsNothing
 
-abbrev pub line_warnings : Known → List Cell → ℕ → ℕ → Line → List Warning
-line_warnings known storage number address line =
-    option_map_or (statement_warnings known storage number address) line.statement []
+-- the warnings of a statement by where it is and what its line has; a remark may have any text
+abbrev pub place_warnings : List Cell → ℕ → LineFacts → Statement → List Warning
+place_warnings storage number facts this =
+    warned_of (read_on storage facts.address (describe this.body).contents) number
+    ++ overlap_warned facts.overlap number
+    ++ (if (describe this.body).is_remark then [] else loss_warned facts.loss number)
 
--- the warnings of lines, counting them from this number, each of which begins at its address
-abbrev pub warnings_from : Known → List Cell → ℕ → List ℕ → List Line → List Warning
-warnings_from known storage number addresses [] = []
-warnings_from known storage number [] (line ∷ lines) = []
-warnings_from known storage number (address ∷ addresses) (line ∷ lines) =
-    line_warnings known storage number address line ++ warnings_from known storage (number + 1) addresses lines
+-- the warnings of a statement on the line of this number
+abbrev pub statement_warnings : Known → List Cell → ℕ → LineFacts → Statement → List Warning
+statement_warnings known storage number facts this =
+    own_warnings known number this ++ place_warnings storage number facts this
 
--- the warnings of a source's lines, in their order, for core storage of this size
-abbrev pub all_warnings : ℕ → List Line → List Warning
-all_warnings size lines = warnings_from (known_in lines) (filled size lines) 1 (addresses_of lines) lines
+abbrev pub line_warnings : Known → List Cell → ℕ → LineFacts → Line → List Warning
+line_warnings known storage number facts line =
+    option_map_or (statement_warnings known storage number facts) line.statement []
+
+-- what is known of a line
+abbrev pub facts_of : ℕ → Option Overlap → Option Loss → LineFacts
+facts_of address overlap loss = record { address = address; overlap = overlap; loss = loss }
+
+-- the warnings of lines, counting them from this number: each begins at its address, and has its overlap and its loss
+abbrev pub warnings_from : Known → List Cell → ℕ → List ℕ → List (Option Overlap) → List (Option Loss) → List Line
+    → List Warning
+warnings_from known storage number addresses overlaps losses [] = []
+warnings_from known storage number [] overlaps losses (line ∷ lines) = []
+warnings_from known storage number (address ∷ addresses) [] losses (line ∷ lines) = []
+warnings_from known storage number (address ∷ addresses) (overlap ∷ overlaps) [] (line ∷ lines) = []
+warnings_from known storage number (address ∷ addresses) (overlap ∷ overlaps) (loss ∷ losses) (line ∷ lines) =
+    line_warnings known storage number (facts_of address overlap loss) line
+    ++ warnings_from known storage (number + 1) addresses overlaps losses lines
+
+-- the warnings of a source whose lines these are, in their order, for core storage of this size
+abbrev pub all_warnings : ℕ → List ℕ → List Line → List Warning
+all_warnings size source lines =
+    warnings_from (known_in lines) (filled size lines) 1 (addresses_of lines) (overlaps_of size lines)
+    (losses_of source) lines
 
 -- a source whose lines have no fault in the plain language, whatever the size of core storage
 abbrev pub IsTakenPlain : List ℕ → Type 0

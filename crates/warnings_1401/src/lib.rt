@@ -8,6 +8,10 @@
 //! `placing_1401`.
 #![tactic(auto)]
 
+pub mod loss; // operands that are lost after a text or the last column
+pub mod overlap; // places that two lines fill
 pub mod warning; // what a source without a fault says and hardly means
 
+pub use loss::Loss;
+pub use overlap::Overlap;
 pub use warning::{Warning, WarningKind, source_warnings};

@@ -1,25 +1,33 @@
 //! What a source without a fault says and hardly means.
 ghost use Rattle.std.specs.Prelude.{◌≡◌, ◌+◌, ◌<◌, ◌^◌, ◌++◌, length, IfOk, IfErr, OnOk};
+ghost use Rattle.source_1401.specs.SourceLine.{lines_of};
 ghost use Rattle.source_1401.specs.Statement.{well_formed};
 ghost use Rattle.symbols_1401.specs.Reading.{lines_in};
 ghost use Rattle.symbols_1401.specs.Fault.{IsMemory};
 ghost use Rattle.explanations_1401.specs.Noted.{known_of};
 ghost use Rattle.explanations_1401.specs.Notes.{known_in};
 ghost use Rattle.placing_1401.specs.Filling.{filled, addresses_of};
+ghost use Rattle.placing_1401.specs.Fitted.{is_one_of};
 ghost use Rattle.placing_1401.specs.Placement.{instruction_length};
 ghost use Rattle.warnings_1401.specs.Warnings.{is_unit, is_unfitted, is_unfitted_chain, is_not_fitted, is_unused};
 ghost use Rattle.warnings_1401.specs.Warnings.{tests_comparison, is_unset, branches_unset, is_signed_literal};
 ghost use Rattle.warnings_1401.specs.Warnings.{lone_symbol, stays_unsigned, are_unlike, compares_unlike, longest};
 ghost use Rattle.warnings_1401.specs.Warnings.{ends, open_place, chain_read_on, read_on, warned_if, warned_of};
-ghost use Rattle.warnings_1401.specs.Warnings.{statement_warnings, line_warnings, warnings_from, all_warnings};
+ghost use Rattle.warnings_1401.specs.Warnings.{line_warnings, warnings_from, all_warnings};
+ghost use Rattle.warnings_1401.specs.Warnings.{is_of_areas, is_idle, never_branches, may_begin, names_phase, starts_nothing};
+ghost use Rattle.warnings_1401.specs.Warnings.{overlap_warned, loss_warned, own_warnings, place_warnings};
+ghost use Rattle.warnings_1401.specs.Loss.{losses_of};
+ghost use Rattle.warnings_1401.specs.Overlap.{overlaps_of};
 ghost use Rattle.warnings_1401.specs.Warnings.{PlainIsCarriedOut};
 
+use crate::loss::{Loss, losses_of};
+use crate::overlap::{Overlap, overlaps_of};
 use bcd_1401::{Cell, Char};
 use explanations_1401::Notes;
 use placing_1401::{Filling, chain_length, fill, instruction_length, is_fitted};
 use source_1401::{
-    Base, Chain, Constant, Contents, Instruction, Label, LabelField, Language, Literal, Operand,
-    OperandField, Operands, Statement,
+    Addressing, AreaRole, Base, Chain, Constant, Contents, Instruction, Label, LabelField,
+    Language, Literal, Operand, OperandField, Operands, Statement,
 };
 use std::alloc::Global;
 use symbols_1401::{AsmFault, KeptLine, SourceHashing, read_lines};
@@ -30,15 +38,23 @@ pub enum WarningKind {
     /// The machine never carries out the instruction: its operation or its unit belongs to a feature that it hasn't
     /// got, or the operation has no instructions of this length.
     NotFitted,
-    /// No operand names the label.
+    /// No operand names the label, which isn't that of a field of areas: such a field may only describe a record.
     UnusedLabel,
     /// A branch tests the last comparison or an overflow, and no instruction compares, or adds and subtracts.
     UnsetIndicator,
     /// A literal with a sign is compared with a number that has none. The sign is a zone over the units, so they are
     /// never equal.
     UnlikeSigns,
+    /// A branch has a d-character with which it never branches.
+    NeverBranches,
+    /// An EX or XFR names a place at which nothing is started: all is loaded before the program runs.
+    StartsNothing,
     /// No word mark follows an instruction, which is read on at this place.
     ReadOn(u32),
+    /// An earlier line fills a place of the line already.
+    Overlaps(Overlap),
+    /// Something of the line isn't read.
+    Loses(Loss),
 }
 
 /// A warning.
@@ -99,6 +115,16 @@ fn is_unused(notes: &Notes, label: LabelField) -> bool
     match label {
         LabelField::Label(label) => !notes.named.contains(&label),
         LabelField::Absent | LabelField::Malformed => false,
+    }
+}
+
+/// Whether a statement is a field of areas.
+fn is_of_areas(areas: AreaRole) -> bool
+    ensures { result ≡ is_of_areas areas }
+{
+    match areas {
+        AreaRole::Divides(_) => true,
+        AreaRole::Ends | AreaRole::Keeps | AreaRole::Makes(_) => false,
     }
 }
 
@@ -266,6 +292,84 @@ fn read_on(storage: &[Cell], address: u16, contents: Contents) -> Option<u32>
     }
 }
 
+/// Whether a graphic is one of these.
+fn is_one_of(graphics: &[u8], graphic: u8) -> bool
+    ensures { result ≡ is_one_of graphics.now graphic }
+{
+    graphics.iter().any(|each| *each == graphic)
+}
+
+/// Whether a branch of this operation, with a second address or without, never branches with this d-character.
+fn is_idle(operation: u8, has_second: bool, d: u8) -> bool
+    ensures { result ≡ is_idle operation has_second d }
+{
+    if operation == b'V' {
+        !is_one_of(b"12BKS3CLT", d)
+    } else {
+        operation == b'B' && !has_second && !is_one_of(b"/STUZABCDEFG9@", d)
+    }
+}
+
+/// Whether a statement is a branch that its d-character never lets branch.
+fn never_branches(contents: Contents) -> bool
+    ensures { result ≡ never_branches contents }
+{
+    match contents {
+        Contents::Instruction(instruction, operands) => match operands.d {
+            Some(d) => is_idle(
+                instruction.operation,
+                !matches!(operands.b, OperandField::Absent),
+                d,
+            ),
+            None => false,
+        },
+        Contents::Nothing
+        | Contents::MarkedConstant(_)
+        | Contents::Constant(_)
+        | Contents::Space(_)
+        | Contents::Areas(_)
+        | Contents::Chain(_)
+        | Contents::AddressConstant(_) => false,
+    }
+}
+
+/// Whether a phase may begin at what an address is counted from.
+fn may_begin(base: Base) -> bool
+    ensures { result ≡ may_begin base }
+{
+    match base {
+        Base::Number(number) => number != 0,
+        Base::Symbol(_) | Base::Register(_) => true,
+        Base::Here | Base::NextHundred => false,
+    }
+}
+
+/// Whether an operand names a place at which a phase may begin.
+fn names_phase(field: OperandField) -> bool
+    ensures { result ≡ names_phase field }
+{
+    match field {
+        OperandField::Operand(Operand::Address(address)) => may_begin(address.base),
+        OperandField::Operand(Operand::Literal(_) | Operand::Unit(_))
+        | OperandField::Absent
+        | OperandField::Malformed => false,
+    }
+}
+
+/// Whether a statement with this addressing is an EX or XFR that names a phase.
+fn starts_nothing(addressing: Addressing) -> bool
+    ensures { result ≡ starts_nothing addressing }
+{
+    match addressing {
+        Addressing::Value(operands) => names_phase(operands.a),
+        Addressing::Nothing
+        | Addressing::Addresses(_)
+        | Addressing::EarlierValue(_)
+        | Addressing::Equal(_)
+        | Addressing::Entry(_) => false,
+    }
+}
+
 /// Adds a warning, if there is one.
 fn warn_if(
     warnings: &mut Vec<Warning>,
@@ -296,76 +400,152 @@ fn warn_of(warnings: &mut Vec<Warning>, place: Option<u32>, line: u64) -> Result
     Ok(())
 }
 
-/// What is known of all lines when the warnings of one are told.
+/// Adds the warning of an overlap, if there is one.
+fn warn_of_overlap(
+    warnings: &mut Vec<Warning>,
+    overlap: Option<Overlap>,
+    line: u64,
+) -> Result<(), AsmFault>
+    ensures ok { OnOk result (warnings.new.items ≡ warnings.old.items ++ overlap_warned overlap line) }
+    ensures err { IfErr result IsMemory }
+{
+    if let Some(overlap) = overlap {
+        warnings.push(Warning {
+            line,
+            kind: WarningKind::Overlaps(overlap),
+        })?;
+    }
+    Ok(())
+}
+
+/// Adds the warning of a loss, if there is one.
+fn warn_of_loss(warnings: &mut Vec<Warning>, loss: Option<Loss>, line: u64) -> Result<(), AsmFault>
+    ensures ok { OnOk result (warnings.new.items ≡ warnings.old.items ++ loss_warned loss line) }
+    ensures err { IfErr result IsMemory }
+{
+    if let Some(loss) = loss {
+        warnings.push(Warning {
+            line,
+            kind: WarningKind::Loses(loss),
+        })?;
+    }
+    Ok(())
+}
+
+/// What is known of a line by where it is and by its columns.
+#[derive(Clone, Copy, Debug, PartialEq, Eq)]
+pub struct LineFacts {
+    /// The address at which it begins.
+    pub address: u16,
+    /// Its first place that an earlier line fills.
+    pub overlap: Option<Overlap>,
+    /// What it loses.
+    pub loss: Option<Loss>,
+}
+
+/// What is known of all lines when one is warned of.
 #[derive(Drop)]
 struct Context {
     /// What they say of labels, and which indicators they can set.
     notes: Notes,
     /// Core storage as their cells fill it, and where they begin.
     filling: Filling,
+    /// The overlap of each.
+    overlaps: Vec<Option<Overlap>>,
+    /// What each loses.
+    losses: Vec<Option<Loss>>,
 }
 
 impl Context {
-    /// What is known of these lines, for core storage of this size.
-    fn new(
-        alloc: Global,
-        hashing: SourceHashing,
-        size: u16,
-        lines: &[KeptLine],
-    ) -> Result<Context, AsmFault>
-        requires { length lines.now < 2 ^ 32 }
+    /// What is known of these lines of a source, for core storage of this size.
+    #[tactic(auto, using(crate::proofs::OverlapLemmas::as_many_filled, crate::proofs::OverlapLemmas::as_many_overlaps))]
+    fn new(alloc: Global, size: u16, source: &[u8], lines: &[KeptLine]) -> Result<Context, AsmFault>
+        requires few { length lines.now < 2 ^ 32 }
         ensures notes { IfOk result (λ this. known_of this.notes ≡ known_in lines.now) }
         ensures storage { IfOk result (λ this. this.filling.storage.items ≡ filled size lines.now) }
         ensures addresses { IfOk result (λ this. this.filling.addresses.items ≡ addresses_of lines.now) }
         ensures as_many { IfOk result (λ this. length this.filling.addresses.items ≡ length lines.now) }
+        ensures overlaps { IfOk result (λ this. this.overlaps.items ≡ overlaps_of size lines.now) }
+        ensures losses { IfOk result (λ this. this.losses.items ≡ losses_of source.now) }
         ensures err { IfErr result IsMemory }
     {
+        let hashing = SourceHashing::from_source(source);
         let notes = Notes::new(alloc, hashing, lines)?;
         let filling = fill(alloc, hashing, size, lines)?;
-        Ok(Context { notes, filling })
+        let overlaps = overlaps_of(alloc, size, lines, &filling.places)?;
+        let losses = losses_of(alloc, source)?;
+        Ok(Context {
+            notes,
+            filling,
+            overlaps,
+            losses,
+        })
     }
 }
 
-/// Adds the warnings of a statement on the line of this number, which begins at this address.
-fn warn_of_statement(
+/// Adds the warnings of a statement by what it says, on the line of this number.
+fn warn_of_own(
     warnings: &mut Vec<Warning>,
-    this: &Context,
+    notes: &Notes,
     number: u64,
-    address: u16,
     statement: Statement,
 ) -> Result<(), AsmFault>
-    ensures ok { OnOk result (warnings.new.items ≡ warnings.old.items
-        ++ statement_warnings (known_of this.now.notes) this.now.filling.storage.items number address statement) }
+    ensures ok { OnOk result
+        (warnings.new.items ≡ warnings.old.items ++ own_warnings (known_of notes.now) number statement) }
     ensures err { IfErr result IsMemory }
 {
-    let contents = statement.body.describe().contents;
-    let not_fitted = is_not_fitted(contents);
-    let unused = is_unused(&this.notes, statement.label);
-    let unset = branches_unset(&this.notes, contents);
-    let unlike = compares_unlike(&this.notes, contents);
-    let place = read_on(&this.filling.storage, address, contents);
+    let row = statement.body.describe();
+    let not_fitted = is_not_fitted(row.contents);
+    let unused = is_unused(notes, statement.label) && !is_of_areas(row.areas);
+    let unset = branches_unset(notes, row.contents);
+    let unlike = compares_unlike(notes, row.contents);
+    let idle = never_branches(row.contents);
+    let starts = starts_nothing(row.addressing);
     warn_if(warnings, not_fitted, number, WarningKind::NotFitted)?;
     warn_if(warnings, unused, number, WarningKind::UnusedLabel)?;
     warn_if(warnings, unset, number, WarningKind::UnsetIndicator)?;
     warn_if(warnings, unlike, number, WarningKind::UnlikeSigns)?;
-    warn_of(warnings, place, number)?;
-    Ok(())
+    warn_if(warnings, idle, number, WarningKind::NeverBranches)?;
+    warn_if(warnings, starts, number, WarningKind::StartsNothing)
 }
 
-/// Adds the warnings of the line of this number, which begins at this address.
+/// Adds the warnings of a statement by where it is and what its line has.
+fn warn_of_place(
+    warnings: &mut Vec<Warning>,
+    storage: &[Cell],
+    number: u64,
+    facts: LineFacts,
+    statement: Statement,
+) -> Result<(), AsmFault>
+    ensures ok { OnOk result (warnings.new.items
+        ≡ warnings.old.items ++ place_warnings storage.now number facts statement) }
+    ensures err { IfErr result IsMemory }
+{
+    let row = statement.body.describe();
+    let place = read_on(storage, facts.address, row.contents);
+    let loss = if row.is_remark { None } else { facts.loss };
+    warn_of(warnings, place, number)?;
+    warn_of_overlap(warnings, facts.overlap, number)?;
+    warn_of_loss(warnings, loss, number)
+}
+
+/// Adds the warnings of the line of this number.
 fn warn_of_line(
     warnings: &mut Vec<Warning>,
     this: &Context,
     number: u64,
-    address: u16,
+    facts: LineFacts,
     line: &KeptLine,
 ) -> Result<(), AsmFault>
     ensures ok { OnOk result (warnings.new.items ≡ warnings.old.items
-        ++ line_warnings (known_of this.now.notes) this.now.filling.storage.items number address line.now) }
+        ++ line_warnings (known_of this.now.notes) this.now.filling.storage.items number facts line.now) }
     ensures err { IfErr result IsMemory }
 {
     match line.line().statement {
-        Some(statement) => warn_of_statement(warnings, this, number, address, statement),
+        Some(statement) => {
+            warn_of_own(warnings, &this.notes, number, statement)?;
+            warn_of_place(warnings, &this.filling.storage, number, facts, statement)
+        }
         None => Ok(()),
     }
 }
@@ -373,31 +553,43 @@ fn warn_of_line(
 /// The warnings of lines.
 fn warnings_of(alloc: Global, this: &Context, lines: &[KeptLine]) -> Result<Vec<Warning>, AsmFault>
     requires few { length lines.now < 2 ^ 32 }
-    requires as_many { length this.now.filling.addresses.items ≡ length lines.now }
+    requires addresses { length this.now.filling.addresses.items ≡ length lines.now }
+    requires overlaps { length this.now.overlaps.items ≡ length lines.now }
+    requires losses { length this.now.losses.items ≡ length lines.now }
     ensures ok { IfOk result (λ warnings. warnings.items ≡ warnings_from (known_of this.now.notes)
-        this.now.filling.storage.items 1 this.now.filling.addresses.items lines.now) }
+        this.now.filling.storage.items 1 this.now.filling.addresses.items this.now.overlaps.items
+        this.now.losses.items lines.now) }
     ensures err { IfErr result IsMemory }
 {
     let mut warnings = Vec::new(alloc);
     let addresses = this.filling.addresses.as_slice();
+    let overlaps = this.overlaps.as_slice();
+    let losses = this.losses.as_slice();
     for (i, line) in lines.iter().enumerate() {
-        warn_of_line(&mut warnings, this, i as u64 + 1, addresses[i], line)?;
+        let facts = LineFacts {
+            address: addresses[i],
+            overlap: overlaps[i],
+            loss: losses[i],
+        };
+        warn_of_line(&mut warnings, this, i as u64 + 1, facts, line)?;
     }
     Ok(warnings)
 }
 
-/// The warnings of lines for core storage of this size.
+/// The warnings of the lines of a source for core storage of this size.
+#[tactic(auto, using(crate::proofs::OverlapLemmas::as_many_of_all, crate::proofs::OverlapLemmas::as_many_losses))]
 fn warnings_in(
     alloc: Global,
-    hashing: SourceHashing,
     size: u16,
+    source: &[u8],
     lines: &[KeptLine],
 ) -> Result<Vec<Warning>, AsmFault>
-    requires { length lines.now < 2 ^ 32 }
-    ensures ok { IfOk result (λ warnings. warnings.items ≡ all_warnings size lines.now) }
+    requires few { length lines.now < 2 ^ 32 }
+    requires as_many { length lines.now ≡ length (lines_of source.now) }
+    ensures ok { IfOk result (λ warnings. warnings.items ≡ all_warnings size source.now lines.now) }
     ensures err { IfErr result IsMemory }
 {
-    let this = Context::new(alloc, hashing, size, lines)?;
+    let this = Context::new(alloc, size, source, lines)?;
     warnings_of(alloc, &this, lines)
 }
 
@@ -415,13 +607,14 @@ pub fn source_warnings(
     source: &[u8],
     size: u16,
 ) -> Result<Vec<Warning>, AsmFault>
-    ensures ok { IfOk result (λ warnings. warnings.items ≡ all_warnings size (lines_in language source.now)) }
+    ensures ok { IfOk result (λ warnings. warnings.items
+        ≡ all_warnings size source.now (lines_in language source.now)) }
 
     // The machine carries out each instruction of what the plain language takes: no warning tells otherwise.
     ensures carried_out { IfOk result (λ warnings. PlainIsCarriedOut source.now warnings.items) }
     ensures err { IfErr result IsMemory }
 {
     let lines = read_lines(alloc, language, source)?;
-    let warnings = warnings_in(alloc, SourceHashing::from_source(source), size, &lines)?;
+    let warnings = warnings_in(alloc, size, source, &lines)?;
     Ok(warnings)
 }

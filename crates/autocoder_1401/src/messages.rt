@@ -1,9 +1,14 @@
 //! The faults and the warnings of a source, as editors read them.
 
-use autocoder_1401::{AsmFault, Cause, Explanation, Warning, WarningKind};
-use source_1401::{OperandFlaw, Stretch, split_line};
+use explanations_1401::{Cause, Explanation};
+use source_1401::{LABEL_LENGTH, Language, OperandFlaw, Stretch, split_line};
 use std::alloc::{AllocError, Global};
 use std::str;
+use symbols_1401::AsmFault;
+use warnings_1401::{Loss, Overlap, Warning, WarningKind};
+
+/// How many digits a number has at most.
+const MOST_DIGITS: usize = 20;
 
 /// The column in which a label begins.
 const LABEL_COLUMN: u8 = 6;
@@ -21,6 +26,23 @@ fn name_in(columns: &[u8]) -> &str {
     str::from_utf8(columns).unwrap_or("").trim_end()
 }
 
+/// Whether a word is a number but for its length.
+fn is_long(word: &str) -> bool {
+    let digits = match word.as_bytes() {
+        [b'+' | b'-', digits @ ..] => digits,
+        digits => digits,
+    };
+    digits.len() > MOST_DIGITS && digits.iter().all(|digit| digit.is_ascii_digit())
+}
+
+/// Whether a word is a text without a second at sign.
+fn is_open(word: &str) -> bool {
+    match word.as_bytes() {
+        [b'@', text @ ..] => !text.contains(&b'@'),
+        _ => false,
+    }
+}
+
 /// What is wrong with an operand, which is this word.
 fn operand_help(alloc: Global, flaw: OperandFlaw, word: &str) -> Result<String, AllocError> {
     match flaw {
@@ -34,9 +56,17 @@ fn operand_help(alloc: Global, flaw: OperandFlaw, word: &str) -> Result<String, 
         OperandFlaw::NoSuffix => String::from_str(alloc, "SFX takes one letter or digit"),
         OperandFlaw::TooMuch => format!(in alloc; "{word} is more than the operation takes"),
         _ if word.is_empty() => String::from_str(alloc, "an operand is missing"),
+        OperandFlaw::NoAddress | OperandFlaw::NoConstant if is_long(word) => {
+            format!(in alloc; "{word} is longer than a number of 20 digits")
+        }
+        OperandFlaw::NoAddress | OperandFlaw::NoConstant if is_open(word) => {
+            format!(in alloc; "{word} has no second at sign up to column 72; a text has at most 50")
+        }
         OperandFlaw::NoAddress => format!(in alloc; "{word} is neither an address nor a literal"),
         OperandFlaw::NoConstant => format!(in alloc; "{word} isn't a constant"),
-        OperandFlaw::NoCount => format!(in alloc; "{word} isn't a number of places"),
+        OperandFlaw::NoCount => {
+            format!(in alloc; "{word} isn't a number of places from 1 to 15999")
+        }
         OperandFlaw::NoAreas => {
             format!(in alloc; "{word} isn't a number of areas and their length, such as 2X80")
         }
@@ -68,19 +98,107 @@ fn label_help(alloc: Global, first: u8, word: &str) -> Result<String, AllocError
             alloc,
             "columns 6 to 15 hold more than a label, and an operation begins in column 16",
         )
+    } else if word.len() > LABEL_LENGTH {
+        format!(in alloc; "{word} is longer than a label, which has at most six characters")
     } else {
         format!(in alloc; "{word} isn't a label")
     }
 }
 
-/// What is wrong at a fault, in a few words; the columns at fault hold this word.
-fn help_of(alloc: Global, explanation: Explanation, word: &str) -> Result<String, AllocError> {
+/// What is wrong with a byte that isn't allowed in this column.
+fn foreign_help(alloc: Global, byte: Option<u8>) -> Result<String, AllocError> {
+    match byte {
+        Some(b'\t') => String::from_str(alloc, "a tab isn't allowed in this column"),
+        Some(letter @ b'a'..=b'z') => {
+            let letter = char::from(letter);
+            format!(in alloc; "the small letter {letter} isn't allowed in this column")
+        }
+        Some(byte @ b' '..=b'~') => {
+            let graphic = char::from(byte);
+            format!(in alloc; "the byte {graphic} isn't allowed in this column")
+        }
+        Some(byte) => format!(in alloc; "the byte {byte} isn't allowed in this column"),
+        None => String::from_str(alloc, "a byte isn't allowed in this column"),
+    }
+}
+
+/// Whether operands end at a blank after a comma, in front of these columns.
+fn is_after_comma(line: &[u8], columns: Stretch) -> bool {
+    let first = usize::from(columns.column).saturating_sub(1);
+    let comma = first.saturating_sub(1);
+    line.get(comma).copied() == Some(b',') && line.get(first).copied() == Some(b' ')
+}
+
+/// The suffix that the operand of SFX says; this one if it says none as it should.
+fn suffix_of(operand: &[u8], suffix: Option<u8>) -> Option<u8> {
+    match operand {
+        [] | [b' ', ..] => None,
+        [graphic @ (b'A'..=b'Z' | b'0'..=b'9')]
+        | [graphic @ (b'A'..=b'Z' | b'0'..=b'9'), b' ', ..] => { Some(*graphic) }
+        [letter @ b'a'..=b'z'] | [letter @ b'a'..=b'z', b' ', ..] => Some(*letter - 32),
+        _ => suffix,
+    }
+}
+
+/// The suffix of the symbols below a line, if those of the line have this one.
+fn suffix_below(line: &[u8], suffix: Option<u8>) -> Option<u8> {
+    match line.get(15..).unwrap_or(&[]) {
+        [b'S' | b's', b'F' | b'f', b'X' | b'x'] => None,
+        [b'S' | b's', b'F' | b'f', b'X' | b'x', b' '] => None,
+        [
+            b'S' | b's',
+            b'F' | b'f',
+            b'X' | b'x',
+            b' ',
+            b' ',
+            operand @ ..,
+        ] => {
+            if line.get(5).copied() == Some(b'*') {
+                suffix
+            } else {
+                suffix_of(operand, suffix)
+            }
+        }
+        _ => suffix,
+    }
+}
+
+/// The same in this language: the plain one has no SFX.
+fn suffix_in(language: Language, line: &[u8], suffix: Option<u8>) -> Option<u8> {
+    match language {
+        Language::Plain => None,
+        Language::Ibm => suffix_below(line, suffix),
+    }
+}
+
+/// A symbol, and what it is with this suffix, as in `LOOP with its suffix, LOOP A,`.
+fn symbol_text(alloc: Global, word: &str, suffix: Option<u8>) -> Result<String, AllocError> {
+    match suffix {
+        Some(suffix) if word.len() < LABEL_LENGTH => {
+            let suffix = char::from(suffix);
+            format!(in alloc; "{word} with its suffix, {word:5}{suffix},")
+        }
+        _ => String::from_str(alloc, word),
+    }
+}
+
+/// What is wrong at a fault of this line, in a few words.
+fn help_of(
+    alloc: Global,
+    explanation: Explanation,
+    line: &[u8],
+    suffix: Option<u8>,
+) -> Result<String, AllocError> {
+    let word = word_in(line, explanation.columns);
+    if matches!(explanation.cause, Cause::BadOperand(_))
+        && is_after_comma(line, explanation.columns)
+    {
+        return String::from_str(alloc, "a blank after the comma ends the operands");
+    }
     let help = match explanation.cause {
         Cause::Memory => "memory was refused",
         Cause::LongLine => "a line has at most 80 columns",
-        Cause::ForeignByte(Some(b'a'..=b'z')) => "a small letter isn't allowed in this column",
-        Cause::ForeignByte(Some(b'\t')) => "a tab isn't allowed in this column",
-        Cause::ForeignByte(_) => "this byte isn't allowed in this column",
+        Cause::ForeignByte(byte) => return foreign_help(alloc, byte),
         Cause::LabelMissing => "the operation needs a label",
         Cause::NoLabel => return label_help(alloc, explanation.columns.column, word),
         Cause::LabelUnwanted => "the operation takes no label",
@@ -104,11 +222,12 @@ fn help_of(alloc: Global, explanation: Explanation, word: &str) -> Result<String
         Cause::NothingAbove => "CHAIN must come directly after an instruction or another CHAIN",
         Cause::NoAreas => "a line without an operation is a field, but no areas are above it",
         Cause::Undeclared(None) => {
-            return format!(in alloc; "{word} isn't the label of any line");
+            let symbol = symbol_text(alloc, word, suffix)?;
+            return format!(in alloc; "{symbol} isn't the label of any line");
         }
         Cause::Undeclared(Some(near)) => {
-            let near = name_in(&near.text);
-            return format!(in alloc; "{word} isn't the label of any line; did you mean {near}?");
+            let (symbol, near) = (symbol_text(alloc, word, suffix)?, name_in(&near.text));
+            return format!(in alloc; "{symbol} isn't the label of any line; did you mean {near}?");
         }
         Cause::DeclaredLate(line) => {
             return format!(in alloc;
@@ -130,7 +249,7 @@ fn help_of(alloc: Global, explanation: Explanation, word: &str) -> Result<String
         }
         Cause::BadOperand(flaw) => return operand_help(alloc, flaw, word),
         Cause::PastArea => "the field ends after its area",
-        Cause::OutOfCore => "a place or an address isn't in core",
+        Cause::OutOfCore => "a place or an address isn't in core, whose size --size names",
         Cause::NoEnd => "the source ends without END",
         Cause::AfterEnd => "only comments may follow END",
     };
@@ -141,17 +260,21 @@ fn help_of(alloc: Global, explanation: Explanation, word: &str) -> Result<String
 pub fn fault_lines(
     alloc: Global,
     file: &str,
+    language: Language,
     source: &[u8],
     faults: &[Explanation],
 ) -> Result<String, AllocError> {
     let mut lines = String::new(alloc);
-    let (mut told, mut text, mut rest) = (0, source, source);
+    let mut text: &[u8] = &[];
+    let mut suffix = None;
+    let (mut passed, mut rest) = (0, source);
     for explanation in faults {
         let AsmFault { line, kind } = explanation.fault;
-        for _ in told..line {
+        for _ in passed..line {
+            suffix = suffix_in(language, text, suffix);
             (text, rest) = split_line(rest).unwrap_or((&[], &[]));
         }
-        told = line;
+        passed = line;
         let Stretch { column, .. } = explanation.columns;
         // A kind is printed as its number and its name.
         let kind = format!(in alloc; "{kind}")?;
@@ -159,19 +282,40 @@ pub fn fault_lines(
             .as_str()
             .split_once(' ')
             .map_or(kind.as_str(), |(_, name)| name);
-        let help = help_of(alloc, *explanation, word_in(text, explanation.columns))?;
+        let help = help_of(alloc, *explanation, text, suffix)?;
         let shown = format!(in alloc; "{file}:{line}:{column}: {name}: {help}\n")?;
         lines.push_str(shown.as_str())?;
     }
     Ok(lines)
 }
 
-/// The column of a line at which a warning of the kind is told: the first of the field that it is about.
+/// The column of a line at which a warning of the kind is reported: the first of the field that it is about.
 pub fn warning_column(kind: WarningKind) -> u8 {
     match kind {
         WarningKind::UnusedLabel => 6,
-        WarningKind::NotFitted | WarningKind::UnsetIndicator | WarningKind::ReadOn(_) => 16,
-        WarningKind::UnlikeSigns => 21,
+        WarningKind::NotFitted
+        | WarningKind::UnsetIndicator
+        | WarningKind::NeverBranches
+        | WarningKind::StartsNothing
+        | WarningKind::ReadOn(_)
+        | WarningKind::Overlaps(_) => 16,
+        WarningKind::UnlikeSigns | WarningKind::Loses(Loss::Text) => 21,
+        WarningKind::Loses(Loss::Column73) => 73,
+    }
+}
+
+/// What an overlap means: which line fills the place already, and which would have entered its phase before.
+fn overlap_help(alloc: Global, overlap: Overlap) -> Result<String, AllocError> {
+    let Overlap {
+        place,
+        line,
+        entered,
+    } = overlap;
+    match entered {
+        Some(entry) => format!(in alloc;
+            "line {line} fills {place:05} already: the phase that line {entry} should start is overwritten"
+        ),
+        None => format!(in alloc; "line {line} fills {place:05} already"),
     }
 }
 
@@ -182,8 +326,19 @@ fn warning_help(alloc: Global, kind: WarningKind) -> Result<String, AllocError> 
         WarningKind::NotFitted => "this machine has no instruction of this operation and length",
         WarningKind::UnsetIndicator => "no instruction sets the indicator that the branch tests",
         WarningKind::UnlikeSigns => { "a signed literal never equals a number without a sign" }
+        WarningKind::NeverBranches => "with this d-character the machine never branches",
+        WarningKind::StartsNothing => {
+            "nothing is started here: all is loaded before the program runs"
+        }
         WarningKind::ReadOn(place) => {
             return format!(in alloc; "no word mark is at {place:05}: the instruction runs on");
+        }
+        WarningKind::Overlaps(overlap) => return overlap_help(alloc, overlap),
+        WarningKind::Loses(Loss::Text) => {
+            "the text ends at its second at sign: the at sign after a blank is in the remark"
+        }
+        WarningKind::Loses(Loss::Column73) => {
+            "the operands end with column 72: what follows isn't read"
         }
     };
     String::from_str(alloc, help)

@@ -1,0 +1,201 @@
+//! Places that two lines fill, and phases that are overwritten before they are entered.
+ghost use Rattle.std.specs.Prelude.{◌≡◌, ◌+◌, ◌∷◌, ◌++◌, ◌<◌, ◌≤◌, ◌^◌, [], length, take, slice_index_or, replicate, drop};
+ghost use Rattle.std.specs.Prelude.{◌-◌, IfOk, IfErr, OnOk};
+ghost use Rattle.symbols_1401.specs.Fault.{IsMemory};
+ghost use Rattle.warnings_1401.specs.Overlap.{first_filled, with_filler, enters_phase, is_entry_line, entry_from};
+ghost use Rattle.warnings_1401.specs.Overlap.{overlap_at, first_overlap, overlaps_from};
+
+use placing_1401::FilledPlaces;
+use source_1401::{Addressing, Statement};
+use std::alloc::Global;
+use symbols_1401::{AsmFault, KeptLine};
+
+/// A place that two lines fill.
+#[derive(Clone, Copy, Debug, PartialEq, Eq)]
+pub struct Overlap {
+    /// The first such place.
+    pub place: usize,
+    /// The number of the line that fills it first.
+    pub line: u32,
+    /// The number of the first line between the two that would enter the phase of the first: an EX or XFR.
+    pub entered: Option<u64>,
+}
+
+/// The number of the line that fills a place, 0 if none does.
+fn filler_of(fillers: &[u32], place: usize) -> u32
+    ensures { result ≡ slice_index_or fillers.now place 0 }
+{
+    fillers.get(place).copied().unwrap_or(0)
+}
+
+/// The first of places that a line fills.
+#[tactic(auto, using(crate::proofs::OverlapLemmas::one_place_more))]
+fn first_filled(fillers: &[u32], first: u16, count: usize) -> Result<Option<usize>, AsmFault>
+    ensures ok { IfOk result (λ place. place ≡ first_filled fillers.now first count) }
+    ensures err { IfErr result IsMemory }
+{
+    let mut at = usize::from(first);
+    let mut left = count;
+    while left > 0 {
+        if filler_of(fillers, at) != 0 {
+            return Ok(Some(at));
+        }
+        at = at.checked_add(1).ok_or(AsmFault::MEMORY)?;
+        left -= 1;
+    }
+    Ok(None)
+}
+
+/// Has places filled by the line of this number; those that aren't in core are left out.
+#[tactic(auto, using(crate::proofs::OverlapLemmas::one_filler_more))]
+fn put_filler(fillers: &mut [u32], first: u16, count: usize, number: u32) -> Result<(), AsmFault>
+    ensures ok { OnOk result (fillers.new ≡ with_filler number first count fillers.old) }
+    ensures err { IfErr result IsMemory }
+{
+    let mut at = usize::from(first);
+    let mut left = count;
+    while left > 0 {
+        if at < fillers.len() {
+            fillers[at] = number;
+        }
+        at = at.checked_add(1).ok_or(AsmFault::MEMORY)?;
+        left -= 1;
+    }
+    Ok(())
+}
+
+/// Whether a statement with this addressing would enter a phase: EX and XFR.
+pub(crate) fn enters_phase(addressing: Addressing) -> bool
+    ensures { result ≡ enters_phase addressing }
+{
+    match addressing {
+        Addressing::Value(_) => true,
+        Addressing::Nothing
+        | Addressing::Addresses(_)
+        | Addressing::EarlierValue(_)
+        | Addressing::Equal(_)
+        | Addressing::Entry(_) => false,
+    }
+}
+
+/// Whether a line would enter a phase.
+fn is_entry_line(line: &KeptLine) -> bool
+    ensures { result ≡ is_entry_line line.now }
+{
+    match line.line().statement {
+        Some(Statement { body, .. }) => enters_phase(body.describe().addressing),
+        None => false,
+    }
+}
+
+/// The number of the first of these lines that would enter a phase, counting them from this one.
+fn entry_from(number: u32, lines: &[KeptLine]) -> Option<u64>
+    requires { length lines.now < 2 ^ 32 }
+    ensures { result ≡ entry_from number lines.now }
+{
+    let mut at = u64::from(number);
+    for line in lines {
+        if is_entry_line(line) {
+            return Some(at);
+        }
+        at += 1;
+    }
+    None
+}
+
+/// The lines from the one of this number on.
+fn lines_from(number: u32, lines: &[KeptLine]) -> &[KeptLine]
+    ensures value { result.now ≡ drop (number - 1) lines.now }
+    ensures count { length result.now ≤ length lines.now }
+{
+    let above = (number as usize).saturating_sub(1);
+    lines.get(above..).unwrap_or(&[])
+}
+
+/// The overlap at a place, for a line below these.
+fn overlap_at(fillers: &[u32], above: &[KeptLine], place: usize) -> Overlap
+    requires { length above.now < 2 ^ 32 }
+    ensures { result ≡ overlap_at fillers.now above.now place }
+{
+    let line = filler_of(fillers, place);
+    Overlap {
+        place,
+        line,
+        entered: entry_from(line, lines_from(line, above)),
+    }
+}
+
+/// The first overlap of a line that fills these places, below these lines.
+fn first_overlap(
+    fillers: &[u32],
+    above: &[KeptLine],
+    places: FilledPlaces,
+) -> Result<Option<Overlap>, AsmFault>
+    requires { length above.now < 2 ^ 32 }
+    ensures ok { IfOk result (λ overlap. overlap ≡ first_overlap fillers.now above.now places) }
+    ensures err { IfErr result IsMemory }
+{
+    match first_filled(fillers, places.first, places.count)? {
+        Some(place) => Ok(Some(overlap_at(fillers, above, place))),
+        None => Ok(None),
+    }
+}
+
+/// Adds the overlap of the line that fills these places, with this many lines above it, and has them filled by it.
+fn put_overlap(
+    overlaps: &mut Vec<Option<Overlap>>,
+    fillers: &mut [u32],
+    lines: &[KeptLine],
+    n: usize,
+    places: FilledPlaces,
+) -> Result<(), AsmFault>
+    requires few { length lines.now < 2 ^ 32 }
+    requires line { n < length lines.now }
+    ensures overlaps { OnOk result (overlaps.new.items
+        ≡ overlaps.old.items ++ first_overlap fillers.old (take n lines.now) places ∷ []) }
+    ensures fillers { OnOk result (fillers.new
+        ≡ with_filler (n + 1) places.first places.count fillers.old) }
+    ensures err { IfErr result IsMemory }
+{
+    let overlap = first_overlap(fillers, &lines[..n], places)?;
+    overlaps.push(overlap)?;
+    put_filler(fillers, places.first, places.count, n as u32 + 1)
+}
+
+/// Adds the overlaps of lines that fill these places.
+fn put_overlaps(
+    overlaps: &mut Vec<Option<Overlap>>,
+    fillers: &mut [u32],
+    lines: &[KeptLine],
+    places: &[FilledPlaces],
+) -> Result<(), AsmFault>
+    requires few { length lines.now < 2 ^ 32 }
+    requires as_many { length places.now ≡ length lines.now }
+    ensures ok { OnOk result (overlaps.new.items
+        ≡ overlaps.old.items ++ overlaps_from lines.now fillers.old 0 places.now) }
+    ensures err { IfErr result IsMemory }
+{
+    for (n, each) in places.iter().enumerate() {
+        put_overlap(overlaps, fillers, lines, n, *each)?;
+    }
+    Ok(())
+}
+
+/// The overlap of each line in core storage of this size, if the lines fill these places.
+pub(crate) fn overlaps_of(
+    alloc: Global,
+    size: u16,
+    lines: &[KeptLine],
+    places: &[FilledPlaces],
+) -> Result<Vec<Option<Overlap>>, AsmFault>
+    requires few { length lines.now < 2 ^ 32 }
+    requires as_many { length places.now ≡ length lines.now }
+    ensures ok { IfOk result (λ overlaps. overlaps.items
+        ≡ overlaps_from lines.now (replicate size 0) 0 places.now) }
+    ensures err { IfErr result IsMemory }
+{
+    let mut overlaps = Vec::new(alloc);
+    let mut fillers = vec![in alloc; 0u32; usize::from(size)]?;
+    put_overlaps(&mut overlaps, &mut fillers, lines, places)?;
+    Ok(overlaps)
+}
