@@ -1,8 +1,6 @@
 //! The files that a run reads: its program, and its deck.
 ghost use Rattle.std.specs.Prelude.{◌≡◌, ◌++◌, true, false, None, Err, IfOk, IfErr, option_map, string_bytes};
-ghost use Rattle.calls_1401.specs.Sizes.{is_refused, size_for};
-ghost use Rattle.image_1401.specs.Image.{IsInCore};
-ghost use Rattle.running_1401.specs.Program.{IsAssembled, IsImageOf, is_meant_as_image};
+ghost use Rattle.calls_1401.specs.Sizes.{is_refused};
 ghost use Rattle.running_1401.specs.RunFile.{IsOfFile, IsUnread, IsUnreadFile, input_names};
 ghost use Rattle.running_1401.specs.RunJob.{HasFile, HasLoader, HasProgram, IsBegun, IsDeckText};
 
@@ -78,27 +76,20 @@ pub(crate) struct Inputs {
     pub listing: Option<Listing>,
 }
 
-/// The program of a text, as `program_of` makes it. What is wrong with a source of this name is reported.
-fn reported_program(
+/// Reports what is wrong with the source of this name, if the program is one.
+fn report_program(
     rt: &(impl Eprint + AllocGlobal),
     name: &str,
     language: Language,
     text: &[u8],
     size: Option<u16>,
-) -> Result<Program, RunFault>
-    requires { is_refused size ≡ false }
-    ensures image { is_meant_as_image text.now ≡ true → IsImageOf text.now result }
-    ensures source { is_meant_as_image text.now ≡ false
-        → IsAssembled language (size_for size language text.now) text.now result }
-    ensures in_core { IfOk result (λ program. IsInCore program.image) }
-{
-    let program = program_of(rt.alloc(), language, text, size);
-    match &program {
+    program: &Result<Program, RunFault>,
+) {
+    match program {
         Ok(program) if program.listing.is_some() => report_warnings(rt, name, language, text, size),
         Err(RunFault::Source(first)) => report_faults(rt, name, language, text, size, *first),
         Ok(_) | Err(_) => {}
     }
-    program
 }
 
 /// A machine with the program of a source or an image, and no cards. What is wrong with a source is reported.
@@ -117,8 +108,16 @@ fn read_program(
         return Err(RunFault::Memory);
     };
     let text = read_file(rt, file)?;
-    let program = reported_program(rt, label.as_str(), language, text.as_slice(), size)?;
-    let Program { image, listing } = program;
+    let program = program_of(rt.alloc(), language, text.as_slice(), size);
+    report_program(
+        rt,
+        label.as_str(),
+        language,
+        text.as_slice(),
+        size,
+        &program,
+    );
+    let Program { image, listing } = program?;
     let machine = loaded_machine(rt.alloc(), &image)?;
     Ok(Inputs {
         machine,

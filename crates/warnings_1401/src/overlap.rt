@@ -1,5 +1,6 @@
 //! Places that two lines fill, and phases that are overwritten before they are entered.
-ghost use Rattle.std.specs.Prelude.{◌≡◌, ◌+◌, ◌∷◌, ◌++◌, ◌<◌, ◌≤◌, ◌^◌, [], length, take, slice_index_or, replicate, drop};
+ghost use Rattle.std.specs.Prelude.{◌≡◌, ◌+◌, ◌∷◌, ◌++◌, ◌<◌, ◌≤◌};
+ghost use Rattle.std.specs.Prelude.{◌^◌, [], length, take, slice_index_or, replicate, drop};
 ghost use Rattle.std.specs.Prelude.{◌-◌, IfOk, IfErr, OnOk};
 ghost use Rattle.symbols_1401.specs.Fault.{IsMemory};
 ghost use Rattle.warnings_1401.specs.Overlap.{first_filled, with_filler, enters_phase, is_entry_line, entry_from};

@@ -14,7 +14,8 @@ ghost use Rattle.warnings_1401.specs.Warnings.{tests_comparison, is_unset, branc
 ghost use Rattle.warnings_1401.specs.Warnings.{lone_symbol, stays_unsigned, are_unlike, compares_unlike, longest};
 ghost use Rattle.warnings_1401.specs.Warnings.{ends, open_place, chain_read_on, read_on, warned_if, warned_of};
 ghost use Rattle.warnings_1401.specs.Warnings.{line_warnings, warnings_from, all_warnings};
-ghost use Rattle.warnings_1401.specs.Warnings.{is_of_areas, is_idle, never_branches, may_begin, names_phase, starts_nothing};
+ghost use Rattle.warnings_1401.specs.Warnings.{is_of_areas, is_idle, never_branches};
+ghost use Rattle.warnings_1401.specs.Warnings.{may_begin, names_phase, starts_nothing};
 ghost use Rattle.warnings_1401.specs.Warnings.{overlap_warned, loss_warned, own_warnings, place_warnings};
 ghost use Rattle.warnings_1401.specs.Loss.{losses_of};
 ghost use Rattle.warnings_1401.specs.Overlap.{overlaps_of};
