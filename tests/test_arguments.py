@@ -238,6 +238,12 @@ class Options(unittest.TestCase):
                     error = None
                 self.assertEqual([status, output, error, files], wanted)
 
+    def test_one_name_for_an_image_and_a_deck_is_refused_before_the_source_is_read(self):
+        for source in ("source", "none"):
+            with self.subTest(source):
+                error = Room(self).run(["assemble", "-o", "new", "--deck", "new", source])[2]
+                self.assertTrue(error.startswith("error: -o and --deck name the same file\n\nUsage: "), error)
+
     def test_a_file_that_cannot_be_read_is_reported_alike(self):
         for words in UNREAD:
             for name, reason in UNREAD_FILES:
