@@ -19,10 +19,10 @@ OTHER_NAME = "museum.example"
 
 
 class Chromium:
-    """A headless Chromium with a profile of its own. Each message is JSON, ended by a NUL: what it reads on its
-    descriptor 3, and what it writes on 4."""
+    """A headless Chromium with a profile of its own, started by a command and with further words. Each message is JSON,
+    ended by a NUL: what it reads on its descriptor 3, and what it writes on 4."""
 
-    def __init__(self):
+    def __init__(self, by=(), *words):
         self.profile = tempfile.TemporaryDirectory(ignore_cleanup_errors=True)
         reads, self.out = os.pipe()
         self.come, writes = os.pipe()
@@ -33,8 +33,8 @@ class Chromium:
             os.dup2(103, 3)
             os.dup2(104, 4)
 
-        call = ["chromium", "--headless=new", "--disable-gpu", "--remote-debugging-pipe", "--hide-scrollbars",
-                f"--host-resolver-rules=MAP {OTHER_NAME} 127.0.0.1", f"--user-data-dir={self.profile.name}"]
+        call = [*by, "chromium", "--headless=new", "--disable-gpu", "--remote-debugging-pipe", "--hide-scrollbars",
+                f"--host-resolver-rules=MAP {OTHER_NAME} 127.0.0.1", f"--user-data-dir={self.profile.name}", *words]
         call += ["--no-sandbox"] if os.geteuid() == 0 else []
         quiet = {"stdin": subprocess.DEVNULL, "stdout": subprocess.DEVNULL, "stderr": subprocess.DEVNULL}
         self.process = subprocess.Popen(call, pass_fds=(3, 4), preexec_fn=descriptors, **quiet)
@@ -135,6 +135,29 @@ class Page:
         """Presses a button of the page."""
         self.value(f"document.getElementById('{element}').click()")
 
+    def mouse(self, element):
+        """Moves the mouse to an element, as a visitor who scrolls to it, and presses. What is pressed has to be the
+        element, and not something over it; False if it isn't."""
+        at = self.value(f"""(element => {{
+            element.scrollIntoView({{block: 'nearest', behavior: 'instant'}});
+            const box = element.getBoundingClientRect(), x = box.x + box.width / 2, y = box.y + box.height / 2;
+            return [x, y, element.contains(document.elementFromPoint(x, y))];
+        }})(document.getElementById('{element}'))""")
+        if not isinstance(at, list) or not at[2]:
+            return False
+        for kind in "mouseMoved", "mousePressed", "mouseReleased":
+            more = {} if kind == "mouseMoved" else {"button": "left", "clickCount": 1}
+            self.call("Input.dispatchMouseEvent", type=kind, x=at[0], y=at[1], **more)
+        return True
+
+    def tab_to(self, element, most=150):
+        """Presses Tab until an element has the focus; False if it doesn't come to it."""
+        for _ in range(most):
+            if self.value("document.activeElement.id") == element:
+                return True
+            self.press("Tab")
+        return False
+
     def press(self, key, code=None, held=0):
         """Presses a key of the keyboard, with others held: 1 for Alt, 8 for Shift."""
         codes = {"Tab": 9, "Enter": 13, "Escape": 27, " ": 32, "ArrowUp": 38, "ArrowDown": 40, "ArrowRight": 39}
@@ -177,10 +200,10 @@ def write_pictures():
     try:
         page = Page(browser, room.address())
         page.is_ready()
-        page.value("feedDeck(LISTING, TEXTS.fedListing)")
+        page.value("byId('program').value = 'listing', drawProgram(), feedChosen()")
         for line in "SWITCH A ON", "SWITCH F ON", "LOAD", "RUN 214":
             page.value(f"say('{line}')")
-        page.value("choose(404), tell(TEXTS.told.welcome)")
+        page.value("choose(404), tell(TEXTS.said.load), tellDeck('')")
         page.click("step-key")
         for name, size in ("wide", WIDE), ("narrow", NARROW):
             page.resize(size)

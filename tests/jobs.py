@@ -62,7 +62,7 @@ SALES_CALL = [f"{SALES}.source", "--cards", f"{SALES}.cards", "--switches", "A"]
 
 # Where the program that lists and punches ends, and why a run can end.
 DONE, NO_CARD = "line 10, DONE H *-3", "no card in the hopper"
-LIMIT = "the limit of steps was reached"
+LIMIT = "the step limit was reached"
 
 
 def counted(number, name):

@@ -68,7 +68,7 @@ REFUSED_TOGETHER = [
 
 
 def columns(statements):
-    """The lines of a source whose statements are 'label operation operands', parted by ' / ', a dash for no label."""
+    """The lines of a source whose statements are 'label operation operands', separated by ' / ', a dash for no label."""
     lines = []
     for statement in statements.split(" / "):
         label, operation, *operands = statement.split(" ")
@@ -79,37 +79,37 @@ def columns(statements):
 # Statements that the wider language refuses, each with the fault and what `--all` says of it.
 NOT_OF_OLD_DECKS = [
     ("     L         JOB  X", "4 LABEL", "6: LABEL: the operation takes no label"),
-    ("               ENT  SPS", "8 OPERAND", "21: OPERAND: ENT takes AUTOCODER alone"),
-    ("               MLC  A,B,XY", "7 UNDEFINED", "21: UNDEFINED: A is the label of no line"),
+    ("               ENT  SPS", "8 OPERAND", "21: OPERAND: ENT takes only AUTOCODER"),
+    ("               MLC  A,B,XY", "7 UNDEFINED", "21: UNDEFINED: A isn't the label of any line"),
     ("               mlc  1,2,xy", "8 OPERAND", "24: OPERAND: ,xy is more than the operation takes"),
-    ("               bcx  1", "6 OPERATION", "16: OPERATION: bcx is no operation; did you mean BCE?"),
-    ("               m\t  1", "3 GRAPHIC", "17: GRAPHIC: a tab can't stand in its column"),
+    ("               bcx  1", "6 OPERATION", "16: OPERATION: bcx isn't an operation; did you mean BCE?"),
+    ("               m\t  1", "3 GRAPHIC", "17: GRAPHIC: a tab isn't allowed in this column"),
     ("     x4 y      dcw  #1", "4 LABEL",
      "6: LABEL: columns 6 to 15 hold more than a label, and an operation begins in column 16"),
     ("     L         XFR  0", "4 LABEL", "6: LABEL: the operation takes no label"),
     ("     L         CTL  66", "4 LABEL", "6: LABEL: the operation takes no label"),
     ("     L         SFX  A", "4 LABEL", "6: LABEL: the operation takes no label"),
     ("     L         ENT  AUTOCODER", "4 LABEL", "6: LABEL: the operation takes no label"),
-    ("               JOB  A\x7fB", "3 GRAPHIC", "22: GRAPHIC: a byte can't stand in its column"),
-    ("               JOB  A\tB", "3 GRAPHIC", "22: GRAPHIC: a tab can't stand in its column"),
-    ("               CTL  37", "8 OPERAND", "22: OPERAND: CTL has the size of core storage in column 22, 1 to 6"),
+    ("               JOB  A\x7fB", "3 GRAPHIC", "22: GRAPHIC: this byte isn't allowed in this column"),
+    ("               JOB  A\tB", "3 GRAPHIC", "22: GRAPHIC: a tab isn't allowed in this column"),
+    ("               CTL  37", "8 OPERAND", "22: OPERAND: CTL needs the size of core storage, 1 to 6, in column 22"),
     ("               SFX  AB", "8 OPERAND", "21: OPERAND: SFX takes one letter or digit"),
     ("               CHAIN1", "6 OPERATION",
-     "16: OPERATION: CHAIN stands directly below an instruction, or below another CHAIN"),
+     "16: OPERATION: CHAIN must come directly after an instruction or another CHAIN"),
     ("               A    %U1,5", "8 OPERAND", "21: OPERAND: %U1 is neither an address nor a literal"),
-    ("               MU   1,5,R", "8 OPERAND", "21: OPERAND: 1 is no unit, as %U1 is"),
-    ("               RT   X,5", "8 OPERAND", "21: OPERAND: X is no tape, as 1 or %U1 is"),
-    ("               XFR  5+X1", "8 OPERAND", "21: OPERAND: 5+X1 says no value, as a number or a label does"),
-    ("               B    1,UNDEF,X", "7 UNDEFINED", "23: UNDEFINED: UNDEF is the label of no line"),
-    ("               ORG  *+X1", "8 OPERAND", "21: OPERAND: *+X1 says no value, as a number or a label does"),
+    ("               MU   1,5,R", "8 OPERAND", "21: OPERAND: 1 isn't a unit, such as %U1"),
+    ("               RT   X,5", "8 OPERAND", "21: OPERAND: X isn't a tape, such as 1 or %U1"),
+    ("               XFR  5+X1", "8 OPERAND", "21: OPERAND: 5+X1 has no value; a number or a label has one"),
+    ("               B    1,UNDEF,X", "7 UNDEFINED", "23: UNDEFINED: UNDEF isn't the label of any line"),
+    ("               ORG  *+X1", "8 OPERAND", "21: OPERAND: *+X1 has no value; a number or a label has one"),
     ("     L         EQU  *+X00", "8 OPERAND", None),
     ("               DA   1X5,G,G", "8 OPERAND", None),
     ("               DA   1X5,X4", "8 OPERAND",
-     "25: OPERAND: X4 isn't G, C, 0 and one of X1 to X3, each once, behind the areas"),
-    ("               DSA  UNDEF,1", "7 UNDEFINED", "21: UNDEFINED: UNDEF is the label of no line"),
-    ("               DSA  +5", "8 OPERAND", "21: OPERAND: +5 is a literal, and an address is asked for"),
+     "25: OPERAND: X4 isn't G, C, 0 or one of X1 to X3, each once, after the areas"),
+    ("               DSA  UNDEF,1", "7 UNDEFINED", "21: UNDEFINED: UNDEF isn't the label of any line"),
+    ("               DSA  +5", "8 OPERAND", "21: OPERAND: +5 is a literal, but an address is needed here"),
     ("               DSA  4000", "9 OUT OF CORE", "1: OUT OF CORE: a place or an address isn't in core"),
-    ("               DCW  -UNDEF", "7 UNDEFINED", "22: UNDEFINED: UNDEF is the label of no line"),
+    ("               DCW  -UNDEF", "7 UNDEFINED", "22: UNDEFINED: UNDEF isn't the label of any line"),
 ]
 
 
@@ -117,11 +117,11 @@ NOT_OF_OLD_DECKS = [
 # what `--all` says of it.
 TOGETHER_REFUSED = [
     ("     TAG       DCW  #3\n               CHAIN2\n", 2, "6 OPERATION",
-     "16: OPERATION: CHAIN stands directly below an instruction, or below another CHAIN"),
+     "16: OPERATION: CHAIN must come directly after an instruction or another CHAIN"),
     ("               H\n               JOB  X\n               CHAIN2\n", 3, "6 OPERATION",
-     "16: OPERATION: CHAIN stands directly below an instruction, or below another CHAIN"),
-    ("               H\n               CHAIN100\n", 2, "8 OPERAND", "21: OPERAND: 100 is no number from 1 to 99"),
-    ("               CTL  66\n               CTL  66\n", 2, "6 OPERATION", "16: OPERATION: there is a CTL already"),
+     "16: OPERATION: CHAIN must come directly after an instruction or another CHAIN"),
+    ("               H\n               CHAIN100\n", 2, "8 OPERAND", "21: OPERAND: 100 isn't a number from 1 to 99"),
+    ("               CTL  66\n               CTL  66\n", 2, "6 OPERATION", "16: OPERATION: there is already a CTL"),
     ("     X1        DCW  #1\n     X1        EQU  89\n", 2, "5 DOUBLE LABEL",
      "6: DOUBLE LABEL: line 1 has the label X1 already"),
     ("               SFX  A\n     TAG       DCW  #1\n               SFX\n"
@@ -129,18 +129,18 @@ TOGETHER_REFUSED = [
     # the suffix begins, whatever else is wrong with its line
     ("     L         SFX  A\n     ENTRY     DCW  #1\n               SFX\n               B    ENTRYA\n", 1, "4 LABEL",
      "6: LABEL: the operation takes no label"),
-    ("     G         EQU  G+1\n", 1, "7 UNDEFINED", "21: UNDEFINED: from G on EQU leads to EQU without end"),
+    ("     G         EQU  G+1\n", 1, "7 UNDEFINED", "21: UNDEFINED: from G on, EQU refers to EQU without end"),
     ("               ORG  F\n     F         DCW  #1\n", 1, "7 UNDEFINED",
-     "21: UNDEFINED: F is the label of line 2, and this operation takes those of earlier lines"),
+     "21: UNDEFINED: F is the label of line 2, but this operation takes only labels of earlier lines"),
     ("     C         EQU  D\n     D         EQU  E\n               ORG  C\n     E         EQU  400\n", 3, "7 UNDEFINED",
-     "21: UNDEFINED: C has its value from line 4 on, and ORG and LTORG take those of earlier lines"),
+     "21: UNDEFINED: C has its value from line 4 on, but ORG and LTORG need it on an earlier line"),
     ("               A    SUM#3,5\n               LTORGSUM\n", 2, "7 UNDEFINED",
-     "21: UNDEFINED: SUM is an area literal, which is placed later than ORG and LTORG ask for its place"),
+     "21: UNDEFINED: SUM is an area literal, which isn't placed yet when ORG and LTORG need its address"),
     ("               A    TAG#3,TAG#4\n", 1, "5 DOUBLE LABEL",
      "27: DOUBLE LABEL: line 1 has TAG already, as an area of another length"),
     # an area literal is declared, whatever else is wrong with its line
     ("               A    SUM#3,Q\n"
-     "               A    SUM,5\n", 1, "7 UNDEFINED", "27: UNDEFINED: Q is the label of no line"),
+     "               A    SUM,5\n", 1, "7 UNDEFINED", "27: UNDEFINED: Q isn't the label of any line"),
     ("     REC       DA   1X5\n     F\n", 2, "8 OPERAND", "21: OPERAND: an operand is missing"),
     ("     REC       DA   1X5\n                    6\n", 2, "8 OPERAND", "21: OPERAND: the field ends after its area"),
     ("     REC       DA   1X5\n"

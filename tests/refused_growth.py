@@ -1,4 +1,4 @@
-"""Runs of a program with one growth of memory refused: a small library in front of the C library's refuses it.
+"""Runs of a program with one allocation refused: a small library in front of the C library's refuses it.
 
 No run may do anything but what a run without a refusal does, up to a named end or with the one command refused."""
 from functools import cache

@@ -16,6 +16,18 @@ from tests.support import TESTS, TOP
 
 # The modules that take longest, which begin first: none is waited for alone at the end.
 LONGEST = "test_browser", "test_running", "test_served_journals", "test_serving"
+# The kind of a module's tests. Every other module tests the process: statuses, streams, files, sockets and pages.
+KINDS = {
+    "sessions as texts": ("test_sessions",),
+    "sources as texts": ("test_sources",),
+    "tables of rows": ("test_arguments", "test_diagnostics", "test_fields", "test_own_decks", "test_page_requests",
+                       "test_wider_language"),
+    "refused allocations": ("test_calls", "test_growth", "test_growth_of_rooms", "test_memory"),
+    "chance": ("test_chance",),
+    "the documents": ("test_docs", "test_examples", "test_pages_size"),
+    "the launcher": ("test_build_rules", "test_launcher", "test_launcher_help"),
+}
+PROCESS = "the process"
 
 
 class Counts(unittest.TestResult):
@@ -85,17 +97,27 @@ def run_module(name):
     return text, int(counts[1]), int(counts[2])
 
 
+def kind_of(name):
+    """The kind of a module's tests."""
+    return next((kind for kind, modules in KINDS.items() if name in modules), PROCESS)
+
+
 def run_modules(names=()):
-    """Runs modules, all of them where none is named, as many at once as there are processors: the counts."""
+    """Runs modules, all of them where none is named, as many at once as there are processors: the counts, which are
+    also printed for each kind."""
     names = list(names) or sorted(file.stem for file in TESTS.glob("test_*.py"))
     names.sort(key=lambda name: name not in LONGEST)
-    passed = failed = 0
+    counts = {}
     with ThreadPoolExecutor(len(os.sched_getaffinity(0))) as pool:
-        for ended in as_completed([pool.submit(run_module, name) for name in names]):
+        running = {pool.submit(run_module, name): kind_of(name) for name in names}
+        for ended in as_completed(running):
             text, good, bad = ended.result()
             print(text, end="", flush=True)
-            passed, failed = passed + good, failed + bad
-    return passed, failed
+            passed, failed = counts.get(running[ended], (0, 0))
+            counts[running[ended]] = passed + good, failed + bad
+    for kind, (passed, failed) in sorted(counts.items()):
+        print(f"{kind}: {passed} passed, {failed} failed")
+    return sum(passed for passed, _ in counts.values()), sum(failed for _, failed in counts.values())
 
 
 def main(words):

@@ -28,8 +28,8 @@ PROGRAM = Path(os.environ.get("IBM1401", TOP / "crates/ibm1401/out/ibm1401")).ab
 LONE = Path(os.environ.get("LONE_CONSOLE", TOP / "crates/lone_console/out/lone_console")).absolute()
 TRIALS = Path(os.environ.get("TRIALS", TOP / "crates/trials/out/trials")).absolute()
 
-# The page that is served.
-PAGE = (TOP / "page/index.html").read_bytes()
+# The page that is served: what page/embed joins of the files in page/.
+PAGE = subprocess.run([TOP / "page/embed", "--show"], stdout=subprocess.PIPE, check=True).stdout
 MOST_BYTES = 16_777_216
 MOST_ENTRIES = 100_000
 # How long a test waits for a run to end, and for one reply.
@@ -78,6 +78,17 @@ def program(*words, lines=b"", **how):
 def shell(text, *words, **how):
     """Runs a line of bash in which $0 is the program and $1, $2, .. are the words."""
     return run(["bash", "-c", text, PROGRAM, *words], **how)
+
+
+def repository(folder):
+    """Makes a repository of a folder, with one commit of all that is there but what is built, and returns the
+    commit."""
+    (folder / ".gitignore").write_text("out/\n__pycache__/\ndist/\n")
+    git = ["git", "-C", folder, "-c", "user.name=A Museum", "-c", "user.email=desk@museum.example"]
+    date = {"GIT_AUTHOR_DATE": "1700000000 +0000", "GIT_COMMITTER_DATE": "1700000000 +0000"}
+    for words in ["init", "-q"], ["add", "-A"], ["commit", "-q", "-m", "All"]:
+        run([*git, *words], env={**os.environ, **date})
+    return run([*git, "rev-parse", "HEAD"]).stdout.decode().strip()
 
 
 def wait_until(condition, seconds=SECONDS):

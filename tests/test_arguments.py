@@ -138,7 +138,7 @@ ROWS = [
     ("assemble --size 1400 source", "", 0, IMAGE.replace("04000", "01400"), "", {}),
     ("assemble faulty", "", 1, "", "ibm1401: line 1: 6 OPERATION\n", {}),
     ("assemble --all faulty", "", 1, "",
-     "faulty:1:16: OPERATION: BOO is no operation\nfaulty:2:16: OPERATION: BOO is no operation\n", {}),
+     "faulty:1:16: OPERATION: BOO isn't an operation\nfaulty:2:16: OPERATION: BOO isn't an operation\n", {}),
     ("assemble wide", "", 1, "", "ibm1401: line 1: 3 GRAPHIC\n", {}),
     ("assemble --language ibm wide", "", 0, IMAGE, "", {}),
     ("load image", LAST_PLACE, 0, " \nBYE\n", "", {}),
@@ -153,7 +153,7 @@ ROWS = [
      {}),
     ("run --trace new job", "", 1, "", NO_CARD, {"new": STEPS}),
     ("run --limit 1 job", "", 1, "", NO_CARD.replace("READER", "LIMIT").replace(
-        "no card in the hopper", "the limit of steps was reached"), {}),
+        "no card in the hopper", "the step limit was reached"), {}),
     ("run --load job", "", 1, "",
      "ibm1401: OPCODE at 0001 ( 000,000,): the character blank is no operation after 0 steps; "
      f"{NONE.replace('0 cards', '1 card', 1)}", {}),
@@ -225,7 +225,7 @@ class Served:
 
 
 class Options(unittest.TestCase):
-    """Each option, beside the same call without it."""
+    """Each option, next to the same call without it."""
 
     def test_each_call_does_what_its_options_say(self):
         for words, lines, *wanted in ROWS:

@@ -29,7 +29,7 @@ AREAS = """\
 """
 AREAS_WARNED = [
     "3:6: WARNING: no operand names the label",
-    "4:16: WARNING: no word mark is at 00348: the instruction is read on",
+    "4:16: WARNING: no word mark is at 00348: the instruction runs on",
 ]
 PARTS = {
     "--list": """\

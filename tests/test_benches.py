@@ -38,6 +38,10 @@ class Benches(unittest.TestCase):
                     self.assertEqual(text.splitlines()[0], head)
                     self.assertLess(seconds, 1)
 
+    def test_the_script_of_the_page_answers_help(self):
+        status, text, _ = answer(TOP / "page/embed")
+        self.assertEqual((status, "page/embed --check" in text), (0, True), text)
+
 
 if __name__ == "__main__":
     unittest.main()

@@ -60,7 +60,7 @@ class Window(Browser):
         self.shows("it links to the other seats", links, addresses)
         self.shows("it has no banner", "byId('banner').hidden")
         self.shows("every part has its text", "[...document.querySelectorAll('[data-text]')].every(e => e.textContent)")
-        self.shows("no text is missing", "document.body.innerText.includes('undefined')", False)
+        self.shows("no text is missing", "/undefined|\\{\\w+\\}/.test(document.body.innerText)", False)
 
     def test_it_fits_each_width(self):
         for name, size in [("a telephone", TELEPHONE), ("a narrow window", NARROW), ("a wide window", WIDE),
@@ -88,14 +88,14 @@ class DeckToPaper(Browser):
         pressed = "document.querySelector('#switches button').getAttribute('aria-pressed')"
         self.shows("a sense switch is on", pressed, "true")
         self.page.click("load-key")
-        self.shows("the load key", "byId('told-words').textContent === TEXTS.told.load")
+        self.shows("the load key", "byId('said-words').textContent === TEXTS.said.load")
         self.shows("the next instruction is shown", "byId('next').textContent.startsWith('SW')")
         self.shows("and lit", "document.querySelectorAll('#grid td.next').length", 7)
         self.page.value("byId('pace').selectedIndex = 1")
         self.page.click("run-key")
         self.shows("lines are printed while the program runs", "run !== null && view.paper.length > 3")
         self.page.value("byId('pace').selectedIndex = FASTEST")
-        self.shows("the program halts", "byId('told-words').textContent === TEXTS.stops.HALT")
+        self.shows("the program halts", "byId('said-words').textContent === TEXTS.stops.HALT")
 
     def test_the_paper(self):
         next_card = "byId('card-next').querySelector('.typed').textContent"
@@ -183,17 +183,17 @@ class KeysAlone(Browser):
         self.shows("a line is sent by Enter, in capitals", last, "DEPOSIT 0500 ~B500~.")
         page.write("START 0500")
         page.press("Enter")
-        self.shows("START is carried out", "byId('I').getAttribute('aria-label')", "00500")
+        self.shows("START is carried out", "byId('I').getAttribute('aria-label')", "I register 00500")
         page.press("ArrowUp")
         page.press("ArrowUp")
         self.shows("the arrow keys bring earlier lines back", "byId('line').value", "DEPOSIT 0500 ~B500~.")
         page.press("r", "KeyR", 1)
         self.shows("Alt+R runs an endless program", "run !== null && run.slices > 2")
         page.press("Escape")
-        stopped = "run === null && byId('told-words').textContent.startsWith('Stopped by you')"
+        stopped = "run === null && byId('said-words').textContent.startsWith('Stopped by you')"
         self.shows("Escape stops it", stopped)
         page.press("n", "KeyN", 1)
-        self.shows("Alt+N is a step", "byId('told-words').textContent === TEXTS.told.step")
+        self.shows("Alt+N is a step", "byId('said-words').textContent === TEXTS.said.step")
 
     def test_the_keypunch(self):
         page = self.page
@@ -227,7 +227,7 @@ class KeysAlone(Browser):
         self.shows("the keypunch is open", "document.activeElement.id", "keyed")
         page.value("document.activeElement.blur(), window.outlineOf = e => getComputedStyle(e).outlineStyle, 0")
         reached, unseen = set(), []
-        for _ in range(100):
+        for _ in range(120):
             page.press("Tab")
             here = page.value("(e => e.id || e.value || e.textContent.slice(0, 20))(document.activeElement)")
             focus = "document.activeElement === document.body || outlineOf(document.activeElement)"
@@ -235,8 +235,8 @@ class KeysAlone(Browser):
                 unseen.append(here)
             reached.add(here)
         wanted = {"help-key", "load-key", "start-at", "run-key", "step-key", "pace", "A", "600", "find-at", "follow",
-                  "fold", "save-key", "print-key", "pick-key", "sample-hello", "card-key", "keyed", "release-key",
-                  "log", "line"}
+                  "fold", "tear-key", "save-key", "print-key", "pick-key", "program", "feed-key", "afresh-key",
+                  "card-key", "keyed", "release-key", "log", "line", "about-key", "sound-key", "language", "view-key"}
         self.same("parts that it doesn't reach", sorted(wanted - reached), [])
         self.same("what has the focus is marked", unseen, [])
 
@@ -253,14 +253,140 @@ class Feeding(Browser):
 
     def test_a_file_that_is_dropped(self):
         self.page.value("""(data => { data.items.add(new File(['one\\ntwo\\377'], 'a deck'));
-            byId('reader').dispatchEvent(new DragEvent('drop', {dataTransfer: data, cancelable: true}));
+            document.body.dispatchEvent(new DragEvent('drop', {dataTransfer: data, cancelable: true, bubbles: true}));
         })(new DataTransfer())""")
-        fault = "Nothing was fed. Line 2, column 4: no card has this character"
-        self.shows("it is read", "byId('deck-told').textContent", fault)
+        fault = "Nothing was fed. Line 2, column 4: no card has \u00ff; write Y"
+        self.shows("it is read", "byId('deck-words').textContent", fault)
 
     def test_a_fault_of_a_deck(self):
-        self.shows("its line and its column", "feedText('GOOD\\nBAD ~').then(() => byId('deck-told').textContent)",
+        self.shows("its line and its column", "feedText('GOOD\\nBAD ~').then(() => byId('deck-words').textContent)",
                    "Nothing was fed. Line 2, column 5: no card has this character")
+
+
+class Languages(Browser):
+    """The page in each of its languages."""
+
+    # The texts of a language by their paths, each with the values that it takes.
+    TEXTS_OF = """(name => {
+        const found = [];
+        const walk = (texts, path) => {
+            if (typeof texts === 'string') found.push(path + ' ' + [...new Set(texts.match(/\\{\\w+\\}/g))].sort());
+            else for (const [key, inner] of Object.entries(texts)) walk(inner, path + '.' + key);
+        };
+        walk(LANGUAGES[name], '');
+        return found.filter(text => !/one {n}$|one $|\\.one\\b/.test(text)).sort().join('|');
+    })"""
+
+    def test_each_has_the_same_texts(self):
+        english = self.page.value(f"{self.TEXTS_OF}('en')")
+        self.shows("German", f"{self.TEXTS_OF}('de')", english)
+
+    def test_german(self):
+        """Chosen on the page, it is all of the page."""
+        self.page.value("byId('language').value = 'de', byId('language').dispatchEvent(new Event('change'))")
+        self.shows("the key of a program", "byId('feed-key').textContent", "Programm einlegen")
+        self.shows("the guide", "byId('guide-now').textContent === LANGUAGES.de.guideWords[0]")
+        self.shows("the head says its language", "document.documentElement.lang", "de")
+        self.page.click("feed-key")
+        self.shows("what is said", "byId('deck-words').textContent === LANGUAGES.de.programs.hello.fed")
+        self.shows("the title", "document.title", "IBM 1401, Platz 1")
+        self.shows("no text is missing", "/undefined|\\{\\w+\\}/.test(document.body.innerText)", False)
+
+
+class Amounts(Browser):
+    """Many cards and many lines: how far it is is shown, and each can be stopped."""
+
+    def test_a_deck_that_is_larger_than_the_hopper(self):
+        """A run that goes on reads it while it is fed, and no run has to be started again."""
+        for line in "DEPOSIT 0500 ~1~B500~.", "START 0500":
+            self.page.value(f"say('{line}')")
+        self.page.value("feedDeck(Array.from({length: 620}, (_, n) => `CARD ${n}`)), 0")
+        self.shows("cards are in the hopper", "feed !== null && feed.fed > 20")
+        self.page.value("byId('pace').selectedIndex = 3, pressRun(), 0")
+        self.shows("all are fed", "feed", None)
+        self.shows("the words are true", "byId('deck-words').textContent.startsWith('620 cards were fed; cards in')")
+        self.shows("all are read", "byId('said-words').textContent === TEXTS.stops.READER")
+        self.shows("the last one too", "view.picture.read", "CARD 619")
+
+    def test_tearing_off_is_stopped(self):
+        for line in "DEPOSIT 0500 ~2~B500~.", "START 0500", "RUN 400":
+            self.page.value(f"say('{line}')")
+        self.shows("200 lines are printed", "view.paper.length", 200)
+        self.page.value("tearOff() && 0")
+        self.shows("the page asks", "byId('ask').open")
+        self.page.click("ask-yes")
+        words = "/^[1-9][0-9]* of 200 lines taken$/.test(byId('torn-words').textContent)"
+        self.shows("it is shown how far it is", words)
+        self.page.click("take-stop")
+        self.shows("it is stopped", "taking === null && torn.length > 0 && torn.length < 200 "
+                   "&& torn.length + view.paper.length", 200)
+
+    def test_all_punched_cards(self):
+        for line in "DEPOSIT 0500 ~4~B500~.", "START 0500", "RUN 60":
+            self.page.value(f"say('{line}')")
+        self.shows("30 cards are punched", "byId('STACKER').textContent", "030")
+        self.page.click("all-cards-key")
+        self.shows("all are taken", "taken.length === 30 && byId('STACKER').textContent", "000")
+        self.shows("and counted", "byId('taken-words').textContent", "30 cards were taken.")
+
+
+class Words(Browser):
+    """What the page says is true of the machine."""
+
+    def test_after_the_end(self):
+        """One more STEP isn't carried out unless it is pressed again."""
+        self.page.value("feedChosen().then(pressLoad).then(pressRun)")
+        self.shows("the program has ended", "byId('next').textContent === TEXTS.nextEnded")
+        count = self.served.after()
+        self.page.click("step-key")
+        self.shows("a step is asked about", "byId('said-words').textContent === TEXTS.said.afterEnd")
+        self.unchanged("and not carried out", self.served, count)
+        self.page.click("step-key")
+        self.shows("but the next one is", "view.picture.after", count + 1)
+
+    def test_a_run_that_is_stopped(self):
+        for line in "DEPOSIT 0500 ~B500~.", "START 0500":
+            self.page.value(f"say('{line}')")
+        self.page.value("byId('pace').selectedIndex = 0, pressRun(), 0")
+        self.shows("it goes on", "run !== null && run.steps > 2")
+        self.page.click("stop-key")
+        words = "/^Stopped by you after [0-9]+ steps/.test(byId('said-words').textContent)"
+        self.shows("its steps are counted once", f"{words} && byId('said-reply').textContent", "")
+
+    def test_counts(self):
+        self.shows("one", "counted(TEXTS.takenAll, 1)", "1 card was taken.")
+        self.shows("several", "counted(TEXTS.takenAll, 1200)", "1,200 cards were taken.")
+        self.page.value("byId('keyed').value = 'A'.repeat(80), drawKeyed()")
+        self.shows("a full card", "byId('keyed-words').textContent", "all 80 columns are full")
+
+    def test_the_first_words(self):
+        """They say what is in the machine."""
+        self.page.value("say('FEED ONE').then(() => say('FEED TWO')).then(() => inTurn(look))")
+        wanted = "There are 2 cards in the hopper. LOAD reads the first one."
+        self.shows("cards in the hopper", "welcomeWords()", wanted)
+
+    def test_a_journal_that_cannot_be_written(self):
+        """Its banner stays when the room is closed a moment later."""
+        self.page.value("view.unkept = true, setLink('closed')")
+        self.shows("the banner", "byId('banner').textContent === TEXTS.unkept")
+
+    def test_decks_of_other_systems(self):
+        self.shows("a mark at the head", "deckOf('\\ufeffone\\r\\ntwo\\n').cards.join()", "ONE,TWO")
+        self.shows("UTF-8", "textOf(new Uint8Array([0xc3, 0x84]))", "\u00c4")
+        self.shows("a hint", "deckOf('\u00c4').fault.endsWith('write AE')")
+
+    def test_a_reload_asks(self):
+        """As long as something would be lost."""
+        asked = "(event => (keepsPaper(event), event.defaultPrevented))(new Event('beforeunload', {cancelable: true}))"
+        self.shows("not without paper", asked, False)
+        self.page.value("torn.push({form: 1, line: 1, text: 'A'}), 0")
+        self.shows("but with paper", asked)
+
+    def test_paper_that_was_torn_off_further_down(self):
+        """It is as `run` writes it: a form feed for each form before it."""
+        self.shows("form 3, line 2", "paperText([{form: 3, line: 2, text: 'A'}])", "\f\f\nA\n")
+        self.shows("past form 9999", "paperText([{form: 9999, line: 1, text: 'A'}, {form: 0, line: 1, text: 'B'}])"
+                   ".slice(9998)", "A\n\fB\n")
 
 
 class Looking(Browser):
@@ -318,10 +444,29 @@ class Unplugged(Browser):
 
     def test_it_is_reported_in_words(self):
         """A line that was on its way isn't sent again."""
+        self.page.value("window.polls = look, look = async () => false, 0")
         self.served.kill()
-        self.shows("the banner", "byId('banner').textContent === TEXTS.lost")
         self.page.value("say('START 0003') && 0")
         self.shows("a line that got no answer", "byId('log').textContent.includes(TEXTS.lostAsking)")
+        self.page.value("look = polls, 0")
+        self.shows("the banner", "byId('banner').textContent === TEXTS.lost")
+        self.pages.remove(self.page)
+
+    def test_the_keys_are_off(self):
+        """What is pressed or typed then isn't sent to the machine that comes next."""
+        self.page.value("""window.sent = 0, window.asked = fetch;
+            fetch = (...all) => (sent += all[0] === '/line', asked(...all)), 0""")
+        self.served.kill()
+        self.shows("the banner", "byId('banner').textContent === TEXTS.lost")
+        off = "['load-key', 'run-key', 'step-key', 'feed-key', 'send-key', 'afresh-key'].every(id => isOff(byId(id)))"
+        self.shows("the keys are off", off)
+        self.shows("and the switches", "[...byId('switches').children].every(isOff)")
+        self.page.mouse("load-key")
+        self.page.press("l", "KeyL", 1)
+        self.page.value("byId('switches').children[0].click()")
+        self.page.value("byId('line').value = 'START 3', byId('line-form').requestSubmit()")
+        self.shows("a line isn't sent", "say('SWITCH A ON').then(outcome => outcome.failed === TEXTS.outcomes.off)")
+        self.shows("no key is", "sent", 0)
         self.pages.remove(self.page)
 
 

@@ -11,7 +11,7 @@ sys.dont_write_bytecode = True
 TOP = Path(__file__).resolve().parent.parent
 SECONDS = 60
 
-# A program over three libraries, two of which need nothing of each other.
+# A program over three libraries; two of them need nothing of each other.
 CRATES = {"low": "", "left": " low", "right": " low thiserror", "ibm1401": " left right"}
 
 # The prover notes each crate, and changes a source meanwhile if it is asked to. A program is a script.
@@ -28,7 +28,7 @@ echo "$crate" >> "$CALLS"
 [ "$crate" != "$CHANGED" ] || { sleep 0.1; echo "// changed" >> src/lib.rt; }
 case $made in
 *.rlib) mkdir "$made" ;;
-*.o) printf '#!/bin/sh\\necho "ran $*"\\n' > "$made" ;;
+*.o) printf '#!/bin/sh\\necho "ran $*"\\nexit\\n' > "$made" ;;
 esac""",
     "rattle-link": """while [ "$1" != -o ]; do shift; done
 cp "$3" "$2" && chmod +x "$2" """,
@@ -40,7 +40,9 @@ class BuildRules(unittest.TestCase):
         folder = tempfile.TemporaryDirectory()
         self.addCleanup(folder.cleanup)
         self.room = Path(folder.name).resolve()
-        shutil.copy(TOP / "ibm1401", self.room / "ibm1401")
+        for name in ("ibm1401", "Makefile", "tests/help.txt"):
+            (self.room / name).parent.mkdir(exist_ok=True)
+            shutil.copy(TOP / name, self.room / name)
         self.write_crates(CRATES)
         for name in CRATES:
             source = self.room / "crates" / name / "src" / ("main.rt" if name == "ibm1401" else "lib.rt")
@@ -55,22 +57,53 @@ class BuildRules(unittest.TestCase):
         """Writes crates.txt."""
         (self.room / "crates.txt").write_text("".join(f"{name}:{below}\n" for name, below in crates.items()))
 
+    def environment(self, **more):
+        """The environment of a call, with the toolchain that is here."""
+        path = f"{self.room}/kit/bin:{os.environ['PATH']}"
+        return {**os.environ, "PATH": path, "CALLS": str(self.room / "calls"), "CHANGED": "", "VERSION": "one", **more}
+
     def proved(self, words=("--build",), **environment):
         """The crates that a call proves, in order, once it has ended well, and what it writes to standard output."""
-        calls = self.room / "calls"
-        calls.write_text("")
-        path = f"{self.room}/kit/bin:{os.environ['PATH']}"
-        own = {"PATH": path, "CALLS": str(calls), "CHANGED": "", "VERSION": "one"}
-        ran = subprocess.run([self.room / "ibm1401", *words], env={**os.environ, **own, **environment}, text=True,
+        (self.room / "calls").write_text("")
+        ran = subprocess.run([self.room / "ibm1401", *words], env=self.environment(**environment), text=True,
                              stdin=subprocess.DEVNULL, capture_output=True, timeout=SECONDS, check=False)
         self.assertEqual(ran.returncode, 0, ran.stderr)
-        return calls.read_text().split(), ran.stdout
+        return (self.room / "calls").read_text().split(), ran.stdout
 
     def test_build_proves_each_crate_once_after_those_below_it_and_runs_nothing(self):
         order, output = self.proved()
         self.assertEqual((sorted(order), order[0], order[-1], output), (sorted(CRATES), "low", "ibm1401", ""))
         self.assertEqual(self.proved(), ([], ""))
         self.assertEqual(self.proved(["run", "a deck"]), ([], "ran run a deck\n"))
+
+    def test_the_longest_chain_begins_first(self):
+        self.write_crates({"alone": "", **CRATES, "ibm1401": " alone left right"})
+        (self.room / "crates/alone/src").mkdir(parents=True)
+        (self.room / "crates/alone/src/lib.rt").write_text("//!\n")
+        processors = os.sched_getaffinity(0)
+        self.addCleanup(os.sched_setaffinity, 0, processors)
+        os.sched_setaffinity(0, {min(processors)})
+        self.assertEqual(self.proved()[0][0], "low")
+
+    def test_a_program_that_was_removed_is_built_again(self):
+        self.proved()
+        (self.room / "crates/ibm1401/out/ibm1401").unlink()
+        self.assertEqual(self.proved(), (["ibm1401"], ""))
+
+    def test_rules_that_make_cannot_read_build_nothing(self):
+        """An old program isn't taken for a new one."""
+        self.proved()
+        (self.room / "crates/left/src/lib.rt").write_text("// another\n")
+        rules = (self.room / "Makefile").read_text()
+        (self.room / "Makefile").write_text("no rule\n")
+        ran = subprocess.run([self.room / "ibm1401", "run"], env=self.environment(), stdin=subprocess.DEVNULL, text=True,
+                             capture_output=True, timeout=SECONDS, check=False)
+        log = self.room / "crates/ibm1401/out/ibm1401.log"
+        self.assertEqual((ran.returncode, ran.stdout), (1, ""))
+        self.assertIn(f"ibm1401: the program wasn't built; what the prover said is in {log}\n", ran.stderr)
+        self.assertIn("missing separator", log.read_text())
+        (self.room / "Makefile").write_text(rules)
+        self.assertEqual(self.proved()[0], ["left", "ibm1401"])
 
     def test_a_changed_source_takes_the_crates_above_it(self):
         self.proved()

@@ -1,4 +1,4 @@
-"""The calls of the crates that take memory, each with each growth of memory refused in turn.
+"""The calls of the crates that take memory, each with each allocation refused in turn.
 
 The program of crates/trials makes each call, reports a refusal, and makes the call again: what it says besides must be
 what it says where nothing is refused. Its trials end with the whole journal and the whole machine."""

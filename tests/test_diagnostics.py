@@ -15,47 +15,47 @@ FAULTY = """\
 """
 
 LINES_OF_FAULTY = [
-    "1:16: OPERATION: QQ is no operation",
+    "1:16: OPERATION: QQ isn't an operation",
     "2:6: DOUBLE LABEL: line 1 has the label A already",
-    "3:21: UNDEFINED: Q is the label of no line",
-    "4:21: OPERAND: 2Y4 isn't a number of areas and their length, as 2X80 is",
+    "3:21: UNDEFINED: Q isn't the label of any line",
+    "4:21: OPERAND: 2Y4 isn't a number of areas and their length, such as 2X80",
 ]
 
 
 # A source with a fault of each kind but those above, and the lines that report it.
 FAULTS_OF_A_KIND = [
     (" " * 81 + "\n" + GOOD, ["1:81: LONG LINE: a line has at most 80 columns"]),
-    ("     A         h\n" + GOOD, ["1:16: GRAPHIC: a small letter can't stand in its column"]),
-    ("     A\tH\n" + GOOD, ["1:7: GRAPHIC: a tab can't stand in its column"]),
+    ("     A         h\n" + GOOD, ["1:16: GRAPHIC: a small letter isn't allowed in this column"]),
+    ("     A\tH\n" + GOOD, ["1:7: GRAPHIC: a tab isn't allowed in this column"]),
     ("     A         \a\n     * \tA TAB IN A COMMENT\n" + GOOD,
-     ["1:16: GRAPHIC: a byte can't stand in its column", "2:8: GRAPHIC: a tab can't stand in its column"]),
+     ["1:16: GRAPHIC: this byte isn't allowed in this column", "2:8: GRAPHIC: a tab isn't allowed in this column"]),
     ("                H\n" + GOOD, ["1:17: OPERATION: the operation begins after column 16"]),
     ("     A        MLC  A,A\n" + GOOD,
      ["1:6: LABEL: columns 6 to 15 hold more than a label, and an operation begins in column 16"]),
     ("              MLC  1,2\n" + GOOD, ["1:15: LABEL: a label begins in column 6, and an operation in column 16"]),
     ("     X1        DCW  #1\n               EQU  5\n     LABEL     ORG  5\n" + GOOD,
-     ["1:6: LABEL: X1 is no label", "2:6: LABEL: the operation asks for a label",
+     ["1:6: LABEL: X1 isn't a label", "2:6: LABEL: the operation needs a label",
       "3:6: LABEL: the operation takes no label"]),
     ("               MLL  TOTL,5\n     TOTAL     EQU  LAST\n     LAST      DCW  #1\n     F              1,2\n" + GOOD,
-     ["1:16: OPERATION: MLL is no operation; did you mean MLC?",
-      "2:21: UNDEFINED: LAST is the label of line 3, and this operation takes those of earlier lines",
-      "4:16: OPERATION: a line without an operation is a field, and no areas are above it"]),
+     ["1:16: OPERATION: MLL isn't an operation; did you mean MLC?",
+      "2:21: UNDEFINED: LAST is the label of line 3, but this operation takes only labels of earlier lines",
+      "4:16: OPERATION: a line without an operation is a field, but no areas are above it"]),
     ("     TOTAL     DCW  #1\n               MLC  TOTL,5\n               B    Q\n" + GOOD,
-     ["2:21: UNDEFINED: TOTL is the label of no line; did you mean TOTAL?",
-      "3:21: UNDEFINED: Q is the label of no line"]),
+     ["2:21: UNDEFINED: TOTL isn't the label of any line; did you mean TOTAL?",
+      "3:21: UNDEFINED: Q isn't the label of any line"]),
     ("               MLC  5,&6\n               SAR\n               BCE  1,2\n               H    1,2\n" + GOOD,
      ["1:23: OPERAND: &6 is neither an address nor a literal", "2:21: OPERAND: an address is missing",
       "3:24: OPERAND: the d-character is missing", "4:22: OPERAND: ,2 is more than the operation takes"]),
     ("               DCW  X\n               DCW\n               DS   #4\n     A         EQU  *\n" + GOOD,
-     ["1:21: OPERAND: X is no constant", "2:21: OPERAND: an operand is missing",
-      "3:21: OPERAND: #4 is no number of places",
-      "4:21: OPERAND: * says no value, as a number or a label does"]),
-    ("     REC       DA   2X4\n     F              3,2\n" + GOOD, ["2:23: OPERAND: 2 is no place of a field"]),
+     ["1:21: OPERAND: X isn't a constant", "2:21: OPERAND: an operand is missing",
+      "3:21: OPERAND: #4 isn't a number of places",
+      "4:21: OPERAND: * has no value; a number or a label has one"]),
+    ("     REC       DA   2X4\n     F              3,2\n" + GOOD, ["2:23: OPERAND: 2 isn't a valid place for a field"]),
     ("     REC       DA   2X4\n     F              3,5\n" + GOOD, ["2:23: OPERAND: the field ends after its area"]),
     ("     *\n" * 9, ["10:1: NO END: the source ends without END"]),
     (GOOD + "     *\n               H\n", ["3:16: AFTER END: only comments may follow END"]),
     ("               ZZZ\n" + " " * 81 + "\n" + GOOD,
-     ["1:16: OPERATION: ZZZ is no operation", "2:81: LONG LINE: a line has at most 80 columns"]),
+     ["1:16: OPERATION: ZZZ isn't an operation", "2:81: LONG LINE: a line has at most 80 columns"]),
 ]
 
 NO_OPERAND = "WARNING: no operand names the label"
@@ -73,10 +73,10 @@ WARNED = [
     ("     A         C    A,A\n               BE   A\n               S    A\n               BAV  A\n"
      "               DCW  #1\n               END  A\n", []),
     ("     A         C    +5,B\n               A    +1,B\n     B         DCW  0\n               END  A\n",
-     ["1:21: WARNING: a literal with a sign is never equal to a number that has none"]),
+     ["1:21: WARNING: a signed literal never equals a number without a sign"]),
     ("     A         C    +5,B\n               ZA   +1,B\n     B         DCW  0\n               END  A\n", []),
     ("     A         H    A\n               END  A\n",
-     ["1:16: WARNING: no word mark is at 00337: the instruction is read on"]),
+     ["1:16: WARNING: no word mark is at 00337: the instruction runs on"]),
     ("     A         B    A\n               END  A\n", []),
     ("     A         H    A\r\n     *\r\n               DCW  #1\r\n               END  A\r\n", []),
 ]

@@ -5,7 +5,7 @@ import unittest
 from tests.support import EXAMPLES, ProgramTest, program
 
 # Examples that are tried elsewhere, by what a user does with them: systemd's units, operators who share a machine.
-ELSEWHERE = {".service", ".socket", ".consoles"}
+ELSEWHERE = {".service", ".socket", ".consoles", ".conf"}
 
 
 def examples(suffix):

@@ -1,4 +1,4 @@
-"""Each growth of memory refused in turn: a call of the program runs once for each growth that it asks for."""
+"""Each allocation refused in turn: a call of the program runs once for each growth that it asks for."""
 import re
 import unittest
 

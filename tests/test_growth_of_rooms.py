@@ -1,4 +1,4 @@
-"""Each growth of memory refused in turn: served rooms of two consoles, rooms that are kept, and rooms that go on."""
+"""Each allocation refused in turn: served rooms of two consoles, rooms that are kept, and rooms that go on."""
 import unittest
 
 from tests.preloaded import needs_compiler

@@ -14,7 +14,7 @@ LINES = b"DEPOSIT 0700 ~999\nQUIT\n"
 REPLIES = b"OK\nBYE\n"
 UNKEPT = "ibm1401: session ended: UNKEPT\n"
 MEMORY = b"ibm1401: memory refused\n"
-# More growths of memory than a short run asks for.
+# More allocations than a short run asks for.
 MOST_GROWTHS = 400
 THEIRS = b"another process wrote this\n"
 
@@ -151,7 +151,7 @@ class JournalFilesTest(ProgramTest):
         self.expect("a session", self.meddled("unlinked", "console", "--journal", self.journal), 0, REPLIES)
         self.holds("the journal", self.journal, HEAD + FIRST)
         ran = self.meddled("unlinked", "console", "--journal", self.journal)
-        self.expect("it isn't overwritten", ran, 1, b"", f"ibm1401: {self.journal}: is there already\n")
+        self.expect("it isn't overwritten", ran, 1, b"", f"ibm1401: {self.journal}: already exists\n")
         self.holds("it stays", self.journal, HEAD + FIRST)
         self.same("no other file is left", self.left(), ["a journal"])
 
@@ -168,7 +168,7 @@ class JournalFilesTest(ProgramTest):
         self.expect("the session", ran, 1, "", f"ibm1401: {folder / 'new'}: permission denied\n")
 
     def test_a_name_that_is_taken_stays(self):
-        """A link to nowhere, a folder and a file are there already, and nothing is left beside them."""
+        """A link to nowhere, a folder and a file are there already, and nothing is left next to them."""
         for name, make in [
             ("a link", lambda path: path.symlink_to("nowhere")), ("a folder", lambda path: path.mkdir()),
             ("a file", lambda path: path.write_bytes(THEIRS)),
@@ -176,11 +176,11 @@ class JournalFilesTest(ProgramTest):
             path = self.folder / name
             make(path)
             ran = program("console", "--journal", path, lines=LINES)
-            self.expect(f"{name}", ran, 1, b"", f"ibm1401: {path}: is there already\n")
+            self.expect(f"{name}", ran, 1, b"", f"ibm1401: {path}: already exists\n")
         self.same("nothing else is left", self.left(), ["a file", "a folder", "a link"])
 
     def test_a_room_that_cannot_begin_leaves_no_journal(self):
-        """A room whose first commands can't be given, for want of memory or of a seat, leaves no new journal."""
+        """A room whose first commands can't be given, for lack of memory or of a seat, leaves no new journal."""
         other = self.folder / "of two seats"
         other.write_bytes(HEAD + b"1\t2\tSTART 4000\tREFUSED 1 ADDRESS\n")
         ran = program("resume", other, "--journal", self.journal, "--port", str(self.free_port()), "--seats", "1")
@@ -226,7 +226,7 @@ class JournalFilesTest(ProgramTest):
         self.holds(f"{name}: the file", self.journal, text)
 
     def test_a_journal_that_was_cut_or_taken_away_is_noticed(self):
-        """The entry after that isn't kept, so that no reply goes out that no file has."""
+        """The entry after that isn't kept, and so no reply goes out that no file has."""
         self.noticed("a journal that is taken away", self.journal.unlink, b"(no file)")
         self.noticed("a journal that is cut", lambda: os.truncate(self.journal, 20), (HEAD + FIRST)[:20])
         self.noticed("a journal that is emptied", lambda: self.journal.write_bytes(b""), b"")
@@ -285,7 +285,7 @@ class JournalFilesTest(ProgramTest):
         self.expect("a journal from a pipe", ran, 0, b"1 entries\n")
 
     def refused(self, number, *words, lines=b""):
-        """A run in which a growth of memory of this number is refused, and whether it was asked for."""
+        """A run in which the allocation of this number is refused, and whether it was asked for."""
         library = self.folder / "refuse_growth.so"
         if not library.exists():
             self.compiled("refuse_growth", (GROWTH.read_text()))
@@ -296,7 +296,7 @@ class JournalFilesTest(ProgramTest):
         return program(*words, lines=lines, env=environment), mark.exists()
 
     def test_memory_that_is_refused_is_no_fault_of_a_file(self):
-        """Whichever growth of memory is refused, a journal's text is never blamed for it."""
+        """Whichever allocation is refused, a journal's text is never blamed for it."""
         self.written(HEAD + b"".join(b"%d\t0\tDEPOSIT 0700 ~999\tOK\n" % number for number in range(1, 4)))
         before, new = self.journal.read_bytes(), self.folder / "new"
         listing = program("journal", self.journal).stdout

@@ -3,11 +3,10 @@ import random
 import resource
 import signal
 import subprocess
-import time
 import unittest
 
 from tests.preloaded import needs_compiler, preloading
-from tests.support import PROGRAM, REPLY_SECONDS, ProgramTest, misuse, program
+from tests.support import PROGRAM, REPLY_SECONDS, ProgramTest, misuse, program, wait_until
 
 LINES = b"DEPOSIT 0700 ~999\nEXAMINE 0700 3\nSTART 4000\nQUIT\n"
 REPLIES = b"OK\n~999\nREFUSED 1 ADDRESS\nBYE\n"
@@ -44,9 +43,9 @@ class Kept(ProgramTest):
     def test_a_file_that_cannot_be_made(self):
         self.path.write_bytes(TEXT)
         again = program("console", "--journal", self.path, lines=LINES)
-        self.expect("a journal isn't overwritten", again, 1, b"", f"ibm1401: {self.path}: is there already\n")
+        self.expect("a journal isn't overwritten", again, 1, b"", f"ibm1401: {self.path}: already exists\n")
         ran = program("console", "--journal", "/dev/full")
-        self.expect("nor a device", ran, 1, b"", "ibm1401: /dev/full: is there already\n")
+        self.expect("nor a device", ran, 1, b"", "ibm1401: /dev/full: already exists\n")
         path = self.folder / "no folder" / "a.journal"
         ran = program("console", "--journal", path)
         self.expect("no journal without its folder", ran, 1, b"", f"ibm1401: {path}: no such file\n")
@@ -76,7 +75,7 @@ class Kept(ProgramTest):
     def test_sync_needs_a_journal(self):
         """It is refused before anything is read or made."""
         missing = "the following required arguments were not provided:\n  --journal <NEW>"
-        nothing = "--until keeps nothing without --journal, so --sync has nothing to write"
+        nothing = "--until records nothing without --journal, so --sync has nothing to write"
         self.path.write_bytes(TEXT)
         for words, error in [
             (["console", "--sync"], misuse(missing, "console --journal <NEW> --sync")),
@@ -154,7 +153,7 @@ class Refused(ProgramTest):
         shown, error = b"".join(LISTING.splitlines(True)[:2]), f"ibm1401: {self.path}: line 4: 8 UNFINISHED\n"
         self.expect("it is shown", program("journal", self.path), 1, shown, error)
         ran = program("resume", self.path, lines=b"START 1\n")
-        self.expect("it is taken up", ran, 0, b"OK\n", "ibm1401: line 4 was unfinished and is cut off\n")
+        self.expect("it is taken up", ran, 0, b"OK\n", "ibm1401: line 4 was unfinished and was discarded\n")
         text = b"".join(TEXT.splitlines(True)[:3]) + b"3\t0\tSTART 0001\tOK\n"
         self.holds("without that line", self.path, text)
 
@@ -272,7 +271,8 @@ class Killed(ProgramTest):
             given.write_bytes(b"".join(lines))
             with given.open("rb") as typed, replies.open("wb") as paper:
                 with subprocess.Popen([PROGRAM, "console", "--journal", path], stdin=typed, stdout=paper) as session:
-                    time.sleep(0.01 + chance.random() * 0.2)
+                    many = 3 * chance.randrange(10_000)
+                    wait_until(lambda: path.exists() and replies.stat().st_size >= many)
                     session.kill()
             answered = replies.read_bytes().count(b"\n")
             self.check(f"turn {turn}, killed after {answered} replies", wrong_with(path, lines, answered))

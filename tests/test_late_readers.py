@@ -1,12 +1,15 @@
 """What a client gets that reads its replies late: nothing that was carried out loses its reply, for a bounded time."""
+import fcntl
 import resource
 import signal
 import socket
+import sys
+import termios
 import threading
 import time
 import unittest
 
-from tests.support import SECONDS, ProgramTest
+from tests.support import SECONDS, ProgramTest, wait_until
 
 # How late a client begins to read.
 LATE = 0.2
@@ -44,6 +47,11 @@ def hear_late(console, found):
     console.close()
 
 
+def unread(console):
+    """How many bytes have come to a console that it hasn't read."""
+    return int.from_bytes(fcntl.ioctl(console, termios.FIONREAD, bytes(4)), sys.byteorder)
+
+
 class LateReaders(ProgramTest):
     """Clients that send ahead, and read late."""
 
@@ -56,7 +64,7 @@ class LateReaders(ProgramTest):
         senders = [threading.Thread(target=send_ahead, args=(each, b"DEPOSIT 0700 A\n" * 10_000)) for each in consoles]
         for each in senders:
             each.start()
-        time.sleep(0.1)
+        wait_until(lambda: any(unread(each) for each in consoles))
         room.type(b"QUIT\n")
         readers = [threading.Thread(target=hear_late, args=(each, found)) for each in consoles]
         for each in readers:
@@ -73,7 +81,7 @@ class LateReaders(ProgramTest):
         """A subtest: a client that sends 300 lines, QUIT and 9,000 bytes more has all replies, though it reads late."""
         with console:
             console.sendall(b"EXAMINE 0\n" * 300 + b"QUIT\n" + b"x" * 9000)
-            time.sleep(LATE)
+            wait_until(lambda: unread(console) >= len(b" \n" * 300 + b"BYE\n"))
             self.same(name, console.hear(), b" \n" * 300 + b"BYE\n")
 
     def test_quit_and_more_bytes_where_seats_are_taken_again(self):
@@ -101,7 +109,7 @@ class LateReaders(ProgramTest):
         room = self.room("serve", "--journal", path, seats=1, preexec_fn=limited)
         with room.console() as console:
             console.sendall(b"DEPOSIT 0700 A\n" * 2000)
-            time.sleep(LATE)
+            wait_until(lambda: unread(console) == 3 * path.read_bytes().count(b"\tOK\n") > 300)
             replies = console.hear()
         kept = path.read_bytes().count(b"\tOK\n")
         self.check("some were kept", "" if kept > 100 else f"{kept} were")

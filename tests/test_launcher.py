@@ -6,12 +6,15 @@ import signal
 import subprocess
 import unittest
 
-from tests.support import LAUNCHER, PROGRAM, REPLY_SECONDS, SECONDS, TOP, ProgramTest, run, wait_until
+from tests.support import (
+    LAUNCHER, PROGRAM, REPLY_SECONDS, SECONDS, TOP, ProgramTest, repository, run, wait_until,
+)
 
-# What takes the toolchain's place next to a copy of the launcher: the prover notes each crate and its niceness, takes a
-# while, and fails in the crate that FAILS names. What it makes of a program is a script, which the linker copies.
+# What takes the toolchain's place next to a copy of the launcher: the prover notes each crate, takes a while, and fails
+# in the crate that FAILS names. What it makes of a program is a script, which the linker copies.
+VERSION = "stand-in"
 TOOLCHAIN = {
-    "rt": '[ "$1" = version ] && echo stand-in',
+    "rt": f'[ "$1" = version ] && echo {VERSION}',
     "rattle": """while [ $# -gt 0 ]; do
     case $1 in
     --crate-name) crate=$2 ;;
@@ -20,12 +23,11 @@ TOOLCHAIN = {
     shift
 done
 echo "$crate" >> "$CALLS"
-echo "$crate $(nice)" >> "$CALLS.niceness"
 sleep "$WHILE"
 [ "$crate" != "$FAILS" ] || exit 1
 case $made in
 *.rlib) [ -e src/lib.rt ] && mkdir "$made" ;;
-*.o) printf '#!/bin/sh\\necho "$@"\\n' > "$made" ;;
+*.o) printf '#!/bin/sh\\necho "$@"\\nexit\\n' > "$made" ;;
 esac""",
     "rattle-link": """while [ "$1" != -o ]; do shift; done
 cp "$3" "$2" && chmod +x "$2" """,
@@ -91,7 +93,7 @@ class Building(ProgramTest):
             (self.folder / "crates" / name / "src").mkdir(parents=True)
             (self.folder / "crates" / name / "src" / ("main.rt" if is_program else "lib.rt")).write_text("//!\n")
         (self.folder / "tests").mkdir()
-        for file in ("ibm1401", "crates.txt", "tests/help.txt"):
+        for file in ("ibm1401", "Makefile", "crates.txt", "tests/help.txt"):
             shutil.copy(TOP / file, self.folder / file)
         (self.folder / "kit/bin").mkdir(parents=True)
         for command, text in TOOLCHAIN.items():
@@ -129,7 +131,7 @@ class Building(ProgramTest):
         numbers = [str(place + 1) for place in range(len(names))]
         wrong += [] if [each[2] for each in proved] == numbers else ["numbers"]
         begins = f"ibm1401: {len(names)} crates are proved and built, which takes {time} the first time"
-        ends = rf"ibm1401: {len(names)} crates proved and built in \d+:\d\d by stand-in"
+        ends = rf"ibm1401: {len(names)} crates proved and built in \d+:\d\d by {VERSION}"
         wrong += [lines[0]] if lines[0] != begins else []
         wrong += [lines[-1]] if not re.fullmatch(ends, lines[-1]) else []
         self.check(name, wrong)
@@ -167,14 +169,28 @@ class Building(ProgramTest):
         self.expect("it is run", self.launch("load"), 0, "load\n")
         self.expect("a console is one of it", self.launch("console"), 0, "console\n")
 
+    def test_the_record_of_a_build(self):
+        """It is at the end of the program, and says which commit was built, and by which toolchain."""
+        built = self.folder / "crates/ibm1401/out/ibm1401"
+        source = self.folder / "crates" / self.names[0] / "src/lib.rt"
+        self.launch("load")
+        self.same("no repository", built.read_bytes().rpartition(b"\0")[2], f"commit unknown\nproved by {VERSION}\n")
+        commit = repository(self.folder)
+        for text, changes in ("//!\n", ""), ("", ", with changes"):
+            source.write_text(text)
+            self.expect(f"a commit{changes}", self.launch("load"), 0, "load\n", "...")
+            self.same(f"its record{changes}", built.read_bytes().rpartition(b"\0")[2],
+                      f"commit {commit}{changes}\nproved by {VERSION}\n")
+
     def test_a_source_that_is_newer(self):
         self.launch("load")
         self.calls.unlink()
         (self.folder / "crates" / self.names[0] / "src/lib.rt").write_text("")
         again = self.launch("load")
         self.expect("it is run", again, 0, "load\n", "...")
-        self.reports("what is reported", again.stderr.decode(), self.names)
-        self.proved("it is proved again with all that depends on it", above(self.names[0], self.names))
+        changed = above(self.names[0], self.names)
+        self.reports("what is reported", again.stderr.decode(), changed)
+        self.proved("it is proved again with all that depends on it", changed)
 
     def test_interruptions(self):
         self.launch("load")
@@ -211,21 +227,14 @@ class Building(ProgramTest):
         first = self.launch("console")
         self.expect("the console", first, 0, "\n", "...")
         self.reports("what is reported", first.stderr.decode(), names, "some minutes")
-        self.gives_way()
         self.proved("what is proved for it", names)
         self.expect("a console that is built", self.launch("console"), 0, "\n")
         sized = self.launch("console", "--size", "1400")
         self.expect("a console of another size", sized, 0, "console --size 1400\n", "...")
-        self.reports("what is reported of that", sized.stderr.decode(), self.names)
-        self.proved("nothing is proved twice", {*self.names} - {*names})
+        others = [name for name in self.names if name not in names]
+        self.reports("what is reported of that", sized.stderr.decode(), others)
+        self.proved("nothing is proved twice", others)
         self.expect("a console afterwards", self.launch("console"), 0, "console\n")
-
-    def gives_way(self):
-        """Subtests: a crate of the longest chain gives way to none, and another one to it, where both have room."""
-        niceness = dict(line.split() for line in (self.folder / "calls.niceness").read_text().splitlines())
-        has_room = len(os.sched_getaffinity(0)) > 1 and os.sysconf("SC_PHYS_PAGES") * os.sysconf("SC_PAGE_SIZE") > 13e9
-        for crate, more in ("bcd_1401", 0), ("streams_1401", 5 if has_room else 0):
-            self.same(f"the niceness of {crate}", niceness[crate], str(min(os.nice(0) + more, 19)))
 
 
 if __name__ == "__main__":

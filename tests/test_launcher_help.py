@@ -53,11 +53,20 @@ class FreshClone(unittest.TestCase):
                 texts.append(file.read().decode())
             return (process.returncode, *texts), used.ru_utime + used.ru_stime
 
-    def test_help_and_version_are_answered_as_by_the_program_and_at_once(self):
-        for words in [*HELP, ["--version"]]:
+    def test_help_is_answered_as_by_the_program_and_at_once(self):
+        for words in HELP:
             with self.subTest(" ".join(words)):
                 answered, seconds = self.launch(words)
                 self.assertEqual(answered, said(PROGRAM, words))
+                self.assertLess(seconds, 1)
+        self.assertFalse((self.room / "called").exists(), "the toolchain was called")
+
+    def test_the_version_is_answered_with_the_program_s_first_line_and_at_once(self):
+        for words in [["--version"], ["-V"]]:
+            with self.subTest(words[0]):
+                answered, seconds = self.launch(words)
+                first = said(PROGRAM, words)[1].splitlines()[0]
+                self.assertEqual(answered, (0, f"{first}\nnot proved and built here yet\n", ""))
                 self.assertLess(seconds, 1)
         self.assertFalse((self.room / "called").exists(), "the toolchain was called")
 

@@ -12,7 +12,25 @@ PROGRAM = Path(os.environ.get("IBM1401", TOP / "crates/ibm1401/out/ibm1401")).ab
 MOST_BYTES = 16_777_216
 MOST_EACH = 8
 
-HALT = "               ORG  400\n     START     H\n               NOP\n               END  START\n"
+BEGIN = b"               ORG  400\n     START     H\n               NOP\n"
+END = b"               END  START\n"
+HALT = (BEGIN + END).decode()
+
+# A source that is mostly empty lines, and images of short segments and of word marks, as their first bytes, what comes
+# again and again, and their last bytes.
+EMPTY_LINES = (BEGIN, b"\n", END)
+SHORT_SEGMENTS = (b"IMAGE1 4000\n", b"0400 01 A\n", b"END 0400\n")
+WORD_MARKS = (b"IMAGE2 16000\n", b"00400 40 " + b"~A" * 40 + b"\n", b"END 00400\n")
+# What some calls take at most for each byte of a file of this many bytes. It is more than the others do, and doesn't
+# grow.
+SHORTER_BYTES = 4_194_304
+MORE_EACH = {
+    "a source of empty lines assembled": (12, 0, EMPTY_LINES, ["assemble"]),
+    "the same listed": (90, 0, EMPTY_LINES, ["assemble", "--list"]),
+    "the same run": (90, 0, EMPTY_LINES, ["run"]),
+    "an image of short segments disassembled": (17, 0, SHORT_SEGMENTS, ["disassemble"]),
+    "an image of word marks disassembled": (48, 0, WORD_MARKS, ["disassemble"]),
+}
 
 
 class MemoryTest(unittest.TestCase):
@@ -34,14 +52,14 @@ class MemoryTest(unittest.TestCase):
         self.assertEqual(ran.returncode, status, words)
         return used.ru_maxrss * 1_024
 
-    def expect_few(self, status, small, large, *words):
+    def expect_few(self, status, small, large, *words, most=MOST_EACH):
         """A call takes at most so many bytes for each byte of `file` more than it does for a short one."""
         file = self.folder / "file"
         file.write_bytes(small)
         before = self.peak(status, *words)
         file.write_bytes(large)
         each = (self.peak(status, *words) - before) / (len(large) - len(small))
-        self.assertLessEqual(each, MOST_EACH, f"{each:.1f} bytes of memory for a byte of {' '.join(words)}")
+        self.assertLessEqual(each, most, f"{each:.1f} bytes of memory for a byte of {' '.join(words)}")
 
     def test_a_deck_of_blank_cards_takes_a_few_bytes_a_card(self):
         self.expect_few(0, b"\n", b"\n" * MOST_BYTES, "run", "source", "--cards", "file")
@@ -66,6 +84,30 @@ class MemoryTest(unittest.TestCase):
         (self.folder / "file").write_bytes(first + b"\n" * (MOST_BYTES - len(first)))
         each = (self.peak(0, "run", "--load", "file", "--cards", "more") - before) / (2 * MOST_BYTES)
         self.assertLessEqual(each, MOST_EACH, f"{each:.1f} bytes of memory for a byte")
+
+    def test_an_image_that_is_loaded_takes_a_few_bytes_a_byte(self):
+        # Its segments are more than the journal has entries.
+        first, again, last = SHORT_SEGMENTS
+        many = (MOST_BYTES - len(first) - len(last)) // len(again)
+        self.expect_few(1, first + again * 100_001 + last, first + again * many + last, "load", "file")
+
+    def test_what_is_no_image_and_no_journal_takes_a_few_bytes_a_byte(self):
+        for text in b"\n", b" ", b"A":
+            for call in "load", "disassemble", "journal":
+                with self.subTest(f"{call} {text}"):
+                    self.expect_few(1, text, text * MOST_BYTES, call, "file")
+
+    def test_a_source_of_one_long_line_takes_a_few_bytes_a_byte(self):
+        for text in b" ", b"A":
+            with self.subTest(text):
+                self.expect_few(1, text, text * MOST_BYTES, "run", "file")
+
+    def test_sources_and_listings_take_no_more_than_they_do(self):
+        for name, (most, status, (first, again, last), call) in MORE_EACH.items():
+            with self.subTest(name):
+                many = (SHORTER_BYTES - len(first) - len(last)) // len(again)
+                large = first + again * many + last
+                self.expect_few(status, first + again + last, large, *call, "file", most=most)
 
     def test_a_deck_that_is_more_than_the_hopper_holds_does_too(self):
         self.expect_few(

@@ -1,73 +1,34 @@
 """What connections to a page can't do: keep others waiting, take its seat from the consoles, or get by on doubt."""
 import multiprocessing
-import os
-import random
 import select
 import signal
 import socket
-import subprocess
 import time
 import unittest
-from pathlib import Path
 
-TOP = Path(__file__).resolve().parent.parent
-PROGRAM = os.environ.get("IBM1401", str(TOP / "crates/ibm1401/out/ibm1401"))
+from tests.support import Server, body, status, wait_until
+
 # How long, in seconds, an answer may take at most before a test gives up; and a good one among hostile clients. On a
 # quiet host it takes a tenth of that; one client after the other would hold it up for much longer.
 PATIENCE = 40
 SOON = 5
 # How many clients do harm at a time.
 HOSTILE = 200
+# When they are at work, the room has more handles open than this.
+SEVERAL = 32
 
 
-def free_ports(many):
-    """The first of this many ports in a row that nobody has."""
-    while True:
-        first = random.randrange(20_000, 32_000)
-        taken = []
-        try:
-            for port in range(first, first + many):
-                taken.append(socket.socket())
-                taken[-1].bind(("127.0.0.1", port))
-            return first
-        except OSError:
-            continue
-        finally:
-            for each in taken:
-                each.close()
-
-
-class Room:
-    """The program serving a room with a page for each seat, and consoles at the next port."""
+class Room(Server):
+    """A served room with a page for each seat, and consoles, for requests of any bytes."""
 
     def __init__(self, seats=1):
-        self.page = free_ports(seats + 1)
-        self.console_port = self.page + seats
-        call = [PROGRAM, "serve", "--page", self.page, "--seats", seats, "--port", self.console_port]
-        pipes = {"stdin": subprocess.PIPE, "stdout": subprocess.PIPE, "stderr": subprocess.PIPE}
-        self.process = subprocess.Popen([str(word) for word in call], **pipes)
-        first = b""
-        while first.count(b"\n") <= seats:
-            more = os.read(self.process.stdout.fileno(), 4096)
-            if not more:
-                raise RuntimeError(f"the room didn't open: {self.process.stderr.read()!r}")
-            first += more
+        super().__init__("serve", seats=seats, pages=True)
 
     def __enter__(self):
         return self
 
     def __exit__(self, *_):
-        if self.process.poll() is None:
-            self.process.kill()
-        self.process.communicate()
-
-    def connect(self, seat=1):
-        """A connection to the page of a seat."""
-        return socket.create_connection(("127.0.0.1", self.page + seat - 1), timeout=PATIENCE)
-
-    def console(self):
-        """A connection of a console."""
-        return socket.create_connection(("127.0.0.1", self.console_port), timeout=PATIENCE)
+        self.kill()
 
     def request(self, first, seat=1, body="", fields=()):
         """The bytes of a request to the page of a seat; the fields come after its Host."""
@@ -79,7 +40,7 @@ class Room:
         """The field that says that a request comes from the page of a seat."""
         return f"Origin: http://127.0.0.1:{self.page + seat - 1}"
 
-    def get(self, target="/picture?core=0&paper=0", seat=1, fields=()):
+    def status_of(self, target="/picture?core=0&paper=0", seat=1, fields=()):
         """The status of the answer to a GET request."""
         return status(self.answer(self.request(f"GET {target}", seat, fields=fields), seat))
 
@@ -120,16 +81,6 @@ def rest_of(connection):
     return found
 
 
-def status(answer):
-    """The status of an answer, or its bytes if it has none."""
-    return int(answer[9:12]) if answer.startswith(b"HTTP/1.") else answer
-
-
-def body(answer):
-    """What follows the head."""
-    return answer.partition(b"\r\n\r\n")[2]
-
-
 class Doubtful(unittest.TestCase):
     """Requests that say something twice, and heads with much in them."""
 
@@ -141,7 +92,7 @@ class Doubtful(unittest.TestCase):
                 with self.subTest(name):
                     asked = room.request("POST /line", 1, "START 1", [*fields, "X-1401-Line: 0"])
                     self.assertEqual(status(room.answer(asked)), 400)
-                    self.assertEqual(room.get(fields=fields), 400)
+                    self.assertEqual(room.status_of(fields=fields), 400)
             for name, counts in [("twice the same", (0, 0)), ("ours first", (0, 1)), ("ours last", (1, 0))]:
                 with self.subTest(name):
                     fields = [own, *(f"X-1401-Line: {count}" for count in counts)]
@@ -152,10 +103,10 @@ class Doubtful(unittest.TestCase):
         cookies = "Cookie: " + "; ".join(f"shop{n}={'x' * 300}" for n in range(40))
         with Room() as room:
             self.assertGreater(len(cookies), 12_000)
-            self.assertEqual(room.get("/", fields=[cookies]), 200)
-            self.assertEqual(room.get(fields=[cookies]), 200)
+            self.assertEqual(room.status_of("/", fields=[cookies]), 200)
+            self.assertEqual(room.status_of(fields=[cookies]), 200)
             self.assertEqual(status(room.line("START 1", 0, fields=[cookies])), 200)
-            self.assertEqual(room.get(fields=[f"Cookie: {'x' * 17_000}"]), 431)
+            self.assertEqual(room.status_of(fields=[f"Cookie: {'x' * 17_000}"]), 431)
 
     def test_each_response_sends_no_referrer(self):
         with Room() as room:
@@ -182,7 +133,8 @@ class Seats(unittest.TestCase):
                 ("a picture that is none", room.request("GET /picture?core=x", fields=["Sec-Fetch-Site: same-origin"])),
                 ("an unknown path", room.request("GET /favicon.ico", fields=["Sec-Fetch-Site: same-origin"])),
                 ("a line of nobody", f"POST /line HTTP/1.1\r\n{own}Content-Length: 7\r\n\r\nSTART 1".encode()),
-                ("a line that doesn't go on", room.request("POST /line", 1, "START 1", [room.own(), "X-1401-Line: 99"])),
+                ("a line that doesn't go on",
+                 room.request("POST /line", 1, "START 1", [room.own(), "X-1401-Line: 99"])),
             ]:
                 with self.subTest(name):
                     with room.connect() as connection:
@@ -194,32 +146,31 @@ class Seats(unittest.TestCase):
     def test_the_first_picture_or_line_of_the_page_takes_its_seat(self):
         for name, ask in [
             ("a picture that is the page's by its browser",
-             lambda room: room.get(fields=["Sec-Fetch-Site: same-origin"])),
-            ("a picture with the page's origin", lambda room: room.get(fields=[room.own()])),
+             lambda room: room.status_of(fields=["Sec-Fetch-Site: same-origin"])),
+            ("a picture with the page's origin", lambda room: room.status_of(fields=[room.own()])),
             ("a line", lambda room: status(room.line("START 1", 0))),
         ]:
             with self.subTest(name), Room() as room:
                 self.assertEqual(ask(room), 200)
                 self.assertEqual(room.first_of_console(), b"FULL\n")
-                self.assertEqual(room.get(), 200)
+                self.assertEqual(room.status_of(), 200)
 
     def test_a_page_that_nobody_looks_at_for_a_minute_leaves_its_seat_when_all_others_are_taken(self):
         with Room(2) as room:
-            self.assertEqual(room.get(fields=[room.own()]), 200)
+            self.assertEqual(room.status_of(fields=[room.own()]), 200)
             with room.console() as second:
                 second.sendall(b"EXAMINE 1\n")
                 self.assertEqual(second.recv(100), b" \n")
                 self.assertEqual(room.first_of_console(), b"FULL\n", "the page has its seat")
                 late = time.monotonic() + 50
                 while time.monotonic() < late:
-                    room.get(fields=["Sec-Fetch-Site: cross-site"])
+                    room.status_of(fields=["Sec-Fetch-Site: cross-site"])
                     time.sleep(0.5)
                 self.assertEqual(room.first_of_console(), b"FULL\n", "and still has after fifty seconds")
-                late = time.monotonic() + PATIENCE
-                while (found := room.first_of_console()) == b"FULL\n" and time.monotonic() < late:
-                    time.sleep(0.2)
-                self.assertEqual(found, b" \nBYE\n", "a console has it after a minute")
-                self.assertEqual(room.get(fields=[room.own()]), 200, "and the page again when the console has left")
+                given = wait_until(lambda: room.first_of_console() == b" \nBYE\n", PATIENCE)
+                self.assertTrue(given, "a console has it after a minute")
+                again = room.status_of(fields=[room.own()])
+                self.assertEqual(again, 200, "and the page again when the console has left")
 
 
 def harm(port, requests):
@@ -248,12 +199,12 @@ class Hostile(unittest.TestCase):
     def open(self):
         """A room with a page."""
         room, self.made = Room(), 0
-        self.addCleanup(room.__exit__)
+        self.addCleanup(room.kill)
         return room
 
     def good_request_is_soon_answered(self, room, name):
         """A picture, and a line, are answered soon among all others."""
-        for ask in (room.get, lambda: status(room.line("EXAMINE 1", self.made))):
+        for ask in (room.status_of, lambda: status(room.line("EXAMINE 1", self.made))):
             begun = time.monotonic()
             with self.subTest(name):
                 self.assertEqual(ask(), 200)
@@ -284,7 +235,7 @@ class Hostile(unittest.TestCase):
         harmful = multiprocessing.Process(target=harm, args=(room.page, requests), daemon=True)
         harmful.start()
         try:
-            time.sleep(0.5)
+            wait_until(lambda: room.handles() > SEVERAL)
             for _ in range(5):
                 self.good_request_is_soon_answered(room, "again and again")
         finally:

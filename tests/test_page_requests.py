@@ -105,7 +105,7 @@ class Document(PageTest):
 
     def test_its_deck_is_an_example(self):
         listing = (EXAMPLES / "listing.deck").read_text().splitlines()
-        samples = re.search(rb"const LISTING = \[(.*?)\];", PAGE, re.DOTALL)[1].decode()
+        samples = re.search(rb"const LISTING=\[(.*?)\];", PAGE, re.DOTALL)[1].decode()
         cards = [card.rstrip() for card in re.findall(r"'([^']*)'", samples)]
         self.assertEqual([card.rstrip() for card in listing], cards)
 

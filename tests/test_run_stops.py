@@ -42,7 +42,7 @@ class StopTest(SourceTest):
 
     def expect_limit(self, lines, shown, at="0400"):
         """At a limit of no step the statement at the entry is shown so."""
-        wanted = ended(f"LIMIT at {at}", shown, why=": the limit of steps was reached")
+        wanted = ended(f"LIMIT at {at}", shown, why=": the step limit was reached")
         self.assertEqual(self.last_line(lines, "--limit", "0"), wanted)
 
     def test_a_blank_between_at_signs_is_part_of_the_operands(self):
@@ -166,7 +166,7 @@ class ProgressTest(SourceTest):
         self.assertEqual(status, 1)
         counts = rb"(\r\d+ steps, 0 cards left, 0 lines\x1b\[K)+"
         end = (
-            f"ibm1401: LIMIT at 0400 (line 2, START B START): the limit of steps was reached after {limit} steps; "
+            f"ibm1401: LIMIT at 0400 (line 2, START B START): the step limit was reached after {limit} steps; "
             "0 cards read, 0 lines printed, 0 cards punched\r\n"
         ).encode()
         self.assertRegex(shown, rb"\A" + counts)

@@ -58,6 +58,13 @@ class Examples(ProgramTest):
             self.expect(name, run(["bash", "-c", shown[1]], cwd=self.top), 0, shown[2], end)
             self.check(f"{name}: the end", "" if end[:-1] in " ".join(text.split()) else "it is another")
 
+    def test_a_pipe_that_a_page_shows(self):
+        text = (TOP / "docs/RUNNING.md").read_text()
+        shown = re.search(r"### In a pipe\n.*?```sh\n(.*?)```", text, re.DOTALL)
+        ran = run(["bash", "-c", shown[1]], cwd=self.top)
+        self.check("its end", "" if ran.stderr.startswith(b"ibm1401: HALT at 0463 ") else "it is another")
+        self.expect("its paper", ran, 0, SALES.with_suffix(".paper").read_bytes(), "...")
+
     def test_the_source_of_tutorial_is_its_example(self):
         shown = re.search(r"```autocoder\n(.*?)```", (TOP / "docs/TUTORIAL.md").read_text(), re.DOTALL)
         self.assertEqual((EXAMPLES / "sum_to_ten.source").read_text(), shown[1])

@@ -1,12 +1,16 @@
 """Served rooms that stay open: seats that are taken again, connections without a seat, options, and how a room ends."""
 import os
 import socket
+import struct
+import time
 import unittest
 
 from tests.support import EXAMPLES, SECONDS, ProgramTest, a_port, at_most, program
 
 # How many times a port is looked at.
 PROBES = 20
+# How long a line may take to the program, in seconds.
+PAUSE = 0.3
 
 
 class Seats(ProgramTest):
@@ -74,6 +78,25 @@ class Seats(ProgramTest):
         self.ended(room, "it ends with its input", 3)
         text = b"JOURNAL1 4000\n" + b"".join(b"%d\t1\tEXAMINE 000%d 1\t \n" % (k, k) for k in (1, 2, 3))
         self.holds("each command is of that seat", path, text)
+
+    def test_a_line_that_a_reset_cuts_short_is_not_carried_out(self):
+        """Nor is it where the room isn't kept; at the end of what is sent the last line needs no line feed."""
+        path = self.folder / "reset.journal"
+        for name, room in [("kept seats", self.room("serve", "--journal", path, seats=1)),
+                           ("seats taken once", self.plain_room(1))]:
+            with room.console() as console:
+                self.same(f"{name}: a line before it", console.say(b"EXAMINE 1\n"), b" \n")
+                console.sendall(b"DEPOSIT 0700 A")
+                time.sleep(PAUSE)
+                # A close over this option is a reset.
+                console.setsockopt(socket.SOL_SOCKET, socket.SO_LINGER, struct.pack("ii", 1, 0))
+            if name == "kept seats":
+                console, reply = room.seated(b"EXAMINE 0700\n")
+                self.same(f"{name}: the cell is as it was", reply, b" \n")
+                console.close()
+                self.ended(room, name, 2)
+            else:
+                self.expect(name, room.end(b""), 0, f"{room.ready}JOURNAL 1\n")
 
     def test_probes_that_wait_for_the_end(self):
         """Connections that send nothing hear nothing, and each leaves its seat to the next; QUIT needs no line feed."""

@@ -7,11 +7,10 @@ import shutil
 import signal
 import socket
 import threading
-import time
 import unittest
 
 from tests.preloaded import needs_compiler, preloading
-from tests.support import PROGRAM, SECONDS, ProgramTest, a_port, program, shell
+from tests.support import PROGRAM, SECONDS, ProgramTest, a_port, program, shell, wait_until
 
 # How many served rooms are killed, and how many operators each of them has.
 KILLS = 200
@@ -36,7 +35,7 @@ class Kept(ProgramTest):
         text = b"JOURNAL1 4000\n1\t1\tDEPOSIT 0700 ~999\tOK\n2\t2\tDEPOSIT 0710 A\tOK\n"
         self.holds("each command is a line", path, text)
         ran = program("serve", "--port", "1", "--seats", "1", "--journal", path)
-        self.expect("a journal isn't overwritten", ran, 1, "", f"ibm1401: {path}: is there already\n")
+        self.expect("a journal isn't overwritten", ran, 1, "", f"ibm1401: {path}: already exists\n")
         ran = program("resume", path, lines=b"GLANCE 0710\nEXAMINE 0700 3\n")
         self.expect("a console goes on where the room ended", ran, 0, "AFTER 2 A\n~999\n")
         self.holds("in the same file", path, text + b"3\t0\tEXAMINE 0700 3\t~999\n")
@@ -66,7 +65,7 @@ class Resumed(ProgramTest):
             self.same("its seats have seen it", second.say(b"GLANCE 0700\n"), b"AFTER 3 ~1\n")
             ran = program("resume", self.path)
             self.expect("it is in use", ran, 1, "", f"ibm1401: {self.path}: is in use\n")
-        self.ended(room, "the room", 3, error="ibm1401: line 4 was unfinished and is cut off\n")
+        self.ended(room, "the room", 3, error="ibm1401: line 4 was unfinished and was discarded\n")
         self.holds("it went on in the same file", self.path, self.text + b"3\t1\tEXAMINE 0700 3\t~111\n")
 
     def test_in_a_new_file_without_a_command(self):
@@ -102,7 +101,7 @@ class Resumed(ProgramTest):
         self.path.with_name("taken.journal").write_bytes(b"")
         taken, call = self.folder / "taken.journal", ["resume", self.path, "--port", "1", "--seats", "2"]
         ran = program(*call, "--journal", taken)
-        self.expect("a new journal isn't overwritten", ran, 1, "", f"ibm1401: {taken}: is there already\n")
+        self.expect("a new journal isn't overwritten", ran, 1, "", f"ibm1401: {taken}: already exists\n")
         self.expect("no such entry", program(*call, "--until", "9"), 1, "", "ibm1401: there is no entry 9\n")
         needed = "error: the following required arguments were not provided:..."
         self.expect("a port needs seats", program("resume", self.path, "--port", "1"), 2, "", needed)
@@ -272,7 +271,8 @@ class Killed(ProgramTest):
             operators = [Operator(room, number) for number in range(OPERATORS)]
             for operator in operators:
                 operator.start()
-            time.sleep(chance.random() * 0.1)
+            many = chance.randrange(200)
+            wait_until(lambda: sum(operator.answered for operator in operators) >= many)
             room.kill()
             for operator in operators:
                 operator.join()

@@ -265,7 +265,7 @@ def take(port):
 
 
 def for_one_thread():
-    """Bounds a process before it begins, so that there is memory for one thread's stack and no other's."""
+    """Bounds a process before it begins: there is memory for one thread's stack and no other's."""
     resource.setrlimit(resource.RLIMIT_STACK, (8 << 20, resource.getrlimit(resource.RLIMIT_STACK)[1]))
     within(12_000)()
 

@@ -89,7 +89,7 @@ class SessionsOfTables(ProgramTest):
         self.assertEqual([], wrong_in(channels()))
 
 
-def tests_of(file):
+def cases_of(file):
     """A class of tests for the sessions of a file, a method each."""
     facts = {"__doc__": f"The sessions of {file.name}.", "__module__": __name__}
     case = type(file.stem.capitalize(), (ProgramTest,), facts)
@@ -99,7 +99,7 @@ def tests_of(file):
 
 
 for each in FILES:
-    made = tests_of(each)
+    made = cases_of(each)
     globals()[made.__name__] = made
 del made
 

@@ -118,7 +118,7 @@ class SourcesOfTables(ProgramTest):
         self.same("by their numbers", listing[9_999], b"10000")
 
 
-def tests_of(file):
+def cases_of(file):
     """A class of tests for the sources of a file, a method each."""
     facts = {"__doc__": f"The sources of {file.name}.", "__module__": __name__}
     case = type(file.stem.title().replace("_", ""), (ProgramTest,), facts)
@@ -132,7 +132,7 @@ def tests_of(file):
 
 
 for each in FILES:
-    made = tests_of(each)
+    made = cases_of(each)
     globals()[made.__name__] = made
 del made
 

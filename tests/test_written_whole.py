@@ -1,5 +1,6 @@
 """Files that `assemble` writes whole: links, rights, streams, and what is forced onto the disk."""
 import os
+import shutil
 import stat
 import subprocess
 import tempfile
@@ -104,6 +105,23 @@ class WrittenWholeTest(unittest.TestCase):
         self.expect_written("out")
         self.expect_written("out")
         self.assertEqual(sorted(each.name for each in self.folder.iterdir()), ["out", "source"])
+
+    def test_a_file_system_that_is_read_only_is_not_written(self):
+        """Neither a new file nor an old one."""
+        for name, there in ("new", ""), ("old", '; echo old > "$1/old"'):
+            with self.subTest(name):
+                folder = self.folder / f"read only {name}"
+                folder.mkdir()
+                mounted = (f'mount -t tmpfs none "$1" 2> /dev/null || exit 77{there}; mount -o remount,ro "$1" || exit 77;'
+                           f' "$0" assemble source -o "$1/{name}"; ended=$?; cat "$1/old" 2> /dev/null; exit $ended')
+                words = ["unshare", "--mount", "sh", "-c", mounted, PROGRAM, folder]
+                if not shutil.which("unshare"):
+                    self.skipTest("there is no unshare")
+                ran = subprocess.run(words, cwd=self.folder, capture_output=True, timeout=SECONDS, check=False)
+                if ran.returncode == 77 or ran.stderr.startswith(b"unshare:"):
+                    self.skipTest("nothing may be mounted here")
+                self.assertEqual((ran.returncode, ran.stderr), (1, f"ibm1401: cannot write {folder}/{name}\n".encode()))
+                self.assertEqual(ran.stdout, b"old\n" if there else b"")
 
     def preloaded(self, refused, *words):
         """A run with one sync refused: how it ended, and in which order it wrote and synced."""

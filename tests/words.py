@@ -87,6 +87,8 @@ def of_html(text):
 READERS = {
     ".md": of_page,
     ".html": of_html,
+    ".js": of_html,
+    ".css": of_html,
     ".rt": of_rattle,
     ".antt": of_definitions,
     ".py": of_python,
@@ -113,7 +115,11 @@ def places():
         for test in sorted((TOP / folder).glob(form)):
             if test != Path(__file__).resolve():
                 found[str(test.relative_to(TOP))] = [test]
-    for path in TOP / "check", TOP / "ibm1401", TOP / "page/index.html", *sorted((TOP / "benches").iterdir()):
+    for part in "index.html", "script/*.js", "styles/*.css":
+        for path in sorted((TOP / "page").glob(part)):
+            found[str(path.relative_to(TOP))] = [path]
+    scripts = [TOP / name for name in ("check", "ibm1401", "Makefile", "release")]
+    for path in [*scripts, *sorted((TOP / "benches").iterdir())]:
         if path.is_file() and path.suffix != ".console":
             found[str(path.relative_to(TOP))] = [path]
     return found

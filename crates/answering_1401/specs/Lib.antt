@@ -3,4 +3,5 @@ pub mod Bytes
 pub mod Limits
 pub mod ReplyText
 pub mod Session
+pub mod SessionEnd
 pub mod Text

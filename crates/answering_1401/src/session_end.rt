@@ -1,20 +1,31 @@
 //! How a session ends.
+ghost use Rattle.std.specs.Prelude.{◌≡◌};
+ghost use Rattle.answering_1401.specs.SessionEnd.{end_number};
 
 /// How a session ends.
 #[derive(Clone, Copy, Debug, PartialEq, Eq)]
 pub enum SessionEnd {
     /// 1: with the line QUIT.
-    Quit,
+    Quit = 1,
     /// 2: with the end of the input.
-    EndOfInput,
+    EndOfInput = 2,
     /// 3: a read failed.
-    Read,
+    Read = 3,
     /// 4: a write failed, or took nothing; the command is in the journal.
-    Write,
+    Write = 4,
     /// 5: 16,777,216 bytes were read, and the last didn't end a line QUIT.
-    Bound,
+    Bound = 5,
     /// 6: the memory for a reply was refused; the command is in the journal.
-    Memory,
+    Memory = 6,
     /// 7: the last command's entry wasn't kept outside of the room; the command is in the room's journal.
-    Unkept,
+    Unkept = 7,
+}
+
+impl SessionEnd {
+    /// The number.
+    pub fn number(self) -> u8
+        ensures { result ≡ end_number self }
+    {
+        self as u8
+    }
 }

@@ -40,13 +40,13 @@ const ARGUMENTS: &[Argument] = &[
     Argument {
         name: "deck",
         kind: Kind::Value("OUT", TEXT, &[]),
-        help: "The file for a deck that loads itself; the image is then written only where -o names a file",
+        help: "The file for a deck that loads itself; the image is then written only if -o names a file",
         ..FREE
     },
     Argument {
         name: "all",
         kind: Kind::Flag,
-        help: "Tells every fault of the source, or its warnings, a line each, as FILE:LINE:COLUMN: FAULT",
+        help: "Reports every fault of the source, or its warnings, a line each, as FILE:LINE:COLUMN: FAULT",
         ..FREE
     },
     LANGUAGE,
@@ -55,7 +55,7 @@ const ARGUMENTS: &[Argument] = &[
         name: "file",
         kind: Kind::File,
         is_required: true,
-        help: "The file of the source; - is a name like any other",
+        help: "The source file; - is a name like any other",
         ..FREE
     },
 ];

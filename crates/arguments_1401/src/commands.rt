@@ -45,10 +45,10 @@ Lines, each with one reply:
   FEED TEXT       puts a card with TEXT in its first columns into the hopper
   LOAD            presses the load key: reads a card to 001 and starts there
   RUN N           carries out at most N instructions, 1 to 1000000
-  LINE            takes the oldest printed line, with its form and line
+  LINE            takes the oldest printed line, with its form and line numbers
   CARD            takes the oldest punched card
-  GLANCE A        shows the cell at address A, and after how many commands; it isn't recorded
-  QUIT            ends the session; nothing is kept but the journal, if there is one";
+  GLANCE A        shows the cell at address A, and how many commands came before; it isn't recorded
+  QUIT            ends the session; a journal, if there is one, has what it did";
 
 /// The ports at which operators come, one or both of them.
 fn ports_group<'a>(alloc: Global, is_required: bool) -> Result<ArgGroup<'a>, AllocError> {

@@ -38,7 +38,7 @@ const JOURNAL_FILE: Argument = Argument {
     name: "file",
     kind: Kind::File,
     is_required: true,
-    help: "The file of the journal; - is a name like any other",
+    help: "The journal file; - is a name like any other",
     ..FREE
 };
 
@@ -47,7 +47,7 @@ const SHOWING: &[Argument] = &[
     Argument {
         name: "seat",
         kind: Kind::Value("K", ANY_U8, &[]),
-        help: "Shows the entries of this seat alone; 0 is a console with a machine of its own",
+        help: "Shows only the entries of this seat; 0 is a console with a machine of its own",
         ..FREE
     },
     Argument {
@@ -59,7 +59,7 @@ const SHOWING: &[Argument] = &[
     Argument {
         name: "check",
         kind: Kind::Flag,
-        help: "Shows only how many entries there are, each answered as the machine answers it",
+        help: "Shows only the number of entries, once the machine has answered each the same way",
         ..FREE
     },
     JOURNAL_FILE,
@@ -69,7 +69,7 @@ const SHOWING: &[Argument] = &[
 static SHOW_JOURNAL: Subcommand = Subcommand {
     name: "journal",
     whole_name: "ibm1401 journal",
-    about: "Shows a journal: who gave which command, and what it was answered",
+    about: "Shows a journal: the commands, their seats and their answers",
     session: Session::Nothing,
     arguments: SHOWING,
 };
@@ -84,19 +84,19 @@ const RESUMING: &[Argument] = &[
     Argument {
         name: "journal",
         kind: Kind::Value("NEW", TEXT, &[]),
-        help: "A new file to go on in; FILE stays as it is",
+        help: "A new file to continue the journal in; FILE stays as it is",
         ..FREE
     },
     Argument {
         name: "until",
         kind: Kind::Value("N", ANY_U32, &[]),
-        help: "Goes on after command N; without --journal nothing more is kept",
+        help: "Goes on after command N; without --journal, later commands aren't recorded",
         ..FREE
     },
     Argument {
         name: "without",
         kind: Kind::Value("N,..", TEXT, &[]),
-        help: "Leaves these commands out; --journal names the file of what is left",
+        help: "Leaves these commands out; --journal names the file for the rest",
         ..FREE
     },
     SYNC,
@@ -119,7 +119,7 @@ const RESUMING: &[Argument] = &[
 static RESUME: Subcommand = Subcommand {
     name: "resume",
     whole_name: "ibm1401 resume",
-    about: "Carries out a journal's commands again, and goes on as console does; with --port or --page as serve does",
+    about: "Carries out a journal's commands again, then works like console, or like serve with --port or --page",
     session: Session::LinesOrPorts,
     arguments: RESUMING,
 };
@@ -187,16 +187,16 @@ fn without_in<'a>(matches: &ArgMatches<'a>) -> &'a str
 fn resuming_refused(matches: &ArgMatches<'_>) -> Option<&'static str> {
     let without = without_in(matches);
     if !are_numbers(without) {
-        return Some("--without takes numbers parted by commas");
+        return Some("--without takes numbers separated by commas");
     }
     if matches.get_str("journal").is_some() {
         return None;
     }
     if !without.is_empty() {
-        return Some("--without makes another journal: --journal names its file");
+        return Some("--without makes a new journal: name its file with --journal");
     }
     if matches.get_flag("sync") && until_in(matches).is_some() {
-        return Some("--until keeps nothing without --journal, so --sync has nothing to write");
+        return Some("--until records nothing without --journal, so --sync has nothing to write");
     }
     None
 }

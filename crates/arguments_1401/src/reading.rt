@@ -19,6 +19,9 @@ use clap::{ArgMatches, Command, Error};
 use std::alloc::{AllocError, Global};
 use std::convert::AsStr;
 
+/// The version of the program.
+const VERSION: &str = "0.9.0";
+
 /// The most instructions that are carried out if no number is named.
 const DEFAULT_LIMIT: u32 = 1_000_000_000;
 
@@ -27,7 +30,7 @@ const IMAGE: Argument = Argument {
     name: "file",
     kind: Kind::File,
     is_required: true,
-    help: "The file of the image; - is a name like any other",
+    help: "The image file; - is a name like any other",
     ..FREE
 };
 
@@ -49,7 +52,7 @@ fn console() -> &'static Subcommand {
 static LOAD: Subcommand = Subcommand {
     name: "load",
     whole_name: "ibm1401 load",
-    about: "Loads a core image, and then does as console does",
+    about: "Loads a core image, then works like console",
     session: Session::Lines,
     arguments: &[JOURNAL, NEW_SYNC, IMAGE],
 };
@@ -84,13 +87,13 @@ const RUNNING: &[Argument] = &[
     Argument {
         name: "cards",
         kind: Kind::Value("DECK", TEXT, &[]),
-        help: "The file of the deck, a card a line; it follows the cards of FILE if FILE is a deck",
+        help: "The deck file, a card a line; its cards follow those of FILE if FILE is a deck",
         ..FREE
     },
     Argument {
         name: "punch",
         kind: Kind::Value("OUT", TEXT, &[]),
-        help: "The file for the punched cards, which are else only counted",
+        help: "The file for the punched cards, which are otherwise only counted",
         ..FREE
     },
     Argument {
@@ -110,20 +113,20 @@ const RUNNING: &[Argument] = &[
     Argument {
         name: "limit",
         kind: Kind::Value("STEPS", ANY_U32, &["1000000000"]),
-        help: "How many instructions are carried out at most, up to 4294967295",
+        help: "The most instructions to carry out, up to 4294967295",
         ..FREE
     },
     Argument {
         name: "switches",
         kind: Kind::Value("LETTERS", TEXT, &[]),
-        help: "The sense switches that are on, as in BCG",
+        help: "The sense switches to turn on, as in BCG",
         ..FREE
     },
     Argument {
         name: "file",
         kind: Kind::File,
         is_required: true,
-        help: "The file of the source or the image, or of a deck; - is a name like any other",
+        help: "The file: a source, an image or a deck; - is a name like any other",
         ..FREE
     },
 ];
@@ -225,7 +228,7 @@ fn name_files(alloc: Global, matches: &ArgMatches<'_>, job: &mut Job) -> Result<
 ///
 /// # Errors
 ///
-/// What is wrong with the command line, the text of the help, or want of memory.
+/// What is wrong with the command line, the text of the help, name and version, or want of memory.
 pub fn read_call(alloc: Global, words: &[impl AsStr]) -> Result<Call, Error> {
     let sizes = SizeTexts::new(alloc)?;
     call_with(alloc, words, &sizes)
@@ -265,7 +268,8 @@ fn put_each<'a>(
 /// The program with the commands of its subcommands.
 fn program<'a>(alloc: Global, commands: Vec<Command<'a>>) -> Result<Command<'a>, AllocError> {
     Command::new(alloc, "ibm1401")
-        .about("An IBM 1401 card system, each operation of it proved")
+        .about("An IBM 1401 card system, every operation proved")
+        .version(VERSION)
         .subcommand_required(true)
         .subcommands(commands)
 }

@@ -30,7 +30,7 @@ pub(crate) const PORT: Argument = Argument {
 pub(crate) const PAGE: Argument = Argument {
     name: "page",
     kind: Kind::Value("PORT", ANY_PORT, &[]),
-    help: "The port on 127.0.0.1 of seat 1's page in a browser; each next seat's is one more",
+    help: "The port on 127.0.0.1 for seat 1's page in a browser; each further seat has the next port",
     ..FREE
 };
 
@@ -38,7 +38,7 @@ pub(crate) const PAGE: Argument = Argument {
 pub(crate) const SEATS: Argument = Argument {
     name: "seats",
     kind: Kind::Value("K", ValueParser::Signed(1, 8), &[]),
-    help: "How many operators there are, 1 to 8",
+    help: "The number of operators, 1 to 8",
     ..FREE
 };
 
@@ -52,7 +52,7 @@ const ARGUMENTS: &[Argument] = &[
     Argument {
         name: "keep-seats",
         kind: Kind::Flag,
-        help: "Gives the seat of a console that has ended to the next operator, as the next four options do",
+        help: "Gives the seat of a console that has ended to the next operator (implied by the next four options)",
         ..FREE
     },
     PAGE,
@@ -60,13 +60,13 @@ const ARGUMENTS: &[Argument] = &[
         name: "image",
         kind: Kind::Value("FILE", TEXT, &[]),
         excludes: &["size"],
-        help: "The file of a core image, which is loaded before operators come",
+        help: "The file of a core image to load before operators come",
         ..FREE
     },
     Argument {
         name: "cards",
         kind: Kind::Value("DECK", TEXT, &[]),
-        help: "The file of a deck, a card a line, which is in the hopper when operators come",
+        help: "The file of a deck, a card a line, to put into the hopper before operators come",
         ..FREE
     },
     JOURNAL,
@@ -78,7 +78,7 @@ const ARGUMENTS: &[Argument] = &[
 static SERVE: Subcommand = Subcommand {
     name: "serve",
     whole_name: "ibm1401 serve",
-    about: "Opens a machine to operators, each with a connection or a page of his own",
+    about: "Opens a machine to operators, each with a connection or a page of their own",
     session: Session::Ports,
     arguments: ARGUMENTS,
 };

@@ -8,7 +8,9 @@ ghost use Rattle.assembling_1401.specs.Assemble.{listing_text, with_part, tables
 ghost use Rattle.assembling_1401.specs.Assemble.{IsDeckOf, IsWhyNoDeckOf, Wrote, AssembleDid};
 
 use crate::fault::AssembleFault;
-use autocoder_1401::{AssemblyTables, ListingLine, assemble, assemble_image, assemble_with_tables};
+use autocoder_1401::{
+    AssemblyTables, ListingLine, assemble_image, assemble_in, assemble_with_tables,
+};
 use calls_1401::{Product, Tables};
 use core_1401::Core;
 use deck_1401::{DeckFault, write_deck};
@@ -151,7 +153,7 @@ fn source_listing(
     ensures ok { IfOk result (λ text. IsProductOf language size source.now Listing text.items) }
     ensures err { IfErr result (IsWhyNotAssembled language size source.now) }
 {
-    let assembly = match assemble(alloc, language, source, size) {
+    let assembly = match assemble_in(alloc, language, source, size) {
         Ok(assembly) => assembly,
         Err(why) => return Err(AssembleFault::Source(why)),
     };

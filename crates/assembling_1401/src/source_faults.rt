@@ -26,34 +26,32 @@ fn operand_help(alloc: Global, flaw: OperandFlaw, word: &str) -> Result<String, 
     match flaw {
         OperandFlaw::AddressMissing => String::from_str(alloc, "an address is missing"),
         OperandFlaw::CharacterMissing => String::from_str(alloc, "the d-character is missing"),
-        OperandFlaw::NoAssembler => String::from_str(alloc, "ENT takes AUTOCODER alone"),
+        OperandFlaw::NoAssembler => String::from_str(alloc, "ENT takes only AUTOCODER"),
         OperandFlaw::NoSize => String::from_str(
             alloc,
-            "CTL has the size of core storage in column 22, 1 to 6",
+            "CTL needs the size of core storage, 1 to 6, in column 22",
         ),
         OperandFlaw::NoSuffix => String::from_str(alloc, "SFX takes one letter or digit"),
         OperandFlaw::TooMuch => format!(in alloc; "{word} is more than the operation takes"),
         _ if word.is_empty() => String::from_str(alloc, "an operand is missing"),
         OperandFlaw::NoAddress => format!(in alloc; "{word} is neither an address nor a literal"),
-        OperandFlaw::NoConstant => format!(in alloc; "{word} is no constant"),
-        OperandFlaw::NoCount => format!(in alloc; "{word} is no number of places"),
+        OperandFlaw::NoConstant => format!(in alloc; "{word} isn't a constant"),
+        OperandFlaw::NoCount => format!(in alloc; "{word} isn't a number of places"),
         OperandFlaw::NoAreas => {
-            format!(in alloc; "{word} isn't a number of areas and their length, as 2X80 is")
+            format!(in alloc; "{word} isn't a number of areas and their length, such as 2X80")
         }
-        OperandFlaw::NoSpan => format!(in alloc; "{word} is no place of a field"),
+        OperandFlaw::NoSpan => format!(in alloc; "{word} isn't a valid place for a field"),
         OperandFlaw::NoValue => {
-            format!(in alloc; "{word} says no value, as a number or a label does")
+            format!(in alloc; "{word} has no value; a number or a label has one")
         }
-        OperandFlaw::NoUnit => format!(in alloc; "{word} is no unit, as %U1 is"),
-        OperandFlaw::NoTape => format!(in alloc; "{word} is no tape, as 1 or %U1 is"),
-        OperandFlaw::NoTimes => format!(in alloc; "{word} is no number from 1 to 99"),
+        OperandFlaw::NoUnit => format!(in alloc; "{word} isn't a unit, such as %U1"),
+        OperandFlaw::NoTape => format!(in alloc; "{word} isn't a tape, such as 1 or %U1"),
+        OperandFlaw::NoTimes => format!(in alloc; "{word} isn't a number from 1 to 99"),
         OperandFlaw::NoOptions => {
-            format!(in alloc;
-                "{word} isn't G, C, 0 and one of X1 to X3, each once, behind the areas"
-            )
+            format!(in alloc; "{word} isn't G, C, 0 or one of X1 to X3, each once, after the areas")
         }
         OperandFlaw::Literal => format!(in alloc;
-            "{word} is a literal, and an address is asked for"
+            "{word} is a literal, but an address is needed here"
         ),
     }
 }
@@ -71,7 +69,7 @@ fn label_help(alloc: Global, first: u8, word: &str) -> Result<String, AllocError
             "columns 6 to 15 hold more than a label, and an operation begins in column 16",
         )
     } else {
-        format!(in alloc; "{word} is no label")
+        format!(in alloc; "{word} isn't a label")
     }
 }
 
@@ -80,10 +78,10 @@ fn help_of(alloc: Global, explanation: Explanation, word: &str) -> Result<String
     let help = match explanation.cause {
         Cause::Memory => "memory was refused",
         Cause::LongLine => "a line has at most 80 columns",
-        Cause::ForeignByte(Some(b'a'..=b'z')) => "a small letter can't stand in its column",
-        Cause::ForeignByte(Some(b'\t')) => "a tab can't stand in its column",
-        Cause::ForeignByte(_) => "a byte can't stand in its column",
-        Cause::LabelMissing => "the operation asks for a label",
+        Cause::ForeignByte(Some(b'a'..=b'z')) => "a small letter isn't allowed in this column",
+        Cause::ForeignByte(Some(b'\t')) => "a tab isn't allowed in this column",
+        Cause::ForeignByte(_) => "this byte isn't allowed in this column",
+        Cause::LabelMissing => "the operation needs a label",
         Cause::NoLabel => return label_help(alloc, explanation.columns.column, word),
         Cause::LabelUnwanted => "the operation takes no label",
         Cause::DeclaredBefore(line) => {
@@ -96,39 +94,39 @@ fn help_of(alloc: Global, explanation: Explanation, word: &str) -> Result<String
         }
         Cause::OperationDisplaced => "the operation begins after column 16",
         Cause::OperationUnknown(None) => {
-            return format!(in alloc; "{word} is no operation");
+            return format!(in alloc; "{word} isn't an operation");
         }
         Cause::OperationUnknown(Some(near)) => {
             let near = name_in(&near);
-            return format!(in alloc; "{word} is no operation; did you mean {near}?");
+            return format!(in alloc; "{word} isn't an operation; did you mean {near}?");
         }
-        Cause::ControlledBefore => "there is a CTL already",
-        Cause::NothingAbove => "CHAIN stands directly below an instruction, or below another CHAIN",
-        Cause::NoAreas => "a line without an operation is a field, and no areas are above it",
+        Cause::ControlledBefore => "there is already a CTL",
+        Cause::NothingAbove => "CHAIN must come directly after an instruction or another CHAIN",
+        Cause::NoAreas => "a line without an operation is a field, but no areas are above it",
         Cause::Undeclared(None) => {
-            return format!(in alloc; "{word} is the label of no line");
+            return format!(in alloc; "{word} isn't the label of any line");
         }
         Cause::Undeclared(Some(near)) => {
             let near = name_in(&near.text);
-            return format!(in alloc; "{word} is the label of no line; did you mean {near}?");
+            return format!(in alloc; "{word} isn't the label of any line; did you mean {near}?");
         }
         Cause::DeclaredLate(line) => {
             return format!(in alloc;
-                "{word} is the label of line {line}, and this operation takes those of earlier lines"
+                "{word} is the label of line {line}, but this operation takes only labels of earlier lines"
             );
         }
         Cause::KnownLate(line) => {
             return format!(in alloc;
-                "{word} has its value from line {line} on, and ORG and LTORG take those of earlier lines"
+                "{word} has its value from line {line} on, but ORG and LTORG need it on an earlier line"
             );
         }
         Cause::OfLiteral => {
             return format!(in alloc;
-                "{word} is an area literal, which is placed later than ORG and LTORG ask for its place"
+                "{word} is an area literal, which isn't placed yet when ORG and LTORG need its address"
             );
         }
         Cause::EndlessChain => {
-            return format!(in alloc; "from {word} on EQU leads to EQU without end");
+            return format!(in alloc; "from {word} on, EQU refers to EQU without end");
         }
         Cause::BadOperand(flaw) => return operand_help(alloc, flaw, word),
         Cause::PastArea => "the field ends after its area",
@@ -183,11 +181,9 @@ fn warning_help(alloc: Global, kind: WarningKind) -> Result<String, AllocError> 
         WarningKind::UnusedLabel => "no operand names the label",
         WarningKind::NotFitted => "this machine has no instruction of this operation and length",
         WarningKind::UnsetIndicator => "no instruction sets the indicator that the branch tests",
-        WarningKind::UnlikeSigns => {
-            "a literal with a sign is never equal to a number that has none"
-        }
+        WarningKind::UnlikeSigns => { "a signed literal never equals a number without a sign" }
         WarningKind::ReadOn(place) => {
-            return format!(in alloc; "no word mark is at {place:05}: the instruction is read on");
+            return format!(in alloc; "no word mark is at {place:05}: the instruction runs on");
         }
     };
     String::from_str(alloc, help)

@@ -83,8 +83,39 @@ fn faultless_assembly(
     make_assembly(alloc, &all, source, lines, size)
 }
 
-/// The core image and the listing of a source, in core storage of this size. Its lines are read in this language: the
-/// plain one, or the wider Autocoder, in which a source that the plain one takes means the same.
+/// The core image and the listing of a source in the plain language, in core storage of this size.
+///
+/// # Errors
+///
+/// As `assemble_in`.
+pub fn assemble(alloc: Global, source: &[u8], size: u16) -> Result<Assembly, AsmFault>
+    // The image and the listing of the lines, or their first fault, unless memory is refused.
+    ensures exact { Gives (λ assembly. assembly) result (assembly_in Language.Plain size source.now) }
+
+    // Only a source without a fault has them.
+    ensures faultless { let lines = lines_in Language.Plain source.now in
+        OnOk result (IsFaultless (declared_at Language.Plain lines) lines) }
+
+    // All of the image is in core.
+    ensures in_core { is_core_size size ≡ true → IfOk result (λ assembly. IsInCore assembly.image) }
+
+    // The segments have the cells that the lines place, in their order: 1 to 40 each, and fewer than fit only before a
+    // gap.
+    ensures segments { is_core_size size ≡ true → IfOk result (λ assembly.
+        IsCutOf (placed_cells (lines_in Language.Plain source.now)) assembly.image.segments) }
+
+    // All is placed in turn.
+    ensures placement { OnOk result (IsPlacedInTurn (lines_in Language.Plain source.now)) }
+
+    // A fault is the lowest of the first line that has one, or that something of a faultless source isn't in core.
+    ensures first { IfErr result
+        (λ fault. IsMemory fault ⊎ IsFaultOf Language.Plain size (lines_in Language.Plain source.now) fault) }
+{
+    assemble_in(alloc, Language::Plain, source, size)
+}
+
+/// The same of a source in this language: the plain one, or the wider Autocoder, in which a source that the plain one
+/// takes means the same.
 ///
 /// # Errors
 ///
@@ -92,7 +123,7 @@ fn faultless_assembly(
 /// has one of kinds 2 to 8, 10 and 11; if no line has one, `OutOfCore` for the first line of which something isn't in
 /// core.
 #[tactic(auto, using(crate::proofs::AssemblyLemmas::placed_in_turn, crate::proofs::LanguagesLemmas::agrees_with_plain))]
-pub fn assemble(
+pub fn assemble_in(
     alloc: Global,
     language: Language,
     source: &[u8],
@@ -149,12 +180,12 @@ fn faultless_image(
     make_image(alloc, &all, lines, size)
 }
 
-/// The core image of a source in this language, in core storage of this size: that of `assemble`, in less time and
+/// The core image of a source in this language, in core storage of this size: that of `assemble_in`, in less time and
 /// memory, since no listing is made.
 ///
 /// # Errors
 ///
-/// As `assemble`.
+/// As `assemble_in`.
 #[tactic(auto, using(crate::proofs::AssemblyLemmas::placed_in_turn, crate::proofs::LanguagesLemmas::agrees_with_plain))]
 pub fn assemble_image(
     alloc: Global,
@@ -162,7 +193,7 @@ pub fn assemble_image(
     source: &[u8],
     size: u16,
 ) -> Result<Image, AsmFault>
-    // With the listing of the source it is what `assemble` makes of it, or its first fault, unless memory is refused.
+    // With the listing of the source it is what `assemble_in` makes, or the first fault, unless memory is refused.
     ensures exact { Gives (with_listing language source.now) result (assembly_in language size source.now) }
 
     // What the plain language takes means the same in each language.
@@ -175,11 +206,11 @@ pub fn assemble_image(
     // All of it is in core.
     ensures in_core { is_core_size size ≡ true → IfOk result IsInCore }
 
-    // The segments are cut as those of `assemble`.
+    // The segments are cut as those of `assemble_in`.
     ensures segments { is_core_size size ≡ true → IfOk result (λ image.
         IsCutOf (placed_cells (lines_in language source.now)) image.segments) }
 
-    // All is placed as by `assemble`.
+    // All is placed as by `assemble_in`.
     ensures placement { OnOk result (IsPlacedInTurn (lines_in language source.now)) }
 
     // A fault is the lowest of the first line that has one, or that something of a faultless source isn't in core.

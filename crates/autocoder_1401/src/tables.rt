@@ -89,14 +89,14 @@ fn faultless_tables(
     make_assembly_tables(alloc, hashing, &all, source, lines, size)
 }
 
-/// The core image and the listing of a source in this language, as `assemble` answers them, with its symbol table and
-/// its cross-reference. Each has a line for each label, in the order of the lines that declare them: the symbol table
+/// The core image and the listing of a source in this language, as `assemble_in` answers them, with its symbol table
+/// and its cross-reference. Each has a line for each label, in the order of the lines that declare them: the symbol table
 /// with its address, how many places it names, and the number of its line; the cross-reference with the number of its
 /// line and of each line that names it.
 ///
 /// # Errors
 ///
-/// `Memory` if memory is refused or the source has too many lines; otherwise the fault that `assemble` tells.
+/// `Memory` if memory is refused or the source has too many lines; otherwise the fault that `assemble_in` tells.
 #[tactic(auto, using(crate::proofs::LanguagesLemmas::agrees_with_plain))]
 pub fn assemble_with_tables(
     alloc: Global,

@@ -5,7 +5,7 @@ use Rattle.core_1401.specs.Storage.{is_core_size}
 use Rattle.source_1401.specs.Context.{size_asked}
 use Rattle.source_1401.specs.declared.language.Language.{Language}
 
--- a size that is named, and of which no core storage is made
+-- a size that was named and that no machine has
 abbrev pub is_refused : Option ℕ → Bool
 is_refused None = false
 is_refused (Some size) = not (is_core_size size)

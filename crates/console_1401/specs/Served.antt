@@ -2,6 +2,7 @@
 use Rattle.std.specs.Prelude.{◌≡◌, ℕ, ◌<◌, List, map, Option, None, Some}
 use Rattle.room_1401.specs.Seen.{SeatView, newcomers}
 use Rattle.console_1401.specs.declared.serving.ServeFault.{ServeFault}
+use Rattle.console_1401.specs.declared.serving.ServeFault.TheVariants.{Accept, Thread}
 
 -- the numbers of these seats
 abbrev pub numbers_of : List SeatView → List ℕ
@@ -15,3 +16,8 @@ AreAllSeats n seats = numbers_of seats ≡ numbers_of (newcomers n)
 abbrev pub CountsConsoles : ℕ → ℕ → Option ServeFault → Type 0
 CountsConsoles seats consoles None = consoles ≡ seats
 CountsConsoles seats consoles (Some fault) = consoles < seats
+
+-- the number of a fault
+abbrev pub serve_fault_number : ServeFault → ℕ
+serve_fault_number Accept = 1
+serve_fault_number Thread = 2

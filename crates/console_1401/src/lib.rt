@@ -19,11 +19,10 @@ pub mod serving;
 
 pub use ahead::ahead_of;
 pub use answering_1401::{
-    Failed, FromReader, LINE_LIMIT, Line, LineFault, SessionEnd, Sink, Source, ToWriter,
-    parse_line, put_all, reply_text,
+    Failed, FromReader, Line, LineFault, SessionEnd, Sink, Source, ToWriter, parse_line, reply_text,
 };
 pub use attending::{Unanswered, answer_line, attend};
 pub use door::{Door, OpenDoor};
 pub use image_loading::put_image;
-pub use lone_room_1401::{session, session_kept};
+pub use lone_room_1401::session;
 pub use serving::{ServeFault, Served, serve};

@@ -1,7 +1,7 @@
 //! A shared room that listens for its consoles.
 ghost use Rattle.std.specs.Prelude.{◌≡◌, ◌<◌, ◌≤◌, ◌+◌, ◌^◌, length, vec_capacity, vec_len};
 ghost use Rattle.lone_room_1401.specs.Journal.{IsLegal};
-ghost use Rattle.console_1401.specs.Served.{AreAllSeats, CountsConsoles};
+ghost use Rattle.console_1401.specs.Served.{AreAllSeats, CountsConsoles, serve_fault_number};
 
 use crate::ahead::ahead_of;
 use crate::attending::attend;
@@ -22,10 +22,19 @@ use thiserror::Error;
 pub enum ServeFault {
     /// 1: a connection couldn't be accepted.
     #[error("accept failed")]
-    Accept,
+    Accept = 1,
     /// 2: a thread was refused, or the memory to keep account of the threads.
     #[error("thread refused")]
-    Thread,
+    Thread = 2,
+}
+
+impl ServeFault {
+    /// The number.
+    pub fn number(self) -> u8
+        ensures { result ≡ serve_fault_number self }
+    {
+        self as u8
+    }
 }
 
 /// What is left of a shared room when its consoles have ended.

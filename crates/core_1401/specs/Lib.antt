@@ -2,6 +2,7 @@ pub mod Address
 pub mod AddressTables
 pub mod Cells
 pub mod EightCells
+pub mod Fault
 pub mod Field
 pub mod Lending
 pub mod MarkWords

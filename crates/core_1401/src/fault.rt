@@ -1,4 +1,6 @@
 //! Why no core storage was made.
+ghost use Rattle.std.specs.Prelude.{◌≡◌};
+ghost use Rattle.core_1401.specs.Fault.{core_fault_number};
 
 use thiserror::Error;
 
@@ -7,8 +9,17 @@ use thiserror::Error;
 pub enum CoreFault {
     /// 1: the memory for it was refused.
     #[error("memory refused")]
-    Memory,
+    Memory = 1,
     /// 2: no core storage of that size is made.
     #[error("size refused")]
-    Size,
+    Size = 2,
+}
+
+impl CoreFault {
+    /// The number.
+    pub fn number(self) -> u8
+        ensures { result ≡ core_fault_number self }
+    {
+        self as u8
+    }
 }

@@ -70,18 +70,19 @@ pub place_read : (places : List PlaceView) (number : ℕ) (place : PlaceView) �
 place_read places number place inside is = get_or_read places (number - 1) place inside is nowhere
 
 -- what contracts see of a desk with these places and this fault
-abbrev pub desk_of : List PlaceView → Option SeatsFault → DeskView
-desk_of places fault = record { places = places; fault = fault }
+abbrev pub desk_of : List PlaceView → Option SeatsFault → Bool → DeskView
+desk_of places fault is_closing = record { places = places; fault = fault; is_closing = is_closing }
 
 -- a desk at which the place that was read has changed
-pub changed : (places : List PlaceView) (fault : Option SeatsFault) (number at : ℕ) (change : PlaceView → PlaceView)
-    (place new : PlaceView) (desk : DeskView) → desk_of places fault ≡ desk → at ≡ number → at - 1 < length places
+pub changed : (places : List PlaceView) (fault : Option SeatsFault) (is_closing : Bool) (number at : ℕ)
+    (change : PlaceView → PlaceView) (place new : PlaceView) (desk : DeskView)
+    → desk_of places fault is_closing ≡ desk → at ≡ number → at - 1 < length places
     → place ≡ get_or places (at - 1) place → new ≡ change place
-    → desk_of (slice_set places (at - 1) new) fault ≡ with_place number change desk
-changed places fault number at change place new desk view same inside is done =
-    ap (λ after. desk_of (slice_set places (at - 1) after) fault)
+    → desk_of (slice_set places (at - 1) new) fault is_closing ≡ with_place number change desk
+changed places fault is_closing number at change place new desk view same inside is done =
+    ap (λ after. desk_of (slice_set places (at - 1) after) fault is_closing)
     (done ∙ ap change (place_read places at place inside is))
-    ∙ ap (λ of. with_place of change (desk_of places fault)) same
+    ∙ ap (λ of. with_place of change (desk_of places fault is_closing)) same
     ∙ ap (with_place number change) view
 
 kept_by : (is_given : Bool) (place : PlaceView)

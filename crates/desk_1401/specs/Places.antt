@@ -3,8 +3,8 @@ use Rattle.std.specs.Prelude.{ℕ, ◌-◌, ◌<◌, ◌≤◌, Bool, true, fals
 use Rattle.std.specs.Prelude.{◌≡◌, get_or, map, slice_set, Option, None, Some}
 use Rattle.std.specs.List.{Contains}
 use Rattle.room_1401.specs.Seen.{SeatView}
-use Rattle.desk_1401.specs.declared.consoles.Admission.{Admission}
-use Rattle.desk_1401.specs.declared.consoles.Admission.TheVariants as admission
+use Rattle.desk_1401.specs.declared.desk.Admission.{Admission}
+use Rattle.desk_1401.specs.declared.desk.Admission.TheVariants as admission
 use Rattle.desk_1401.specs.declared.fault.SeatsFault.{SeatsFault}
 use Rattle.desk_1401.specs.declared.input.InputEnd.{InputEnd}
 use Rattle.desk_1401.specs.declared.input.InputEnd.TheVariants as input
@@ -52,10 +52,12 @@ without_free_seat place = if place.is_given then place else without_seat place
 abbrev pub with_seat : SeatView → PlaceView → PlaceView
 with_seat seat place = record { number = place.number; seat = Some seat; is_given = false }
 
--- what contracts see of a desk: the places in the order of their numbers, from 1 on, and what went wrong first
+-- what contracts see of a desk: the places in the order of their numbers, from 1 on, what went wrong first, and whether
+-- the room is being closed
 pub record DeskView : Type 0 where
   pub places : List PlaceView
   pub fault : Option SeatsFault
+  pub is_closing : Bool
 
 -- the numbers of these places
 abbrev pub numbers_in : List PlaceView → List ℕ
@@ -76,9 +78,8 @@ place_at number places = get_or places (number - 1) nowhere
 
 -- a desk at which the place of this number has changed so, and nothing else has
 abbrev pub with_place : ℕ → (PlaceView → PlaceView) → DeskView → DeskView
-with_place number change desk = record {
+with_place number change desk = record desk {
   places = slice_set desk.places (number - 1) (change (place_at number desk.places));
-  fault = desk.fault;
 }
 
 -- what went wrong first, if this did now
@@ -88,13 +89,17 @@ first_fault (Some before) fault = before
 
 -- a desk at which this went wrong
 abbrev pub noted : SeatsFault → DeskView → DeskView
-noted fault desk = record { places = desk.places; fault = Some (first_fault desk.fault fault) }
+noted fault desk = record desk { fault = Some (first_fault desk.fault fault) }
 
 -- a desk once the input has ended so
 abbrev pub after_input : InputEnd → DeskView → DeskView
 after_input input.Quit desk = desk
 after_input input.End desk = desk
 after_input input.Failed desk = noted Input desk
+
+-- a desk of a room that is being closed, since the input has ended so
+abbrev pub closed : InputEnd → DeskView → DeskView
+closed end desk = record (after_input end desk) { is_closing = true }
 
 -- what is at these places: a seat at each that has its own
 abbrev pub seats_in : List PlaceView → List (Option SeatView)
@@ -107,6 +112,21 @@ AreBack places seats = seats_in places ≡ map (λ (seat : SeatView). Some seat)
 -- one of these places hasn't its seat
 abbrev pub IsOneMissing : List PlaceView → Type 0
 IsOneMissing places = Contains (seats_in places) None
+
+-- what becomes of a connection for which this is the lowest free seat
+abbrev pub admission_to : Option ℕ → Admission
+admission_to None = admission.Full
+admission_to (Some number) = admission.Given number
+
+-- what becomes of a connection: it has the lowest free seat, unless the room is being closed
+abbrev pub admission_at : DeskView → Admission
+admission_at desk = if desk.is_closing then admission.Closing else admission_to (lowest_free desk.places)
+
+-- a desk after that: the place of the seat is given, and nothing else has changed
+abbrev pub after_admission : Admission → DeskView → DeskView
+after_admission (admission.Given number) desk = with_place number given desk
+after_admission admission.Full desk = desk
+after_admission admission.Closing desk = desk
 
 -- a connection is given a seat of this many
 abbrev pub IsAdmission : ℕ → Admission → Type 0

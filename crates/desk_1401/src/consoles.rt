@@ -2,7 +2,7 @@
 ghost use Rattle.std.specs.Prelude.{◌≡◌, ◌<◌, ◌≤◌};
 ghost use Rattle.desk_1401.specs.Places.{IsAdmission};
 
-use crate::fault::SeatsFault;
+use crate::desk::Admission;
 use crate::service::Service;
 use crate::until_closing::UntilClosing;
 use crate::while_open::WhileOpen;
@@ -115,28 +115,11 @@ fn end_connection<J: RoomId, R: Wait + Clock>(
     service.ending.fetch_sub(1, SeqCst);
 }
 
-/// What becomes of a connection.
-enum Admission {
-    /// It has the seat of this number.
-    Given(u8),
-    /// No seat is free.
-    Full,
-    /// The room is being closed.
-    Closing,
-}
-
 /// Gives a connection the lowest free seat, unless the room is being closed.
 fn admit<J: RoomId, R: Wait>(rt: &R, service: &Service<J>) -> Admission
     ensures { IsAdmission J.seats result }
 {
-    let mut desk = service.desk.lock(rt);
-    if service.is_closing() {
-        return Admission::Closing;
-    }
-    match desk.give() {
-        Some(number) => Admission::Given(number),
-        None => Admission::Full,
-    }
+    service.desk.lock(rt).admit()
 }
 
 /// Starts the thread of a connection's console; if it is refused, the seat is free again.
@@ -164,9 +147,7 @@ where
         { attend_connection(alloc, rt, room, service, stream, number, door) },
     );
     if started.is_err() {
-        let mut desk = service.desk.lock(rt);
-        desk.take_back(number);
-        desk.note(SeatsFault::Thread);
+        service.desk.lock(rt).go_without_thread(number);
     }
 }
 

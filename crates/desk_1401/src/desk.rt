@@ -1,9 +1,11 @@
 //! What the lock of a service keeps.
-ghost use Rattle.std.specs.Prelude.{◌≡◌, ◌<◌, ◌≤◌, ◌^◌, [], Some, None, IfOk, IfErr, IfSome, IfNone};
+ghost use Rattle.std.specs.Prelude.{◌≡◌, ◌<◌, ◌≤◌, ◌^◌, false, [], Some, None, IfOk, IfErr, IfSome, IfNone};
 ghost use Rattle.std.specs.Prelude.{vec_len, vec_capacity, map, is_some};
 ghost use Rattle.std.specs.List.{list_all};
 ghost use Rattle.console_1401.specs.Served.{AreAllSeats, numbers_of};
-ghost use Rattle.desk_1401.specs.Places.{AreBack, IsOneMissing, after_input, free_place, free_seat, given, has_seat};
+ghost use Rattle.desk_1401.specs.declared.fault.SeatsFault.TheVariants.{Thread};
+ghost use Rattle.desk_1401.specs.Places.{AreBack, IsAdmission, IsOneMissing, admission_at, after_admission};
+ghost use Rattle.desk_1401.specs.Places.{after_input, closed, free_place, free_seat, given, has_seat};
 ghost use Rattle.desk_1401.specs.Places.{lowest_free as lowest_free_in, noted, numbers_in, place_at, taken_back};
 ghost use Rattle.desk_1401.specs.Places.{with_place, with_seat, without_free_seat, without_seat};
 
@@ -14,13 +16,25 @@ use room_1401::{RoomId, Seat};
 use std::alloc::Global;
 use std::marker::Model;
 
-/// The places of all seats of a room, in the order of their numbers, and what went wrong first.
+/// What becomes of a connection.
+pub(crate) enum Admission {
+    /// It has the seat of this number.
+    Given(u8),
+    /// No seat is free.
+    Full,
+    /// The room is being closed.
+    Closing,
+}
+
+/// The places of all seats of a room, in the order of their numbers, what went wrong first, and whether the room is
+/// being closed.
 #[derive(Drop)]
 pub(crate) struct Desk<J: RoomId> {
     places: Vec<Place<J>>,
     // Empty, with room for all seats when they are back.
     back: Vec<Seat<J>>,
     fault: Option<SeatsFault>,
+    is_closing: bool,
 }
 
 impl<J: RoomId> Model for Desk<J> {
@@ -34,6 +48,7 @@ impl<J: RoomId> Model for Desk<J> {
     ghost view = { λ desk. record {
       places = desk.places.items;
       fault = desk.fault;
+      is_closing = desk.is_closing;
     } };
 
     ghost invariant = { λ desk.
@@ -47,7 +62,7 @@ impl<J: RoomId> Desk<J> {
         requires seats { AreAllSeats J.seats seats.items }
         requires count { J.seats < 2 ^ 8 }
         ensures free { IfOk result (λ desk. desk.places ≡ map free_place seats.items) }
-        ensures good { IfOk result (λ desk. desk.fault ≡ None) }
+        ensures good { IfOk result (λ desk. (desk.fault ≡ None) × (desk.is_closing ≡ false)) }
         ensures err { IfErr result (λ back. back ≡ seats) }
     {
         let total = seats.len();
@@ -61,11 +76,27 @@ impl<J: RoomId> Desk<J> {
             places: place_each(seats, places),
             back,
             fault: None,
+            is_closing: false,
         })
     }
 
+    /// Gives a connection the lowest free seat, unless the room is being closed.
+    pub(crate) fn admit(&mut self) -> Admission
+        ensures admission { result ≡ admission_at self.old }
+        ensures seat { IsAdmission J.seats result }
+        ensures desk { self.new ≡ after_admission result self.old }
+    {
+        if self.is_closing {
+            return Admission::Closing;
+        }
+        match self.give() {
+            Some(number) => Admission::Given(number),
+            None => Admission::Full,
+        }
+    }
+
     /// Gives the lowest free seat to a connection, and returns its number, if a seat is free.
-    pub(crate) fn give(&mut self) -> Option<u8>
+    fn give(&mut self) -> Option<u8>
         ensures lowest { result ≡ lowest_free_in self.old.places }
         ensures number { IfSome result (λ number. (0 < number) × (number ≤ J.seats)) }
         ensures given { IfSome result (λ number. self.new ≡ with_place number given self.old) }
@@ -121,8 +152,17 @@ impl<J: RoomId> Desk<J> {
         self.places[at].put_back(seat);
     }
 
-    /// Takes the place of a number back from a connection that has no thread.
-    pub(crate) fn take_back(&mut self, number: u8)
+    /// Takes the place of a number back from a connection whose thread was refused, and notes that.
+    pub(crate) fn go_without_thread(&mut self, number: u8)
+        requires { (0 < number) × (number ≤ J.seats) }
+        ensures { self.new ≡ noted Thread (with_place number taken_back self.old) }
+    {
+        self.take_back(number);
+        self.note(SeatsFault::Thread);
+    }
+
+    /// Takes the place of a number back from a connection.
+    fn take_back(&mut self, number: u8)
         requires { (0 < number) × (number ≤ J.seats) }
         ensures { self.new ≡ with_place number taken_back self.old }
     {
@@ -145,8 +185,16 @@ impl<J: RoomId> Desk<J> {
         }
     }
 
+    /// Closes the room, whose input has ended so: from now on no connection is admitted.
+    pub(crate) fn close(&mut self, end: InputEnd)
+        ensures { self.new ≡ closed end self.old }
+    {
+        self.note_input(end);
+        self.is_closing = true;
+    }
+
     /// Notes how the input ended that closes the room.
-    pub(crate) fn note_input(&mut self, end: InputEnd)
+    fn note_input(&mut self, end: InputEnd)
         ensures { self.new ≡ after_input end self.old }
     {
         match end {
@@ -166,6 +214,7 @@ impl<J: RoomId> Desk<J> {
             places,
             back,
             fault,
+            is_closing: _,
         } = self;
         (collect(places, back), fault)
     }

@@ -32,5 +32,6 @@ pub mod taking_turns;
 pub use consoles::accept_each;
 pub use fault::SeatsFault;
 pub use giving::{GiveFault, foreign_seat, give, give_entries};
+pub use input::InputEnd;
 pub use service::Service;
 pub use taking_turns::TakingTurns;

@@ -1,10 +1,12 @@
 //! What the threads of a service share.
-ghost use Rattle.std.specs.Prelude.{◌≡◌, ◌<◌, ◌≤◌, ◌^◌, IfErr, IfSome};
+ghost use Rattle.std.specs.Prelude.{◌≡◌, ◌≢◌, ◌↔◌, ◌<◌, ◌≤◌, ◌^◌, IfErr, IfSome, IsTrue};
+ghost use Rattle.std.specs.Io.KnownBytes.{IsAtEnd};
 ghost use Rattle.console_1401.specs.Served.{AreAllSeats};
+ghost use Rattle.desk_1401.specs.Input.{SaysNoQuit, SaysQuit};
 
 use crate::desk::Desk;
 use crate::fault::SeatsFault;
-use crate::input::read_to_quit;
+use crate::input::{InputEnd, read_to_quit};
 use room_1401::{RoomId, Seat};
 use sockets_1401::{Pause, passes, shut_down};
 use std::alloc::Global;
@@ -157,13 +159,19 @@ impl<J: RoomId> Service<J> {
         self.desk.lock(rt).note(fault);
     }
 
-    /// Waits until a line of the input says QUIT, or until the input ends; then the room is being closed: no console
-    /// begins another line.
-    pub fn close_by<R: Wait, S: Source>(&self, rt: &R, input: &mut S) {
+    /// Waits until a line of the input says QUIT, or until the input ends, and returns how it ended. Then the room is
+    /// being closed: nobody is admitted, and no console begins another line.
+    pub fn close_by<R: Wait, S: Source>(&self, rt: &R, input: &mut S) -> InputEnd
+        ensures quit { result ≡ InputEnd.Quit → SaysQuit (S.left input.old) (S.left input.new) }
+        ensures other { result ≢ InputEnd.Quit → SaysNoQuit (S.left input.old) (S.left input.new) }
+        ensures end { result ≡ InputEnd.End → IsAtEnd (S.left input.new) }
+        ensures failed { (result ≡ InputEnd.Failed) ↔ IsTrue (S.has_failed input.new) }
+    {
         let end = read_to_quit(rt, input);
         let mut desk = self.desk.lock(rt);
-        desk.note_input(end);
+        desk.close(end);
         self.is_closing.store(true, SeqCst);
+        end
     }
 
     /// Waits until the consoles of a room that is being closed have ended, for a second at most. After that they wait

@@ -41,24 +41,28 @@ impl<'a> WhileOpen<'a> {
         })
     }
 
-    /// Waits until a read gives something, or fails, and returns whether it will; else the room is being closed.
-    fn has_more(&self) -> bool {
+    /// Waits until a read gives something, and returns whether it will; else the room is being closed.
+    ///
+    /// # Errors
+    ///
+    /// If the connection has failed. The system says so once: a read after that would be at the end.
+    fn has_more(&self) -> io::Result<bool> {
         let mut first = [0u8];
         for _ in 0..u64::MAX {
             let is_closing = self.is_closing.load(SeqCst);
             if self.is_over.load(SeqCst) {
-                return false;
+                return Ok(false);
             }
             match self.stream.peek(&mut first) {
                 Err(error) if has_waited(&error) => {
                     if is_closing {
-                        return false;
+                        return Ok(false);
                     }
                 }
-                _ => return true,
+                peeked => return peeked.map(|_| true),
             }
         }
-        false
+        Ok(false)
     }
 }
 
@@ -69,7 +73,7 @@ fn has_waited(error: &io::Error) -> bool {
 
 impl Read for WhileOpen<'_> {
     fn read(&mut self, buf: &mut [u8]) -> io::Result<usize> {
-        if !self.has_more() {
+        if !self.has_more()? {
             return Ok(0);
         }
         let mut stream = self.stream;

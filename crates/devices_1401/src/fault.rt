@@ -1,5 +1,7 @@
 //! Why a device can't do what it was asked for; it is then as it was before. Each is shown by the name of the stop or
 //! the refusal that it leads to.
+ghost use Rattle.std.specs.Prelude.{◌≡◌};
+ghost use Rattle.devices_1401.specs.Fault.{control_fault_number};
 
 use thiserror::Error;
 
@@ -28,8 +30,17 @@ pub struct FormsFull;
 pub enum ControlFault {
     /// 1: the d-character asks for nothing.
     #[error("DCHAR")]
-    DChar,
+    DChar = 1,
     /// 2: it asks for a skip to a channel without a hole.
     #[error("CARRIAGE")]
-    Carriage,
+    Carriage = 2,
+}
+
+impl ControlFault {
+    /// The number.
+    pub fn number(self) -> u8
+        ensures { result ≡ control_fault_number self }
+    {
+        self as u8
+    }
 }

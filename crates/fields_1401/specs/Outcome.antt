@@ -35,3 +35,8 @@ pub record CarriesOut (outcome : Outcome) (old new : Storage) (result : Result D
 abbrev pub stop_of : FieldStop → Stop
 stop_of field.Address = stop.Address
 stop_of field.Overlap = stop.Overlap
+
+-- the number of such a stop among those of fields (own)
+abbrev pub field_stop_number : FieldStop → ℕ
+field_stop_number field.Address = 1
+field_stop_number field.Overlap = 2

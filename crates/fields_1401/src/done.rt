@@ -1,6 +1,6 @@
 //! What an operation on fields leaves beside the core, and why it can't be carried out.
 ghost use Rattle.std.specs.Prelude.{◌≡◌};
-ghost use Rattle.fields_1401.specs.Outcome.{stop_of};
+ghost use Rattle.fields_1401.specs.Outcome.{field_stop_number, stop_of};
 
 use panel_1401::Stop;
 use thiserror::Error;
@@ -28,10 +28,19 @@ pub struct Done {
 pub enum FieldStop {
     /// 1: a place that it needs isn't in core, or a field that it needs has no word mark.
     #[error("ADDRESS")]
-    Address,
+    Address = 1,
     /// 2: the fields overlap where they may not.
     #[error("OVERLAP")]
-    Overlap,
+    Overlap = 2,
+}
+
+impl FieldStop {
+    /// The number.
+    pub fn number(self) -> u8
+        ensures { result ≡ field_stop_number self }
+    {
+        self as u8
+    }
 }
 
 impl From<FieldStop> for Stop {

@@ -9,12 +9,14 @@
 
 pub mod closed_streams;
 pub mod fault;
+pub mod limited;
 pub mod names;
 pub mod reading;
 pub mod writing;
 
 pub use closed_streams::{HeldStreams, hold_closed_streams};
 pub use fault::{FileFault, WriteFault};
+pub use limited::{LimitedFile, size_limit};
 pub use names::is_one_file;
 pub use reading::read_whole;
 pub use writing::{create, write_whole};

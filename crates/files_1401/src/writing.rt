@@ -1,6 +1,7 @@
 //! A file that is written whole or not at all.
 
 use crate::fault::WriteFault;
+use crate::limited::{LimitedFile, size_limit};
 use crate::names::{end_of_links, split_name};
 use std::fs::{File, Metadata, OpenFile, OpenOptions};
 use std::io::ErrorKind;
@@ -50,7 +51,8 @@ fn sync_folder<R: Files>(rt: &R, name: &str) {
     }
 }
 
-/// Writes a text to a new file, forces it onto the disk, and gives it the name.
+/// Writes a text to a new file, forces it onto the disk, and gives it the name. Nothing is written of a text that is
+/// longer than a file may be.
 fn write_beside<R: Files>(
     rt: &R,
     file: R::File,
@@ -58,6 +60,9 @@ fn write_beside<R: Files>(
     name: &str,
     text: &[u8],
 ) -> io::Result<()> {
+    if text.len() as u64 > size_limit() {
+        return Err(io::Error::from(ErrorKind::FileTooLarge));
+    }
     let file = put_text(file, text)?;
     file.sync_all()?;
     fs::rename(rt, beside, name)
@@ -126,14 +131,14 @@ pub fn write_whole<R: Files + AllocGlobal>(
     }
 }
 
-/// A new file, in place of one of the name, to which bytes are written as they come.
+/// A new file, in place of one of the name, to which bytes are written as they come, as many as a file may have.
 ///
 /// # Errors
 ///
 /// If it can't be made.
-pub fn create<R: Files>(rt: &R, name: &str) -> Result<ToWriter<R::File>, WriteFault> {
+pub fn create<R: Files>(rt: &R, name: &str) -> Result<ToWriter<LimitedFile<R::File>>, WriteFault> {
     match fs::create(rt, name) {
-        Ok(file) => Ok(ToWriter::new(file)),
+        Ok(file) => Ok(ToWriter::new(LimitedFile::new(file))),
         Err(_) => Err(WriteFault::Unwritten),
     }
 }

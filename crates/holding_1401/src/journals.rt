@@ -230,7 +230,7 @@ fn look_at<R: Input + Print + AllocGlobal>(rt: &R, room: Room) -> Result<(), Hol
 /// Tells on standard error which line was cut off, if one was.
 pub fn tell_cut(rt: &impl Eprint, cut: Option<u32>) {
     if let Some(line) = cut {
-        let _ = eprintln!(rt; "ibm1401: line {line} was unfinished and is cut off");
+        let _ = eprintln!(rt; "ibm1401: line {line} was unfinished and was discarded");
     }
 }
 

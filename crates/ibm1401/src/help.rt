@@ -3,15 +3,17 @@ ghost use Rattle.std.specs.Prelude.{◌≡◌, ◌≢◌, OnErr};
 ghost use Rattle.clap.specs.Values.{kind_of};
 
 use crate::fault::Fault;
+use crate::version::print_version;
 use clap::Error;
 use clap::error::ErrorKind;
+use std::rt::Files;
 
-/// Tells what a parse of the command line answers if it asks for no subcommand: the text of the help.
+/// Prints what a parse of the command line answers if it asks for no subcommand: the text of the help, or the version.
 ///
 /// # Errors
 ///
-/// `Output` if standard output doesn't take the help; `Usage` if the parse asks for none, or `Memory`.
-pub fn tell(rt: &impl Print, error: Error) -> Result<(), Fault>
+/// `Output` if standard output doesn't take the text; `Usage` if the parse asks for none, or `Memory`.
+pub fn tell(rt: &(impl Print + Files + AllocGlobal), error: Error) -> Result<(), Fault>
     ensures help { kind_of error ≡ ErrorKind.DisplayHelp → OnErr result (result ≡ Err Fault.Output) }
     ensures memory { kind_of error ≡ ErrorKind.OutOfMemory → result ≡ Err Fault.Memory }
     ensures usage { kind_of error ≢ ErrorKind.DisplayHelp → kind_of error ≢ ErrorKind.DisplayVersion
@@ -19,9 +21,8 @@ pub fn tell(rt: &impl Print, error: Error) -> Result<(), Fault>
 {
     match error.kind() {
         ErrorKind::OutOfMemory => Err(Fault::Memory),
-        ErrorKind::DisplayHelp | ErrorKind::DisplayVersion => {
-            rt.print(error).map_err(|_| Fault::Output)
-        }
+        ErrorKind::DisplayHelp => rt.print(error).map_err(|_| Fault::Output),
+        ErrorKind::DisplayVersion => print_version(rt, error),
         _ => Err(Fault::Usage(error)),
     }
 }

@@ -4,9 +4,10 @@
 // the cards of a room that operators share
 mod hopper;
 
-// what a command line without a subcommand is told, what a run fails by, and its status
+// what a command line without a subcommand is answered, what a run fails by, and its status
 mod fault;
 mod help;
+mod version;
 
 use crate::fault::{Fault, report};
 use crate::help::tell;

@@ -1,3 +1,4 @@
+pub mod Fault
 pub mod Image
 pub mod ImageText
 pub mod Reading

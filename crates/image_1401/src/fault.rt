@@ -1,4 +1,6 @@
 //! Why a text is no image.
+ghost use Rattle.std.specs.Prelude.{◌≡◌};
+ghost use Rattle.image_1401.specs.Fault.{image_fault_number};
 
 use thiserror::Error;
 
@@ -7,17 +9,26 @@ use thiserror::Error;
 pub enum ImageFault {
     /// 1: the memory for the image was refused.
     #[error("1 MEMORY")]
-    Memory,
+    Memory = 1,
     /// 2: the first line is no header, or names a size that an image doesn't have.
     #[error("2 HEADER")]
-    Header,
+    Header = 2,
     /// 3: a line is neither a segment nor the end, or something follows the end.
     #[error("3 RECORD")]
-    BadRecord,
+    BadRecord = 3,
     /// 4: a segment or the entry doesn't lie in core storage of the image's size.
     #[error("4 RANGE")]
-    Range,
+    Range = 4,
     /// 5: the text ends before its last line does.
     #[error("5 TRUNCATED")]
-    Truncated,
+    Truncated = 5,
+}
+
+impl ImageFault {
+    /// The number.
+    pub fn number(self) -> u8
+        ensures { result ≡ image_fault_number self }
+    {
+        self as u8
+    }
 }

@@ -8,7 +8,7 @@ use thiserror::Error;
 #[derive(Clone, Copy, Debug, PartialEq, Eq, Error)]
 pub enum FileFault {
     /// There is a file of this name already, which a new journal would overwrite.
-    #[error("is there already")]
+    #[error("already exists")]
     Exists,
     /// Another process keeps a journal in it.
     #[error("is in use")]

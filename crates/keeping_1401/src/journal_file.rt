@@ -1,6 +1,7 @@
 //! The file of a journal, as a sink of its lines.
 ghost use Rattle.std.specs.Prelude.{◌≡◌, ◌<◌, ◌≤◌, false, length, IfOk, None};
 
+use files_1401::size_limit;
 use std::fs::{File, OpenFile};
 use std::os::unix::fs::MetadataExt;
 use streams_1401::{Failed, Sink, ToWriter};
@@ -13,9 +14,6 @@ pub enum Durability {
     /// It outlasts a loss of power too: the disk has it.
     Disk,
 }
-
-/// What `getrlimit` is asked for the most bytes that a file may have.
-const RLIMIT_FSIZE: i32 = 1;
 
 /// Hands lines to a file, with one write each time, and forces each onto the disk if that is asked for. If that
 /// fails, so has the write, though the line may be in the file. If another process has cut the file, added to it or
@@ -31,20 +29,6 @@ pub struct JournalFile {
     failed: bool,
 }
 
-/// The most bytes that this process may have in a file. Whoever writes beyond that is ended by a signal, which can't be
-/// ignored from here.
-fn most_bytes() -> u64 {
-    let mut limit = libc::types::rlimit {
-        rlim_cur: u64::MAX,
-        rlim_max: u64::MAX,
-    };
-    if libc::getrlimit(RLIMIT_FSIZE, &mut limit) == 0 {
-        limit.rlim_cur
-    } else {
-        u64::MAX
-    }
-}
-
 impl JournalFile {
     /// A sink that adds lines to this file of this many bytes, which was opened so that each write adds to its end.
     pub fn new(file: File, len: u64, durability: Durability) -> JournalFile
@@ -54,7 +38,7 @@ impl JournalFile {
         JournalFile {
             file,
             len,
-            most: most_bytes(),
+            most: size_limit(),
             durability,
             failed: false,
         }

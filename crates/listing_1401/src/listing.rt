@@ -146,7 +146,7 @@ fn literal_line(
     listing_line(alloc, None, Some(from), &cells, &source)
 }
 
-/// How the literals were first written that are used and not placed.
+/// The literals that are used and not yet placed, as they were first written.
 fn pending_spellings<'b>(so_far: &'b Placing<'_>) -> &'b [Literal]
     ensures { result.now ≡ drop (length (places_of so_far.now).addresses) (places_of so_far.now).spellings }
 {

@@ -24,7 +24,7 @@ pub mod kept_room;
 pub mod kept_sessions;
 pub mod sessions;
 
-pub use command_1401::{Answer, Command, Refusal, carry_out};
+pub use command_1401::{Answer, Command};
 pub use entry::{Entry, SeatedCommand};
 pub use keeper::{Carried, Keeper, NoKeeper, Unkept};
 pub use kept_room::KeptRoom;

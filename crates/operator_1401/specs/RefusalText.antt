@@ -1,4 +1,4 @@
--- The texts of refusals, as the console replies them (own).
+-- The texts and the numbers of refusals, as the console replies them (own).
 use Rattle.std.specs.Prelude.{ℕ, List, codes}
 use Rattle.operator_1401.specs.declared.answer.Refusal.{Refusal}
 use Rattle.operator_1401.specs.declared.answer.Refusal.TheVariants.{Address, Hopper, Reader, Empty, Limit, Count}
@@ -11,3 +11,12 @@ refusal_text Reader = codes "REFUSED 3 READER"
 refusal_text Empty = codes "REFUSED 4 EMPTY"
 refusal_text Limit = codes "REFUSED 5 LIMIT"
 refusal_text Count = codes "REFUSED 6 COUNT"
+
+-- its number
+abbrev pub refusal_number : Refusal → ℕ
+refusal_number Address = 1
+refusal_number Hopper = 2
+refusal_number Reader = 3
+refusal_number Empty = 4
+refusal_number Limit = 5
+refusal_number Count = 6

@@ -1,6 +1,6 @@
 //! What the machine answers.
 ghost use Rattle.std.specs.Prelude.{◌≡◌};
-ghost use Rattle.operator_1401.specs.RefusalText.{refusal_text};
+ghost use Rattle.operator_1401.specs.RefusalText.{refusal_number, refusal_text};
 
 use core_1401::Cells;
 use devices_1401::{Card, PrintLine};
@@ -38,20 +38,27 @@ pub enum Answer {
 #[error("{}", self.text())]
 pub enum Refusal {
     /// 1: a place isn't in core.
-    Address,
+    Address = 1,
     /// 2: the hopper holds 500 cards.
-    Hopper,
+    Hopper = 2,
     /// 3: the load key without a card in the hopper.
-    Reader,
+    Reader = 3,
     /// 4: no line or card is there to be taken.
-    Empty,
+    Empty = 4,
     /// 5: the limit isn't from 1 to 1,000,000.
-    Limit,
+    Limit = 5,
     /// 6: the count isn't from 1 to 40; this is looked at before the places.
-    Count,
+    Count = 6,
 }
 
 impl Refusal {
+    /// The number.
+    pub fn number(self) -> u8
+        ensures { result ≡ refusal_number self }
+    {
+        self as u8
+    }
+
     /// The number and the name, as the console replies them.
     pub fn text(self) -> &'static str
         ensures { result.now ≡ refusal_text self }

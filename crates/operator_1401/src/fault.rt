@@ -1,6 +1,7 @@
 //! Why a room can't take a command, and a glance shows nothing.
 ghost use Rattle.std.specs.Prelude.{◌≡◌};
-ghost use Rattle.operator_1401.specs.FaultText.{glance_fault_text, room_fault_text};
+ghost use Rattle.operator_1401.specs.FaultText.{glance_fault_number, glance_fault_text};
+ghost use Rattle.operator_1401.specs.FaultText.{room_fault_number, room_fault_text};
 
 use thiserror::Error;
 
@@ -9,16 +10,23 @@ use thiserror::Error;
 #[error("{}", self.text())]
 pub enum RoomFault {
     /// 1: the memory for the journal's next entry was refused.
-    Memory,
+    Memory = 1,
     /// 2: the journal has its 100,000 entries.
-    JournalFull,
+    JournalFull = 2,
     /// 3: what the seat has seen couldn't be compared with the journal of its shared room.
-    NoReading,
+    NoReading = 3,
     /// 4: an earlier entry wasn't kept outside of the room.
-    Unkept,
+    Unkept = 4,
 }
 
 impl RoomFault {
+    /// The number.
+    pub fn number(self) -> u8
+        ensures { result ≡ room_fault_number self }
+    {
+        self as u8
+    }
+
     /// The number and the name, as the console replies them.
     pub fn text(self) -> &'static str
         ensures { result.now ≡ room_fault_text self }
@@ -37,12 +45,19 @@ impl RoomFault {
 #[error("{}", self.text())]
 pub enum GlanceFault {
     /// 1: the address isn't in core.
-    Range,
+    Range = 1,
     /// 2: there was nothing to read.
-    Gone,
+    Gone = 2,
 }
 
 impl GlanceFault {
+    /// The number.
+    pub fn number(self) -> u8
+        ensures { result ≡ glance_fault_number self }
+    {
+        self as u8
+    }
+
     /// The number and the name, as the console replies them.
     pub fn text(self) -> &'static str
         ensures { result.now ≡ glance_fault_text self }

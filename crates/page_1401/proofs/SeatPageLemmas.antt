@@ -50,41 +50,43 @@ either : (b : Bool) (P Q R : Type 0) → MatchBool b P Q → (P → R) → (Q �
 either true P Q R m f g = f m
 either false P Q R m f g = g m
 
-answers_line : (size : ℕ) (before : SeatView) (bytes : List ℕ) (response : Response) (after : SeatView)
-    → AnswersLine size before bytes response after → GoesOn before after
-answers_line size before bytes response after a = record { number_is = a.number_is; grows = a.grows }
+answers_line : (size : ℕ) (lost : List SeatedCommand → Type 0) (before : SeatView) (bytes : List ℕ) (response : Response) (after : SeatView)
+    → AnswersLine size lost before bytes response after → GoesOn before after
+answers_line size lost before bytes response after a = record { number_is = a.number_is; grows = a.grows }
 
-takes : (size : ℕ) (origin : List ℕ) (head : Parts) (bytes : List ℕ) (before : SeatView) (response : Response)
-    (after : SeatView) → TakesLine size origin head bytes before response after → GoesOn before after
-takes size origin head bytes before response after t =
+takes : (size : ℕ) (lost : List SeatedCommand → Type 0) (origin : List ℕ) (head : Parts) (bytes : List ℕ)
+    (before : SeatView) (response : Response) (after : SeatView)
+    → TakesLine size lost origin head bytes before response after → GoesOn before after
+takes size lost origin head bytes before response after t =
     let Refused : ℕ → Type 0 = λ status. IsRefused status response × (after ≡ before) in
-    let Taken : Type 0 = AnswersLine size before bytes response after in
+    let Taken : Type 0 = AnswersLine size lost before bytes response after in
     either _ (MatchBool (is_next (count_in head) before.made) Taken (Refused 409)) (Refused 403) (GoesOn before after) t
     (λ own. either _ Taken (Refused 409) (GoesOn before after) own
-    (λ taken. answers_line size before bytes response after taken)
+    (λ taken. answers_line size lost before bytes response after taken)
     (λ refused. stays before after refused.1))
     (λ refused. stays before after refused.1)
 
-route : (size : ℕ) (to : Route) (old : PageView) (request : Request (List ℕ)) (response : Response) (new : PageView)
-    → AnswersRoute size to old request response new → GoesOn old.seat new.seat
-route size Page old request response new a = stays old.seat new.seat (ap (λ (page : PageView). page.seat) a.1)
-route size Picture old request response new a = shows size old.seats _ old.seat response new.seat a.0
-route size Line old request response new a =
-    takes size _ (head_of request) (body_of request) old.seat response new.seat a.0
-route size WrongMethod old request response new a = stays old.seat new.seat (ap (λ (page : PageView). page.seat) a.1)
-route size Unknown old request response new a = stays old.seat new.seat (ap (λ (page : PageView). page.seat) a.1)
+route : (size : ℕ) (lost : List SeatedCommand → Type 0) (to : Route) (old : PageView) (request : Request (List ℕ))
+    (response : Response) (new : PageView) → AnswersRoute size lost to old request response new
+    → GoesOn old.seat new.seat
+route size lost Page old request response new a = stays old.seat new.seat (ap (λ (page : PageView). page.seat) a.1)
+route size lost Picture old request response new a = shows size old.seats _ old.seat response new.seat a.0
+route size lost Line old request response new a =
+    takes size lost _ (head_of request) (body_of request) old.seat response new.seat a.0
+route size lost WrongMethod old request response new a = stays old.seat new.seat (ap (λ (page : PageView). page.seat) a.1)
+route size lost Unknown old request response new a = stays old.seat new.seat (ap (λ (page : PageView). page.seat) a.1)
 
-answers : (size : ℕ) (old : PageView) (request : Request (List ℕ)) (response : Response) (new : PageView)
-    → Answers size old request response new → GoesOn old.seat new.seat
-answers size old request response new a =
+answers : (size : ℕ) (lost : List SeatedCommand → Type 0) (old : PageView) (request : Request (List ℕ))
+    (response : Response) (new : PageView) → Answers size lost old request response new → GoesOn old.seat new.seat
+answers size lost old request response new a =
     let head : Parts = head_of request in
     let to : Route = route_of head.method (uri_path head.uri) in
     let Refused : ℕ → Type 0 = λ status. IsRefused status response × (new ≡ old) in
-    let Asked : Type 0 = AnswersRoute size to old request response new in
+    let Asked : Type 0 = AnswersRoute size lost to old request response new in
     either _ (MatchBool (is_ambiguous head) (Refused 400) Asked) (Refused 403) (GoesOn old.seat new.seat) a
     (λ own. either _ (Refused 400) Asked (GoesOn old.seat new.seat) own
     (λ refused. stays old.seat new.seat (ap (λ (page : PageView). page.seat) refused.1))
-    (λ asked. route size to old request response new asked))
+    (λ asked. route size lost to old request response new asked))
     (λ refused. stays old.seat new.seat (ap (λ (page : PageView). page.seat) refused.1))
 
 goes_then : (before middle after : SeatView) → GoesOn before middle → GoesOn middle after → GoesOn before after
@@ -101,12 +103,14 @@ goes_then before middle after first second =
       );
     }
 
-chain : (size : ℕ) (old : PageView) (calls : List Call) (new : PageView)
-    → Chain (Answers size) old calls new → GoesOn old.seat new.seat
-chain size old [] new c = stays old.seat new.seat (ap (λ (page : PageView). page.seat) c)
-chain size old (call ∷ calls) new c =
-    goes_then old.seat c.0.seat new.seat (answers size old call.0 call.1 c.0 c.1) (chain size c.0 calls new c.2)
+chain : (size : ℕ) (lost : List SeatedCommand → Type 0) (old : PageView) (calls : List Call) (new : PageView)
+    → Chain (Answers size lost) old calls new → GoesOn old.seat new.seat
+chain size lost old [] new c = stays old.seat new.seat (ap (λ (page : PageView). page.seat) c)
+chain size lost old (call ∷ calls) new c =
+    goes_then old.seat c.0.seat new.seat (answers size lost old call.0 call.1 c.0 c.1)
+    (chain size lost c.0 calls new c.2)
 
 -- whatever requests came
-pub goes_on : (size : ℕ) (old new : PageView) → Follows (Answers size) old new → GoesOn old.seat new.seat
-goes_on size old new f = chain size old f.0 new f.1
+pub goes_on : (size : ℕ) (lost : List SeatedCommand → Type 0) (old new : PageView)
+    → Follows (Answers size lost) old new → GoesOn old.seat new.seat
+goes_on size lost old new f = chain size lost old f.0 new f.1

@@ -6,6 +6,7 @@ use Rattle.http.specs.declared.request.Request.{Request}
 use Rattle.http.specs.Request.{body_of, head_of}
 use Rattle.http_server.specs.declared.response.Response.{Response}
 use Rattle.http_server.specs.Response.{IsResponse}
+use Rattle.lone_room_1401.specs.declared.entry.SeatedCommand.{SeatedCommand}
 use Rattle.room_1401.specs.Seen.{SeatView}
 use Rattle.exchange_1401.specs.declared.route.Route.{Route}
 use Rattle.exchange_1401.specs.declared.route.Route.TheVariants.{Page, Picture, Line, WrongMethod, Unknown}
@@ -30,27 +31,28 @@ abbrev pub with_seat : PageView → SeatView → PageView
 with_seat page seat = record page { seat = seat }
 
 -- by what a request asks for: a picture or a line goes to the seat; any other leaves all as it was
-abbrev pub AnswersRoute : ℕ → Route → PageView → Request (List ℕ) → Response → PageView → Type 0
-AnswersRoute size Page old request response new =
+abbrev pub AnswersRoute : ℕ → (List SeatedCommand → Type 0) → Route → PageView → Request (List ℕ) → Response → PageView
+    → Type 0
+AnswersRoute size lost Page old request response new =
     IsResponse 200 (page_fields old.policy) old.page response × (new ≡ old)
-AnswersRoute size Picture old request response new =
+AnswersRoute size lost Picture old request response new =
     ShowsPicture size old.seats (asked_in (uri_query (head_of request).uri)) old.seat response new.seat
     × (new ≡ with_seat old new.seat)
-AnswersRoute size Line old request response new =
-    TakesLine size (origin_of old.port) (head_of request) (body_of request) old.seat response new.seat
+AnswersRoute size lost Line old request response new =
+    TakesLine size lost (origin_of old.port) (head_of request) (body_of request) old.seat response new.seat
     × (new ≡ with_seat old new.seat)
-AnswersRoute size WrongMethod old request response new = IsRefused 405 response × (new ≡ old)
-AnswersRoute size Unknown old request response new = IsRefused 404 response × (new ≡ old)
+AnswersRoute size lost WrongMethod old request response new = IsRefused 405 response × (new ≡ old)
+AnswersRoute size lost Unknown old request response new = IsRefused 404 response × (new ≡ old)
 
 -- a request that isn't for the page's own host and port is refused, and so is a request that says twice where it comes
 -- from or what it goes on from; both leave all as it was
-abbrev pub Answers : ℕ → PageView → Request (List ℕ) → Response → PageView → Type 0
-Answers size old request response new =
+abbrev pub Answers : ℕ → (List SeatedCommand → Type 0) → PageView → Request (List ℕ) → Response → PageView → Type 0
+Answers size lost old request response new =
     let head = head_of request in
     MatchBool (is_for head (host_of old.port))
     (MatchBool (is_ambiguous head)
     (IsRefused 400 response × (new ≡ old))
-    (AnswersRoute size (route_of head.method (uri_path head.uri)) old request response new))
+    (AnswersRoute size lost (route_of head.method (uri_path head.uri)) old request response new))
     (IsRefused 403 response × (new ≡ old))
 
 -- A seat's number stays, and what it has seen goes on.

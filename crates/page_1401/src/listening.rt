@@ -1,6 +1,7 @@
 //! The requests of a page, one after the other.
 ghost use Rattle.exchange_1401.specs.Exchange.{Follows};
 ghost use Rattle.page_1401.specs.SeatPage.{Answers, GoesOn};
+ghost use Rattle.page_1401.specs.Taking.{HasLost};
 
 use crate::seat_page::SeatPage;
 use exchange_1401::{Requests, answer_each};
@@ -18,7 +19,7 @@ pub fn answer_page<
     W: Wait,
     Q: Requests,
 >(rt: &R, page: &mut SeatPage<'_, J, H, P, W>, requests: &mut Q)
-    ensures follows { Follows (Answers J.size) page.old page.new }
+    ensures follows { Follows (Answers J.size (HasLost P.has_failed P.kept P.first P.form J.size)) page.old page.new }
 
     // So no picture, and no reply, is of fewer of the room's commands than one before.
     ensures seat { GoesOn page.old.seat page.new.seat }

@@ -143,8 +143,9 @@ impl<'a, J: RoomId, R: Wait + Drop, P: Keeper + Drop, W: Wait> SeatPage<'a, J, R
 
 impl<J: RoomId, R: Wait + Drop, P: Keeper + Drop, W: Wait> Service for SeatPage<'_, J, R, P, W> {
     ghost use Rattle.page_1401.specs.SeatPage.{Answers};
+    ghost use Rattle.page_1401.specs.Taking.{HasLost};
 
-    ghost answers = { Answers J.size };
+    ghost answers = { Answers J.size (HasLost P.has_failed P.kept P.first P.form J.size) };
 
     fn call(
         &mut self,

@@ -3,7 +3,7 @@ ghost use Rattle.std.specs.Prelude.{◌≡◌, [], IfOk, IfErr, OnOk, OnErr};
 ghost use Rattle.http.specs.Request.{body_of, head_of};
 ghost use Rattle.http_server.specs.Response.{IsBlank, IsResponse};
 ghost use Rattle.exchange_1401.specs.Responses.{text_fields, IsText};
-ghost use Rattle.page_1401.specs.Taking.{AnswersLine, IsUnansweredBy, TakesLine};
+ghost use Rattle.page_1401.specs.Taking.{AnswersLine, HasLost, IsUnansweredBy, TakesLine};
 
 use bytes::Bytes;
 use console_1401::{Unanswered, answer_line};
@@ -28,6 +28,7 @@ fn tell_outcome(response: &mut Response, outcome: &Result<Vec<u8>, Unanswered>)
 }
 
 /// Answers a line at a seat: its reply, or that there is none though it was carried out.
+#[tactic(auto, using(crate::proofs::TakingLemmas::reason))]
 fn answer_at<J: RoomId, R: Wait + Drop, P: Keeper + Drop, W: Wait>(
     alloc: Global,
     wait: &W,
@@ -37,7 +38,8 @@ fn answer_at<J: RoomId, R: Wait + Drop, P: Keeper + Drop, W: Wait>(
     response: &mut Response,
 )
     requires { IsResponse 200 text_fields [] response.old }
-    ensures { AnswersLine J.size seat.old line.now response.new seat.new }
+    ensures { AnswersLine J.size (HasLost P.has_failed P.kept P.first P.form J.size)
+        seat.old line.now response.new seat.new }
 {
     let outcome = answer_line(alloc, wait, room, seat, line);
     tell_outcome(response, &outcome);
@@ -55,8 +57,8 @@ pub(crate) fn take_line<J: RoomId, R: Wait + Drop, P: Keeper + Drop, W: Wait>(
     response: &mut Response,
 ) -> Result<(), AllocError>
     requires { IsBlank response.old }
-    ensures ok { OnOk result (TakesLine J.size origin.now (head_of request.now) (body_of request.now)
-        seat.old response.new seat.new) }
+    ensures ok { OnOk result (TakesLine J.size (HasLost P.has_failed P.kept P.first P.form J.size)
+        origin.now (head_of request.now) (body_of request.now) seat.old response.new seat.new) }
     ensures err { OnErr result (seat.new ≡ seat.old) }
 {
     if !has_field(request, "origin", origin) {

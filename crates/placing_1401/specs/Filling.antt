@@ -1,11 +1,12 @@
 -- Core storage as the cells of a source fill it (own).
-use Rattle.std.specs.Prelude.{ℕ, List, [], ◌∷◌, fold, replicate, slice_set}
+use Rattle.std.specs.Prelude.{ℕ, List, [], ◌∷◌, fold, length, replicate, slice_set}
 use Rattle.bcd_1401.specs.declared.cell.Cell.{Cell}
 use Rattle.core_1401.specs.Storage.{blank}
 use Rattle.source_1401.specs.declared.statement.Line.{Line}
 use Rattle.placing_1401.specs.PlacedImage.{placed_cells}
-use Rattle.placing_1401.specs.Cells.{address_or_zero}
-use Rattle.placing_1401.specs.Placement.{Placement, placed_after, unplaced, placed}
+use Rattle.placing_1401.specs.Cells.{address_or_zero, statement_cells}
+use Rattle.placing_1401.specs.Placement.{Placement, placed_after, start_of, unplaced, placed}
+use Rattle.placing_1401.specs.declared.filling.FilledPlaces.{FilledPlaces}
 
 -- a cell more, at its address
 abbrev pub with_cell : List Cell → ℕ × Cell → List Cell
@@ -22,3 +23,17 @@ addresses_from this (line ∷ lines) = address_or_zero this.next ∷ addresses_f
 
 abbrev pub addresses_of : List Line → List ℕ
 addresses_of lines = addresses_from (unplaced (placed lines)) lines
+
+-- the places of cells from this one on
+abbrev pub filled_of : ℕ → List Cell → FilledPlaces
+filled_of first cells = record { first = first; count = length cells }
+
+-- the places that each line fills
+abbrev pub filled_from : Placement → Placement → List Line → List FilledPlaces
+filled_from all this [] = []
+filled_from all this (line ∷ lines) =
+    filled_of (address_or_zero (start_of this line.statement)) (statement_cells all this line.statement lines)
+    ∷ filled_from all (placed_after this line) lines
+
+abbrev pub filled_places : List Line → List FilledPlaces
+filled_places lines = filled_from (placed lines) (unplaced (placed lines)) lines

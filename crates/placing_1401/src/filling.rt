@@ -6,7 +6,8 @@ ghost use Rattle.symbols_1401.specs.Fault.{IsMemory};
 ghost use Rattle.symbols_1401.specs.Symbols.{sites_of};
 ghost use Rattle.symbols_1401.specs.View.{chains_view};
 ghost use Rattle.placing_1401.specs.Cells.{address_or_zero, numbered, row_cells, statement_cells, cells_from};
-ghost use Rattle.placing_1401.specs.Filling.{with_cell, addresses_from, addresses_of, filled};
+ghost use Rattle.placing_1401.specs.Filling.{with_cell, addresses_from, addresses_of, filled, filled_of, filled_from};
+ghost use Rattle.placing_1401.specs.Filling.{filled_places};
 ghost use Rattle.placing_1401.specs.Placement.{placed_after, placed, start_by, start_of, unplaced};
 ghost use Rattle.placing_1401.specs.View.{places_of};
 
@@ -18,6 +19,15 @@ use source_1401::{Description, Language};
 use std::alloc::Global;
 use symbols_1401::{AsmFault, Chains, KeptLine, SourceHashing, declared};
 
+/// The places to which the cells of a line go: this many from the first on, whether they are in core or not.
+#[derive(Clone, Copy, Debug, PartialEq, Eq)]
+pub struct FilledPlaces {
+    /// The first.
+    pub first: u16,
+    /// How many.
+    pub count: usize,
+}
+
 /// Core storage as the cells of a source fill it, and where its lines begin.
 #[derive(Drop)]
 pub struct Filling {
@@ -25,6 +35,8 @@ pub struct Filling {
     pub storage: Vec<Cell>,
     /// The address at which each line begins.
     pub addresses: Vec<u16>,
+    /// The places that each line fills.
+    pub places: Vec<FilledPlaces>,
 }
 
 /// Puts cells into storage from an address on; those that aren't in core are left out.
@@ -43,7 +55,7 @@ fn put_cells(storage: &mut [Cell], address: u16, cells: &[Cell]) -> Result<(), A
 }
 
 /// Puts the cells of a statement with this row into storage, with these lines after it; those that aren't in core are
-/// left out.
+/// left out. Returns their places.
 fn put_statement(
     alloc: Global,
     all: &Placing<'_>,
@@ -51,15 +63,20 @@ fn put_statement(
     row: &Description,
     behind: &[KeptLine],
     storage: &mut [Cell],
-) -> Result<(), AsmFault>
+) -> Result<FilledPlaces, AsmFault>
     ensures ok { OnOk result (storage.new ≡ fold with_cell storage.old
         (numbered (address_or_zero (start_by (places_of so_far.now) row.now row.now.next))
         (row_cells (places_of all.now) (places_of so_far.now) row.now row.now.next behind.now))) }
+    ensures places { IfOk result (λ places. places
+        ≡ filled_of (address_or_zero (start_by (places_of so_far.now) row.now row.now.next))
+        (row_cells (places_of all.now) (places_of so_far.now) row.now row.now.next behind.now)) }
     ensures err { IfErr result IsMemory }
 {
-    let start = so_far.start_address(row)?;
+    let first = so_far.start_address(row)?;
     let cells = cells_of(alloc, all, so_far, row, behind)?;
-    put_cells(storage, start, &cells)
+    let count = cells.len();
+    put_cells(storage, first, &cells)?;
+    Ok(FilledPlaces { first, count })
 }
 
 impl Filling {
@@ -77,15 +94,21 @@ impl Filling {
             (statement_cells (places_of all.now) (places_of so_far.old) line.now.statement behind.now))) }
         ensures addresses { OnOk result (self.new.addresses.items
             ≡ self.old.addresses.items ++ address_or_zero (places_of so_far.old).next ∷ []) }
+        ensures places { OnOk result (self.new.places.items ≡ self.old.places.items
+            ++ filled_of (address_or_zero (start_of (places_of so_far.old) line.now.statement))
+            (statement_cells (places_of all.now) (places_of so_far.old) line.now.statement behind.now) ∷ []) }
         ensures placed { OnOk result (places_of so_far.new ≡ placed_after (places_of so_far.old) line.now) }
         ensures err { IfErr result IsMemory }
     {
-        self.addresses.push(so_far.address())?;
+        let first = so_far.address();
+        self.addresses.push(first)?;
         let Some(statement) = &line.line().statement else {
+            self.places.push(FilledPlaces { first, count: 0 })?;
             return Ok(());
         };
         let row = statement.body.describe();
-        put_statement(alloc, all, so_far, &row, behind, &mut self.storage)?;
+        let places = put_statement(alloc, all, so_far, &row, behind, &mut self.storage)?;
+        self.places.push(places)?;
         so_far.place_row(statement, &row)
     }
 
@@ -101,6 +124,8 @@ impl Filling {
             (cells_from (places_of all.now) (places_of so_far.old) lines.now)) }
         ensures addresses { OnOk result (self.new.addresses.items
             ≡ self.old.addresses.items ++ addresses_from (places_of so_far.old) lines.now) }
+        ensures places { OnOk result (self.new.places.items
+            ≡ self.old.places.items ++ filled_from (places_of all.now) (places_of so_far.old) lines.now) }
         ensures err { IfErr result IsMemory }
     {
         for (i, line) in lines.iter().enumerate() {
@@ -120,6 +145,8 @@ impl Filling {
             (cells_from (places_of all.now) (unplaced (places_of all.now)) lines.now)) }
         ensures addresses { OnOk result (self.new.addresses.items
             ≡ self.old.addresses.items ++ addresses_from (unplaced (places_of all.now)) lines.now) }
+        ensures places { OnOk result (self.new.places.items
+            ≡ self.old.places.items ++ filled_from (places_of all.now) (unplaced (places_of all.now)) lines.now) }
         ensures err { IfErr result IsMemory }
     {
         let mut so_far = Placing::new(alloc, all.hashing, all.chains);
@@ -127,7 +154,7 @@ impl Filling {
     }
 }
 
-/// Core storage of this size as the cells of lines fill it, once all is placed, and where they begin.
+/// Core storage of this size as the cells of lines fill it, once all is placed, where they begin, and what they fill.
 fn fill_placed(
     alloc: Global,
     all: &Placing<'_>,
@@ -138,11 +165,14 @@ fn fill_placed(
         (cells_from (places_of all.now) (unplaced (places_of all.now)) lines.now)) }
     ensures addresses { IfOk result (λ filling. filling.addresses.items
         ≡ addresses_from (unplaced (places_of all.now)) lines.now) }
+    ensures places { IfOk result (λ filling. filling.places.items
+        ≡ filled_from (places_of all.now) (unplaced (places_of all.now)) lines.now) }
     ensures err { IfErr result IsMemory }
 {
     let mut filling = Filling {
         storage: vec![in alloc; Cell::BLANK; usize::from(size)]?,
         addresses: Vec::new(alloc),
+        places: Vec::new(alloc),
     };
     filling.put_all(alloc, all, lines)?;
     Ok(filling)
@@ -159,6 +189,7 @@ fn fill_by(
     requires { chains_view chains.now ≡ chains_of (sites_of lines.now) lines.now }
     ensures storage { IfOk result (λ filling. filling.storage.items ≡ filled size lines.now) }
     ensures addresses { IfOk result (λ filling. filling.addresses.items ≡ addresses_of lines.now) }
+    ensures places { IfOk result (λ filling. filling.places.items ≡ filled_places lines.now) }
     ensures err { IfErr result IsMemory }
 {
     let all = place_all(alloc, hashing, chains, lines)?;
@@ -181,6 +212,7 @@ pub fn fill(
     ensures storage { IfOk result (λ filling. filling.storage.items ≡ filled size lines.now) }
     ensures addresses { IfOk result (λ filling. filling.addresses.items ≡ addresses_of lines.now) }
     ensures as_many { IfOk result (λ filling. length filling.addresses.items ≡ length lines.now) }
+    ensures places { IfOk result (λ filling. filling.places.items ≡ filled_places lines.now) }
     ensures err { IfErr result IsMemory }
 {
     let symbols = declared(alloc, hashing, Language::Ibm, lines)?;

@@ -25,7 +25,7 @@ pub mod filling; // core storage as the cells of lines fill it
 
 pub use cells::{address_or_zero, put_contents, put_literal};
 pub use characters::Characters;
-pub use filling::{Filling, fill};
+pub use filling::{FilledPlaces, Filling, fill};
 pub use fitted::is_fitted;
 pub use lengths::{chain_length, contents_length, instruction_length};
 pub use literals::LiteralKey;

@@ -1,4 +1,5 @@
 pub mod Closing
+pub mod Fault
 pub mod History
 pub mod Keeping
 pub mod Opening

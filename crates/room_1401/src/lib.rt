@@ -34,11 +34,11 @@ pub mod seat;
 pub mod shared_room;
 
 pub use command_1401::{Answer, Command, Refusal, carry_out};
+pub use cpu_1401::SwitchName;
 pub use fault::{CloseFault, StartFault};
 pub use history::Opened;
 pub use lone_room_1401::{
-    Carried, Entry, Glance, GlanceFault, Keeper, KeptRoom, NoKeeper, Room, RoomFault,
-    SeatedCommand, Unkept,
+    Carried, Entry, Glance, GlanceFault, Keeper, NoKeeper, Room, RoomFault, Unkept,
 };
 pub use naming::RoomId;
 pub use paper::{PaperLines, WINDOW_LINES};

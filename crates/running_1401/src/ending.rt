@@ -78,7 +78,7 @@ fn put_reason<W: fmt::Write>(f: &mut fmt::Formatter<W>, ending: &Ending) -> fmt:
         write!(f, ": {why}")?;
     }
     if ending.report.stop == Stop::Limit {
-        f.write_str(": the limit of steps was reached")?;
+        f.write_str(": the step limit was reached")?;
     }
     Ok(())
 }

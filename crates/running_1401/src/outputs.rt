@@ -6,7 +6,7 @@ use crate::deck_running::Broken;
 use crate::fault::RunFault;
 use crate::punch_file::PunchFile;
 use crate::tracing::Trace;
-use files_1401::{WriteFault, create};
+use files_1401::{LimitedFile, WriteFault, create};
 use std::rt::Files;
 use streams_1401::ToWriter;
 
@@ -70,7 +70,7 @@ pub(crate) struct Outputs<F> {
 pub(crate) fn create_outputs<R: Files + AllocGlobal>(
     rt: &R,
     names: &OutputNames,
-) -> Result<Outputs<ToWriter<R::File>>, RunFault>
+) -> Result<Outputs<ToWriter<LimitedFile<R::File>>>, RunFault>
     ensures { IfErr result (IsUnwritten (written_names (option_map string_bytes names.now.paper)
         (option_map string_bytes names.now.punch) (option_map string_bytes names.now.trace))) }
 {
@@ -97,7 +97,7 @@ pub(crate) fn create_outputs<R: Files + AllocGlobal>(
 fn create_if_named<R: Files + AllocGlobal>(
     rt: &R,
     name: &Option<String>,
-) -> Result<Option<ToWriter<R::File>>, RunFault>
+) -> Result<Option<ToWriter<LimitedFile<R::File>>>, RunFault>
     ensures { IfErr result (IsUnwrittenFile (option_map string_bytes name.now)) }
 {
     match name {
@@ -110,7 +110,10 @@ fn create_if_named<R: Files + AllocGlobal>(
 }
 
 /// Creates or truncates the file of this name.
-fn create_named<R: Files + AllocGlobal>(rt: &R, name: &str) -> Result<ToWriter<R::File>, RunFault>
+fn create_named<R: Files + AllocGlobal>(
+    rt: &R,
+    name: &str,
+) -> Result<ToWriter<LimitedFile<R::File>>, RunFault>
     ensures { IfErr result (IsUnwrittenFile (Some name.now)) }
 {
     match create(rt, name) {

@@ -7,7 +7,7 @@ ghost use Rattle.running_1401.specs.Program.{with_segments};
 ghost use Rattle.calls_1401.specs.Sizes.{is_refused, size_for};
 
 use crate::fault::RunFault;
-use autocoder_1401::{Assembly, Listing, assemble};
+use autocoder_1401::{Assembly, Listing, assemble_in};
 use calls_1401::size_for;
 use command_1401::{Command, carry_out};
 use core_1401::CoreFault;
@@ -60,7 +60,7 @@ pub fn program_of(
             Err(fault) => Err(RunFault::Image(fault)),
         };
     }
-    match assemble(alloc, language, text, size_for(size, language, text)) {
+    match assemble_in(alloc, language, text, size_for(size, language, text)) {
         Ok(assembly) => {
             let Assembly { image, listing } = assembly;
             Ok(Program {

@@ -17,6 +17,7 @@ use crate::tracing::Trace;
 use crate::watching::{Shown, Unwatched, Watch};
 use calls_1401::{Job, Start, is_refused};
 use cpu_1401::{Machine, Stop};
+use files_1401::LimitedFile;
 use job_1401::CardList;
 use std::io;
 use std::rt::{Clock, Files};
@@ -82,7 +83,7 @@ fn run_into<R: Files + Print + Eprint + Clock + AllocGlobal>(
     cards: &CardList,
     start: Start,
     limit: u32,
-    outputs: Outputs<ToWriter<R::File>>,
+    outputs: Outputs<ToWriter<LimitedFile<R::File>>>,
 ) -> Result<JobReport, Broken>
     ensures { IfOk result (λ report. report ≡ report_on start limit (with_deck cards.now machine.old)) }
 {

@@ -98,6 +98,14 @@ fault_text line_fault.Graphic = codes "ERROR 3 GRAPHIC"
 fault_text line_fault.Length = codes "ERROR 4 LENGTH"
 fault_text line_fault.Extra = codes "ERROR 5 EXTRA"
 
+-- its number
+abbrev pub fault_number : LineFault → ℕ
+fault_number line_fault.Word = 1
+fault_number line_fault.Number = 2
+fault_number line_fault.Graphic = 3
+fault_number line_fault.Length = 4
+fault_number line_fault.Extra = 5
+
 -- a glance: after how many commands, and the cell there then
 unfoldable pub glance_text : ℕ → Cell → List ℕ
 glance_text after cell = codes "AFTER " ++ digits_in 1 after ++ codes " " ++ cell_text cell

@@ -4,7 +4,7 @@ ghost use Rattle.operator_1401.specs.declared.command.Command.{Command};
 ghost use Rattle.text_1401.specs.declared.line.Line.{Line};
 ghost use Rattle.text_1401.specs.CommandText.{command_text};
 ghost use Rattle.notation_1401.specs.Cells.{cells_of, spelled};
-ghost use Rattle.text_1401.specs.AnswerText.{fault_text};
+ghost use Rattle.text_1401.specs.AnswerText.{fault_number, fault_text};
 ghost use Rattle.text_1401.specs.ConsoleLine.{if_cells, ended, deposit_of, examine_of, start_of};
 ghost use Rattle.text_1401.specs.ConsoleLine.{switch_said, feed_of, run_of, glance_of, said_with, said_in_words};
 ghost use Rattle.text_1401.specs.ConsoleLine.{said_by};
@@ -39,18 +39,25 @@ pub enum Line {
 #[error("{}", self.text())]
 pub enum LineFault {
     /// 1: a word that isn't known.
-    Word,
+    Word = 1,
     /// 2: a number or an address is missing, or isn't one.
-    Number,
+    Number = 2,
     /// 3: a byte of a text is no graphic.
-    Graphic,
+    Graphic = 3,
     /// 4: a text is too short or too long, or the line has more than 200 bytes.
-    Length,
+    Length = 4,
     /// 5: something follows the end of the line's command.
-    Extra,
+    Extra = 5,
 }
 
 impl LineFault {
+    /// The number.
+    pub fn number(self) -> u8
+        ensures { result ≡ fault_number self }
+    {
+        self as u8
+    }
+
     /// The number and the name, as the console replies them.
     pub fn text(self) -> &'static str
         ensures { result.now ≡ fault_text self }

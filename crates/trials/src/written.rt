@@ -64,7 +64,7 @@ fn tell_fault(teller: &mut Teller, fault: AsmFault) -> bool {
 
 /// The image and the listing of a source, or its fault. False if they were refused.
 fn assembly_of(teller: &mut Teller, alloc: Global, source: &[u8]) -> bool {
-    match assemble(alloc, Language::Plain, source, 4_000) {
+    match assemble(alloc, source, 4_000) {
         Ok(assembly) => {
             show_assembly(teller, &assembly);
             true

@@ -12,7 +12,7 @@ use std::process::Abort;
 
 /// The image and the listing of a plain source in 4,000 places.
 fn assembly_of(rt: &(impl Abort + AllocGlobal), source: &[u8]) -> Assembly {
-    assemble(rt.alloc(), Language::Plain, source, 4_000).expect(rt, "an assembly")
+    assemble(rt.alloc(), source, 4_000).expect(rt, "an assembly")
 }
 
 /// The image of a plain source, made beside the listing.

@@ -10,20 +10,20 @@ returns-in-Ok-clause-image c = λ _. (c.in-Ok.ensures.found, refl)
 pub returns-in-Err-clause-image : goal.returns-in-Err-clause-image
 returns-in-Err-clause-image c = λ _. (c.in-Err.fault, refl, c.in-Err.ensures.fault)
 
-pub returns-in-Ok-assemble-clause-source : goal.returns-in-Ok-assemble-clause-source
-returns-in-Ok-assemble-clause-source c = λ _. (
-  c.in-Ok-assemble.assembly,
-  subst (λ (size : ℕ). assembly_in c.args.language size c.args.text.now ≡ Ok c.in-Ok-assemble.assembly)
-      c.size_for.ensures.value c.in-Ok-assemble.ensures.exact,
+pub returns-in-Ok-assemble_in-clause-source : goal.returns-in-Ok-assemble_in-clause-source
+returns-in-Ok-assemble_in-clause-source c = λ _. (
+  c.in-Ok-assemble_in.assembly,
+  subst (λ (size : ℕ). assembly_in c.args.language size c.args.text.now ≡ Ok c.in-Ok-assemble_in.assembly)
+      c.size_for.ensures.value c.in-Ok-assemble_in.ensures.exact,
   refl,
   refl,
 )
 
-pub returns-in-Err-assemble-clause-source : goal.returns-in-Err-assemble-clause-source
-returns-in-Err-assemble-clause-source c = λ _. (
-  c.in-Err-assemble.fault,
+pub returns-in-Err-assemble_in-clause-source : goal.returns-in-Err-assemble_in-clause-source
+returns-in-Err-assemble_in-clause-source c = λ _. (
+  c.in-Err-assemble_in.fault,
   refl,
-  subst (λ (size : ℕ). IsMemory c.in-Err-assemble.fault
-      ⊎ (assembly_in c.args.language size c.args.text.now ≡ Err c.in-Err-assemble.fault))
-      c.size_for.ensures.value c.in-Err-assemble.ensures.exact,
+  subst (λ (size : ℕ). IsMemory c.in-Err-assemble_in.fault
+      ⊎ (assembly_in c.args.language size c.args.text.now ≡ Err c.in-Err-assemble_in.fault))
+      c.size_for.ensures.value c.in-Err-assemble_in.ensures.exact,
 )

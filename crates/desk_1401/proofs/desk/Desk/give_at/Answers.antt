@@ -46,7 +46,7 @@ returns-clause-given g c =
     let bound =
     lowest_bound g.J.RoomId.seats c.self.inside.places.items c.args.number c.self.invariant.0
     (ap (λ (desk : DeskView). lowest_free desk.places) c.self.view_is ∙ c.requires) in
-    changed places c.self.inside.fault c.args.number c.from.result given c.index_mut.result.now
+    changed places c.self.inside.fault c.self.inside.is_closing c.args.number c.from.result given c.index_mut.result.now
     c.give.new.self c.args.self.now c.self.view_is c.from.ensures
     (omega (arith, bound, c.from.ensures, length_places g.J.RoomId.seats places c.self.invariant.0))
     c.index_mut.ensures.value c.give.ensures

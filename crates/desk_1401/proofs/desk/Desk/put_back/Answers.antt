@@ -38,7 +38,7 @@ put_back-requires g c =
 pub returns : goal.returns
 returns g c =
     let places = c.self.inside.places.items in
-    changed places c.self.inside.fault c.args.seat.number c.from-at.result (with_seat c.args.seat) c.index_mut.result.now
+    changed places c.self.inside.fault c.self.inside.is_closing c.args.seat.number c.from-at.result (with_seat c.args.seat) c.index_mut.result.now
     c.put_back.new.self c.args.self.now c.self.view_is (c.from-at.ensures ∙ c.number.ensures)
     (omega (
       arith,

@@ -28,7 +28,7 @@ invariant_of-self g c = (
 pub returns : goal.returns
 returns g c =
     let places = c.self.inside.places.items in
-    changed places c.self.inside.fault c.args.number c.from.result taken_back c.index_mut.result.now
+    changed places c.self.inside.fault c.self.inside.is_closing c.args.number c.from.result taken_back c.index_mut.result.now
     c.take_back.new.self c.args.self.now c.self.view_is c.from.ensures
     (omega (arith, c.requires, c.from.ensures, length_places g.J.RoomId.seats places c.self.invariant.0))
     c.index_mut.ensures.value c.take_back.ensures

@@ -38,7 +38,7 @@ returns-clause-seat g c =
 pub returns-clause-taken : goal.returns-clause-taken
 returns-clause-taken g c =
     let places = c.self.inside.places.items in
-    changed places c.self.inside.fault c.args.number c.from.result without_seat c.index_mut.result.now
+    changed places c.self.inside.fault c.self.inside.is_closing c.args.number c.from.result without_seat c.index_mut.result.now
     c.take_seat.new.self c.args.self.now c.self.view_is c.from.ensures
     (omega (arith, c.requires, c.from.ensures, length_places g.J.RoomId.seats places c.self.invariant.0))
     c.index_mut.ensures.value c.take_seat.ensures.taken

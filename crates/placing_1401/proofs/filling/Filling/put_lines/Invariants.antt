@@ -1,9 +1,9 @@
 -- What storage holds, with the cells of the lines that are left put into it, is what it holds with those of all; so for
--- where they begin.
+-- where they begin, and what they fill.
 use Rattle.std.proofs.Common.{◌≡◌, ◌++◌, drop}
 use Rattle.std.specs.Prelude.{fold}
 use Rattle.placing_1401.specs.Cells.{cells_from}
-use Rattle.placing_1401.specs.Filling.{with_cell, addresses_from}
+use Rattle.placing_1401.specs.Filling.{with_cell, addresses_from, filled_from}
 use Rattle.placing_1401.specs.View.{places_of}
 use Rattle.placing_1401.proofs.filling.Filling.put_lines.Given as goal
 
@@ -15,4 +15,6 @@ invariant-loop-i l = record {
       (cells_from (places_of l.all) (places_of l.initial.so_far) l.lines);
   addresses : l.self.addresses.items ++ addresses_from (places_of l.so_far) (drop l.i l.lines)
       ≡ l.initial.self.addresses.items ++ addresses_from (places_of l.initial.so_far) l.lines;
+  places : l.self.places.items ++ filled_from (places_of l.all) (places_of l.so_far) (drop l.i l.lines)
+      ≡ l.initial.self.places.items ++ filled_from (places_of l.all) (places_of l.initial.so_far) l.lines;
 }

@@ -12,7 +12,7 @@ use Rattle.placing_1401.proofs.CoreLemmas.{image_inside}
 use Rattle.placing_1401.proofs.LawLemmas.{image_cut}
 use Rattle.autocoder_1401.specs.declared.assembly.Assembly.{Assembly}
 use Rattle.autocoder_1401.proofs.AssemblyLemmas.{assembled, not_assembled}
-use Rattle.autocoder_1401.proofs.assembly.assemble.Goals as goal
+use Rattle.autocoder_1401.proofs.assembly.assemble_in.Goals as goal
 
 pub faultless_assembly-requires-clause-chains : goal.faultless_assembly-requires-clause-chains
 faultless_assembly-requires-clause-chains c =

@@ -1,0 +1,7 @@
+//! The public surface: each type, variant and call that the eight crates for users show, by the path under which a
+//! user imports it. Each call is made once with ample memory. It doesn't compile if one of them is gone, or asks for
+//! other arguments.
+#![tactic(auto)]
+
+#[cfg(test)]
+mod tests;

@@ -1,0 +1,137 @@
+//! The assembler and images.
+
+use super::{cells_of, expect_same, expect_text};
+use autocoder_1401::{
+    AsmFault, AsmKind, Assembly, Image, ImageFault, Listing, ListingLine, Segment, Segments,
+    assemble, read_image, write_image,
+};
+use std::process::Abort;
+
+/// Five and five are ten.
+const SOURCE: &str = "               ORG  400
+     START     ZA   +5,TOTAL
+               A    +5,TOTAL
+               H    *-3
+     TOTAL     DCW  #3
+     NAME      DCW  @HI@
+     * ONE LITERAL, TWO USES
+               END  START
+";
+
+/// Its image.
+pub(super) const IMAGE: &str = "IMAGE2 04000\n00400 24 ~?423420~A423420~.414~   ~HI~E\nEND 00400\n";
+
+/// Its listing.
+const LISTING: [&str; 9] = [
+    "0001 00400                         ORG  400",
+    "0002 00400 ?423420       START     ZA   +5,TOTAL",
+    "0003 00407 A423420                 A    +5,TOTAL",
+    "0004 00414 .414                    H    *-3",
+    "0005 00418               TOTAL     DCW  #3",
+    "0006 00421 HI            NAME      DCW  @HI@",
+    "0007                     * ONE LITERAL, TWO USES",
+    "     00423 E        +5",
+    "0008 00400                         END  START",
+];
+
+/// Compares the lines of a listing.
+fn expect_listing(rt: &impl Abort, listing: &Listing) {
+    let lines: &[ListingLine] = listing.as_slice();
+    expect_same(rt, "lines", &lines.len(), &LISTING.len());
+    for (line, wanted) in lines.iter().zip(LISTING.iter()) {
+        expect_text(rt, "a line", line.as_slice(), wanted);
+    }
+}
+
+/// The image of five and five, made by hand.
+fn five_and_five(rt: &(impl Abort + AllocGlobal)) -> Image {
+    let cells = cells_of(rt, "~?423420~A423420~.414~   ~HI~E");
+    let address = 400;
+    let segments = Vec::from_slice(rt.alloc(), &[Segment { address, cells }]).expect(rt, "room");
+    Image {
+        size: 4_000,
+        segments: Segments::from_vec(segments),
+        start: 400,
+    }
+}
+
+/// Compares an image with five and five.
+fn expect_image(rt: &(impl Abort + AllocGlobal), call: &str, image: &Image) {
+    let wanted = five_and_five(rt);
+    let found = (image.size, image.start);
+    expect_same(rt, call, &found, &(wanted.size, wanted.start));
+    let segments = wanted.segments.as_slice();
+    expect_same(rt, call, &image.segments.as_slice(), &segments);
+}
+
+#[test]
+fn a_source_is_assembled(rt: HostRuntime) {
+    let assembled = assemble(rt.alloc(), SOURCE.as_bytes(), 4_000);
+    let Assembly { image, listing } = assembled.expect(&rt, "an assembly");
+    expect_image(&rt, "assemble", &image);
+    expect_listing(&rt, &listing);
+}
+
+#[test]
+fn an_image_is_read_and_written(rt: HostRuntime) {
+    let image = read_image(rt.alloc(), IMAGE.as_bytes()).expect(&rt, "an image");
+    expect_image(&rt, "read_image", &image);
+    let text = write_image(rt.alloc(), &image).expect(&rt, "room");
+    expect_text(&rt, "write_image", text.as_slice(), IMAGE);
+}
+
+/// Compares the fault of a source.
+fn expect_fault(rt: &(impl Abort + AllocGlobal), source: &str, line: u64, kind: AsmKind) {
+    let found = assemble(rt.alloc(), source.as_bytes(), 4_000).err();
+    expect_same(rt, source, &found, &Some(AsmFault { line, kind }));
+}
+
+#[test]
+fn faults_of_sources(rt: HostRuntime) {
+    expect_fault(&rt, "", 1, AsmKind::NoEnd);
+    expect_fault(&rt, "               MU", 1, AsmKind::Operation);
+    expect_fault(&rt, "               END  9999", 1, AsmKind::OutOfCore);
+}
+
+#[test]
+fn numbers_of_kinds(rt: HostRuntime) {
+    let kinds = [
+        AsmKind::Memory.number(),
+        AsmKind::LongLine.number(),
+        AsmKind::Graphic.number(),
+        AsmKind::Label.number(),
+        AsmKind::DoubleLabel.number(),
+        AsmKind::Operation.number(),
+        AsmKind::Undefined.number(),
+        AsmKind::Operand.number(),
+        AsmKind::OutOfCore.number(),
+        AsmKind::NoEnd.number(),
+        AsmKind::AfterEnd.number(),
+    ];
+    let numbers = [1, 2, 3, 4, 5, 6, 7, 8, 9, 10, 11];
+    expect_same(&rt, "number", &kinds, &numbers);
+}
+
+/// Compares the fault of a text that is no image.
+fn expect_refused(rt: &(impl Abort + AllocGlobal), text: &str, wanted: ImageFault) {
+    let found = read_image(rt.alloc(), text.as_bytes()).err();
+    expect_same(rt, text, &found, &Some(wanted));
+}
+
+#[test]
+fn faults_of_images(rt: HostRuntime) {
+    expect_refused(&rt, "", ImageFault::Truncated);
+    expect_refused(&rt, "IMAGE1 4001\n", ImageFault::Header);
+    let short = "IMAGE1 4000\n0400 25 ~?423420~A423420~.414~   ~HI~E\nEND 0400\n";
+    expect_refused(&rt, short, ImageFault::BadRecord);
+    let outside = "IMAGE1 1400\n1399 02 AB\nEND 0000\n";
+    expect_refused(&rt, outside, ImageFault::Range);
+    let faults = [
+        ImageFault::Memory.number(),
+        ImageFault::Header.number(),
+        ImageFault::BadRecord.number(),
+        ImageFault::Range.number(),
+        ImageFault::Truncated.number(),
+    ];
+    expect_same(&rt, "number", &faults, &[1, 2, 3, 4, 5]);
+}

@@ -1,0 +1,218 @@
+//! Lines, sessions, and consoles at a shared room.
+ghost use Rattle.std.specs.Prelude.{◌≡◌, ◌<◌};
+
+use super::assembler::IMAGE;
+use super::{cells_of, expect_same, expect_text};
+use autocoder_1401::read_image;
+use console_1401::{
+    Door, Failed, FromReader, Line, LineFault, OpenDoor, ServeFault, Served, SessionEnd, Sink,
+    Source, ToWriter, attend, parse_line, put_image, reply_text, serve, session,
+};
+use room_1401::{Answer, Command, Opened, Room, RoomId, SharedRoom};
+use std::io::{Read, Write};
+use std::marker::Brand;
+use std::net::{Ipv4Addr, Net, Shutdown, TcpListener, TcpStream};
+use std::process::Abort;
+use std::sync::Wait;
+use std::thread::Threads;
+use std::time::Clock;
+
+/// Compares what a line says.
+fn expect_said(rt: &impl Abort, line: &str, wanted: Result<Line, LineFault>) {
+    expect_same(rt, line, &parse_line(line.as_bytes()), &wanted);
+}
+
+#[test]
+fn what_lines_say(rt: HostRuntime) {
+    expect_said(&rt, "", Ok(Line::Empty));
+    expect_said(&rt, "REGS", Ok(Line::Command(Command::Registers)));
+    expect_said(&rt, "GLANCE 0500", Ok(Line::Glance(500)));
+    expect_said(&rt, "QUIT", Ok(Line::Quit));
+    expect_said(&rt, "HELLO", Err(LineFault::Word));
+    expect_said(&rt, "EXAMINE", Err(LineFault::Number));
+    expect_said(&rt, "DEPOSIT 0500 a", Err(LineFault::Graphic));
+    expect_said(&rt, "DEPOSIT 0500", Err(LineFault::Length));
+    expect_said(&rt, "REGS X", Err(LineFault::Extra));
+}
+
+#[test]
+fn numbers_of_faults_and_ends(rt: HostRuntime) {
+    let of_lines = [
+        LineFault::Word.number(),
+        LineFault::Number.number(),
+        LineFault::Graphic.number(),
+        LineFault::Length.number(),
+        LineFault::Extra.number(),
+    ];
+    expect_same(&rt, "number", &of_lines, &[1, 2, 3, 4, 5]);
+    let of_sessions = [
+        SessionEnd::Quit.number(),
+        SessionEnd::EndOfInput.number(),
+        SessionEnd::Read.number(),
+        SessionEnd::Write.number(),
+        SessionEnd::Bound.number(),
+        SessionEnd::Memory.number(),
+    ];
+    expect_same(&rt, "number", &of_sessions, &[1, 2, 3, 4, 5, 6]);
+    let of_services = [ServeFault::Accept.number(), ServeFault::Thread.number()];
+    expect_same(&rt, "number", &of_services, &[1, 2]);
+}
+
+#[test]
+fn the_text_of_an_answer(rt: HostRuntime) {
+    let text = reply_text(rt.alloc(), &Answer::Cells(cells_of(&rt, "~0K"))).expect(&rt, "room");
+    expect_text(&rt, "reply_text", text.as_slice(), "~0K");
+}
+
+/// Reads the first byte of a source.
+fn first_byte<S: Source>(source: &mut S) -> Result<Option<u8>, Failed> {
+    source.next_byte()
+}
+
+/// Gives bytes to a sink, and returns how many it took.
+fn put_bytes<S: Sink>(sink: &mut S, bytes: &[u8]) -> Result<usize, Failed> {
+    sink.put(bytes)
+}
+
+#[test]
+fn a_source_and_a_sink(rt: HostRuntime) {
+    let mut reader = FromReader::new(b"QUIT".as_slice());
+    let first = first_byte(&mut reader).ok();
+    expect_same(&rt, "next_byte", &first, &Some(Some(b'Q')));
+    let mut writer = ToWriter::new(Vec::new(rt.alloc()));
+    let taken = put_bytes(&mut writer, b"BYE\n").ok();
+    expect_same(&rt, "put", &taken, &Some(4));
+    expect_text(&rt, "put", writer.into_inner().as_slice(), "BYE\n");
+}
+
+/// Holds a session in a room, and compares what it wrote.
+fn expect_session(rt: &(impl Abort + AllocGlobal), room: &mut Room, lines: &str, replies: &str) {
+    let mut reader = FromReader::new(lines.as_bytes());
+    let mut writer = ToWriter::new(Vec::new(rt.alloc()));
+    let end = session(rt.alloc(), room, &mut reader, &mut writer);
+    expect_text(rt, lines, writer.into_inner().as_slice(), replies);
+    expect_same(rt, lines, &end, &SessionEnd::Quit);
+}
+
+#[test]
+fn a_session(rt: HostRuntime) {
+    let mut room = Room::power_on(rt.alloc(), 4_000).expect(&rt, "a room");
+    let lines = "DEPOSIT 0500 ~0K\nEXAMINE 0500 2\nQUIT\n";
+    expect_session(&rt, &mut room, lines, "OK\n~0K\nBYE\n");
+}
+
+#[test]
+fn an_image_is_put_into_a_room(rt: HostRuntime) {
+    let image = read_image(rt.alloc(), IMAGE.as_bytes()).expect(&rt, "an image");
+    let mut room = Room::power_on(rt.alloc(), image.size).expect(&rt, "a room");
+    expect_same(&rt, "put_image", &put_image(&mut room, &image), &Ok(()));
+    let lines = "RUN 10\nEXAMINE 0418 3\nQUIT\n";
+    let replies = "STOP 02 HALT STEPS 3 I 00414\n~01?\nBYE\n";
+    expect_session(&rt, &mut room, lines, replies);
+    expect_same(&rt, "journal", &room.journal().len(), &4);
+}
+
+/// A door of a user's own, which keeps nobody waiting.
+struct OwnDoor;
+
+impl Door for OwnDoor {
+    fn before(&self, _seat: u8, _line: u64) {}
+
+    fn after(&self, _seat: u8, _line: u64) {}
+}
+
+/// The replies to lines at the only seat of a new room, which is then abandoned.
+fn attended<J: RoomId, R: Wait + Abort + AllocGlobal>(
+    rt: &R,
+    size: u16,
+    seats: u8,
+    opened: Opened,
+    lines: &str,
+    replies: &str,
+)
+    requires history { opened.book ≡ J.book }
+    requires ledger { (opened.ledger ≡ J.name) × (opened.parts ≡ J.parts) × (J.parts ≡ J.seats) }
+    requires named { (size ≡ J.size) × (seats ≡ J.seats) }
+{
+    let started = SharedRoom::<J, &R>::power_on(rt, rt.alloc(), size, seats, opened);
+    let (room, mut seats) = started.expect(rt, "a room");
+    let seat = seats.pop().expect(rt, "a seat");
+    let mut reader = FromReader::new(lines.as_bytes());
+    let mut writer = ToWriter::new(Vec::new(rt.alloc()));
+    let (seat, end) = attend(
+        rt.alloc(),
+        rt,
+        &room,
+        seat,
+        &mut reader,
+        &mut writer,
+        &OwnDoor,
+    );
+    expect_text(rt, lines, writer.into_inner().as_slice(), replies);
+    expect_same(rt, "attend", &(end, seat.made()), &(SessionEnd::Quit, 1));
+    expect_same(rt, "abandon", &room.abandon().journal().len(), &1);
+}
+
+/// The same, with names for the room.
+fn expect_attended(rt: &(impl Wait + Abort + AllocGlobal), size: u16, lines: &str, replies: &str) {
+    attended::<Brand, _>(rt, size, 1, Opened::new(1), lines, replies);
+}
+
+#[test]
+fn a_console_at_a_seat(rt: HostRuntime) {
+    let lines = "DEPOSIT 0500 ~K\nGLANCE 0500\nQUIT\n";
+    expect_attended(&rt, 4_000, lines, "OK\nAFTER 1 ~K\nBYE\n");
+}
+
+/// What is left of a new room of this size that has served a console from this listener.
+fn served<J: RoomId + Send + Sync, R: Threads + Wait + Clock + Abort + AllocGlobal + Sync>(
+    rt: &R,
+    size: u16,
+    seats: u8,
+    opened: Opened,
+    listener: &TcpListener,
+) -> Served
+    requires history { opened.book ≡ J.book }
+    requires ledger { (opened.ledger ≡ J.name) × (opened.parts ≡ J.parts) × (J.parts ≡ J.seats) }
+    requires named { (size ≡ J.size) × (seats ≡ J.seats) }
+    requires count { 0 < seats }
+{
+    let started = SharedRoom::<J, &R>::power_on(rt, rt.alloc(), size, seats, opened);
+    let (room, seats) = started.expect(rt, "a room");
+    serve(rt.alloc(), rt, room, seats, listener, &OpenDoor)
+}
+
+/// Serves one console at a new room of this size, and compares what is left, and the replies.
+fn expect_served<
+    R: Threads
+        + Wait
+        + Clock
+        + Abort
+        + AllocGlobal
+        + Sync
+        + Net<Listener = TcpListener, Stream = TcpStream>,
+>(rt: &R, size: u16, seats: u8, lines: &str, replies: &str)
+    requires { 0 < seats }
+{
+    let listener = TcpListener::bind(rt, (Ipv4Addr::LOCALHOST, 0)).expect(rt, "a port");
+    let address = listener.local_addr().expect(rt, "an address");
+    let mut stream = TcpStream::connect(rt, address).expect(rt, "a connection");
+    stream.write_all(lines.as_bytes()).expect(rt, "a write");
+    stream.shutdown(Shutdown::Write).expect(rt, "an end");
+    let opened = Opened::new(seats);
+    let Served {
+        room,
+        consoles,
+        fault,
+    } = served::<Brand, R>(rt, size, seats, opened, &listener);
+    let found = (consoles, fault, room.journal().len());
+    expect_same(rt, "serve", &found, &(1, None, 1));
+    let mut sent = Vec::new(rt.alloc());
+    stream.read_to_end(&mut sent).expect(rt, "a read");
+    expect_text(rt, lines, sent.as_slice(), replies);
+}
+
+#[test]
+fn a_served_room(rt: HostRuntime) {
+    expect_served(&rt, 4_000, 1, "EXAMINE 0\nQUIT\n", " \nBYE\n");
+}

@@ -1,0 +1,112 @@
+//! The processor.
+
+use super::devices::card_of;
+use super::{cell_of, cells_of, expect_same};
+use core_1401::CoreFault;
+use cpu_1401::{Machine, Ran, Regs, Stop};
+use devices_1401::{HopperFull, ReaderEmpty};
+use std::process::Abort;
+
+/// A machine with 4,000 places and the cells of a text from a place on, which is the next instruction's.
+fn machine_with(rt: &(impl Abort + AllocGlobal), from: u16, text: &str) -> Machine {
+    let mut machine = Machine::power_on(rt.alloc(), 4_000).expect(rt, "a machine");
+    let mut at = from;
+    for cell in cells_of(rt, text).as_slice() {
+        assert!(rt; machine.core().in_core(at));
+        machine.put(at, *cell);
+        at = at.saturating_add(1);
+    }
+    assert!(rt; machine.core().in_core(from));
+    machine.set_i(from);
+    machine
+}
+
+#[test]
+fn steps_and_runs(rt: HostRuntime) {
+    let mut machine = machine_with(&rt, 600, "~,I9I~,600~.~.~.");
+    expect_same(&rt, "step", &machine.step(), &Some(Stop::Address));
+    assert!(rt; machine.core().in_core(604));
+    machine.set_i(604);
+    expect_same(&rt, "step", &machine.step(), &None);
+    let (steps, stop) = (1, Stop::Halt);
+    expect_same(&rt, "run", &machine.run(2), &Ran { steps, stop });
+    expect_same(&rt, "step", &machine.step(), &Some(Stop::Halt));
+    assert!(rt; machine.core().in_core(600));
+    expect_same(
+        &rt,
+        "core",
+        &machine.core().get(600),
+        &cell_of(&rt, b',', true),
+    );
+}
+
+#[test]
+fn cards_and_lines(rt: HostRuntime) {
+    let mut machine = machine_with(&rt, 600, "~4~2~.");
+    expect_same(&rt, "load_key", &machine.load_key(), &Err(ReaderEmpty));
+    let fed: Result<(), HopperFull> = machine.feed(card_of(&rt, b'A'));
+    expect_same(&rt, "feed", &fed, &Ok(()));
+    expect_same(&rt, "step", &machine.step(), &None);
+    expect_same(&rt, "step", &machine.step(), &None);
+    expect_same(
+        &rt,
+        "take_card",
+        &machine.take_card(),
+        &Some(card_of(&rt, b' ')),
+    );
+    let line = machine.take_line().map(|line| (line.form, line.line));
+    expect_same(&rt, "take_line", &line, &Some((1, 1)));
+    expect_same(&rt, "load_key", &machine.load_key(), &Ok(()));
+    assert!(rt; machine.core().in_core(1));
+    expect_same(
+        &rt,
+        "core",
+        &machine.core().get(1),
+        &cell_of(&rt, b'A', true),
+    );
+}
+
+#[test]
+fn registers_and_switches(rt: HostRuntime) {
+    let mut machine = machine_with(&rt, 600, "~.");
+    machine.switch(1, true);
+    let wanted = Regs {
+        i: 600,
+        a: 0,
+        b: 0,
+        unequal: false,
+        low: false,
+        high: false,
+        overflow: false,
+        switches: [false, true, false, false, false, false, false],
+        hopper: 0,
+        stacker: 0,
+        paper: 0,
+        form: 1,
+        line: 1,
+    };
+    expect_same(&rt, "regs", &machine.regs(), &wanted);
+    let fault = Machine::power_on(rt.alloc(), 100).err();
+    expect_same(&rt, "power_on", &fault, &Some(CoreFault::Size));
+}
+
+#[test]
+fn numbers_of_stops(rt: HostRuntime) {
+    let stops = [
+        Stop::Limit.number(),
+        Stop::Halt.number(),
+        Stop::Reader.number(),
+        Stop::Forms.number(),
+        Stop::Stacker.number(),
+        Stop::NoMark.number(),
+        Stop::OpCode.number(),
+        Stop::Length.number(),
+        Stop::Address.number(),
+        Stop::Overlap.number(),
+        Stop::Carriage.number(),
+        Stop::NotFitted.number(),
+        Stop::DChar.number(),
+    ];
+    let numbers = [1, 2, 3, 4, 5, 6, 7, 8, 9, 10, 11, 12, 13];
+    expect_same(&rt, "number", &stops, &numbers);
+}

@@ -1,0 +1,55 @@
+/* Idle minutes: the machine runs a deck by itself until somebody touches it. Each such run takes about a hundred
+   entries of the journal, and none begins once half of the journal is used. */
+const IDLE = {attractMs: 180000, pauseMs: 90000, seatMs: 20000, mostAfter: JOURNAL_ENTRIES / 2};
+const attract = {on: false, stop: false, touched: performance.now(), ended: -Infinity};
+
+/* A hand on the page ends the attract loop, and does nothing else. */
+function touch(event) {
+  attract.touched = performance.now();
+  if (!attract.on || event.isTrusted === false) return;
+  attract.stop = true;
+  if (run) run.stop = true;
+  if (event.key === 'Tab') return;
+  event.preventDefault();
+  event.stopPropagation();
+}
+function noteHand() {
+  attract.touched = performance.now();
+}
+function isIdle() {
+  const now = performance.now(), {picture} = view;
+  if (!picture || !mayCommand() || run || feed || taking || document.hidden) return false;
+  if (document.querySelector('dialog[open]') || picture.after > IDLE.mostAfter) return false;
+  const wanted = IDLE.attractMs + picture.seat * IDLE.seatMs;
+  return now - attract.touched > wanted && now - view.changed > wanted - IDLE.attractMs + IDLE.pauseMs
+    && now - attract.ended > IDLE.pauseMs && now - view.others.at > wanted;
+}
+async function attractIfIdle() {
+  if (attract.on || !isIdle()) return;
+  Object.assign(attract, {on: true, stop: false});
+  document.body.classList.add('attracts');
+  guide.state = 'attract';
+  guide.draw();
+  await playDeck();
+  if (attract.stop) await startAfresh();
+  attract.on = false;
+  attract.ended = performance.now();
+  document.body.classList.remove('attracts');
+  if (attract.stop) guide.begin();
+}
+/* Clears the machine, feeds a deck that needs nobody, and runs it at the machine's own pace. */
+async function playDeck() {
+  await startAfresh();
+  if (attract.stop) return;
+  const shown = PROGRAMS.filter(program => program.alone);
+  const program = shown[Math.floor(Math.random() * shown.length)], pace = byId('pace').selectedIndex;
+  byId('program').value = program.name;
+  drawProgram();
+  await feedDeck(program.cards);
+  if (program.switches) await say(`SWITCH ${program.switches} ON`);
+  if (attract.stop) return;
+  await pressLoad();
+  byId('pace').selectedIndex = PACES.indexOf(OWN_PACE);
+  await pressRun();
+  byId('pace').selectedIndex = pace;
+}

@@ -1,0 +1,130 @@
+/* Decks: what is read of a text, and how cards are fed. */
+let feed = null;    // the deck that is being fed
+
+/* A text with letters that cards have: capitals, and no accents. */
+function plain(text) {
+  const own = {'ä': 'AE', 'ö': 'OE', 'ü': 'UE', 'ß': 'SS', 'æ': 'AE', 'ø': 'OE', 'å': 'AA'};
+  const spelt = [...text].map(letter => own[letter.toLowerCase()] || letter).join('');
+  return spelt.normalize('NFD').replace(/[\u0300-\u036f]/g, '').toUpperCase();
+}
+
+/* The cards of a text, or the first fault of it. */
+function deckOf(text) {
+  const lines = text.replace(/^\ufeff/, '').split('\n');
+  if (lines[lines.length - 1] === '') lines.pop();
+  const cards = [];
+  for (const [at, line] of lines.entries()) {
+    const card = line.replace(/\r$/, '').replace(/[a-z]/g, letter => letter.toUpperCase());
+    for (let column = 0; column < card.length; column++) {
+      const what = column >= CARD_COLUMNS ? TEXTS.tooLong : GRAPHICS.includes(card[column]) ? '' : noCard(card[column]);
+      if (what) return {fault: filled(TEXTS.deckWrong, {line: at + 1, column: column + 1, what})};
+    }
+    cards.push(card.trimEnd());
+  }
+  return cards.length ? {cards} : {fault: TEXTS.deckEmpty};
+}
+function noCard(letter) {
+  const spelt = plain(letter);
+  const isSpelt = spelt !== letter && [...spelt].every(each => GRAPHICS.includes(each));
+  return isSpelt ? filled(TEXTS.noAccent, {letter, spelt}) : TEXTS.noGraphic;
+}
+
+function tellDeck(text, isWrong = false) {
+  byId('deck-words').classList.toggle('wrong', isWrong);
+  setText(byId('deck-words'), text);
+}
+async function feedText(text) {
+  const deck = deckOf(text);
+  if (deck.fault) return tellDeck(deck.fault, true);
+  return feedDeck(deck.cards);
+}
+/* The text of a file: in UTF-8 if its bytes are, or else a letter for each byte. */
+function textOf(bytes) {
+  try {
+    return new TextDecoder('utf-8', {fatal: true}).decode(bytes);
+  } catch {
+    return new TextDecoder('latin1').decode(bytes);
+  }
+}
+async function feedFile(file) {
+  if (file.size > DECK_CARDS * (CARD_COLUMNS + 2)) return tellDeck(TEXTS.deckLarge, true);
+  try {
+    await feedText(textOf(await file.arrayBuffer()));
+  } catch {
+    tellDeck(TEXTS.deckUnread, true);
+  }
+}
+
+/* Feeds cards one by one; while the hopper is full it waits. */
+async function feedDeck(cards, words) {
+  if (feed) return tellDeck(TEXTS.alreadyFeeding, true);
+  if (!mayCommand()) return tellDeck(TEXTS.outcomes.off, true);
+  feed = {fed: 0, all: cards.length, stop: false, waits: false, drawn: 0};
+  note('you', feedLine(cards[0]));
+  const why = await feedAll(cards);
+  const {fed, all} = feed;
+  endFeed();
+  note('', counted(TEXTS.fedInLog, fed));
+  await inTurn(look);
+  const n = view.picture ? view.picture.registers.HOPPER : 0;
+  const done = words || counted(TEXTS.fedAll, all, {all: withCommas(all), n});
+  tellDeck(why ? filled(TEXTS.fedPart, {n: fed, all, why}) : done, why !== '');
+  if (!why) happened('fed');
+}
+async function feedAll(cards) {
+  const {breaks} = view;
+  let why = '';
+  while (!why && feed.fed < feed.all) {
+    drawFeed();
+    if (feed.stop) why = TEXTS.stoppedByYou;
+    else if (feed.waits) await waitForRoom();
+    else why = await feedCard(cards[feed.fed], breaks);
+  }
+  return why;
+}
+const feedLine = card => card === '' ? 'FEED' : `FEED ${card}`;
+
+/* Feeds one card; says why that wasn't possible, if it should not be tried again. */
+async function feedCard(card, breaks) {
+  const outcome = await inTurn(() => send(feedLine(card), breaks));
+  feed.waits = outcome.reply === 'REFUSED 2 HOPPER';
+  if (outcome.reply === 'OK') feed.fed++;
+  return outcome.reply === 'OK' || feed.waits ? '' : outcome.failed || wordsOf(outcome.reply) || outcome.reply;
+}
+async function waitForRoom() {
+  await delay(POLL_MS);
+  await inTurn(look);
+  feed.waits = view.picture.registers.HOPPER >= MOST_CARDS;
+}
+function endFeed() {
+  const hadFocus = document.activeElement === byId('feed-stop');
+  feed = null;
+  byId('feeding').hidden = true;
+  if (hadFocus) byId('feed-key').focus();
+}
+
+/* Shows how far it is, ten times a second at most. */
+function drawFeed() {
+  const now = performance.now();
+  if (feed.fed > 0 && now - feed.drawn < SLICE_MS) return;
+  feed.drawn = now;
+  byId('feeding').hidden = feed.all === 1;
+  byId('feed-bar').value = feed.fed / feed.all;
+  setText(byId('feed-count'), filled(feed.waits ? TEXTS.feedWaits : TEXTS.feedingCount, {n: feed.fed, all: feed.all}));
+}
+
+/* The program that is chosen. */
+function chosenProgram() {
+  return PROGRAMS.find(program => program.name === byId('program').value) || PROGRAMS[0];
+}
+function feedChosen() {
+  const program = chosenProgram(), words = TEXTS.programs[program.name];
+  const cards = program.extra ? [...program.cards, ...program.extra()] : program.cards;
+  return feedDeck(cards, words.fed);
+}
+function drawProgram() {
+  const program = chosenProgram(), words = TEXTS.programs[program.name];
+  setText(byId('source-title'), filled(TEXTS.sourceTitle, {name: words.name}));
+  setText(byId('source-about'), words.about);
+  setText(byId('source'), program.source);
+}

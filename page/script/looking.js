@@ -1,0 +1,121 @@
+/* Looking: what the page has seen, and the next look. */
+const view = {
+  core: 0,          // the first place that is asked for
+  picture: null,    // the picture that is drawn
+  paper: [],        // the printed lines that nobody has taken, oldest first
+  made: null,       // how many commands this seat has made, null where only a picture can tell
+  link: 'lost',     // whether the server answers, and else why not
+  status: 0,
+  breaks: 0,        // how often the server was gone, or another room was there
+  unkept: false, full: false,
+  since: null,      // the counts of the first picture
+  others: {count: 0, at: -Infinity},    // how many commands others gave since then, and when the last one was seen
+  changed: 0,       // when the count of commands was last seen to change
+  ended: null,      // the I register after a halt, until this page gives another command
+};
+const OTHERS_MS = 6000;
+const torn = [];    // the printed lines that this page has taken
+const taken = [];   // the punched cards that this page has taken
+
+class Refused extends Error {
+  constructor(status) {
+    super(`status ${status}`);
+    this.status = status;
+  }
+}
+
+/* The status of a response; "busy" where the server takes the request later, since too many wait. */
+function statusOf(response) {
+  return response.status === 503 && response.headers.has('Retry-After') ? 'busy' : response.status;
+}
+
+/* One exchange with the server after the other, which puts counts and pictures in order. */
+let queue = Promise.resolve();
+function inTurn(task) {
+  const result = queue.then(task);
+  queue = result.catch(() => {});
+  return result;
+}
+
+/* A picture, whose paper begins with the last line that the page has; null where the machine is still as it was. */
+async function askForPicture(kept, after) {
+  const part = `core=${pad(view.core, 4)}&paper=${Math.max(0, kept.length - 1)}`;
+  const query = after === null ? part : `${part}&after=${after}`;
+  const response = await fetch(`/picture?${query}`, {cache: 'no-store', signal: AbortSignal.timeout(10 * RETRY_MS)});
+  const text = await response.text();
+  if (response.status === 204) return null;
+  if (response.status !== 200) throw new Refused(statusOf(response));
+  return pictureOf(text);
+}
+
+/* The lines of a picture after those that the page has; null if they don't go on, since somebody has taken lines. */
+function joined(kept, picture) {
+  if (picture.first === 0) return picture.lines;
+  const goesOn = kept.length === picture.first + 1 && picture.lines.length > 0
+    && sameLine(kept[picture.first], picture.lines[0]);
+  return goesOn ? [...kept.slice(0, picture.first), ...picture.lines] : null;
+}
+
+/* Takes a picture in, and asks for further ones until all printed lines are there. */
+async function takeIn(picture) {
+  const isNewRoom = view.picture && (picture.after < view.picture.after || picture.made < view.picture.made);
+  let lines = joined(isNewRoom ? [] : view.paper, picture);
+  for (let turns = 0; turns < 2 * MOST_CARDS / FORM_LINES; turns++) {
+    if (lines !== null && lines.length === picture.registers.PAPER) break;
+    picture = await askForPicture(lines || [], null);
+    lines = joined(lines || [], picture);
+  }
+  if (isNewRoom || view.since === null) view.since = {after: picture.after, made: picture.made};
+  if (isNewRoom) enterRoom();
+  noteOthers(picture);
+  view.paper = lines || [];
+  view.made = picture.made;
+  view.picture = picture;
+  draw();
+}
+/* The server has another machine: what was meant for the old one isn't sent. */
+function enterRoom() {
+  Object.assign(view, {full: false, unkept: false, ended: null, breaks: view.breaks + 1});
+  view.others.count = 0;
+  note('words', TEXTS.said.newRoom);
+  tell(TEXTS.said.newRoom);
+}
+function noteOthers({after, made}) {
+  const count = after - view.since.after - (made - view.since.made), now = performance.now();
+  if (count > view.others.count) view.others.at = now;
+  view.others.count = count;
+  if (!view.picture || after !== view.picture.after) view.changed = now;
+}
+const othersAtWork = () => performance.now() - view.others.at < OTHERS_MS;
+
+/* Looks once, and draws what is new. False where there was nothing to see; the banner then says why. */
+async function look() {
+  const shown = view.picture;
+  const isCurrent = shown && view.link === 'fine' && view.made !== null && shown.from === view.core;
+  try {
+    const picture = await askForPicture(view.paper, isCurrent ? shown.after : null);
+    if (picture !== null) await takeIn(picture);
+    setLink('fine');
+    return true;
+  } catch (why) {
+    blame(why);
+    return false;
+  }
+}
+
+const LINK_OF_STATUS = {410: 'closed', 503: 'taken503', busy: 'busy', 507: 'noMemory'};
+function blame(why) {
+  if (why instanceof Unreadable) setLink('unread');
+  else if (!(why instanceof Refused)) setLink('lost');
+  else {
+    if (why.status === 404) view.core = 0;
+    view.status = why.status;
+    setLink(LINK_OF_STATUS[why.status] || 'refusedStatus');
+  }
+}
+function setLink(link) {
+  if (link === 'lost' && view.link === 'fine') view.breaks++;
+  view.link = link;
+  drawBanner();
+  drawKeys();
+}

@@ -1,0 +1,100 @@
+"""What the gate has proved: `./check` notes it next to the program, and `./release` compares.
+
+The note is crates/ibm1401/out/ibm1401.proved, which no commit has: what the gate printed, the toolchain, and the
+checksums of each source and of the program."""
+import hashlib
+import json
+import os
+import subprocess
+from pathlib import Path
+
+# What the gate reads besides the files of crates/.
+ALONE = "crates.txt", "HANDLES"
+# What a record begins with, as crates/ibm1401/src/version.rt has it.
+RECORD = b"commit "
+
+
+class Refused(Exception):
+    """Why there is no release."""
+
+
+def program_of(top):
+    """Where the gate builds the program."""
+    return top / "crates/ibm1401/out/ibm1401"
+
+
+def note_of(top):
+    """Where the gate's note is."""
+    return top / "crates/ibm1401/out/ibm1401.proved"
+
+
+def checksum(content):
+    """The checksum of some bytes, as sha256sum prints it."""
+    return hashlib.sha256(content).hexdigest()
+
+
+def sources(top):
+    """The checksum of each file that the gate reads, by its path."""
+    found = [top / name for name in ALONE]
+    for place, folders, files in os.walk(top / "crates"):
+        folders[:] = [each for each in folders if each != "out"]
+        found += [Path(place, each) for each in files]
+    return {str(each.relative_to(top)): checksum(each.read_bytes()) for each in sorted(found) if each.is_file()}
+
+
+def bare(program):
+    """A program without the record after its last zero byte."""
+    before, zero, after = program.rpartition(b"\0")
+    return before if zero and after.startswith(RECORD) else program
+
+
+def git(top, *words):
+    """What git answers of this folder, or None where it is no repository of its own."""
+    try:
+        ran = subprocess.run(["git", "-C", top, *words], stdin=subprocess.DEVNULL, capture_output=True, check=False)
+    except OSError:
+        return None
+    return ran.stdout.decode().strip() if ran.returncode == 0 else None
+
+
+def commit_of(top):
+    """The commit of the sources, as a record names it."""
+    commit = git(top, "rev-parse", "--verify", "HEAD") if git(top, "rev-parse", "--show-cdup") == "" else None
+    if commit is None:
+        return "unknown"
+    return commit + (", with changes" if git(top, "status", "--porcelain", "--", *ALONE, "crates") else "")
+
+
+def with_record(program, commit, toolchain):
+    """A program with the record that its --version prints."""
+    return bare(program) + f"\0commit {commit}\nproved by {toolchain}\n".encode()
+
+
+def write_note(top, before, printed, toolchain):
+    """Notes what the gate printed of these sources, if they are still the same, and writes the record after the
+    program."""
+    note_of(top).unlink(missing_ok=True)
+    program = program_of(top).read_bytes()
+    if before == sources(top):
+        noted = {"toolchain": toolchain, "printed": printed, "program": checksum(bare(program)), "sources": before}
+        note_of(top).write_text(json.dumps(noted, indent=1))
+    program_of(top).write_bytes(with_record(program, commit_of(top), toolchain))
+
+
+def read_note(top):
+    """The gate's note, if the sources and the program are those that it is about, and are committed."""
+    if not note_of(top).exists():
+        raise Refused("the gate has proved no program here; ./check does")
+    noted = json.loads(note_of(top).read_text())
+    last = noted["printed"].splitlines()[-1:]
+    if not last or not last[0].endswith(" passed, 0 failed"):
+        raise Refused(f"the gate has failed: {last[0] if last else 'it printed nothing'}")
+    now = sources(top)
+    changed = [name for name in sorted({*now, *noted["sources"]}) if now.get(name) != noted["sources"].get(name)]
+    if changed:
+        raise Refused(f"{changed[0]} isn't as the gate proved it")
+    if not program_of(top).exists() or checksum(bare(program_of(top).read_bytes())) != noted["program"]:
+        raise Refused("crates/ibm1401/out/ibm1401 isn't the program that the gate built")
+    if git(top, "rev-parse", "--show-cdup") != "" or git(top, "status", "--porcelain"):
+        raise Refused("there are files that no commit has")
+    return noted

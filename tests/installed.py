@@ -1,0 +1,156 @@
+"""The package of a release, tried as a new user would: a root of its own, in which nothing is but a small Debian.
+
+    ./check --release
+
+The root is made by debootstrap. The package is installed there, the first command of README is run, a room is served by
+the unit's own command line, a manual page is read, a word is completed in bash, and the package is removed again."""
+import os
+import pty
+import re
+import select
+import shutil
+import subprocess
+import tempfile
+import time
+from pathlib import Path
+
+from tests.support import REPLY_SECONDS, TOP, Console, a_port, run
+from tests.test_docs import rows_of
+from tests.test_unit import words_of
+
+# What a root needs besides.
+BESIDES = "man-db,bash-completion"
+# What the system writes of its own accord.
+KEPT = "/var/lib/dpkg/", "/var/log/", "/var/cache/", "/etc/ld.so.cache", "/root/.bash_history", "/proc/", "/dev/"
+
+
+def lacking():
+    """Why nothing can be tried here, or an empty text."""
+    if os.geteuid() != 0:
+        return "only root can make a root of its own"
+    return "" if shutil.which("debootstrap", path=f"{os.environ['PATH']}:/usr/sbin") else "there is no debootstrap"
+
+
+class Root:
+    """A small Debian in a folder, with what was tried there."""
+
+    def __init__(self, folder):
+        self.folder, self.passed, self.failed = folder, 0, 0
+
+    def run(self, *words, lines=b"", **how):
+        """Runs a command there, with a /proc of its own for as long."""
+        script = 'mount -t proc proc "$0/proc" && exec chroot "$0" "$@"'
+        return run(["unshare", "-m", "sh", "-c", script, self.folder, *words], lines, **how)
+
+    def check(self, name, wrong):
+        """Counts what was tried, and prints what is wrong."""
+        self.passed, self.failed = self.passed + (not wrong), self.failed + bool(wrong)
+        if wrong:
+            print(f"FAILED  the package: {name}: {wrong}")
+
+    def same(self, name, found, wanted):
+        """The same of two values."""
+        self.check(name, "" if found == wanted else f"it is {found!r}, not {wanted!r}")
+
+    def files(self):
+        """What is there, but for what the system writes."""
+        found = run(["find", self.folder, "-xdev", "-printf", "/%P\\n"]).stdout.decode().splitlines()
+        return {each for each in found if not each.startswith(KEPT)}
+
+
+def first_command():
+    """The first command of README, and what it answers by its table."""
+    command = re.search(r"^```sh\n(\./ibm1401 .*?)^```$", (TOP / "README.md").read_text(), re.MULTILINE | re.DOTALL)[1]
+    return command, "".join(f"{answered}\n" for _, answered in rows_of(TOP / "README.md"))
+
+
+def try_first_command(root):
+    """README's first command, in a folder where ./ibm1401 leads to the program."""
+    command, answered = first_command()
+    ran = root.run("bash", "-c", f"cd /tmp && ln -s /usr/bin/ibm1401 ibm1401 && {command}\nrm ibm1401")
+    root.same("README's first command", (ran.returncode, ran.stdout.decode(), ran.stderr), (0, answered, b""))
+
+
+def try_room(root):
+    """A room by the unit's own command line, served and closed."""
+    port, state = a_port(), root.folder / "var/lib/ibm1401"
+    state.mkdir()
+    words = words_of("ExecStart", port, "/var/lib", root.folder / "usr/lib/systemd/system/ibm1401@.service")
+    room = subprocess.Popen(["chroot", root.folder, *words], stdin=subprocess.PIPE, stdout=subprocess.PIPE)
+    try:
+        root.same("the room is ready", room.stdout.readline(), b"READY\n")
+        with Console(int(port)) as console:
+            root.same("it answers", console.say(b"DEPOSIT 0500 ~K\nEXAMINE 0500\n"), b"OK\n~K\n")
+        root.same("it ends", (room.communicate(b"QUIT\n", REPLY_SECONDS)[0], room.returncode), (b"JOURNAL 2\n", 0))
+    finally:
+        room.kill()
+        room.wait()
+    root.check("it has a journal", "" if (state / f"{port}.journal").exists() else "there is none")
+    shutil.rmtree(state)
+
+
+def typed(root, keys, wanted):
+    """What a terminal shows of bash when this is typed into it, until it shows what is wanted or is late."""
+    terminal, other = pty.openpty()
+    words = ["chroot", root.folder, "env", "TERM=dumb", "bash", "--norc", "-i"]
+    bash = subprocess.Popen(words, stdin=other, stdout=other, stderr=other, start_new_session=True)
+    os.close(other)
+    shown, late = b"", time.monotonic() + REPLY_SECONDS
+    try:
+        os.write(terminal, keys)
+        while wanted not in shown and time.monotonic() < late:
+            if select.select([terminal], [], [], 0.1)[0]:
+                shown += os.read(terminal, 4096)
+    finally:
+        bash.kill()
+        bash.wait()
+        os.close(terminal)
+    return shown
+
+
+def try_completion(root):
+    """A call and an option, each completed from its beginning."""
+    load = b". /usr/share/bash-completion/bash_completion\n"
+    for keys, wanted in (b"ibm1401 disa\t", b"ibm1401 disassemble"), (b"ibm1401 run --pu\t", b"run --punch"):
+        shown = typed(root, load + keys, wanted)
+        root.check(f"bash completes {keys.decode().strip()}", "" if wanted in shown else repr(shown[-200:]))
+
+
+def try_installed(root, package):
+    """Installs a package, tries it, and removes it again."""
+    shutil.copy(package, root.folder / "tmp/ibm1401.deb")
+    before = root.files()
+    installed = root.run("dpkg", "-i", "/tmp/ibm1401.deb")
+    root.check("it is installed", installed.stderr.decode() if installed.returncode != 0 else "")
+    if installed.returncode != 0:
+        return
+    said = root.run("ibm1401", "--version").stdout.decode()
+    known = re.fullmatch(r"ibm1401 [\d.]+\ncommit [0-9a-f]{40}\nproved by .*\n", said)
+    root.check("its version", "" if known else said)
+    try_first_command(root)
+    try_room(root)
+    page = root.run("man", "ibm1401-run", env={**os.environ, "MANWIDTH": "200", "LC_ALL": "C", "PAGER": "cat"})
+    shown = re.sub(r".\x08", "", page.stdout.decode(errors="replace"))
+    root.check("the manual", "" if "--switches LETTERS" in shown else shown + page.stderr.decode())
+    try_completion(root)
+    removed = root.run("dpkg", "--purge", "ibm1401")
+    root.check("it is removed", removed.stderr.decode() if removed.returncode != 0 else "")
+    root.same("what is left", sorted(root.files() ^ before), [])
+
+
+def try_package(package, made=None):
+    """Tries a package in a root that is made, or was made before: how much passed and failed."""
+    why = lacking()
+    if why:
+        print(f"LEFT OUT  the package: {why}")
+        return 0, 0
+    with tempfile.TemporaryDirectory() as folder:
+        root = Root(Path(made or f"{folder}/root"))
+        if not made:
+            code = re.search(r"^VERSION_CODENAME=(.*)$", Path("/etc/os-release").read_text(), re.MULTILINE)[1]
+            call = ["debootstrap", "--variant=minbase", f"--include={BESIDES}", code, root.folder]
+            bootstrapped = subprocess.run(call, stdin=subprocess.DEVNULL, stdout=subprocess.DEVNULL, check=False)
+            root.check("a root", f"debootstrap: {bootstrapped.returncode}" if bootstrapped.returncode != 0 else "")
+        if root.failed == 0:
+            try_installed(root, package)
+        return root.passed, root.failed
