@@ -65,8 +65,8 @@ if_ok P (Err why) kept is good said = absurd (true≢false (sym said ∙ is))
 
 -- what is shown, by other names
 pub shown_as : {S : Type 0} (has_failed : S → Bool) (kept : S → Option (List ℕ)) (first : Option (List ℕ)) (form : Form)
-    (size : ℕ) (failed now : Bool) (pairs seen : List SeatedCommand) → AreShown has_failed kept first form size failed pairs
-    → failed ≡ now → seen ≡ pairs → AreShown has_failed kept first form size now seen
+    (size : ℕ) (failed now : Bool) (pairs seen : List SeatedCommand)
+    → AreShown has_failed kept first form size failed pairs → failed ≡ now → seen ≡ pairs → AreShown has_failed kept first form size now seen
 shown_as has_failed kept first form size failed now pairs seen shown is same =
     subst (λ (list : List SeatedCommand). AreShown has_failed kept first form size now list) (sym same)
     (subst (λ (bad : Bool). AreShown has_failed kept first form size bad pairs) is shown)

@@ -21,8 +21,8 @@ shown_in account = shown_by account.failed account.room.journal
 
 -- These commands are shown of what a keeper has kept of a legal journal: all of its commands while no write has failed,
 -- and all but the last once one has (true).
-pub record AreShown {S : Type 0} (has_failed : S → Bool) (kept : S → Option (List ℕ)) (first : Option (List ℕ)) (form : Form)
-    (size : ℕ) (failed : Bool) (pairs : List SeatedCommand) : Type 0 where
+pub record AreShown {S : Type 0} (has_failed : S → Bool) (kept : S → Option (List ℕ)) (first : Option (List ℕ))
+    (form : Form) (size : ℕ) (failed : Bool) (pairs : List SeatedCommand) : Type 0 where
   pub keeper : S
   pub failed_is : has_failed keeper ≡ failed
   pub journal : List Entry
@@ -31,17 +31,19 @@ pub record AreShown {S : Type 0} (has_failed : S → Bool) (kept : S → Option 
   pub text : IsKeptAs form size journal failed first (kept keeper)
 
 -- A keeper no write of which has failed has the text of a legal journal, whose commands are these.
-abbrev pub HasKept : {S : Type 0} → (S → Bool) → (S → Option (List ℕ)) → Option (List ℕ) → Form → ℕ → List SeatedCommand → Type 0
+abbrev pub HasKept : {S : Type 0} → (S → Bool) → (S → Option (List ℕ)) → Option (List ℕ) → Form → ℕ
+    → List SeatedCommand → Type 0
 HasKept has_failed kept first form size pairs = AreShown has_failed kept first form size false pairs
 
 -- A write of a keeper has failed: it has the text of a legal journal whose commands are these, and at most a part of
 -- the line of one entry more. No write of a keeper that keeps nothing ever fails.
-abbrev pub HasFailed : {S : Type 0} → (S → Bool) → (S → Option (List ℕ)) → Option (List ℕ) → Form → ℕ → List SeatedCommand → Type 0
+abbrev pub HasFailed : {S : Type 0} → (S → Bool) → (S → Option (List ℕ)) → Option (List ℕ) → Form → ℕ
+    → List SeatedCommand → Type 0
 HasFailed has_failed kept first form size pairs = AreShown has_failed kept first form size true pairs
 
 -- What a seat has seen begins with all that is shown, and goes on.
-pub record SeesMore {S : Type 0} (has_failed : S → Bool) (kept : S → Option (List ℕ)) (first : Option (List ℕ)) (form : Form)
-    (size : ℕ) (seen : List SeatedCommand) : Type 0 where
+pub record SeesMore {S : Type 0} (has_failed : S → Bool) (kept : S → Option (List ℕ)) (first : Option (List ℕ))
+    (form : Form) (size : ℕ) (seen : List SeatedCommand) : Type 0 where
   pub failed : Bool
   pub shown : List SeatedCommand
   pub are_shown : AreShown has_failed kept first form size failed shown

@@ -34,5 +34,6 @@ returns-clause-number g c =
 pub returns-clause-unkept : goal.returns-clause-unkept
 returns-clause-unkept g c is =
     let keeper = g.P.Keeper in
-    subst (λ (seat : SeatView). HasFailed keeper.has_failed keeper.kept keeper.first keeper.form g.J.RoomId.size seat.list)
+    subst
+    (λ (seat : SeatView). HasFailed keeper.has_failed keeper.kept keeper.first keeper.form g.J.RoomId.size seat.list)
     (sym c.into_seat.ensures) (c.answer_lines-end.ensures.unkept is)

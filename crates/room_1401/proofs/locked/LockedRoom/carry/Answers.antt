@@ -37,9 +37,10 @@ count_next-requires g c =
     let old : KeptAccount = c.self.inside.recorder in
     let same : seat.list ≡ shown_in old = c.if-not-brief.ensures.list ∙ ap shown_in (sym c.self.view_is) in
     let grown : c.front-front.result.now ≡ seat.list ++ last =
-    one_more old c.carry.new.self k c.args.command c.in_ok-carried.carried.answer seat.list c.front-front.result.now same
-    c.in_ok-carried.ensures.good (c.in_ok-carried.ensures.kept (if_not c.in_ok-carried.carried.kept c.if-not-carried.false)) c.in_ok-carried.ensures.recorded
-    c.front-front.ensures.list in
+    one_more old c.carry.new.self k c.args.command c.in_ok-carried.carried.answer seat.list c.front-front.result.now
+    same c.in_ok-carried.ensures.good
+    (c.in_ok-carried.ensures.kept (if_not c.in_ok-carried.carried.kept c.if-not-carried.false))
+    c.in_ok-carried.ensures.recorded c.front-front.ensures.list in
     let few : seat.made ≤ own k seat.list =
     subst (λ n. seat.made ≤ own n seat.list) (sym c.number.ensures) c.if-not-brief.ensures.own in
     let more : own seat.number c.front-front.result.now ≡ own k seat.list + 1 =

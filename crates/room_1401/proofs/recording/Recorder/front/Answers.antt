@@ -10,7 +10,7 @@ returns-clause-shown g c =
     let keeper = g.K.Keeper in
     let failed = keeper.has_failed it.keeper in
     let shown : AreShown keeper.has_failed keeper.kept keeper.first keeper.form it.room.size failed
-        (shown_in (record { room = it.room; failed = failed; kept = keeper.kept it.keeper })) = record {
+    (shown_in (record { room = it.room; failed = failed; kept = keeper.kept it.keeper })) = record {
       keeper = it.keeper;
       failed_is = refl;
       journal = it.room.journal;
@@ -19,6 +19,6 @@ returns-clause-shown g c =
       text = c.self.invariant.4;
     } in
     subst (λ (account : KeptAccount). AreShown keeper.has_failed keeper.kept keeper.first keeper.form g.J.RoomId.size
-        account.failed (shown_in account)) c.self.view_is
+    account.failed (shown_in account)) c.self.view_is
     (subst (λ (n : ℕ). AreShown keeper.has_failed keeper.kept keeper.first keeper.form n failed
-        (shown_in (record { room = it.room; failed = failed; kept = keeper.kept it.keeper }))) c.self.invariant.0 shown)
+    (shown_in (record { room = it.room; failed = failed; kept = keeper.kept it.keeper }))) c.self.invariant.0 shown)
