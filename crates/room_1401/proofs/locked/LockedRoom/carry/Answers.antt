@@ -85,7 +85,7 @@ returns-then-not-carried-clause-by_failure g c is =
     c.in_ok-carried.ensures.good bad c.in_ok-carried.ensures.recorded) in
     shown_as _ _ _ _ _ _ _ _ _ c.front-front.ensures.shown bad same
 
--- one that is kept is shown
+-- a kept entry is shown
 pub returns-clause-shown : goal.returns-clause-shown
 returns-clause-shown g c =
     shown_as _ _ _ _ _ _ _ _ _ c.front-front.ensures.shown

@@ -1,4 +1,4 @@
--- What the invariant says of what is kept is so of what is shown.
+-- What the invariant says of the kept text holds of the shown commands.
 use Rattle.std.proofs.Common.{◌≡◌, ℕ, refl, subst}
 use Rattle.lone_room_1401.specs.Kept.{KeptAccount}
 use Rattle.room_1401.specs.Keeping.{AreShown, shown_in}
