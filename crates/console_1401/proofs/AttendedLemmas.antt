@@ -266,7 +266,7 @@ attended_at_seat size before (said ∷ lines) written after a =
     }
 
 -- lines answered at a seat of a room with a keeper are answered at a seat
-answered_at_seat : (size : ℕ) (has_kept : List SeatedCommand → Type 0) (has_failed : Type 0) (before : SeatView)
+answered_at_seat : (size : ℕ) (has_kept has_failed : List SeatedCommand → Type 0) (before : SeatView)
     (lines : List Said) (written : List ℕ) (after : SeatView)
     → AnsweredAll (KeptResponds size has_kept has_failed) before lines written after
     → AnsweredAll (SeatResponds size) before lines written after
@@ -274,7 +274,7 @@ answered_at_seat size has_kept has_failed before [] written after a = a
 answered_at_seat size has_kept has_failed before (said ∷ lines) written after a =
     (a.0, a.1, a.2, a.3.responded, a.4, answered_at_seat size has_kept has_failed a.0 lines a.2 after a.5)
 
-pub attended_when_kept : (size : ℕ) (has_kept : List SeatedCommand → Type 0) (has_failed : Type 0) (before : SeatView)
+pub attended_when_kept : (size : ℕ) (has_kept has_failed : List SeatedCommand → Type 0) (before : SeatView)
     (lines : List Said) (written : List ℕ) (after : SeatView)
     → AnsweredAll (KeptResponds size has_kept has_failed) before lines written after
     → Attended size before lines written after

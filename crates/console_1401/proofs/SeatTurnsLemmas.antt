@@ -57,7 +57,7 @@ seat_grows : (size : ℕ) (before : SeatView) (said : Said) (given : Option Repl
     → SeatResponds size before said given after → IsPrefix before.list after.list
 seat_grows size before said given after r = line_grows size before said given after r.line
 
-pub kept_grows : (size : ℕ) (has_kept : List SeatedCommand → Type 0) (has_failed : Type 0) (before : SeatView) (said : Said)
+pub kept_grows : (size : ℕ) (has_kept has_failed : List SeatedCommand → Type 0) (before : SeatView) (said : Said)
     (given : Option Reply) (after : SeatView)
     → KeptResponds size has_kept has_failed before said given after → IsPrefix before.list after.list
 kept_grows size has_kept has_failed before said given after r = seat_grows size before said given after r.responded

@@ -72,12 +72,12 @@ abbrev pub unkept_reply : Option Reply
 unkept_reply = Some (reply.RoomFault Unkept)
 
 -- One line was answered at a seat of a room with a keeper: a command by the machine only if the keeper has kept all that
--- the seat has then seen, and as unkept only if the keeper has failed.
-pub record KeptResponds (size : ℕ) (has_kept : List SeatedCommand → Type 0) (has_failed : Type 0) (before : SeatView)
-    (said : Said) (given : Option Reply) (after : SeatView) : Type 0 where
+-- the seat has then seen, and as unkept only if the keeper has failed after these commands.
+pub record KeptResponds (size : ℕ) (has_kept has_failed : List SeatedCommand → Type 0) (before : SeatView) (said : Said)
+    (given : Option Reply) (after : SeatView) : Type 0 where
   pub responded : SeatResponds size before said given after
   pub kept : (answer : Answer) → given ≡ Some (reply.Answer answer) → has_kept after.list
-  pub failed : given ≡ unkept_reply → has_failed
+  pub failed : given ≡ unkept_reply → has_failed after.list
 
 -- One line was answered at a seat, and these bytes are its reply: none for an empty line.
 pub record AnswersAtSeat (size : ℕ) (before : SeatView) (said : Said) (written : List ℕ) (after : SeatView)

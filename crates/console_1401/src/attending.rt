@@ -37,12 +37,12 @@ fn respond_at<J: RoomId, R: Wait + Drop, P: Keeper + Drop, W: Wait>(
     seat: &mut Seat<J>,
     said: Result<Line, LineFault>,
 ) -> (Option<Reply>, bool)
-    ensures line { KeptResponds J.size (HasKept P.has_failed P.kept P.first P.form J.size) (HasFailed P.has_failed)
-        seat.old said result.0 seat.new }
+    ensures line { KeptResponds J.size (HasKept P.has_failed P.kept P.first P.form J.size)
+        (HasFailed P.has_failed P.kept P.first P.form J.size) seat.old said result.0 seat.new }
 
     // It isn't kept only if a keeper that had kept all that the seat has seen has failed at the line's command.
     ensures kept { result.0 ≡ None → result.1 ≡ true }
-    ensures unkept { result.1 ≡ false → HasFailed P.has_failed
+    ensures unkept { result.1 ≡ false → HasFailed P.has_failed P.kept P.first P.form J.size seat.new.list
         × HasKept P.has_failed P.kept P.first P.form J.size seat.new.list × (result.0 ≡ unkept_reply) }
 {
     let mut kept = true;
@@ -86,7 +86,7 @@ pub fn answer_line<J: RoomId, R: Wait + Drop, P: Keeper + Drop, W: Wait>(
     ensures err { OnErr result (IsUnanswered J.size seat.old (said_by line.now) seat.new) }
 
     // Its entry isn't kept only if a keeper has failed, one that had kept all that the seat has then seen.
-    ensures unkept { result ≡ Err Unanswered.Unkept → HasFailed P.has_failed
+    ensures unkept { result ≡ Err Unanswered.Unkept → HasFailed P.has_failed P.kept P.first P.form J.size seat.new.list
         × HasKept P.has_failed P.kept P.first P.form J.size seat.new.list }
 
     // Whatever it said, the seat has seen no less.
@@ -122,7 +122,8 @@ impl<'a, J: RoomId, R: Wait + Drop, P: Keeper + Drop, W: Wait, D: Door> Model
 
     ghost view = { λ attendant. attendant.seat };
 
-    ghost invariant = { λ attendant. attendant.kept ≡ false → HasFailed P.has_failed };
+    ghost invariant = { λ attendant.
+        attendant.kept ≡ false → HasFailed P.has_failed P.kept P.first P.form J.size attendant.seat.list };
 }
 
 impl<J: RoomId, R: Wait + Drop, P: Keeper + Drop, W: Wait, D: Door> Attendant<'_, J, R, P, W, D> {
@@ -143,11 +144,12 @@ impl<J: RoomId, R: Wait + Drop, P: Keeper + Drop, W: Wait, D: Door> Attendant<'_
 
 impl<J: RoomId, R: Wait + Drop, P: Keeper + Drop, W: Wait, D: Door> Responder
     for Attendant<'_, J, R, P, W, D> {
-    ghost responds = { KeptResponds J.size (HasKept P.has_failed P.kept P.first P.form J.size) (HasFailed P.has_failed) };
+    ghost responds = { KeptResponds J.size (HasKept P.has_failed P.kept P.first P.form J.size)
+        (HasFailed P.has_failed P.kept P.first P.form J.size) };
 
     ghost is_good = { λ _. Unit {0} };
 
-    ghost is_unkept = { λ _. HasFailed P.has_failed };
+    ghost is_unkept = { λ seat. HasFailed P.has_failed P.kept P.first P.form J.size seat.list };
 
     fn before(&mut self, line: u64) {
         self.door.before(self.seat.number(), line);
@@ -186,7 +188,8 @@ pub fn attend<J: RoomId, R: Wait + Drop, P: Keeper + Drop, W: Wait, S: Source, K
 
     // The same, line by line. Each answer that goes out is of a command whose entry is kept.
     ensures lines { SessionDid (AnsweredAll
-        (KeptResponds J.size (HasKept P.has_failed P.kept P.first P.form J.size) (HasFailed P.has_failed)))
+        (KeptResponds J.size (HasKept P.has_failed P.kept P.first P.form J.size)
+        (HasFailed P.has_failed P.kept P.first P.form J.size)))
         result.1 (S.left reader.old) (S.left reader.new) (K.received writer.old) (K.received writer.new) seat result.0 }
     ensures number { result.0.number ≡ seat.number }
 
@@ -194,8 +197,9 @@ pub fn attend<J: RoomId, R: Wait + Drop, P: Keeper + Drop, W: Wait, S: Source, K
     ensures read { result.1 ≡ SessionEnd.Read → IsTrue (S.has_failed reader.new) }
     ensures write { result.1 ≡ SessionEnd.Write → IsTrue (K.has_failed writer.new) }
 
-    // It ends as unkept only if a keeper has failed; one that keeps nothing never has.
-    ensures unkept { result.1 ≡ SessionEnd.Unkept → HasFailed P.has_failed }
+    // It ends as unkept only if a keeper has failed after all that the seat has seen; one that keeps nothing never has.
+    ensures unkept { result.1 ≡ SessionEnd.Unkept
+        → HasFailed P.has_failed P.kept P.first P.form J.size result.0.list }
 
     // Any other end means that no read and no write failed, and that the source hadn't failed before.
     ensures good_read { result.1 ≢ SessionEnd.Read → S.has_failed reader.new ≡ false }

@@ -55,7 +55,8 @@ pub fn give<J: RoomId, H: Wait + Drop, K: Keeper + Drop, W: Wait>(
 
     // Given are commands only whose entries are kept, and none is refused as unkept unless a keeper has failed.
     ensures kept { OnOk result (HasKept K.has_failed K.kept K.first K.form J.size seat.new.list) }
-    ensures unkept { result ≡ Err RoomFault.Unkept → HasFailed K.has_failed }
+    ensures unkept { result ≡ Err RoomFault.Unkept
+        → HasFailed K.has_failed K.kept K.first K.form J.size seat.new.list }
 {
     match room.command_kept(wait, seat, command) {
         Ok(Carried { kept: true, .. }) => Ok(()),

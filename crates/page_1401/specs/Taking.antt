@@ -20,10 +20,11 @@ abbrev pub IsUnansweredBy : Unanswered → Response → Type 0
 IsUnansweredBy Memory response = IsResponse 507 text_fields [] response
 IsUnansweredBy Unkept response = IsResponse 500 text_fields [] response
 
--- a keeper has failed, and one had kept the commands that a seat has seen
+-- a keeper has failed after the commands that a seat has seen, and one had kept them
 abbrev pub HasLost : {S : Type 0} → (S → Bool) → (S → Option (List ℕ)) → Option (List ℕ) → Form → ℕ
     → List SeatedCommand → Type 0
-HasLost has_failed kept first form size seen = HasFailed has_failed × HasKept has_failed kept first form size seen
+HasLost has_failed kept first form size seen =
+    HasFailed has_failed kept first form size seen × HasKept has_failed kept first form size seen
 
 -- what a reason shows: an entry isn't kept only if something was lost
 abbrev pub IsReason : Type 0 → Unanswered → Type 0

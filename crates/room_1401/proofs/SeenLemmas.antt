@@ -1,5 +1,5 @@
 -- How many of a list's commands are a seat's own, and what a seat has seen when it sees more.
-use Rattle.std.proofs.Common.{◌≡◌, ℕ, ◌+◌, ◌≤◌, ◌==◌, cond, Bool, true, false, ltb, List, [], ◌∷◌, ◌++◌, length}
+use Rattle.std.proofs.Common.{◌≡◌, ℕ, ◌+◌, ◌≤◌, ◌<◌, ◌==◌, cond, Bool, true, false, ltb, List, [], ◌∷◌, ◌++◌, length}
 use Rattle.std.proofs.Common.{refl, ap, sym, arith}
 use Rattle.std.specs.Prelude.{if◌then◌else◌}
 use Rattle.std.proofs.lemmas.Bool.Decides.{nat_tests}
@@ -52,6 +52,18 @@ pub caught_up : (seen front after : List SeatedCommand)
     → length seen ≤ length front → IsPrefix front after → after ≡ front
 caught_up seen front after is le begins =
     either_is (ltb (length seen) (length front)) seen front after refl is le begins
+
+-- the longer of two is the first, if it is longer than the second
+stays_if : (test : Bool) (seen front after : List SeatedCommand)
+    → ltb (length seen) (length front) ≡ test → after ≡ (if test then front else seen)
+    → length front < length after → after ≡ seen
+stays_if true seen front after less is longer = absurd (omega (arith, ap length is))
+stays_if false seen front after less is longer = is
+
+pub stays : (seen front after : List SeatedCommand)
+    → after ≡ (if ltb (length seen) (length front) then front else seen)
+    → length front < length after → after ≡ seen
+stays seen front after is longer = stays_if (ltb (length seen) (length front)) seen front after refl is longer
 
 -- of two beginnings of one list the shorter begins the other, and has no more own commands
 pub fit_list : (seat made : ℕ) (seen front both : List SeatedCommand)

@@ -1,5 +1,5 @@
 -- What closing a shared room says of its seats (own).
-use Rattle.std.specs.Prelude.{◌≡◌, ℕ, zero, suc, ◌+◌, ◌≤◌, ◌<◌, ◌==◌, ◌||◌, Bool, true, false, cond}
+use Rattle.std.specs.Prelude.{◌≡◌, ℕ, zero, suc, ◌+◌, ◌≤◌, ◌<◌, ◌==◌, ◌||◌, ◌⊎◌, Bool, true, false, cond}
 use Rattle.std.specs.Prelude.{List, [], ◌∷◌, length}
 use mathlib.Core.List.{IsPrefix}
 use Rattle.lone_room_1401.specs.declared.entry.SeatedCommand.{SeatedCommand}
@@ -30,6 +30,11 @@ AllFit pairs [] = Unit {0}
 AllFit pairs (seat ∷ seats) =
     (IsPrefix seat.list pairs × (seat.made ≤ own seat.number pairs)) × AllFit pairs seats
 
+-- One of the seats has seen more commands than these.
+abbrev pub OneBeyond : List SeatedCommand → List SeatView → Type 0
+OneBeyond pairs [] = ⊥
+OneBeyond pairs (seat ∷ seats) = (length pairs < length seat.list) ⊎ OneBeyond pairs seats
+
 -- What each seat has seen is a prefix of the commands, in which it has exactly what it made.
 abbrev pub AllExact : List SeatedCommand → List SeatView → Type 0
 AllExact pairs [] = Unit {0}
@@ -48,8 +53,8 @@ pub record IsSettled (journal : List Entry) (seats : List SeatView) : Type 0 whe
   pub exact : AllExact (pairs_of journal) seats
   pub made : length journal ≡ made_of seats
 
--- Why a room of n seats wasn't closed: not all of their numbers are back; or all are, and what they have seen couldn't
--- be compared.
+-- Why a room of n seats wasn't closed: not all of their numbers are back; or all are, and one has seen more commands
+-- than are shown.
 abbrev pub ClosesBy : ℕ → List SeatView → CloseFault → Type 0
 ClosesBy n seats (Unreturned back total) = (back ≡ back_of n seats) × (total ≡ n) × (back < n)
-ClosesBy n seats NoReading = back_of n seats ≡ n
+ClosesBy n seats NoReading = (back_of n seats ≡ n) × ((shown : List SeatedCommand) × OneBeyond shown seats)

@@ -1,6 +1,6 @@
 //! Whether all seats of a shared room are back, and what they made together.
-ghost use Rattle.std.specs.Prelude.{◌≡◌, ◌+◌, ◌≤◌, true, length};
-ghost use Rattle.room_1401.specs.Closing.{AllFit, back_of, has_seat, made_of};
+ghost use Rattle.std.specs.Prelude.{◌≡◌, ◌+◌, ◌≤◌, MatchBool, length};
+ghost use Rattle.room_1401.specs.Closing.{AllFit, OneBeyond, back_of, has_seat, made_of};
 
 use crate::history::SeenPrefix;
 use crate::naming::RoomId;
@@ -33,7 +33,7 @@ pub(crate) fn count_back<J: RoomId>(seats: &[Seat<J>], total: u8) -> u8
 
 /// Whether what each seat has seen is no longer than these commands; it is a prefix of them then.
 pub(crate) fn all_fit<J: RoomId>(seats: &[Seat<J>], front: &SeenPrefix<J>) -> bool
-    ensures { result ≡ true → AllFit front.now seats.now }
+    ensures { MatchBool result (AllFit front.now seats.now) (OneBeyond front.now seats.now) }
 {
     match seats {
         [] => true,

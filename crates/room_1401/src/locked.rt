@@ -2,11 +2,11 @@
 ghost use Rattle.std.specs.Prelude.{◌≡◌, ◌≢◌, ◌+◌, ◌<◌, ◌≤◌, ◌↔◌, [], ◌∷◌, ◌++◌, true, false, length, MatchBool};
 ghost use Rattle.std.specs.Prelude.{IfOk, IfErr, OnOk, OnErr};
 ghost use mathlib.Core.List.{IsPrefix};
-ghost use Rattle.room_1401.specs.Closing.{AllFit, IsSettled, back_of};
+ghost use Rattle.room_1401.specs.Closing.{AllFit, IsSettled, OneBeyond, back_of};
 ghost use Rattle.lone_room_1401.specs.Journal.{IsLegal, entry, most_entries, refusal_of};
 ghost use Rattle.lone_room_1401.specs.Kept.{IsKeptAs};
 ghost use Rattle.lone_room_1401.specs.Replay.{reply_to};
-ghost use Rattle.room_1401.specs.Keeping.{HasFailed, HasKept, kept_part, shown_in};
+ghost use Rattle.room_1401.specs.Keeping.{AreShown, HasFailed, HasKept, SeesMore, kept_part, shown_in};
 ghost use Rattle.room_1401.specs.Seen.{Carries, own};
 
 use crate::closing::{all_fit, merge_all};
@@ -69,13 +69,15 @@ impl<J: RoomId, R: Wait + Drop, K: Keeper + Drop> LockedRoom<J, R, K> {
         }
     }
 
-    /// Brings the seat up to date; true if it has now seen exactly what is shown, else it has seen more.
+    /// Brings the seat up to date; true if it has now seen exactly what is shown, else it had seen more.
     fn brief(&self, seat: &mut Seat<J>) -> bool
         ensures same { (seat.new.number ≡ seat.old.number) × (seat.new.made ≡ seat.old.made) }
         ensures grows { IsPrefix seat.old.list seat.new.list }
         ensures own { seat.new.made ≤ own seat.new.number seat.new.list }
         ensures list { MatchBool result (seat.new.list ≡ shown_in self.now)
-            (length (shown_in self.now) < length seat.new.list) }
+            ((seat.new.list ≡ seat.old.list) × (length (shown_in self.now) < length seat.old.list)) }
+        ensures begins { IsPrefix (shown_in self.now) seat.new.list }
+        ensures shown { AreShown K.has_failed K.kept K.first K.form J.size self.now.failed (shown_in self.now) }
         ensures bound { length (shown_in self.now) ≤ most_entries }
     {
         let _total = &self.total;
@@ -108,7 +110,8 @@ impl<J: RoomId, R: Wait + Drop, K: Keeper + Drop> LockedRoom<J, R, K> {
             → carried.answer ≡ reply_to J.size seat.new.list command) }
         ensures same { IfOk result (λ carried. carried.kept ≡ false → seat.new.made ≡ seat.old.made) }
         ensures unkept { IfOk result (λ carried. carried.kept ≡ false → self.new.failed ≡ true) }
-        ensures by_failure { IfOk result (λ carried. carried.kept ≡ false → HasFailed K.has_failed) }
+        ensures by_failure { IfOk result (λ carried. carried.kept ≡ false
+            → HasFailed K.has_failed K.kept K.first K.form J.size seat.new.list) }
 
         // In each case the seat has seen exactly what is shown, and all of that is kept.
         ensures list { OnOk result (seat.new.list ≡ shown_in self.new) }
@@ -118,10 +121,12 @@ impl<J: RoomId, R: Wait + Drop, K: Keeper + Drop> LockedRoom<J, R, K> {
         // other has then seen exactly that, and is refused as the recorder refuses it.
         ensures err { OnErr result ((seat.new.made ≡ seat.old.made) × (self.new.room.journal ≡ self.old.room.journal)
             × (self.new.failed ≡ self.old.failed) × (self.new.kept ≡ self.old.kept)) }
-        ensures no_reading { result ≡ Err RoomFault.NoReading → length (shown_in self.old) < length seat.new.list }
+        ensures no_reading { result ≡ Err RoomFault.NoReading → (seat.new.list ≡ seat.old.list)
+            × SeesMore K.has_failed K.kept K.first K.form J.size seat.old.list }
         ensures failed { result ≢ Err RoomFault.NoReading
             → ((result ≡ Err RoomFault.Unkept) ↔ (self.old.failed ≡ true)) }
-        ensures after_failure { result ≡ Err RoomFault.Unkept → HasFailed K.has_failed }
+        ensures after_failure { result ≡ Err RoomFault.Unkept
+            → HasFailed K.has_failed K.kept K.first K.form J.size seat.new.list }
         ensures fault { IfErr result (λ fault. fault ≢ RoomFault.NoReading → self.old.failed ≡ false
             → (fault ≡ refusal_of self.old.room.journal) × (seat.new.list ≡ shown_in self.old)) }
         ensures full { result ≡ Err RoomFault.JournalFull → length seat.new.list ≡ most_entries }
@@ -131,10 +136,11 @@ impl<J: RoomId, R: Wait + Drop, K: Keeper + Drop> LockedRoom<J, R, K> {
             return Err(RoomFault::NoReading);
         }
         let carried = self.recorder.carry(seat.number(), command)?;
+        let front = self.recorder.front();
         if !carried.kept {
             return Ok(carried);
         }
-        count_next(seat, &mut self.total, self.recorder.front());
+        count_next(seat, &mut self.total, front);
         Ok(carried)
     }
 
@@ -145,9 +151,9 @@ impl<J: RoomId, R: Wait + Drop, K: Keeper + Drop> LockedRoom<J, R, K> {
         ensures all { OnOk result (seat.new.list ≡ shown_in self.now) }
         ensures told { IfOk result (λ told. told ≡ seat.new.list) }
 
-        // It is refused exactly if the seat has seen more than is shown.
-        ensures err { OnErr result ((result ≡ Err RoomFault.NoReading)
-            × (length (shown_in self.now) < length seat.new.list)) }
+        // It is refused only if the seat had seen more than is shown.
+        ensures err { OnErr result ((result ≡ Err RoomFault.NoReading) × (seat.new.list ≡ seat.old.list)
+            × SeesMore K.has_failed K.kept K.first K.form J.size seat.old.list) }
     {
         if self.brief(seat) {
             Ok(Told::new(self.recorder.front().again()))
@@ -163,9 +169,9 @@ impl<J: RoomId, R: Wait + Drop, K: Keeper + Drop> LockedRoom<J, R, K> {
         self.seats
     }
 
-    /// Whether what each seat has seen is a prefix of the commands that are shown.
+    /// Whether what each seat has seen is a prefix of the commands that are shown; else one of them has seen more.
     pub(crate) fn knows(&self, seats: &[Seat<J>]) -> bool
-        ensures { result ≡ true → AllFit (shown_in self.now) seats.now }
+        ensures { MatchBool result (AllFit (shown_in self.now) seats.now) (OneBeyond (shown_in self.now) seats.now) }
     {
         all_fit(seats, self.recorder.front())
     }

@@ -4,7 +4,7 @@ ghost use Rattle.std.specs.Prelude.{IfOk, IfErr, OnOk, OnErr};
 ghost use Rattle.std.specs.Io.KnownBytes.{Appends};
 ghost use Rattle.lone_room_1401.specs.Journal.{IsLegal, answer_to, entry, is_full, most_entries, pairs_of, refusal_of};
 ghost use Rattle.lone_room_1401.specs.Kept.{IsKeptAs, kept_text};
-ghost use Rattle.room_1401.specs.Keeping.{HasFailed, HasKept, shown_in};
+ghost use Rattle.room_1401.specs.Keeping.{AreShown, shown_in};
 ghost use Rattle.room_1401.specs.Rule.{Publishes};
 
 use crate::history::{Head, SeenPrefix};
@@ -82,8 +82,10 @@ impl<J: RoomId, R: Wait + Drop, K: Keeper + Drop> Recorder<J, R, K> {
 
     /// All commands that are shown.
     pub(crate) fn front(&self) -> &SeenPrefix<J>
-        ensures { result.now ≡ shown_in self.now }
+        ensures list { result.now ≡ shown_in self.now }
+        ensures shown { AreShown K.has_failed K.kept K.first K.form J.size self.now.failed (shown_in self.now) }
     {
+        let _journal = self.room.journal();
         &self.front
     }
 
@@ -97,11 +99,6 @@ impl<J: RoomId, R: Wait + Drop, K: Keeper + Drop> Recorder<J, R, K> {
         // If the answer may go out, the whole journal is kept; if it may not, no later command is taken.
         ensures kept { IfOk result (λ carried. carried.kept ≡ true → self.new.failed ≡ false) }
         ensures unkept { IfOk result (λ carried. carried.kept ≡ false → self.new.failed ≡ true) }
-
-        // In each case all that is shown is kept.
-        ensures shown { OnOk result (HasKept K.has_failed K.kept K.first K.form J.size (shown_in self.new)) }
-        ensures by_failure { IfOk result (λ carried. carried.kept ≡ false → HasFailed K.has_failed) }
-        ensures after_failure { result ≡ Err RoomFault.Unkept → HasFailed K.has_failed }
 
         // A refusal changes nothing.
         ensures good { OnOk result (self.old.failed ≡ false) }
@@ -206,10 +203,7 @@ fn record<J: RoomId, R: Wait + Drop, K: Keeper>(
         (drop publisher.new.writer.behind publisher.new.writer.log.items) (pairs_of room.new.journal) }
     ensures text { IsKeptAs K.form room.new.size room.new.journal (K.has_failed keeper.new) K.first
         (K.kept keeper.new) }
-    ensures before { OnOk result (HasKept K.has_failed K.kept K.first K.form J.size (pairs_of room.old.journal)) }
     ensures kept { IfOk result (λ carried. carried.kept ≡ true → K.has_failed keeper.new ≡ false) }
-    ensures after { IfOk result (λ carried. carried.kept ≡ true
-        → HasKept K.has_failed K.kept K.first K.form J.size (pairs_of room.new.journal)) }
     ensures unkept { IfOk result (λ carried. carried.kept ≡ false → K.has_failed keeper.new ≡ true) }
     ensures err { OnErr result ((room.new.journal ≡ room.old.journal) × (keeper.new ≡ keeper.old)) }
     ensures memory { OnErr result (result ≡ Err RoomFault.Memory) }
@@ -239,21 +233,16 @@ fn carry_kept<K: Keeper>(
     ensures size { room.new.size ≡ room.old.size }
     ensures text { IsKeptAs K.form room.new.size room.new.journal (K.has_failed keeper.new) K.first
         (K.kept keeper.new) }
-    ensures before { HasKept K.has_failed K.kept K.first K.form room.old.size (pairs_of room.old.journal) }
 
     // The entry is said to be kept exactly if no write has failed.
     ensures kept { result.kept ≡ true → K.has_failed keeper.new ≡ false }
-    ensures after { result.kept ≡ true
-        → HasKept K.has_failed K.kept K.first K.form room.new.size (pairs_of room.new.journal) }
     ensures unkept { result.kept ≡ false → K.has_failed keeper.new ≡ true }
 {
-    let _before = room.journal();
     let Ok(answer) = room.carry(next.seat, next.command) else {
         unreachable!();
     };
     let entry = Entry::new(next.seat, &next.command, &answer);
     let kept = keeper.keep(number, &entry).is_ok();
-    let _after = room.journal();
     Carried { answer, kept }
 }
 

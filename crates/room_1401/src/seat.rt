@@ -1,5 +1,5 @@
 //! A seat: what one operator holds of a shared room.
-ghost use Rattle.std.specs.Prelude.{◌≡◌, ◌+◌, ◌<◌, ◌≤◌, ◌↔◌, true, ltb, length, IfOk, IfSome, OnOk, OnErr};
+ghost use Rattle.std.specs.Prelude.{◌≡◌, ◌+◌, ◌<◌, ◌≤◌, ◌↔◌, true, false, ltb, length, IfOk, IfSome, OnOk, OnErr};
 ghost use Rattle.std.specs.Prelude.{if◌then◌else◌};
 ghost use mathlib.Core.List.{IsPrefix};
 ghost use Rattle.lone_room_1401.specs.Journal.{most_entries};
@@ -287,7 +287,9 @@ impl<J: RoomId> Seat<J> {
 
     /// Whether what it has seen is no longer than these commands; it is a prefix of them then.
     pub(crate) fn fits(&self, front: &SeenPrefix<J>) -> bool
-        ensures { result ≡ true → IsPrefix self.now.list front.now × (self.now.made ≤ own self.now.number front.now) }
+        ensures fits { result ≡ true
+            → IsPrefix self.now.list front.now × (self.now.made ≤ own self.now.number front.now) }
+        ensures longer { result ≡ false → length front.now < length self.now.list }
     {
         let _both = self.front.longer(front);
         if self.front.len() > front.len() {

@@ -9,7 +9,7 @@ ghost use Rattle.room_1401.specs.Closing.{ClosesBy, IsSettled, back_of};
 ghost use Rattle.lone_room_1401.specs.Journal.{IsLegal, most_entries};
 ghost use Rattle.lone_room_1401.specs.Kept.{IsKeptAs, kept_text};
 ghost use Rattle.lone_room_1401.specs.Replay.{reply_to};
-ghost use Rattle.room_1401.specs.Keeping.{HasFailed, HasKept, kept_part};
+ghost use Rattle.room_1401.specs.Keeping.{HasFailed, HasKept, IsBeyond, SeesMore, kept_part};
 ghost use Rattle.room_1401.specs.Rule.{Publishes};
 ghost use Rattle.room_1401.specs.Seen.{Carries, most_seats, newcomers, own};
 
@@ -95,8 +95,9 @@ impl<J: RoomId, R: Wait + Drop> SharedRoom<J, R> {
         ensures memory { result ≡ Err RoomFault.Memory → length seat.new.list < most_entries }
         ensures unkept { result ≢ Err RoomFault.Unkept }
 
-        // A seat that has seen nothing has seen no more than there is.
-        ensures no_reading { result ≡ Err RoomFault.NoReading → 0 < length seat.new.list }
+        // There is no reading only for a seat that had seen more than the journal has, and it has learnt nothing then.
+        ensures no_reading { result ≡ Err RoomFault.NoReading
+            → (seat.new.list ≡ seat.old.list) × IsBeyond J.size seat.old.list }
     {
         match self.command_kept(wait, seat, command) {
             Ok(carried) => Ok(carried.answer),
@@ -186,7 +187,8 @@ impl<J: RoomId, R: Wait + Drop, K: Keeper + Drop> SharedRoom<J, R, K> {
 
         // If it isn't, a write has failed, and the seat made no more. The answer, which must not go out, is the machine's
         // after all that the seat has seen.
-        ensures unkept { IfOk result (λ carried. carried.kept ≡ false → HasFailed K.has_failed) }
+        ensures unkept { IfOk result (λ carried. carried.kept ≡ false
+            → HasFailed K.has_failed K.kept K.first K.form J.size seat.new.list) }
         ensures same { IfOk result (λ carried. carried.kept ≡ false → seat.new.made ≡ seat.old.made) }
         ensures answered { IfOk result (λ carried. carried.kept ≡ false
             → carried.answer ≡ reply_to J.size seat.new.list command) }
@@ -196,14 +198,16 @@ impl<J: RoomId, R: Wait + Drop, K: Keeper + Drop> SharedRoom<J, R, K> {
 
         // After a refusal the seat made no more.
         ensures err { OnErr result (seat.new.made ≡ seat.old.made) }
-        ensures failed { result ≡ Err RoomFault.Unkept → HasFailed K.has_failed }
+        ensures failed { result ≡ Err RoomFault.Unkept
+            → HasFailed K.has_failed K.kept K.first K.form J.size seat.new.list }
         ensures full { result ≡ Err RoomFault.JournalFull → length seat.new.list ≡ most_entries }
 
         // A full journal is never reported as refused memory.
         ensures memory { result ≡ Err RoomFault.Memory → length seat.new.list < most_entries }
 
-        // A seat that has seen nothing has seen no more than there is.
-        ensures no_reading { result ≡ Err RoomFault.NoReading → 0 < length seat.new.list }
+        // There is no reading only for a seat that had seen more than is shown, and it has learnt nothing then.
+        ensures no_reading { result ≡ Err RoomFault.NoReading → (seat.new.list ≡ seat.old.list)
+            × SeesMore K.has_failed K.kept K.first K.form J.size seat.old.list }
     {
         let carried = self.locked.lock(wait).carry(seat, command);
         let _made = seat.made();
@@ -220,7 +224,8 @@ impl<J: RoomId, R: Wait + Drop, K: Keeper + Drop> SharedRoom<J, R, K> {
         ensures made { seat.new.made ≡ seat.old.made }
         ensures grows { IsPrefix seat.old.list seat.new.list }
         ensures told { IfOk result (λ told. told ≡ seat.new.list) }
-        ensures err { OnErr result (result ≡ Err RoomFault.NoReading) }
+        ensures err { OnErr result ((result ≡ Err RoomFault.NoReading) × (seat.new.list ≡ seat.old.list)
+            × SeesMore K.has_failed K.kept K.first K.form J.size seat.old.list) }
     {
         self.locked.lock(wait).note(seat)
     }

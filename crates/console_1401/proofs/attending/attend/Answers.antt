@@ -1,6 +1,7 @@
 -- Line by line the seat's commands stand in its list.
 use Rattle.std.proofs.Common.{◌≡◌, ℕ, List, Option, sym, subst}
 use Rattle.lone_room_1401.specs.declared.entry.SeatedCommand.{SeatedCommand}
+use Rattle.room_1401.specs.Keeping.{HasFailed}
 use Rattle.room_1401.specs.Seen.{SeatView}
 use Rattle.answering_1401.specs.declared.session_end.SessionEnd.{SessionEnd}
 use Rattle.answering_1401.specs.Answering.{AnsweredAll}
@@ -11,7 +12,7 @@ use Rattle.console_1401.proofs.AttendedLemmas.{attended_when_kept, number_stays}
 use Rattle.answering_1401.proofs.SessionLemmas.{session_as}
 use Rattle.console_1401.proofs.attending.attend.Goals as goal
 
-at_seat : (size : ℕ) (has_kept : List SeatedCommand → Type 0) (has_failed : Type 0) (last : SessionEnd)
+at_seat : (size : ℕ) (has_kept has_failed : List SeatedCommand → Type 0) (last : SessionEnd)
     (l0 l1 t0 t1 : Option (List ℕ)) (before after back : SeatView) → back ≡ after
     → SessionDid (AnsweredAll (KeptResponds size has_kept has_failed)) last l0 l1 t0 t1 before after
     → SessionDid (Attended size) last l0 l1 t0 t1 before back
@@ -28,3 +29,11 @@ pub returns-clause-number : goal.returns-clause-number
 returns-clause-number g c =
     number_stays g.J.RoomId.size _ _ _ _ _ _ _
     (at_seat g.J.RoomId.size _ _ _ _ _ _ _ _ _ _ c.into_seat.ensures c.answer_lines-end.ensures.session)
+
+-- a keeper has failed after all that the seat has seen
+pub returns-clause-unkept : goal.returns-clause-unkept
+returns-clause-unkept g c is =
+    let keeper = g.P.Keeper in
+    subst
+    (λ (seat : SeatView). HasFailed keeper.has_failed keeper.kept keeper.first keeper.form g.J.RoomId.size seat.list)
+    (sym c.into_seat.ensures) (c.answer_lines-end.ensures.unkept is)

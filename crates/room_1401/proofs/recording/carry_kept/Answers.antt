@@ -1,8 +1,8 @@
 -- The text that is kept has the entry's line, or breaks off in it.
-use Rattle.std.proofs.Common.{◌≡◌, false, ap, sym, ◌∙◌, subst, arith, refl, List, [], ◌∷◌, ◌++◌, length, length-append}
+use Rattle.std.proofs.Common.{◌≡◌, false, ap, sym, ◌∙◌, subst, arith, List, [], ◌∷◌, ◌++◌, length, length-append}
 use Rattle.lone_room_1401.specs.Kept.{IsKeptAs}
 use Rattle.lone_room_1401.specs.declared.entry.Entry.{Entry}
-use Rattle.lone_room_1401.proofs.KeptLemmas.{OneMore, kept_before, kept_or_broken}
+use Rattle.lone_room_1401.proofs.KeptLemmas.{OneMore, kept_or_broken}
 use Rattle.room_1401.proofs.KeepingLemmas.{if_ok}
 use Rattle.room_1401.proofs.recording.carry_kept.Goals as goal
 
@@ -32,29 +32,3 @@ pub returns-clause-kept : goal.returns-clause-kept
 returns-clause-kept g c is =
     if_ok (g.K.Keeper.has_failed c.keep.new.self ≡ false) c.keep.result c.is_ok-kept.result c.is_ok-kept.ensures.value
     c.keep.ensures.good is
-
--- before the command the keeper has the text of the journal
-pub returns-clause-before : goal.returns-clause-before
-returns-clause-before g c = record {
-  keeper = c.args.keeper.now;
-  good = c.requires.good;
-  journal = c.args.room.now.journal;
-  legal = c.journal-before.ensures.legal;
-  pairs_are = refl;
-  text = c.requires.kept;
-}
-
--- and so after it, if no write has failed
-pub returns-clause-after : goal.returns-clause-after
-returns-clause-after g c is =
-    let good = returns-clause-kept g c is in
-    record {
-      keeper = c.keep.new.self;
-      good = good;
-      journal = c.carry.new.self.journal;
-      legal = c.journal-after.ensures.legal;
-      pairs_are = refl;
-      text = kept_before g.K.Keeper.form c.carry.new.self.size c.carry.new.self.journal
-          (g.K.Keeper.has_failed c.keep.new.self) g.K.Keeper.first (g.K.Keeper.kept c.keep.new.self)
-          (returns-clause-text g c) good;
-    }

@@ -1,6 +1,7 @@
 -- One command more of the seat's, which has seen all others.
 use Rattle.std.proofs.Common.{◌≡◌, ◌+◌, ◌≤◌, ℕ, Bool, true, false, not, List, [], ◌∷◌, ◌++◌, length, length-append}
-use Rattle.std.proofs.Common.{refl, ap, sym, ◌∙◌, subst, arith}
+use Rattle.std.proofs.Common.{refl, ap, sym, ◌∙◌, subst, arith, true≢false}
+use mathlib.Core.List.{IsPrefix}
 use Rattle.operator_1401.specs.declared.answer.Answer.{Answer}
 use Rattle.operator_1401.specs.declared.command.Command.{Command}
 use Rattle.lone_room_1401.specs.Kept.{KeptAccount}
@@ -9,8 +10,9 @@ use Rattle.lone_room_1401.specs.Replay.{pair, reply_to}
 use Rattle.lone_room_1401.specs.declared.entry.Entry.{Entry}
 use Rattle.lone_room_1401.specs.declared.entry.SeatedCommand.{SeatedCommand}
 use Rattle.room_1401.specs.Keeping.{shown_in}
-use Rattle.room_1401.specs.Seen.{own}
-use Rattle.room_1401.proofs.KeepingLemmas.{all_shown, more_shown, same_shown, still_shown}
+use Rattle.room_1401.specs.Seen.{Carries, own}
+use Rattle.room_1401.proofs.KeepingLemmas.{all_shown, more_shown, shown_as, still_shown}
+use Rattle.room_1401.proofs.PrefixLemmas.{prefix_trans}
 use Rattle.room_1401.proofs.SeenLemmas.{own_pushed}
 use Rattle.room_1401.proofs.locked.LockedRoom.carry.Goals as goal
 
@@ -28,6 +30,10 @@ if_not : (test : Bool) → not test ≡ false → test ≡ true
 if_not true is = refl
 if_not false is = sym is
 
+if_so : (test : Bool) → not test ≡ true → test ≡ false
+if_so true is = sym is
+if_so false is = refl
+
 pub count_next-requires : goal.count_next-requires
 count_next-requires g c =
     let seat = c.brief.new.seat in
@@ -35,17 +41,108 @@ count_next-requires g c =
     let last : List SeatedCommand = pair k c.args.command ∷ [] in
     let old : KeptAccount = c.self.inside.recorder in
     let same : seat.list ≡ shown_in old = c.if-not-brief.ensures.list ∙ ap shown_in (sym c.self.view_is) in
-    let grown : c.front.result.now ≡ seat.list ++ last =
-    one_more old c.carry.new.self k c.args.command c.in_ok-carried.carried.answer seat.list c.front.result.now same
-    c.in_ok-carried.ensures.good (c.in_ok-carried.ensures.kept (if_not c.in_ok-carried.carried.kept c.if-not-carried.false)) c.in_ok-carried.ensures.recorded
-    c.front.ensures in
+    let grown : c.front-front.result.now ≡ seat.list ++ last =
+    one_more old c.carry.new.self k c.args.command c.in_ok-carried.carried.answer seat.list c.front-front.result.now
+    same c.in_ok-carried.ensures.good
+    (c.in_ok-carried.ensures.kept (if_not c.in_ok-carried.carried.kept c.if-not-carried.false))
+    c.in_ok-carried.ensures.recorded c.front-front.ensures.list in
     let few : seat.made ≤ own k seat.list =
     subst (λ n. seat.made ≤ own n seat.list) (sym c.number.ensures) c.if-not-brief.ensures.own in
-    let more : own seat.number c.front.result.now ≡ own k seat.list + 1 =
-    ap (λ n. own n c.front.result.now) (sym c.number.ensures)
+    let more : own seat.number c.front-front.result.now ≡ own k seat.list + 1 =
+    ap (λ n. own n c.front-front.result.now) (sym c.number.ensures)
     ∙ ap (own k) grown
     ∙ own_pushed k c.args.command seat.list in
     record {
       longer = omega (arith, ap length grown, length-append seat.list last);
       own = omega (arith, few, more);
+    }
+
+-- a seat that isn't briefed has learnt nothing, and had seen more than is shown
+pub returns-then-not-brief-clause-no_reading : goal.returns-then-not-brief-clause-no_reading
+returns-then-not-brief-clause-no_reading g c _ =
+    let list = c.if-not-brief.ensures.list in (
+      list.0,
+      record {
+        failed = c.args.self.now.failed;
+        shown = shown_in c.args.self.now;
+        are_shown = c.brief.ensures.shown;
+        begins = subst (λ (seen : List SeatedCommand). IsPrefix (shown_in c.args.self.now) seen) list.0
+            c.brief.ensures.begins;
+        fewer = list.1;
+      },
+    )
+
+-- an entry that isn't kept leaves what was shown, and the seat has seen that
+pub returns-then-not-carried-clause-shown : goal.returns-then-not-carried-clause-shown
+returns-then-not-carried-clause-shown g c =
+    shown_as _ _ _ _ _ _ _ _ _ c.brief.ensures.shown
+    (ap (λ (account : KeptAccount). account.failed) (sym c.self.view_is) ∙ c.in_ok-carried.ensures.good)
+    c.if-not-brief.ensures.list
+
+pub returns-then-not-carried-clause-list : goal.returns-then-not-carried-clause-list
+returns-then-not-carried-clause-list g c =
+    let old : KeptAccount = c.self.inside.recorder in
+    let bad = c.in_ok-carried.ensures.unkept (if_so c.in_ok-carried.carried.kept c.if-not-carried.true) in
+    c.if-not-brief.ensures.list
+    ∙ ap shown_in (sym c.self.view_is)
+    ∙ sym (still_shown old c.carry.new.self (entry c.number.result c.args.command c.in_ok-carried.carried.answer)
+    c.in_ok-carried.ensures.good bad c.in_ok-carried.ensures.recorded)
+
+pub returns-then-not-carried-clause-by_failure : goal.returns-then-not-carried-clause-by_failure
+returns-then-not-carried-clause-by_failure g c is =
+    let old : KeptAccount = c.self.inside.recorder in
+    let bad = c.in_ok-carried.ensures.unkept is in
+    let same : c.brief.new.seat.list ≡ shown_in c.carry.new.self =
+    c.if-not-brief.ensures.list
+    ∙ ap shown_in (sym c.self.view_is)
+    ∙ sym (still_shown old c.carry.new.self (entry c.number.result c.args.command c.in_ok-carried.carried.answer)
+    c.in_ok-carried.ensures.good bad c.in_ok-carried.ensures.recorded) in
+    shown_as _ _ _ _ _ _ _ _ _ c.front-front.ensures.shown bad same
+
+-- a kept entry is shown
+pub returns-clause-shown : goal.returns-clause-shown
+returns-clause-shown g c =
+    shown_as _ _ _ _ _ _ _ _ _ c.front-front.ensures.shown
+    (c.in_ok-carried.ensures.kept (if_not c.in_ok-carried.carried.kept c.if-not-carried.false))
+    (c.count_next.ensures.list ∙ c.front-front.ensures.list)
+
+pub returns-clause-by_failure : goal.returns-clause-by_failure
+returns-clause-by_failure g c is =
+    absurd (true≢false (sym (if_not c.in_ok-carried.carried.kept c.if-not-carried.false) ∙ is))
+
+pub returns-clause-grows : goal.returns-clause-grows
+returns-clause-grows g c =
+    let seen : List SeatedCommand = c.brief.new.seat.list in
+    let k = c.number.result in
+    let last : List SeatedCommand = pair k c.args.command ∷ [] in
+    let old : KeptAccount = c.self.inside.recorder in
+    let still = c.in_ok-carried.ensures.kept (if_not c.in_ok-carried.carried.kept c.if-not-carried.false) in
+    let grown : c.front-front.result.now ≡ seen ++ last =
+    one_more old c.carry.new.self k c.args.command c.in_ok-carried.carried.answer seen c.front-front.result.now
+    (c.if-not-brief.ensures.list ∙ ap shown_in (sym c.self.view_is)) c.in_ok-carried.ensures.good still
+    c.in_ok-carried.ensures.recorded c.front-front.ensures.list in
+    prefix_trans c.args.seat.now.list seen c.count_next.new.seat.list c.brief.ensures.grows
+    (last, sym (c.count_next.ensures.list ∙ grown))
+
+pub returns-clause-carried : goal.returns-clause-carried
+returns-clause-carried g c _ =
+    let seen : List SeatedCommand = c.brief.new.seat.list in
+    let k = c.number.result in
+    let old : KeptAccount = c.self.inside.recorder in
+    let good = c.in_ok-carried.ensures.good in
+    let still = c.in_ok-carried.ensures.kept (if_not c.in_ok-carried.carried.kept c.if-not-carried.false) in
+    let same : seen ≡ shown_in old = c.if-not-brief.ensures.list ∙ ap shown_in (sym c.self.view_is) in
+    let grown : c.front-front.result.now ≡ seen ++ pair k c.args.command ∷ [] =
+    one_more old c.carry.new.self k c.args.command c.in_ok-carried.carried.answer seen c.front-front.result.now same
+    good still c.in_ok-carried.ensures.recorded c.front-front.ensures.list in
+    let is : k ≡ c.args.seat.now.number = c.number.ensures ∙ c.brief.ensures.same.0 in
+    record {
+      front = seen;
+      begins = c.brief.ensures.grows;
+      ends = c.count_next.ensures.list
+          ∙ grown
+          ∙ ap (λ (n : ℕ). seen ++ pair n c.args.command ∷ []) is;
+      answered = c.in_ok-carried.ensures.answer
+          ∙ ap (λ (list : List SeatedCommand). reply_to g.J.RoomId.size list c.args.command)
+          (sym (same ∙ all_shown old.failed old.room.journal good));
     }

@@ -5,8 +5,8 @@ use Rattle.room_1401.specs.Seen.{SeatView, own}
 use Rattle.room_1401.proofs.SeenLemmas.{fit_list}
 use Rattle.room_1401.proofs.seat.Seat.fits.Goals as goal
 
-pub returns : goal.returns
-returns g c _ =
+pub returns-clause-fits : goal.returns-clause-fits
+returns-clause-fits g c _ =
     let seat = c.self.inside in
     let front = c.args.front.now in
     let both = c.longer-both.ensures in
