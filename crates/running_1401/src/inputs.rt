@@ -84,7 +84,9 @@ fn report_program(
     text: &[u8],
     size: Option<u16>,
     program: &Result<Program, RunFault>,
-) {
+)
+    requires { is_refused size ≡ false }
+{
     match program {
         Ok(program) if program.listing.is_some() => report_warnings(rt, name, language, text, size),
         Err(RunFault::Source(first)) => report_faults(rt, name, language, text, size, *first),

@@ -1,4 +1,6 @@
 //! What is wrong with the source of a program, on standard error.
+ghost use Rattle.std.specs.Prelude.{◌≡◌, false};
+ghost use Rattle.calls_1401.specs.Sizes.{is_refused};
 
 use autocoder_1401::{
     AsmKind, Warning, WarningKind, explained_faults, fault_lines, warning_lines, warnings,
@@ -49,7 +51,9 @@ pub(crate) fn report_faults(
     source: &[u8],
     size: Option<u16>,
     first: AsmFault,
-) {
+)
+    requires { is_refused size ≡ false }
+{
     if first.kind == AsmKind::Memory {
         return;
     }
@@ -69,7 +73,9 @@ pub(crate) fn report_warnings(
     language: Language,
     source: &[u8],
     size: Option<u16>,
-) {
+)
+    requires { is_refused size ≡ false }
+{
     let size = size_for(size, language, source);
     let Ok(found) = warnings(rt.alloc(), language, source, size) else {
         return;
