@@ -53,13 +53,18 @@ fn is_last_card_branch(core: &Core, at: u16) -> bool {
 }
 
 /// Whether core storage has a branch on the last card, which is never taken while sense switch A is off.
-pub(crate) fn tests_last_card(core: &Core) -> bool {
+fn tests_last_card(core: &Core) -> bool {
     for at in 0..core.size() {
         if is_last_card_branch(core, at) {
             return true;
         }
     }
     false
+}
+
+/// Whether a job that ended so may want sense switch A.
+fn lacks_switch(report: JobReport, machine: &Machine) -> bool {
+    report.stop == Stop::Reader && !machine.regs().switches[0] && tests_last_card(machine.core())
 }
 
 impl Ending {
@@ -83,7 +88,7 @@ impl Ending {
             at,
             instruction,
             reason: reason_told(machine, report.stop),
-            lacks_switch: false,
+            lacks_switch: lacks_switch(report, machine),
         }
     }
 }

@@ -7,7 +7,7 @@ ghost use Rattle.running_1401.specs.RunJob.{HasHalted, ReportsJob, ReportsStop, 
 ghost use Rattle.calls_1401.specs.Sizes.{is_refused};
 
 use crate::deck_running::{Broken, run_started};
-use crate::ending::{Ending, tests_last_card};
+use crate::ending::Ending;
 use crate::fault::{RunFault, job_outcome};
 use crate::inputs::{Inputs, read_inputs};
 use crate::job_report::JobReport;
@@ -232,11 +232,10 @@ fn run_and_tell<R: Files + Print + Eprint + Clock + AllocGlobal>(
     set_switches(&mut machine, switches);
     match run_inputs(rt, error_output, &mut machine, &cards, start, limit, names) {
         Ok(report) => {
-            let mut ending = Ending::of(rt.alloc(), report, &machine, listing.as_ref());
-            ending.lacks_switch = report.stop == Stop::Reader
-                && !switches[0]
-                && tests_last_card(machine.core());
-            tell_ending(rt, ending)
+            tell_ending(
+                rt,
+                Ending::of(rt.alloc(), report, &machine, listing.as_ref()),
+            )
         }
         Err(fault) => Err(fault),
     }
