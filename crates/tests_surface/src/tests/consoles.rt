@@ -5,8 +5,8 @@ use super::assembler::IMAGE;
 use super::{cells_of, expect_same, expect_text};
 use autocoder_1401::read_image;
 use console_1401::{
-    Door, Failed, FromReader, Line, LineFault, OpenDoor, ServeFault, Served, SessionEnd, Sink,
-    Source, ToWriter, attend, parse_line, put_image, reply_text, serve, session,
+    Door, FromReader, Line, LineFault, OpenDoor, ServeFault, Served, SessionEnd, ToWriter, attend,
+    parse_line, put_image, reply_text, serve, session,
 };
 use room_1401::{Answer, Command, Opened, Room, RoomId, SharedRoom};
 use std::io::{Read, Write};
@@ -62,27 +62,6 @@ fn numbers_of_faults_and_ends(rt: HostRuntime) {
 fn the_text_of_an_answer(rt: HostRuntime) {
     let text = reply_text(rt.alloc(), &Answer::Cells(cells_of(&rt, "~0K"))).expect(&rt, "room");
     expect_text(&rt, "reply_text", text.as_slice(), "~0K");
-}
-
-/// Reads the first byte of a source.
-fn first_byte<S: Source>(source: &mut S) -> Result<Option<u8>, Failed> {
-    source.next_byte()
-}
-
-/// Gives bytes to a sink, and returns how many it took.
-fn put_bytes<S: Sink>(sink: &mut S, bytes: &[u8]) -> Result<usize, Failed> {
-    sink.put(bytes)
-}
-
-#[test]
-fn a_source_and_a_sink(rt: HostRuntime) {
-    let mut reader = FromReader::new(b"QUIT".as_slice());
-    let first = first_byte(&mut reader).ok();
-    expect_same(&rt, "next_byte", &first, &Some(Some(b'Q')));
-    let mut writer = ToWriter::new(Vec::new(rt.alloc()));
-    let taken = put_bytes(&mut writer, b"BYE\n").ok();
-    expect_same(&rt, "put", &taken, &Some(4));
-    expect_text(&rt, "put", writer.into_inner().as_slice(), "BYE\n");
 }
 
 /// Holds a session in a room, and compares what it wrote.
@@ -154,14 +133,23 @@ fn attended<J: RoomId, R: Wait + Abort + AllocGlobal>(
 }
 
 /// The same, with names for the room.
-fn expect_attended(rt: &(impl Wait + Abort + AllocGlobal), size: u16, lines: &str, replies: &str) {
-    attended::<Brand, _>(rt, size, 1, Opened::new(1), lines, replies);
+fn expect_attended<R: Wait + Abort + AllocGlobal>(
+    rt: &R,
+    size: u16,
+    seats: u8,
+    lines: &str,
+    replies: &str,
+)
+    requires { 0 < seats }
+{
+    let opened = Opened::new(seats);
+    attended::<Brand, R>(rt, size, seats, opened, lines, replies);
 }
 
 #[test]
 fn a_console_at_a_seat(rt: HostRuntime) {
     let lines = "DEPOSIT 0500 ~K\nGLANCE 0500\nQUIT\n";
-    expect_attended(&rt, 4_000, lines, "OK\nAFTER 1 ~K\nBYE\n");
+    expect_attended(&rt, 4_000, 1, lines, "OK\nAFTER 1 ~K\nBYE\n");
 }
 
 /// What is left of a new room of this size that has served a console from this listener.

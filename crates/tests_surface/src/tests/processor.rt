@@ -1,10 +1,8 @@
 //! The processor.
 
-use super::devices::card_of;
 use super::{cell_of, cells_of, expect_same};
 use core_1401::CoreFault;
 use cpu_1401::{Machine, Ran, Regs, Stop};
-use devices_1401::{HopperFull, ReaderEmpty};
 use std::process::Abort;
 
 /// A machine with 4,000 places and the cells of a text from a place on, which is the next instruction's.
@@ -37,32 +35,6 @@ fn steps_and_runs(rt: HostRuntime) {
         "core",
         &machine.core().get(600),
         &cell_of(&rt, b',', true),
-    );
-}
-
-#[test]
-fn cards_and_lines(rt: HostRuntime) {
-    let mut machine = machine_with(&rt, 600, "~4~2~.");
-    expect_same(&rt, "load_key", &machine.load_key(), &Err(ReaderEmpty));
-    let fed: Result<(), HopperFull> = machine.feed(card_of(&rt, b'A'));
-    expect_same(&rt, "feed", &fed, &Ok(()));
-    expect_same(&rt, "step", &machine.step(), &None);
-    expect_same(&rt, "step", &machine.step(), &None);
-    expect_same(
-        &rt,
-        "take_card",
-        &machine.take_card(),
-        &Some(card_of(&rt, b' ')),
-    );
-    let line = machine.take_line().map(|line| (line.form, line.line));
-    expect_same(&rt, "take_line", &line, &Some((1, 1)));
-    expect_same(&rt, "load_key", &machine.load_key(), &Ok(()));
-    assert!(rt; machine.core().in_core(1));
-    expect_same(
-        &rt,
-        "core",
-        &machine.core().get(1),
-        &cell_of(&rt, b'A', true),
     );
 }
 

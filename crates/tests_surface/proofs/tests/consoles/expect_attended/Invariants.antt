@@ -5,4 +5,4 @@ abbrev pub ghosts-attended-J-Ledger : goal.ghosts-attended-J-Ledger
 ghosts-attended-J-Ledger g a = record { name = a.opened.ledger; parts = a.opened.parts }
 
 abbrev pub ghosts-attended-J-RoomId : goal.ghosts-attended-J-RoomId
-ghosts-attended-J-RoomId g a = record { book = a.opened.book; size = a.size; seats = 1 }
+ghosts-attended-J-RoomId g a = record { book = a.opened.book; size = a.size; seats = a.seats }
