@@ -9,7 +9,7 @@ import subprocess
 import tempfile
 import time
 
-from tests.support import REPLY_SECONDS, SECONDS, TOP, Server, wait_until
+from tests.support import SECONDS, TOP, Server, wait_until
 
 # The sizes of windows, in pixels.
 WIDE = (1500, 1000)
@@ -124,7 +124,7 @@ class Page:
             found[:] = [self.value(expression)]
             return found == [wanted]
 
-        wait_until(is_wanted, 2 * REPLY_SECONDS)
+        wait_until(is_wanted, SECONDS)
         return found[0]
 
     def is_ready(self):

@@ -27,7 +27,7 @@ SHORTER_BYTES = 4_194_304
 MORE_EACH = {
     "a source of empty lines assembled": (12, 0, EMPTY_LINES, ["assemble"]),
     "the same listed": (90, 0, EMPTY_LINES, ["assemble", "--list"]),
-    "the same run": (90, 0, EMPTY_LINES, ["run"]),
+    "the same run": (140, 0, EMPTY_LINES, ["run"]),
     "an image of short segments disassembled": (17, 0, SHORT_SEGMENTS, ["disassemble"]),
     "an image of word marks disassembled": (48, 0, WORD_MARKS, ["disassemble"]),
 }

@@ -5,8 +5,8 @@ use super::assembler::IMAGE;
 use super::{cells_of, expect_same, expect_text};
 use autocoder_1401::read_image;
 use console_1401::{
-    Door, FromReader, Line, LineFault, OpenDoor, ServeFault, Served, SessionEnd, ToWriter, attend,
-    parse_line, put_image, reply_text, serve, session,
+    FromReader, Line, LineFault, OpenDoor, ServeFault, Served, SessionEnd, ToWriter, parse_line,
+    put_image, reply_text, serve, session,
 };
 use room_1401::{Answer, Command, Opened, Room, RoomId, SharedRoom};
 use std::io::{Read, Write};
@@ -89,67 +89,6 @@ fn an_image_is_put_into_a_room(rt: HostRuntime) {
     let replies = "STOP 02 HALT STEPS 3 I 00414\n~01?\nBYE\n";
     expect_session(&rt, &mut room, lines, replies);
     expect_same(&rt, "journal", &room.journal().len(), &4);
-}
-
-/// A door of a user's own, which keeps nobody waiting.
-struct OwnDoor;
-
-impl Door for OwnDoor {
-    fn before(&self, _seat: u8, _line: u64) {}
-
-    fn after(&self, _seat: u8, _line: u64) {}
-}
-
-/// The replies to lines at the only seat of a new room, which is then abandoned.
-fn attended<J: RoomId, R: Wait + Abort + AllocGlobal>(
-    rt: &R,
-    size: u16,
-    seats: u8,
-    opened: Opened,
-    lines: &str,
-    replies: &str,
-)
-    requires history { opened.book ≡ J.book }
-    requires ledger { (opened.ledger ≡ J.name) × (opened.parts ≡ J.parts) × (J.parts ≡ J.seats) }
-    requires named { (size ≡ J.size) × (seats ≡ J.seats) }
-{
-    let started = SharedRoom::<J, &R>::power_on(rt, rt.alloc(), size, seats, opened);
-    let (room, mut seats) = started.expect(rt, "a room");
-    let seat = seats.pop().expect(rt, "a seat");
-    let mut reader = FromReader::new(lines.as_bytes());
-    let mut writer = ToWriter::new(Vec::new(rt.alloc()));
-    let (seat, end) = attend(
-        rt.alloc(),
-        rt,
-        &room,
-        seat,
-        &mut reader,
-        &mut writer,
-        &OwnDoor,
-    );
-    expect_text(rt, lines, writer.into_inner().as_slice(), replies);
-    expect_same(rt, "attend", &(end, seat.made()), &(SessionEnd::Quit, 1));
-    expect_same(rt, "abandon", &room.abandon().journal().len(), &1);
-}
-
-/// The same, with names for the room.
-fn expect_attended<R: Wait + Abort + AllocGlobal>(
-    rt: &R,
-    size: u16,
-    seats: u8,
-    lines: &str,
-    replies: &str,
-)
-    requires { 0 < seats }
-{
-    let opened = Opened::new(seats);
-    attended::<Brand, R>(rt, size, seats, opened, lines, replies);
-}
-
-#[test]
-fn a_console_at_a_seat(rt: HostRuntime) {
-    let lines = "DEPOSIT 0500 ~K\nGLANCE 0500\nQUIT\n";
-    expect_attended(&rt, 4_000, 1, lines, "OK\nAFTER 1 ~K\nBYE\n");
 }
 
 /// What is left of a new room of this size that has served a console from this listener.
