@@ -1,6 +1,6 @@
-//! The public surface: each type, variant and call that the eight crates for users show, by the path under which a
-//! user imports it. Each call is made once with ample memory. It doesn't compile if one of them is gone, or asks for
-//! other arguments.
+//! The public surface: types, variants and calls that the eight crates for users show, by the path under which a user
+//! imports them. Each call is made once with ample memory. It doesn't compile if one of them is gone, or asks for other
+//! arguments. Not called here yet: `attend`, `next_byte`, `put`, and the cards and the printer of a machine.
 #![tactic(auto)]
 
 #[cfg(test)]
