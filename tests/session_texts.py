@@ -23,6 +23,7 @@ import tempfile
 from pathlib import Path
 
 from tests.support import difference, program
+from tests.texts import read_parts
 
 # The graphics by code, sixteen of each zone.
 GRAPHICS = " 1234567890#@:>(^/STUVWXYZ',%=\\+-JKLMNOPQR!$*];_&ABCDEFGHI?.)[<\""
@@ -73,12 +74,7 @@ def bare(text):
 
 def read_sessions(text):
     """The sessions of a file."""
-    read = []
-    for number, line in enumerate(text.splitlines(), 1):
-        if line.startswith("== "):
-            read.append(Session(line[3:]))
-        elif line and not line.startswith("# ") and not (line == line.rstrip() and read and read[-1].take(line)):
-            raise ValueError(f"line {number} says nothing there: {line!r}")
+    read = read_parts(text, Session)
     for each in read:
         if each.entries is None:
             raise ValueError(f"how many entries the journal has isn't said: {each.name}")
@@ -121,17 +117,3 @@ def unlike(session, output):
         if found_reply != reply:
             return [f"{line!r} is answered {found_reply!r}, not {reply!r}"]
     return [f"{len(found) - 1} replies, not {len(answered)}"]
-
-
-def method_name(case, title):
-    """The name of a test method: its title in small letters, with an underscore in place of what is no letter or digit.
-    Titles that differ in nothing else get a number."""
-    name = "test_" + re.sub(r"[^a-z0-9]+", "_", title.lower()).strip("_")
-    others = sum(re.fullmatch(rf"{name}(_\d+)?", each) is not None for each in vars(case))
-    return f"{name}_{others + 1}" if others else name
-
-
-def add_test(case, title, test):
-    """Gives a class of tests a method that is named after its title."""
-    test.__name__, test.__doc__ = method_name(case, title), title
-    setattr(case, test.__name__, test)

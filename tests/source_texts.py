@@ -17,6 +17,7 @@ A file of tests/sources/ has a remark on its theme, and then sources, each with 
 with its lines below it; or the first 'fault', for which nothing is made. A line that begins or ends with a blank is
 between two bars. A remark begins with '#', above the source's lines."""
 from tests.support import difference, program
+from tests.texts import read_parts
 
 # What is asked for with the source where a part is looked at.
 PARTS = {"image": [], "listing": ["--list"], "symbols": ["--symbols"], "references": ["--xref"], "reported": ["--all"]}
@@ -66,12 +67,7 @@ class SourceText:
 
 def read_sources(text):
     """The sources of a file."""
-    read = []
-    for number, line in enumerate(text.splitlines(), 1):
-        if line.startswith("== "):
-            read.append(SourceText(line[3:]))
-        elif line and not line.startswith("# ") and not (line == line.rstrip() and read and read[-1].take(line)):
-            raise ValueError(f"line {number} says nothing there: {line!r}")
+    read = read_parts(text, SourceText)
     for each in read:
         if not each.parts and not each.fault:
             raise ValueError(f"nothing is looked at: {each.name}")

@@ -16,6 +16,8 @@ import unittest
 from pathlib import Path
 
 sys.dont_write_bytecode = True
+from tests.support import free_ports
+
 TOP = Path(__file__).resolve().parent.parent
 PROGRAM = Path(os.environ.get("IBM1401", TOP / "crates/ibm1401/out/ibm1401"))
 SECONDS = 120
@@ -55,22 +57,6 @@ HIGH = """\
                END  START
 """
 JOURNAL = "JOURNAL1 1400\n1\t1\tDEPOSIT 0500 ~A\tOK\n2\t2\tDEPOSIT 0500 ~B\tOK\n3\t1\tEXAMINE 0500 1\t~B\n"
-
-
-def free_ports(count):
-    """The first of so many ports in a row that nobody has."""
-    for first in range(20_000, 60_000, 10):
-        taken = []
-        try:
-            for port in range(first, first + count):
-                taken.append(socket.create_server(("127.0.0.1", port)))
-            return first
-        except OSError:
-            continue
-        finally:
-            for each in taken:
-                each.close()
-    raise OSError("no ports are free")
 
 
 def refuse_writes():

@@ -8,31 +8,13 @@ import unittest
 from pathlib import Path
 
 sys.dont_write_bytecode = True
+from tests.stand_in import make_toolchain
+
 TOP = Path(__file__).resolve().parent.parent
 SECONDS = 60
 
 # A program over three libraries; two of them need nothing of each other.
 CRATES = {"low": "", "left": " low", "right": " low thiserror", "ibm1401": " left right"}
-
-# The prover notes each crate, and changes a source meanwhile if it is asked to. A program is a script.
-KIT = {
-    "rt": 'echo "$VERSION"',
-    "rattle": """while [ $# -gt 0 ]; do
-    case $1 in
-    --crate-name) crate=$2 ;;
-    -o) made=$2 ;;
-    esac
-    shift
-done
-echo "$crate" >> "$CALLS"
-[ "$crate" != "$CHANGED" ] || { sleep 0.1; echo "// changed" >> src/lib.rt; }
-case $made in
-*.rlib) mkdir "$made" ;;
-*.o) printf '#!/bin/sh\\necho "ran $*"\\nexit\\n' > "$made" ;;
-esac""",
-    "rattle-link": """while [ "$1" != -o ]; do shift; done
-cp "$3" "$2" && chmod +x "$2" """,
-}
 
 
 class BuildRules(unittest.TestCase):
@@ -48,24 +30,16 @@ class BuildRules(unittest.TestCase):
             source = self.room / "crates" / name / "src" / ("main.rt" if name == "ibm1401" else "lib.rt")
             source.parent.mkdir(parents=True)
             source.write_text("//!\n")
-        (self.room / "kit/bin").mkdir(parents=True)
-        for command, text in KIT.items():
-            (self.room / "kit/bin" / command).write_text(f"#!/bin/sh\n{text}\n")
-            (self.room / "kit/bin" / command).chmod(0o755)
+        self.env = make_toolchain(self.room)
 
     def write_crates(self, crates):
         """Writes crates.txt."""
         (self.room / "crates.txt").write_text("".join(f"{name}:{below}\n" for name, below in crates.items()))
 
-    def environment(self, **more):
-        """The environment of a call, with the toolchain that is here."""
-        path = f"{self.room}/kit/bin:{os.environ['PATH']}"
-        return {**os.environ, "PATH": path, "CALLS": str(self.room / "calls"), "CHANGED": "", "VERSION": "one", **more}
-
     def proved(self, words=("--build",), **environment):
         """The crates that a call proves, in order, once it has ended well, and what it writes to standard output."""
         (self.room / "calls").write_text("")
-        ran = subprocess.run([self.room / "ibm1401", *words], env=self.environment(**environment), text=True,
+        ran = subprocess.run([self.room / "ibm1401", *words], env=self.env | environment, text=True,
                              stdin=subprocess.DEVNULL, capture_output=True, timeout=SECONDS, check=False)
         self.assertEqual(ran.returncode, 0, ran.stderr)
         return (self.room / "calls").read_text().split(), ran.stdout
@@ -74,7 +48,7 @@ class BuildRules(unittest.TestCase):
         order, output = self.proved()
         self.assertEqual((sorted(order), order[0], order[-1], output), (sorted(CRATES), "low", "ibm1401", ""))
         self.assertEqual(self.proved(), ([], ""))
-        self.assertEqual(self.proved(["run", "a deck"]), ([], "ran run a deck\n"))
+        self.assertEqual(self.proved(["run", "a deck"]), ([], "run a deck\n"))
 
     def test_the_longest_chain_begins_first(self):
         self.write_crates({"alone": "", **CRATES, "ibm1401": " alone left right"})
@@ -96,7 +70,7 @@ class BuildRules(unittest.TestCase):
         (self.room / "crates/left/src/lib.rt").write_text("// another\n")
         rules = (self.room / "Makefile").read_text()
         (self.room / "Makefile").write_text("no rule\n")
-        ran = subprocess.run([self.room / "ibm1401", "run"], env=self.environment(), stdin=subprocess.DEVNULL, text=True,
+        ran = subprocess.run([self.room / "ibm1401", "run"], env=self.env, stdin=subprocess.DEVNULL, text=True,
                              capture_output=True, timeout=SECONDS, check=False)
         log = self.room / "crates/ibm1401/out/ibm1401.log"
         self.assertEqual((ran.returncode, ran.stdout), (1, ""))

@@ -6,32 +6,11 @@ import signal
 import subprocess
 import unittest
 
+from tests.stand_in import VERSION, make_toolchain
 from tests.support import (
     LAUNCHER, PROGRAM, REPLY_SECONDS, SECONDS, TOP, ProgramTest, repository, run, wait_until,
 )
 
-# What takes the toolchain's place next to a copy of the launcher: the prover notes each crate, takes a while, and fails
-# in the crate that FAILS names. What it makes of a program is a script, which the linker copies.
-VERSION = "stand-in"
-TOOLCHAIN = {
-    "rt": f'[ "$1" = version ] && echo {VERSION}',
-    "rattle": """while [ $# -gt 0 ]; do
-    case $1 in
-    --crate-name) crate=$2 ;;
-    -o) made=$2 ;;
-    esac
-    shift
-done
-echo "$crate" >> "$CALLS"
-sleep "$WHILE"
-[ "$crate" != "$FAILS" ] || exit 1
-case $made in
-*.rlib) [ -e src/lib.rt ] && mkdir "$made" ;;
-*.o) printf '#!/bin/sh\\necho "$@"\\nexit\\n' > "$made" ;;
-esac""",
-    "rattle-link": """while [ "$1" != -o ]; do shift; done
-cp "$3" "$2" && chmod +x "$2" """,
-}
 # The signals that interrupt a launcher.
 INTERRUPTIONS = (signal.SIGINT, signal.SIGTERM, signal.SIGHUP)
 PIPES = {"stdin": subprocess.DEVNULL, "stdout": subprocess.PIPE, "stderr": subprocess.PIPE}
@@ -95,14 +74,9 @@ class Building(ProgramTest):
         (self.folder / "tests").mkdir()
         for file in ("ibm1401", "Makefile", "crates.txt", "tests/help.txt"):
             shutil.copy(TOP / file, self.folder / file)
-        (self.folder / "kit/bin").mkdir(parents=True)
-        for command, text in TOOLCHAIN.items():
-            (self.folder / "kit/bin" / command).write_text(f"#!/bin/sh\n{text}\n")
-            (self.folder / "kit/bin" / command).chmod(0o755)
         (self.folder / "logs").mkdir()
         self.names, self.calls = needed_for("ibm1401"), self.folder / "calls"
-        self.env = {**os.environ, "PATH": f"{self.folder}/kit/bin:{os.environ['PATH']}", "CALLS": str(self.calls),
-                    "TMPDIR": str(self.folder / "logs"), "FAILS": "", "WHILE": "0"}
+        self.env = make_toolchain(self.folder, TMPDIR=str(self.folder / "logs"))
 
     def launch(self, *words, **env):
         """A run of the launcher."""

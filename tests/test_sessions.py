@@ -1,8 +1,9 @@
 """Sessions at a console: those of tests/sessions/, a test each, and what each character does as an instruction."""
 import unittest
 
-from tests.session_texts import GRAPHICS, Session, add_test, read_sessions, registers, wrong_in
+from tests.session_texts import GRAPHICS, Session, read_sessions, registers, wrong_in
 from tests.support import TESTS, ProgramTest
+from tests.texts import add_cases
 
 # What a character does as an instruction of 1 to 8 characters, with 7007102 after it: a letter of OUTCOMES each. An
 # edit of a field by itself overlaps, the hopper is empty, and 7 is no lozenge and a channel without a hole.
@@ -89,19 +90,7 @@ class SessionsOfTables(ProgramTest):
         self.assertEqual([], wrong_in(channels()))
 
 
-def cases_of(file):
-    """A class of tests for the sessions of a file, a method each."""
-    facts = {"__doc__": f"The sessions of {file.name}.", "__module__": __name__}
-    case = type(file.stem.capitalize(), (ProgramTest,), facts)
-    for session in read_sessions(file.read_text()):
-        add_test(case, session.name, lambda self, session=session: self.assertEqual([], wrong_in(session)))
-    return case
-
-
-for each in FILES:
-    made = cases_of(each)
-    globals()[made.__name__] = made
-del made
+add_cases(globals(), FILES, read_sessions, lambda _, session: wrong_in(session))
 
 
 if __name__ == "__main__":

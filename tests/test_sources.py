@@ -1,9 +1,9 @@
 """Sources and what the assembler makes of them: those of tests/sources/, a test each, and those that are refused."""
 import unittest
 
-from tests.session_texts import add_test
 from tests.source_texts import read_sources, wrong_source
 from tests.support import TESTS, ProgramTest, program
+from tests.texts import add_cases
 
 # Sources that are refused, each with the line and the fault.
 PLAIN_REFUSED = [
@@ -118,23 +118,12 @@ class SourcesOfTables(ProgramTest):
         self.same("by their numbers", listing[9_999], b"10000")
 
 
-def cases_of(file):
-    """A class of tests for the sources of a file, a method each."""
-    facts = {"__doc__": f"The sources of {file.name}.", "__module__": __name__}
-    case = type(file.stem.title().replace("_", ""), (ProgramTest,), facts)
-    for each in read_sources(file.read_text()):
-
-        def test(self, each=each):
-            self.assertEqual([], wrong_source(self.folder / "source", each.text, each.words, each.fault, each.parts))
-
-        add_test(case, each.name, test)
-    return case
+def wrong_text(test, source):
+    """What is wrong with a source of a file."""
+    return wrong_source(test.folder / "source", source.text, source.words, source.fault, source.parts)
 
 
-for each in FILES:
-    made = cases_of(each)
-    globals()[made.__name__] = made
-del made
+add_cases(globals(), FILES, read_sources, wrong_text)
 
 
 if __name__ == "__main__":
