@@ -1,8 +1,9 @@
 """The pages: their links, the sessions and the sources that they show, and the definitions that they name."""
 import re
 import unittest
+from pathlib import Path
 
-from tests.support import EXAMPLES, TOP, ProgramTest, program, run
+from tests.support import EXAMPLES, TESTS, TOP, ProgramTest, program, run
 
 PAGES = [TOP / "README.md", *sorted((TOP / "docs").glob("*.md"))]
 
@@ -47,12 +48,38 @@ def named_definitions():
                 yield TOP / "crates" / crate / "specs" / f"{file}.antt", name
 
 
+def named_on_paths():
+    """What ARCHITECTURE names on a path through the code: the files of a row, and a name that they should have."""
+    for line in (TOP / "docs/ARCHITECTURE.md").read_text().splitlines():
+        cells = re.split(r" ?\| ?", line)
+        if len(cells) != 4 or not cells[1].startswith("`") or "/src/" not in cells[1]:
+            continue
+        files, folder = [], None
+        for file in re.findall(r"`([\w/]+[.]rt)`", cells[1]):
+            folder = (TOP / "crates" / file).parent if "/" in file else folder
+            files.append(folder / Path(file).name)
+        for name in re.findall(r"`(\w+)`", cells[2]):
+            yield files, name
+
+
 class Pages(ProgramTest):
     """What a page shows is what the program does."""
 
     def test_links(self):
         for page in [*PAGES, TOP / "benches/README.md", TOP / "tests/README.md"]:
             self.same(str(page.relative_to(TOP)), lost_links(page), [])
+
+    def test_what_architecture_names_on_a_path(self):
+        named = list(named_on_paths())
+        self.assertTrue(named)
+        for files, name in named:
+            lacks = "" if any(re.search(rf"\b{name}\b", file.read_text()) for file in files) else f"{files} don't have it"
+            self.check(name, lacks)
+
+    def test_modules_that_the_page_of_tests_names(self):
+        rows = re.findall(r"^\| `test_.*", (TESTS / "README.md").read_text(), re.MULTILINE)
+        named = sorted(name for row in rows for name in re.findall(r"`(test_\w+)`", row))
+        self.same("the modules", named, sorted(file.stem for file in TESTS.glob("test_*.py")))
 
     def test_definitions_that_machine_names(self):
         named = list(named_definitions())
