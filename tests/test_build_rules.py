@@ -1,4 +1,4 @@
-"""What ./ibm1401 proves again: the rules that it writes for make, tried with a stand-in for the toolchain."""
+"""What ./ibm1401 proves again: the rules that it writes for make, tried with a mock of the toolchain."""
 import os
 import shutil
 import subprocess
@@ -8,7 +8,7 @@ import unittest
 from pathlib import Path
 
 sys.dont_write_bytecode = True
-from tests.stand_in import make_toolchain
+from tests.mock_toolchain import make_toolchain
 
 TOP = Path(__file__).resolve().parent.parent
 SECONDS = 60

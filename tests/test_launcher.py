@@ -1,4 +1,4 @@
-"""The launcher: what it runs, and how it proves and builds what isn't built, with a stand-in for the toolchain."""
+"""The launcher: what it runs, and how it proves and builds what isn't built, with a mock of the toolchain."""
 import os
 import re
 import shutil
@@ -6,7 +6,7 @@ import signal
 import subprocess
 import unittest
 
-from tests.stand_in import VERSION, make_toolchain
+from tests.mock_toolchain import VERSION, make_toolchain
 from tests.support import (
     LAUNCHER, PROGRAM, REPLY_SECONDS, SECONDS, TOP, ProgramTest, repository, run, wait_until,
 )

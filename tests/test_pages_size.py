@@ -87,7 +87,7 @@ class Tree(unittest.TestCase):
                 more = {lower for crate in more for lower in below[crate] if lower in below} - needed
             counts[program] = len(needed)
         readme = " ".join((TOP / "README.md").read_text().split())
-        self.assertIn(f"{counts['lone_console']} crates and 0.4 GB of disk for `console`", readme)
+        self.assertIn(f"`console` alone needs only {counts['lone_console']} crates and 0.4 GB of disk", readme)
         self.assertIn(f"{counts['ibm1401']} crates, ", readme)
 
     def test_no_other_page_lists_the_crates(self):

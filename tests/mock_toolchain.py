@@ -1,10 +1,10 @@
-"""A stand-in for the toolchain, which proves nothing and notes what it is asked to prove.
+"""A mock of the toolchain, which proves nothing and notes what it is asked to prove.
 
 The environment says what it does: VERSION is its own, CALLS the file that gets each crate's name, WHILE the seconds that
 a proof takes, FAILS the crate that isn't proved, and CHANGED the crate whose source changes meanwhile."""
 import os
 
-VERSION = "stand-in"
+VERSION = "mock"
 # A program is a script, which prints the words that it is called with.
 COMMANDS = {
     "rt": '[ "$1" = version ] && echo "$VERSION"',
