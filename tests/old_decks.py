@@ -108,7 +108,8 @@ NOT_OF_OLD_DECKS = [
      "25: OPERAND: X4 isn't G, C, 0 or one of X1 to X3, each once, after the areas"),
     ("               DSA  UNDEF,1", "7 UNDEFINED", "21: UNDEFINED: UNDEF isn't the label of any line"),
     ("               DSA  +5", "8 OPERAND", "21: OPERAND: +5 is a literal, but an address is needed here"),
-    ("               DSA  4000", "9 OUT OF CORE", "1: OUT OF CORE: a place or an address isn't in core, whose size --size names"),
+    ("               DSA  4000", "9 OUT OF CORE", 
+     "1: OUT OF CORE: the first operand is 4000, 1 past the last place in core, 3999, which --size sets"),
     ("               DCW  -UNDEF", "7 UNDEFINED", "22: UNDEFINED: UNDEF isn't the label of any line"),
 ]
 

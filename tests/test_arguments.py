@@ -147,8 +147,8 @@ ROWS = [
      "wide:1:16: GRAPHIC: the small letter m isn't allowed in this column\nibm1401: line 1: 3 GRAPHIC\n", {}),
     ("run --language ibm wide", "", 0, "", f"ibm1401: HALT at 0340 (line 2, H) after 2 steps; {NONE}", {}),
     ("run high", "", 0, "", f"ibm1401: HALT at 1400 (line 3, HIGH H) after 2 steps; {NONE}", {}),
-    ("run --size 1400 high", "", 1, "", "high:3:1: OUT OF CORE: a place or an address isn't in core, whose size --size "
-     "names\nibm1401: line 3: 9 OUT OF CORE\n", {}),
+    ("run --size 1400 high", "", 1, "", "high:3:1: OUT OF CORE: its last place is 1400, 1 past the last place in "
+     "core, 1399, which --size sets\nibm1401: line 3: 9 OUT OF CORE\n", {}),
     ("journal journal", "", 0, "".join(SHOWN), "", {}),
     ("journal --seat 1 journal", "", 0, SHOWN[0] + SHOWN[2], "", {}),
     ("journal --from 3 journal", "", 0, SHOWN[2], "", {}),

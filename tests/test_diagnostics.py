@@ -22,6 +22,32 @@ LINES_OF_FAULTY = [
 ]
 
 
+# How what is too high for core storage of 4,000 places is said.
+PAST = "past the last place in core, 3999, which --size sets"
+# Sources with something outside core, each with what is said of it.
+OUTSIDE_CORE = [
+    ("               ORG  4000\n               H\n               END  0\n",
+     f"2:1: OUT OF CORE: its last place is 4000, 1 {PAST}"),
+    ("               ORG  3999\n               B    20,X\n               END  0\n",
+     f"2:1: OUT OF CORE: its last place is 4003, 4 {PAST}"),
+    ("     A         EQU  3998\n               MLC  A,A+10\n               END  0\n",
+     f"2:1: OUT OF CORE: the second operand is 4008, 9 {PAST}"),
+    ("     A         EQU  3998\n               MLC  A+2+X1,A\n               END  0\n",
+     f"2:1: OUT OF CORE: the first operand is 4000, 1 {PAST}"),
+    ("               MLC  5-6,5\n               END  0\n", "1:1: OUT OF CORE: the first operand is -1, which is below 0"),
+    ("               MLC  5,*+4000\n               END  0\n",
+     f"1:1: OUT OF CORE: the second operand is 4339, 340 {PAST}"),
+    ("               MLC  +A+4000,5\n     A         DCW  1\n               END  0\n",
+     f"1:1: OUT OF CORE: the first operand is 4340, 341 {PAST}"),
+    ("               MLC  X3+4000,5\n               END  0\n",
+     f"1:1: OUT OF CORE: the first operand is 4099, 100 {PAST}"),
+    ("               ORG  4001\n               END  0\n", f"1:1: OUT OF CORE: its value is 4001, 2 {PAST}"),
+    ("     A         EQU  5-10\n               END  0\n", "1:1: OUT OF CORE: its value is -5, which is below 0"),
+    ("               EX   4100\n               END  0\n", f"1:1: OUT OF CORE: its value is 4100, 101 {PAST}"),
+    ("               END  4000\n", f"1:1: OUT OF CORE: its value is 4000, 1 {PAST}"),
+    ("               MLC  @ABC@,5\n               LTORG3999\n               END  0\n",
+     f"2:1: OUT OF CORE: the last place of its literals is 4001, 2 {PAST}"),
+]
 # A source with a fault of each kind but those above, and the lines that report it.
 FAULTS_OF_A_KIND = [
     (" " * 81 + "\n" + GOOD, ["1:81: LONG LINE: a line has at most 80 columns"]),
@@ -116,10 +142,12 @@ class Faults(ProgramTest):
             self.source.write_text(text)
             self.expect(reported[0], program("assemble", "--all", self.source), 1, "", self.lines(reported))
 
-    def test_a_place_outside_core(self):
-        self.source.write_text("               ORG  4000\n               H\n               END  0\n")
-        outside = self.lines(["2:1: OUT OF CORE: a place or an address isn't in core, whose size --size names"])
-        self.expect("it", program("assemble", "--all", self.source), 1, "", outside)
+    def test_what_is_outside_core(self):
+        """The operand or the place is named, with the place that it would be, and by how much that is too high."""
+        for text, reported in OUTSIDE_CORE:
+            self.source.write_text(text)
+            outside = self.lines([reported])
+            self.expect(reported, program("assemble", "--language", "ibm", "--all", self.source), 1, "", outside)
 
     def test_standard_error_that_takes_nothing(self):
         self.source.write_text(FAULTY)

@@ -39,15 +39,16 @@ class Refused(ProgramTest):
             self.expect(f"{words[0]}: {fault}", ran, 1, "", f"ibm1401: {fault}\n")
 
     def test_sources_and_images(self):
-        outside = "1:1: OUT OF CORE: a place or an address isn't in core, whose size --size names"
+        outside = "1:1: OUT OF CORE: its value is {}, 1 past the last place in core, {}, which --size sets"
         for text, words, told, fault in [
             ("               ZZZ\n", [], ["1:16: OPERATION: ZZZ isn't an operation"], "line 1: 6 OPERATION"),
             ("               MLL\n               B    Q\n               END  0\n", [],
              ["1:16: OPERATION: MLL isn't an operation; did you mean MLC?",
               "2:21: UNDEFINED: Q isn't the label of any line"],
              "line 1: 6 OPERATION"),
-            ("               END  4000\n", [], [outside], "line 1: 9 OUT OF CORE"),
-            ("               END  1400\n", ["--size", "1400"], [outside], "line 1: 9 OUT OF CORE"),
+            ("               END  4000\n", [], [outside.format(4000, 3999)], "line 1: 9 OUT OF CORE"),
+            ("               END  1400\n", ["--size", "1400"], [outside.format(1400, 1399)],
+             "line 1: 9 OUT OF CORE"),
             ("IMAGE1 4001\n", [], [], "image refused: 2 HEADER"),
             ("IMAGE2 4001\n", [], [], "image refused: 2 HEADER"),
             ("IMAGE1 4000\n", [], [], "image refused: 5 TRUNCATED"),

@@ -155,7 +155,7 @@ class SizeAskedFor(Language):
                                "               DCW  #1\n               END  GO\n")
         call = ["run", "--language", "ibm", self.source]
         self.expect("a halt at the end of CTL's places", program(*call), 0, "", "...")
-        outside = "2:1: OUT OF CORE: a place or an address isn't in core, whose size --size names"
+        outside = "2:1: OUT OF CORE: its value is 15998, 7999 past the last place in core, 7999, which --size sets"
         fault = f"{self.source}:{outside}\nibm1401: line 2: 9 OUT OF CORE\n"
         self.expect("--size goes before CTL", program(*call, "--size", "8000"), 1, "", fault)
         self.expect("a size refused", program(*call, "--size", "1401"), 1, "", "ibm1401: size refused\n")

@@ -168,6 +168,7 @@ fn all_told(
             name,
             language,
             source,
+            size,
             found.as_slice(),
         ) {
             Ok(lines) => AssembleFault::Faulty(lines),

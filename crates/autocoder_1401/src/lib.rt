@@ -18,6 +18,7 @@ pub mod assembly; // the passes, in their order
 pub mod tables; // an assembly with its symbol table and its cross-reference
 pub mod all_faults; // all faults of a source
 pub mod explaining; // all faults of a source, each with what is wrong
+pub mod outside; // what of a line isn't in core
 pub mod warning; // likely mistakes in a source without a fault
 pub mod messages; // faults and warnings as editors read them
 

@@ -1,5 +1,6 @@
 //! The faults and the warnings of a source, as editors read them.
 
+use crate::outside::{Outside, OutsidePart, outside_of};
 use explanations_1401::{Cause, Explanation};
 use source_1401::{LABEL_LENGTH, Language, OperandFlaw, Stretch, split_line};
 use std::alloc::{AllocError, Global};
@@ -182,6 +183,44 @@ fn symbol_text(alloc: Global, word: &str, suffix: Option<u8>) -> Result<String, 
     }
 }
 
+/// What isn't in core of this size, and by how much.
+fn outside_text(alloc: Global, size: u16, outside: Outside) -> Result<String, AllocError> {
+    let name = match outside.part {
+        OutsidePart::FirstPlace => "its first place",
+        OutsidePart::LastPlace => "its last place",
+        OutsidePart::LastLiteral => "the last place of its literals",
+        OutsidePart::FirstOperand => "the first operand",
+        OutsidePart::SecondOperand => "the second operand",
+        OutsidePart::OnlyOperand => "its value",
+    };
+    let place = outside.place;
+    let last = i64::from(size).saturating_sub(1);
+    let past = place.saturating_sub(last);
+    if place < 0 {
+        format!(in alloc; "{name} is {place}, which is below 0")
+    } else {
+        format!(in alloc;
+            "{name} is {place}, {past} past the last place in core, {last}, which --size sets"
+        )
+    }
+}
+
+/// What isn't in core of this size in a source of this language.
+fn outside_help(
+    alloc: Global,
+    language: Language,
+    source: &[u8],
+    size: u16,
+) -> Result<String, AllocError> {
+    match outside_of(alloc, language, source, size) {
+        Ok(Some(outside)) => outside_text(alloc, size, outside),
+        Ok(None) | Err(_) => String::from_str(
+            alloc,
+            "a place or an address isn't in core, whose size --size names",
+        ),
+    }
+}
+
 /// What is wrong at a fault of this line, in a few words.
 fn help_of(
     alloc: Global,
@@ -256,12 +295,13 @@ fn help_of(
     String::from_str(alloc, help)
 }
 
-/// A line for each fault of the source of this file: `sales.source:4:16: OPERATION: ..`.
+/// A line for each fault of the source of this file, for core storage of this size: `sales.source:4:16: OPERATION: ..`.
 pub fn fault_lines(
     alloc: Global,
     file: &str,
     language: Language,
     source: &[u8],
+    size: u16,
     faults: &[Explanation],
 ) -> Result<String, AllocError> {
     let mut lines = String::new(alloc);
@@ -282,7 +322,10 @@ pub fn fault_lines(
             .as_str()
             .split_once(' ')
             .map_or(kind.as_str(), |(_, name)| name);
-        let help = help_of(alloc, *explanation, text, suffix)?;
+        let help = match explanation.cause {
+            Cause::OutOfCore => outside_help(alloc, language, source, size)?,
+            _ => help_of(alloc, *explanation, text, suffix)?,
+        };
         let shown = format!(in alloc; "{file}:{line}:{column}: {name}: {help}\n")?;
         lines.push_str(shown.as_str())?;
     }

@@ -61,7 +61,7 @@ pub(crate) fn report_faults(
     if let Ok(found) = explained_faults(rt.alloc(), language, source, size) {
         report_lines(
             rt,
-            fault_lines(rt.alloc(), name, language, source, found.as_slice()),
+            fault_lines(rt.alloc(), name, language, source, size, found.as_slice()),
         );
     }
 }
