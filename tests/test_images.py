@@ -130,6 +130,31 @@ class Disassembled(ProgramTest):
                    "15999          N\n15999          END  15999\n")
         self.expect("its listing", program("disassemble", self.image), 0, listing)
 
+    def test_an_instruction_of_which_the_assembler_makes_other_cells_is_data(self):
+        """A write with a d-character; a no operation of two characters; an address with a blank or a sign in it."""
+        data = ["28", "2500S", "N1", "N12", "N5006", "SMITH J", "A 12", "M1-2345", "B5&0"]
+        texts = [f"{500 + 20 * n:05} {len(each):02} ~{each}" for n, each in enumerate(data)]
+        self.image.write_text("\n".join(["IMAGE2 04000", *texts, "END 00500", ""]))
+        listing = "".join(f"{500 + 20 * n:05}          ~{each}\n" for n, each in enumerate(data))
+        self.expect("it", program("disassemble", self.image), 0, f"{listing}00500          END  500\n")
+
+    def test_what_is_listed_as_an_instruction_is_assembled_again(self):
+        """Constants of every length that begin with each operation: the assembler makes their cells of the text."""
+        rests = ["", "8", ")", "500", "5004", "500)", "I9I600", "0Z9500X", "5 06 0", "12&34&A", "A1", "ABCD"]
+        cells = [f"{operation}{rest}" for operation in "AS?!MLDY,)/CZEBVQHN.K1234567F" for rest in rests]
+        text = [f"{500 + 10 * n:05} {len(each):02} ~{each}" for n, each in enumerate(cells)]
+        self.image.write_text("\n".join(["IMAGE2 16000", *text, "END 00500", ""]))
+        listed = program("disassemble", self.image).stdout.decode().splitlines()[:-1]
+        self.same("a line each", len(listed), len(cells))
+        words = [(each, line) for each, line in zip(cells, listed) if line[6] != " "]
+        self.check("some are data, and some aren't", "" if 50 < len(words) < len(cells) - 50 else f"{len(words)}")
+        source = self.folder / "again"
+        for each, line in words:
+            source.write_text(f"               ORG  500\n{' ' * 15}{line[15:]}\n               END  0\n")
+            wanted = f"IMAGE2 16000\n00500 {len(each):02} ~{each}\nEND 00000\n"
+            ran = program("assemble", "--language", "ibm", "--size", "16000", source)
+            self.expect(f"{each}, by {line[15:]}", ran, 0, wanted)
+
     def test_faulty_images(self):
         text = FIVE.read_bytes()
         for name, content, error in [

@@ -2,10 +2,12 @@ pub mod AddressLemmas
 pub mod AssembledLemmas
 pub mod CarriedOutLemmas
 mod AssembledExamples
+mod WrittenAgainExamples
 pub mod LineLemmas
 pub mod MnemonicLemmas
 pub mod NumberLemmas
 pub mod OperandsLemmas
 pub mod PlacedLemmas
 pub mod ReadLemmas
+pub mod SpellingLemmas
 pub mod WordLemmas

@@ -11,6 +11,7 @@ use Rattle.notation_1401.specs.Cells.{cells_text}
 use Rattle.notation_1401.specs.Digits.{digits_in}
 use Rattle.instruction_text_1401.specs.InstructionText.{graphic_of, instruction_text}
 use Rattle.disassembly_1401.specs.Stretches.{stretches_of}
+use Rattle.disassembly_1401.specs.WrittenAgain.{is_written_again}
 
 -- whether an operation of this machine may have instructions of this length
 abbrev pub is_legal : Option Operation → ℕ → Bool
@@ -32,9 +33,9 @@ as_instruction cells =
 abbrev pub as_data : List Cell → List ℕ
 as_data cells = codes "         " ++ cells_text cells
 
--- cells, as the one or the other
+-- cells, as the one or the other: as an instruction if the assembler makes the same cells of its text
 abbrev pub what_stands : List Cell → List ℕ
-what_stands cells = if is_instruction cells then as_instruction cells else as_data cells
+what_stands cells = if is_instruction cells && is_written_again cells then as_instruction cells else as_data cells
 
 -- the line of a stretch: its address, and what is there
 unfoldable pub stretch_line : Segment → List ℕ

@@ -9,6 +9,7 @@ ghost use Rattle.disassembly_1401.specs.ImageListing.{listing_text};
 
 use crate::instruction::put_instruction;
 use crate::stretches::stretches;
+use crate::written_again::is_written_again;
 use bcd_1401::{Cell, Char};
 use core_1401::Cells;
 use image_1401::{Image, Segment};
@@ -126,11 +127,11 @@ fn put_as_instruction(text: &mut Vec<u8>, cells: &[Cell]) -> Result<(), AllocErr
     put_instruction(text, cells)
 }
 
-/// Adds cells, as an instruction if they are one, else as data.
+/// Adds cells, as an instruction if they are such that the assembler makes them again of its text, else as data.
 fn put_what_stands(text: &mut Vec<u8>, cells: &Cells) -> Result<(), AllocError>
     ensures { OnOk result (text.new.items ≡ text.old.items ++ what_stands cells.now) }
 {
-    if is_instruction(cells.as_slice()) {
+    if is_instruction(cells.as_slice()) && is_written_again(cells.as_slice()) {
         put_as_instruction(text, cells.as_slice())
     } else {
         text.extend_from_slice(b"         ".as_slice())?;
@@ -195,9 +196,9 @@ fn put_start(text: &mut Vec<u8>, start: u16) -> Result<(), AllocError>
 }
 
 /// The listing of an image: a line for each stretch of cells from a word mark up to the next one, in the order in which
-/// the image has them. A stretch that is an instruction of this machine, of a length that it may have, is shown with
-/// its address, its characters and its text; any other with its address and its cells, as the console shows them. The
-/// last line is the entry's.
+/// the image has them. A stretch that is an instruction of this machine, of a length that it may have, and that the
+/// assembler makes again of its text, is shown with its address, its characters and its text; any other with its address
+/// and its cells, as the console shows them. The last line is the entry's.
 ///
 /// # Errors
 ///

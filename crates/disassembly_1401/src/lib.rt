@@ -12,6 +12,7 @@
 pub mod image_listing;
 pub mod instruction;
 mod stretches;
+mod written_again;
 
 pub use image_listing::list_image;
 pub use instruction::put_instruction;
