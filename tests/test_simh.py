@@ -1,0 +1,65 @@
+"""Decks that travel: i1401 of SIMH loads ours and prints the same, and what it punches is read here."""
+import shutil
+import subprocess
+import unittest
+
+from tests.support import EXAMPLES, TOP, ProgramTest, program, shell
+
+PEER = shutil.which("i1401")
+
+# The graphics of all codes from 0 on: ours, and those of i1401's decks for business and for formulas.
+OURS = " 1234567890#@:>(^/STUVWXYZ',%=\\+-JKLMNOPQR!$*];_&ABCDEFGHI?.)[<\""
+BUSINESS = " 1234567890#@:>{^/STUVWXYZ|,%~\\\"-JKLMNOPQR!$*];_&ABCDEFGHI?.)[<}"
+FORMULAS = " 1234567890=':>{^/STUVWXYZ|,(~\\\"-JKLMNOPQR!$*];_+ABCDEFGHI?.)[<}"
+
+
+class Graphics(ProgramTest):
+    """The graphics of decks for i1401, and how OLD_DECKS brings them here."""
+
+    def test_the_commands_of_the_page(self):
+        """Each `tr` of OLD_DECKS makes our graphics of a deck with all 64."""
+        page = (TOP / "docs/OLD_DECKS.md").read_text()
+        commands = [line.strip() for line in page.splitlines() if line.startswith("    tr ")]
+        self.same("a command for each", len(commands), 2)
+        for command, graphics in zip(commands, (BUSINESS, FORMULAS)):
+            self.same(f"the graphics are 64: {command}", (len(graphics), len(set(graphics))), (64, 64))
+            (self.folder / "simh.cards").write_text(f"{graphics}\n")
+            self.expect(command, shell(command, cwd=self.folder))
+            self.holds(command, self.folder / "old.cards", f"{OURS}\n")
+
+
+@unittest.skipUnless(PEER, "i1401 isn't there: install Debian's package simh")
+class Peer(ProgramTest):
+    """Decks on i1401 itself."""
+
+    def peer(self, *lines):
+        """What i1401 says to these lines."""
+        ran = subprocess.run([PEER], input="\n".join([*lines, "quit", ""]).encode(), capture_output=True, timeout=60)
+        return ran.stdout.decode()
+
+    def test_what_it_punches(self):
+        for words, graphics in ([], BUSINESS), (["set cdp fortran"], FORMULAS):
+            cards = self.folder / "punched.cards"
+            cards.unlink(missing_ok=True)
+            codes = [f"d {101 + code} {code:o}" for code in range(64)]
+            self.peer(*words, f"attach cdp {cards}", *codes, "d 400 104", "d 401 173", "d 402 100", "go 400")
+            self.holds(f"{words}", cards, f"{graphics}\n")
+
+    def test_our_decks_load_there_and_print_the_same(self):
+        for name, cards in ("five_and_five", None), ("sales", EXAMPLES / "sales.cards"):
+            source, deck, paper = EXAMPLES / f"{name}.source", self.folder / "deck", self.folder / "paper"
+            paper.unlink(missing_ok=True)
+            self.expect(name, program("assemble", source, "--deck", deck))
+            more = ["--cards", cards] if cards else []
+            ours = program("run", "--load", deck, *more, "--switches", "A").stdout.decode()
+            if cards:
+                deck.write_bytes(deck.read_bytes() + cards.read_bytes())
+            said = self.peer(f"attach cdr {deck}", f"attach lpt {paper}", "d ssa 1", "boot cdr", "e -c 418-420")
+            self.check(f"{name} halts", "" if "HALT" in said else said)
+            lines = [[line.rstrip() for line in text.replace("\f", "\n").splitlines() if line.strip()]
+                     for text in (ours, paper.read_text())]
+            self.same(f"{name}: the paper", lines[1], lines[0])
+
+
+if __name__ == "__main__":
+    unittest.main()
