@@ -1,5 +1,5 @@
 //! What of a line isn't in core: which operand, or which of its places, and where that would be.
-ghost use Rattle.std.specs.Prelude.{◌≡◌, ◌<◌, ◌^◌, false, length, IfOk, IfErr, IfSome};
+ghost use Rattle.std.specs.Prelude.{◌≡◌, false, IfOk, IfErr, IfSome};
 ghost use Rattle.symbols_1401.specs.Chains.{chains_of};
 ghost use Rattle.symbols_1401.specs.Fault.{IsMemory};
 ghost use Rattle.symbols_1401.specs.Symbols.{sites_of};

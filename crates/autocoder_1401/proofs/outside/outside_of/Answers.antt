@@ -1,5 +1,5 @@
 -- The lines are those whose chains of EQUs were read.
-use Rattle.std.proofs.Common.{◌≡◌, List, sym, ap, ◌∙◌}
+use Rattle.std.proofs.Common.{List, sym, ap, ◌∙◌}
 use Rattle.source_1401.specs.declared.statement.Line.{Line}
 use Rattle.symbols_1401.specs.Chains.{chains_of}
 use Rattle.symbols_1401.specs.Symbols.{sites_of}
