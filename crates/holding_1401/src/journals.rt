@@ -1,5 +1,8 @@
 //! What the subcommands `journal` and `resume` do, and sessions whose journal is kept.
-ghost use Rattle.std.specs.Prelude.{◌≡◌, false};
+ghost use Rattle.std.specs.Prelude.{◌≡◌, false, IfOk, length, unwrap_or};
+ghost use Rattle.lone_room_1401.specs.Journal.{pairs_of};
+ghost use Rattle.journal_1401.specs.Choice.{chosen};
+ghost use Rattle.holding_1401.specs.Choosing.{HasChosen};
 
 use crate::fault::{HoldFault, ended};
 use crate::loading::{loaded_room, read_file};
@@ -189,8 +192,11 @@ pub fn read_chosen(
     file: String,
     until: Option<u64>,
     without: &[u64],
-) -> Result<Room, HoldFault> {
+) -> Result<Room, HoldFault>
+    ensures { IfOk result (HasChosen until without.now) }
+{
     let room = read_room(rt, file).map_err(HoldFault::Kept)?;
+    let _journal = room.journal();
     chosen_room(rt.alloc(), &room, until, without)
 }
 
@@ -204,7 +210,11 @@ fn chosen_room(
     room: &Room,
     until: Option<u64>,
     without: &[u64],
-) -> Result<Room, HoldFault> {
+) -> Result<Room, HoldFault>
+    ensures commands { IfOk result (λ made. pairs_of made.journal
+        ≡ chosen (unwrap_or until (length room.now.journal)) without.now room.now.journal) }
+    ensures size { IfOk result (λ made. made.size ≡ room.now.size) }
+{
     let entries = room.journal().len() as u64;
     let until = until.unwrap_or(entries);
     if until > entries {

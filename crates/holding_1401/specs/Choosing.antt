@@ -1,0 +1,12 @@
+-- What is made of a journal of which some commands are chosen (own).
+use Rattle.std.specs.Prelude.{◌≡◌, ℕ, List, length, Option, unwrap_or}
+use Rattle.lone_room_1401.specs.declared.entry.Entry.{Entry}
+use Rattle.lone_room_1401.specs.Account.{Account}
+use Rattle.lone_room_1401.specs.Journal.{IsLegal, pairs_of}
+use Rattle.journal_1401.specs.Choice.{chosen}
+
+-- The room's commands are those that are chosen of a legal journal: up to a number, or all, without some.
+pub record HasChosen (until : Option ℕ) (without : List ℕ) (room : Account) : Type 0 where
+  pub journal : List Entry
+  pub legal : IsLegal room.size journal
+  pub commands : pairs_of room.journal ≡ chosen (unwrap_or until (length journal)) without journal
