@@ -209,10 +209,14 @@ def apart(what, found, wanted):
 class Console(socket.socket):
     """A connection of a console to a served room."""
 
-    def __init__(self, port):
+    def __init__(self, port, unread=None):
         super().__init__(socket.AF_INET, socket.SOCK_STREAM)
         self.settimeout(REPLY_SECONDS)
         try:
+            if unread is not None:
+                self.setsockopt(socket.SOL_SOCKET, socket.SO_RCVBUF, unread)
+                # With short segments the other side holds less too.
+                self.setsockopt(socket.IPPROTO_TCP, socket.TCP_MAXSEG, unread // 4)
             self.connect(("127.0.0.1", port))
         except OSError:
             self.close()
@@ -311,9 +315,9 @@ class Server:
                 break
             self.first += more
 
-    def console(self):
-        """A connection of a console, which has the lowest free seat."""
-        return Console(self.port)
+    def console(self, unread=None):
+        """A connection of a console, which has the lowest free seat; it holds about so many bytes that it hasn't read."""
+        return Console(self.port, unread)
 
     def seated(self, line):
         """A console that has a seat, with the reply to its first line: it comes again while no seat is free."""

@@ -15,6 +15,8 @@ from tests.support import SECONDS, ProgramTest, wait_until
 LATE = 0.2
 # How long a room may take to its end for a client that takes nothing; it needs two seconds of its own.
 LONG = 30
+# How many bytes a client holds that it hasn't read, if soon no more are to be taken.
+FEW = 4096
 
 
 def send_ahead(console, lines):
@@ -117,12 +119,23 @@ class LateReaders(ProgramTest):
         error = "ibm1401: session ended: UNKEPT\n"
         self.ended(room, "the room", kept + 1, status=1, error=error)
 
+    def test_a_reply_that_is_not_taken_at_the_rooms_quit_still_comes(self):
+        """The client sends lines until nothing more is taken, and begins to read 0.2 seconds after QUIT."""
+        cells, found = b"~A" * 40, []
+        room = self.room("serve", "--keep-seats", seats=1)
+        console = room.console(FEW)
+        self.same("a seat", console.say(b"DEPOSIT 0 " + cells + b"\n"), b"OK\n")
+        send_until_none_is_taken(console, b"EXAMINE 0 40\n" * 1000)
+        room.type(b"QUIT\n")
+        hear_late(console, found)
+        replies = found[0].count(b"\n")
+        self.same("whole replies", found[0], (cells + b"\n") * replies)
+        self.expect("a reply for each entry of the journal", room.end(b""), 0, f"{room.ready}JOURNAL {1 + replies}\n")
+
     def test_a_client_that_never_reads_does_not_hold_the_rooms_end(self):
         """It sends lines without an entry until nothing more is taken; then the room still ends."""
         room = self.room("serve", "--keep-seats", seats=2)
-        with socket.socket() as mute, room.console() as other:
-            mute.setsockopt(socket.SOL_SOCKET, socket.SO_RCVBUF, 4096)
-            mute.connect(("127.0.0.1", room.port))
+        with room.console(FEW) as mute, room.console() as other:
             send_until_none_is_taken(mute, b"GLANCE 9999\n" * 1000)
             self.same("another operator is answered", other.say(b"EXAMINE 0\n"), b" \n")
             room.type(b"QUIT\n")
