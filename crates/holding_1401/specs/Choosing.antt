@@ -1,4 +1,4 @@
--- What is made of a journal of which some commands are chosen (own).
+-- The room that is made of the commands chosen from a journal (own).
 use Rattle.std.specs.Prelude.{◌≡◌, ℕ, List, length, Option, unwrap_or}
 use Rattle.lone_room_1401.specs.declared.entry.Entry.{Entry}
 use Rattle.lone_room_1401.specs.Account.{Account}

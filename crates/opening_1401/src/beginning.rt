@@ -1,6 +1,8 @@
 //! What the seats of a room do before operators come.
-ghost use Rattle.std.specs.Prelude.{◌≡◌, ◌+◌, ◌<◌, ◌^◌, length, OnOk};
+ghost use Rattle.std.specs.Prelude.{◌≡◌, ◌<◌, ◌^◌, OnOk};
 ghost use Rattle.console_1401.specs.Served.{AreAllSeats};
+ghost use Rattle.opening_1401.specs.Beginning.{FirstGave, GaveAll, HasBegun, feed_commands, first_commands};
+ghost use Rattle.opening_1401.specs.Beginning.{load_commands};
 ghost use Rattle.opening_1401.specs.Outcome.{give_fault, room_fault};
 
 use crate::fault::OpenFault;
@@ -49,6 +51,11 @@ pub(crate) enum Before {
 }
 
 /// Does what is done before operators come.
+///
+/// # Errors
+///
+/// `NoSeat` if an entry of the journal is of a seat that the room hasn't; `Hold` or `Seats` if a command is refused, or
+/// its entry isn't kept.
 pub(crate) fn begin<J: RoomId, H: Wait + Drop, K: Keeper + Drop, W: Wait>(
     wait: &W,
     room: &SharedRoom<J, H, K>,
@@ -58,6 +65,7 @@ pub(crate) fn begin<J: RoomId, H: Wait + Drop, K: Keeper + Drop, W: Wait>(
     requires seats { AreAllSeats J.seats seats.old.items }
     requires count { (0 < J.seats) × (J.seats < 2 ^ 8) }
     ensures seats { AreAllSeats J.seats seats.new.items }
+    ensures begun { OnOk result (HasBegun J.size before seats.old.items seats.new.items) }
 {
     match before {
         Before::Program { image, cards } => {
@@ -78,10 +86,13 @@ fn begin_by_first<J: RoomId, H: Wait + Drop, K: Keeper + Drop, W: Wait>(
     cards: &[Card],
 ) -> Result<(), OpenFault>
     requires { AreAllSeats J.seats seats.old.items }
-    ensures { AreAllSeats J.seats seats.new.items }
+    ensures seats { AreAllSeats J.seats seats.new.items }
+    ensures gave { OnOk result
+        (FirstGave J.size (first_commands image cards.now) seats.old.items seats.new.items) }
 {
+    // A room has a seat.
     let Some(first) = seats.first_mut() else {
-        return Ok(());
+        return Err(OpenFault::NoReader);
     };
     begin_by(wait, room, first, image, cards)
 }
@@ -94,12 +105,16 @@ fn begin_by<J: RoomId, H: Wait + Drop, K: Keeper + Drop, W: Wait>(
     image: Option<Image>,
     cards: &[Card],
 ) -> Result<(), OpenFault>
-    ensures { seat.new.number ≡ seat.old.number }
+    ensures number { seat.new.number ≡ seat.old.number }
+    ensures gave { OnOk result (GaveAll J.size (first_commands image cards.now) seat.old seat.new) }
 {
-    if let Some(image) = image {
-        put_image_by(wait, room, seat, &image)?;
+    match image {
+        None => feed_by(wait, room, seat, cards),
+        Some(image) => {
+            put_image_by(wait, room, seat, &image)?;
+            feed_by(wait, room, seat, cards)
+        }
     }
-    feed_by(wait, room, seat, cards)
 }
 
 /// Loads an image into a room, by a seat.
@@ -110,17 +125,22 @@ fn put_image_by<J: RoomId, H: Wait + Drop, K: Keeper + Drop, W: Wait>(
     image: &Image,
 ) -> Result<(), OpenFault>
     ensures number { seat.new.number ≡ seat.old.number }
-    ensures made { OnOk result (seat.new.made ≡ seat.old.made + length image.now.segments + 1) }
+    ensures gave { OnOk result (GaveAll J.size (load_commands image.now) seat.old seat.new) }
 {
     for segment in image.segments.as_slice() {
         let command = Command::Deposit {
             address: segment.address,
             cells: segment.cells,
         };
-        give(wait, room, seat, command).map_err(room_fault)?;
+        if let Err(fault) = give(wait, room, seat, command) {
+            return Err(room_fault(fault));
+        }
     }
     let start = image.start;
-    give(wait, room, seat, Command::SetI { address: start }).map_err(room_fault)
+    match give(wait, room, seat, Command::SetI { address: start }) {
+        Ok(()) => Ok(()),
+        Err(fault) => Err(room_fault(fault)),
+    }
 }
 
 /// Feeds cards, by a seat.
@@ -131,10 +151,12 @@ fn feed_by<J: RoomId, H: Wait + Drop, K: Keeper + Drop, W: Wait>(
     cards: &[Card],
 ) -> Result<(), OpenFault>
     ensures number { seat.new.number ≡ seat.old.number }
-    ensures made { OnOk result (seat.new.made ≡ seat.old.made + length cards.now) }
+    ensures gave { OnOk result (GaveAll J.size (feed_commands cards.now) seat.old seat.new) }
 {
     for card in cards {
-        give(wait, room, seat, Command::Feed { card: *card }).map_err(room_fault)?;
+        if let Err(fault) = give(wait, room, seat, Command::Feed { card: *card }) {
+            return Err(room_fault(fault));
+        }
     }
     Ok(())
 }

@@ -1,6 +1,8 @@
 //! What the subcommand `resume` does if operators share the room.
-ghost use Rattle.std.specs.Prelude.{◌≡◌, ◌≤◌, false, vec_len};
+ghost use Rattle.std.specs.Prelude.{◌≡◌, ◌≤◌, ℕ, false, Some, Err, All, vec_len, IfOk, OnOk};
 ghost use Rattle.journal_1401.specs.JournalText.{journal_text};
+ghost use Rattle.desk_1401.specs.Giving.{IsSeated, foreign_in};
+ghost use Rattle.holding_1401.specs.Choosing.{HasChosen};
 
 use crate::beginning::Before;
 use crate::entrances::{Entrances, open_entrances};
@@ -24,7 +26,11 @@ use std::thread::Threads;
 use streams_1401::Sink;
 
 /// Refuses a journal with entries of a seat that a room hasn't.
-fn expect_seats(entries: &[Entry], least: u8, most: u8) -> Result<(), OpenFault> {
+fn expect_seats(entries: &[Entry], least: u8, most: u8) -> Result<(), OpenFault>
+    ensures seated { OnOk result (All (IsSeated least most) entries.now) }
+    ensures foreign { (seat : ℕ) → foreign_in least most entries.now ≡ Some seat
+        → result ≡ Err (OpenFault.NoSeat seat) }
+{
     match foreign_seat(entries, least, most) {
         None => Ok(()),
         Some(seat) => Err(OpenFault::NoSeat(seat)),
@@ -94,7 +100,10 @@ fn room_of(
     until: Option<u64>,
     without: &[u64],
     seats: u8,
-) -> Result<Room, OpenFault> {
+) -> Result<Room, OpenFault>
+    ensures chosen { IfOk result (HasChosen until without.now) }
+    ensures seated { IfOk result (λ room. All (IsSeated 0 seats) room.journal) }
+{
     let room = read_chosen(rt, file, until, without).map_err(OpenFault::Hold)?;
     expect_seats(room.journal(), 0, seats)?;
     Ok(room)

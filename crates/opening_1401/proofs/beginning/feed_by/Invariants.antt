@@ -1,6 +1,10 @@
--- Each card so far was a command of this seat.
-use Rattle.std.proofs.Common.{◌≡◌, ◌+◌}
+-- The commands that feed the cards so far were given by this seat.
+use Rattle.std.proofs.Common.{◌≡◌, take}
+use Rattle.opening_1401.specs.Beginning.{GaveAll, feed_commands}
 use Rattle.opening_1401.proofs.beginning.feed_by.Given as goal
 
 abbrev pub invariant-loop-card : goal.invariant-loop-card
-invariant-loop-card g l = (l.seat.number ≡ l.fn.seat.number) × (l.seat.made ≡ l.fn.seat.made + l.card-index)
+invariant-loop-card g l = record {
+  number : l.seat.number ≡ l.fn.seat.number;
+  gave : GaveAll g.J.RoomId.size (feed_commands (take l.card-index l.cards)) l.fn.seat l.seat;
+}
