@@ -286,16 +286,18 @@ def free_ports(many):
 
 class Server:
     """The program serving a room: Server("serve", "--keep-seats", seats=2) or Server("resume", file, seats=2). The
-    ports are free ones; `consoles=False` leaves out --port, and `pages=True` adds --page. Standard input stays open
-    until something is typed. What else is named goes to the process."""
+    ports are free ones; `consoles=False` leaves out --port, `pages=True` adds --page, and `origin` --origin, whose
+    addresses are those of `outside`, one for each seat. Standard input stays open until something is typed. What else
+    is named goes to the process."""
 
-    def __init__(self, *call, seats, consoles=True, pages=False, stdin=subprocess.PIPE, **how):
-        self.seats = seats
+    def __init__(self, *call, seats, consoles=True, pages=False, origin=None, outside=(), stdin=subprocess.PIPE, **how):
+        self.seats, self.outside = seats, outside
         for _ in range(PORTS_TRIED):
             first = free_ports(consoles + pages * seats)
             self.port = first + pages * seats if consoles else None
             self.page = first if pages else None
             words = ["--port", self.port] * consoles + ["--page", self.page] * pages + ["--seats", seats]
+            words += ["--origin", origin] if origin else []
             pipes = {"stdin": stdin, "stdout": subprocess.PIPE, "stderr": subprocess.PIPE}
             self.process = subprocess.Popen([PROGRAM, *map(str, [*call, *words])], **pipes, **how)
             self.wait_for_ready()
@@ -305,7 +307,8 @@ class Server:
     def wait_for_ready(self):
         """Waits until the room listens, or until its output ends: then the program has, and said why."""
         seats = range(1, self.seats + 1) if self.page else ()
-        self.ready = "READY\n" + "".join(f"SEAT {seat} {self.address(seat)}/\n" for seat in seats)
+        also = [f" {address}/" for address in self.outside] or [""] * self.seats
+        self.ready = "READY\n" + "".join(f"SEAT {seat} {self.address(seat)}/{also[seat - 1]}\n" for seat in seats)
         self.first, self.refusal = b"", b""
         while len(self.first) < len(self.ready) and select.select([self.process.stdout], [], [], SECONDS)[0]:
             more = os.read(self.process.stdout.fileno(), 4096)

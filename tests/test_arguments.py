@@ -167,6 +167,8 @@ ROWS = [
     ("serve --page 1401", "", MISUSE, "", None, {}),
     ("serve --seats 2", "", MISUSE, "", None, {}),
     ("serve --port 1401 --seats 2 --sync", "", MISUSE, "", None, {}),
+    ("serve --port 1401 --seats 2 --origin https://museum.example", "", MISUSE, "", None, {}),
+    ("resume --port 1401 --seats 2 --origin https://museum.example journal", "", MISUSE, "", None, {}),
     ("serve --port 1401 --seats 2 --image image --size 4000", "", MISUSE, "", None, {}),
     ("assemble -o new --deck new source", "", MISUSE, "", None, {}),
 ]

@@ -45,8 +45,9 @@ class Network(ProgramTest):
     """A room of eight pages, and nginx in front of it."""
 
     def setUp(self):
-        self.served = self.room("serve", seats=SEATS, pages=True, consoles=False)
         self.first = free_ports(SEATS)
+        self.served = self.room("serve", seats=SEATS, pages=True, consoles=False, origin=self.outside(),
+                                outside=[self.outside(seat) for seat in range(1, SEATS + 1)])
         self.make_certificate()
         self.make_password()
         (self.folder / "nginx.conf").write_text(self.configuration())
@@ -130,19 +131,32 @@ class Network(ProgramTest):
         self.same("its own", self.post(1, "DEPOSIT 0500 ~K", self.outside()), (200, b"OK\n"))
 
     def test_another_name(self):
-        self.same("another host", self.fetch(1, "/", "-k", name="other.example")[0], 421)
-        for host in f"other.example:{self.first}", f"{NAME}:{self.first + 1}", NAME, f"127.0.0.1:{self.served.page}":
-            self.same(host, self.fetch(1, "/", "-H", f"Host: {host}")[0], 421)
-
-    def test_the_loopback_s_port_by_the_outside_name(self):
-        """The room refuses it, since nobody else but the proxy is to come there."""
-        for host in f"{NAME}:{self.served.page}", f"{NAME}:{self.first}":
-            self.refused(f"a picture for {host}", self.served.get(1, "/picture?core=0&paper=0", Host=host), "1.1 403")
-        own = {"Origin": self.outside()}
-        self.refused("a line with the outside origin", self.served.post(1, "RUN 1", 0, **own), "1.1 403")
+        """The room refuses it, and a line for another seat, or for the loopback from outside."""
+        self.same("another host", self.fetch(1, "/", "-k", name="other.example")[0], 403)
+        here = f"127.0.0.1:{self.served.page}"
+        for host in (f"other.example:{self.first}", f"{NAME}:{self.first + 1}", NAME, f"{NAME}:{self.served.page}",
+                     f"localhost:{self.served.page}", f"127.0.0.1:{self.first}", here):
+            if host != here:
+                self.same(host, self.fetch(1, "/", "-H", f"Host: {host}")[0], 403)
+            line = self.fetch(1, "/line", "-H", f"Host: {host}", "-H", f"Origin: {self.outside()}", "-H",
+                              "X-1401-Line: 0", "--data-binary", "RUN 1")
+            self.same(f"{host}, with a line", line[0], 403)
         self.machine_is("nothing was carried out", 0)
 
-    def test_a_link_without_tls_is_sent_on(self):
+    def test_the_loopback_s_port_by_the_outside_name(self):
+        """The room accepts it: it can't see whether the proxy hands it on. Nobody gets there from another computer."""
+        host = f"{NAME}:{self.first}"
+        self.same("the page", status(self.served.get(1, "/", Host=host)), 200)
+        for name, fields in [("with the loopback's host", {"Origin": self.outside()}),
+                             ("with the loopback's origin", {"Host": host}),
+                             ("with another port", {"Host": f"{NAME}:{self.served.page}", "Origin": self.outside()}),
+                             ("for another seat", {"Host": f"{NAME}:{self.first + 1}", "Origin": self.outside(2)})]:
+            self.refused(f"a line {name}", self.served.post(1, "START 1", 0, **fields), "1.1 403")
+        self.machine_is("none was carried out", 0)
+        line = self.served.post(1, "START 1", 0, Host=host, Origin=self.outside())
+        self.within("a line", line, "HTTP/1.1 200 ", "\r\n\r\nOK\n")
+
+    def test_an_address_without_tls_is_sent_on(self):
         port = self.first + 1
         response = run(["curl", "-s", "-i", "--max-time", "20", "--resolve", f"{NAME}:{port}:127.0.0.1",
                         f"http://{NAME}:{port}/"]).stdout
@@ -186,6 +200,9 @@ class Network(ProgramTest):
         self.same("after the password", login.until("document.title", "IBM 1401"), "IBM 1401")
         page = Page(browser, f"{self.outside()}/")
         self.check("it sees the machine", "" if page.is_ready() else str(page.complaints()))
+        links = [f"{self.outside(seat)}/" for seat in range(1, SEATS + 1)]
+        self.same("its links", page.value("[...document.querySelectorAll('#seats a')].map(a => a.href).join(' ')"),
+                  " ".join(links))
         page.value("say('DEPOSIT 0500 ~K')")
         self.same("its line is carried out", wait_until(lambda: self.served.after() == 1, REPLY_SECONDS), True)
         self.same("its complaints", page.complaints(), [])

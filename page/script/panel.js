@@ -52,8 +52,10 @@ function drawHead() {
   document.title = filled(TEXTS.documentTitle, {seat});
   byId('seats').replaceChildren();
   added(byId('seats'), 'span', {textContent: TEXTS.seats});
+  const {protocol, hostname} = location;
+  const port = Number(location.port || (protocol === 'https:' ? 443 : 80)) - seat;
   for (let n = 1; n <= seats; n++) {
-    const address = `http://${location.hostname}:${Number(location.port) - seat + n}/`;
+    const address = `${protocol}//${hostname}:${port + n}/`;
     const link = added(byId('seats'), 'a', {href: address, textContent: n});
     link.setAttribute('aria-label', filled(n === seat ? TEXTS.thisSeat : TEXTS.seat, {n}));
     if (n === seat) link.setAttribute('aria-current', 'page');

@@ -1,6 +1,7 @@
 -- What a subcommand's options ask for, option by option (own).
 use Rattle.std.specs.Prelude.{◌≡◌, ◌||◌, ◌&&◌, not, ℕ, Bool, true, false, List, [], Option, None, Some}
 use Rattle.std.specs.Prelude.{String, codes, is_some, map, nat_eq, string_bytes, unwrap_or, if◌then◌else◌}
+use Rattle.std.specs.Char.{to_ascii_lowercase}
 use Rattle.std.specs.Global.{Global}
 use Rattle.std.specs.List.{list_any}
 use Rattle.std.specs.Str.{bytes_eq}
@@ -25,6 +26,8 @@ use Rattle.calls_1401.specs.declared.call.Start.{Start}
 use Rattle.calls_1401.specs.declared.call.Start.TheVariants as start
 use Rattle.calls_1401.specs.declared.call.Told.{Told}
 use Rattle.calls_1401.specs.declared.call.Told.TheVariants as told
+use Rattle.exchange_1401.specs.declared.origins.Origin.{Origin}
+use Rattle.exchange_1401.specs.Origins.{is_text_of}
 use Rattle.arguments_1401.specs.Options.{IsFlagIn, IsNamedSizeIn, IsNameIn, IsNumberIn, IsNumberOr, language_in}
 
 -- what is written: tables with or without the listing, or else the listing, or else the image
@@ -136,6 +139,13 @@ AreOperatorsIn found operators =
     × IsNumberIn 16 found (codes "page") page
     × (operators ≡ operators_of seats port page)
 
+-- the origin outside that an option names, in letters of either case, if it names one
+abbrev pub IsOriginIn : Found → Option Origin → Type 0
+IsOriginIn found None = first_value found (codes "origin") ≡ None
+IsOriginIn found (Some origin) =
+    (text : List ℕ) × (first_value found (codes "origin") ≡ Some text)
+    × (is_text_of (map to_ascii_lowercase text) origin ≡ true)
+
 -- whether an option asks for a room with something of its own
 abbrev pub asks_for_more : Found → Bool
 asks_for_more found =
@@ -158,6 +168,7 @@ IsOpeningIn found (opening.Image file) = first_value found (codes "image") ≡ S
 pub record IsSeating (found : Found) (who : Operators) (asked : Seating) : Type 0 where
   pub opening : IsOpeningIn found asked.opening
   pub operators : asked.operators ≡ who
+  pub origin : IsOriginIn found asked.origin
   pub cards : IsNameIn found (codes "cards") asked.cards
   pub journal : IsJournalIn found asked.journal
 
@@ -176,14 +187,15 @@ IsRoom found operators asked =
     × IsRoomThat found operators (plain && (is_some operators.port && not (is_some operators.page))) asked
 
 -- `resume` of a file: at seats if there are operators, or else at a console
-abbrev pub resume_call : Resuming → Option Operators → Call
-resume_call resuming None = call.Resume resuming
-resume_call resuming (Some operators) = call.ResumeSeats resuming operators
+abbrev pub resume_call : Resuming → Option Operators → Option Origin → Call
+resume_call resuming None origin = call.Resume resuming
+resume_call resuming (Some operators) origin = call.ResumeSeats resuming operators origin
 
 abbrev pub IsResumed : Found → List ℕ → Call → Type 0
 IsResumed found file asked =
-    (resuming : Resuming) × (operators : Option Operators) × (asked ≡ resume_call resuming operators)
-    × IsResuming found file resuming × AreOperatorsIn found operators
+    (resuming : Resuming) × (operators : Option Operators) × (origin : Option Origin)
+    × (asked ≡ resume_call resuming operators origin)
+    × IsResuming found file resuming × AreOperatorsIn found operators × IsOriginIn found origin
 
 -- `console`: without a journal that is kept, or with it
 abbrev pub console_call : ℕ → Option NewJournal → Call

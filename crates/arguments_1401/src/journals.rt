@@ -2,13 +2,16 @@
 ghost use Rattle.std.specs.Prelude.{◌≡◌, [], IfOk, codes, unwrap_or};
 ghost use Rattle.clap.specs.Words.{first_value, found_of};
 ghost use Rattle.arguments_1401.specs.Options.{IsNumberIn};
-ghost use Rattle.arguments_1401.specs.Calls.{IsJournalIn, IsResumed, IsResuming, IsShowing, IsShown};
+ghost use Rattle.arguments_1401.specs.Calls.{IsJournalIn, IsOriginIn, IsResumed, IsResuming, IsShowing, IsShown};
 
 use crate::commands::{Session, Subcommand, refusal};
 use crate::options::{ANY_U8, ANY_U32, Argument, FREE, Kind, TEXT, name_in};
-use crate::serving::{PAGE, PORT, SEATS, operators_in, pages_refused};
+use crate::serving::{
+    ORIGIN, PAGE, PORT, SEATS, operators_in, origin_in, origin_refusal, pages_refused,
+};
 use calls_1401::{Call, NewJournal, Resuming, Showing};
 use clap::{ArgMatches, Error};
+use exchange_1401::Origin;
 use std::alloc::{AllocError, Global};
 
 /// The file in which a session's journal is kept.
@@ -112,6 +115,7 @@ const RESUMING: &[Argument] = &[
         needs: &["seats"],
         ..PAGE
     },
+    ORIGIN,
     JOURNAL_FILE,
 ];
 
@@ -215,10 +219,10 @@ fn resuming_in(alloc: Global, matches: &ArgMatches<'_>, file: &str) -> Result<Re
 }
 
 /// Why the options of `resume` can't be met, if they can't.
-fn resume_refused(matches: &ArgMatches<'_>) -> Option<&'static str> {
+fn resume_refused(matches: &ArgMatches<'_>, origin: Option<&Origin>) -> Option<&'static str> {
     match (resuming_refused(matches), operators_in(matches)) {
         (Some(text), _) => Some(text),
-        (None, Some(operators)) => pages_refused(operators),
+        (None, Some(operators)) => pages_refused(operators, origin),
         (None, None) => None,
     }
 }
@@ -231,14 +235,24 @@ pub(crate) fn resume_call(
 ) -> Result<Call, Error>
     ensures { IfOk result (λ call. IsResumed (found_of matches.now) file.now call) }
 {
-    match resume_refused(matches) {
+    let origin = match origin_in(alloc, matches) {
+        Ok(origin) => origin,
+        Err(fault) => return Err(origin_refusal(alloc, resume(), matches, fault)?),
+    };
+    match resume_refused(matches, origin.as_ref()) {
         Some(text) => Err(refusal(alloc, resume(), text)?),
-        None => Ok(resumed_call(alloc, matches, file)?),
+        None => Ok(resumed_call(alloc, matches, file, origin)?),
     }
 }
 
 /// What the options of `resume` ask for, if they can be met.
-fn resumed_call(alloc: Global, matches: &ArgMatches<'_>, file: &str) -> Result<Call, AllocError>
+fn resumed_call(
+    alloc: Global,
+    matches: &ArgMatches<'_>,
+    file: &str,
+    origin: Option<Origin>,
+) -> Result<Call, AllocError>
+    requires { IsOriginIn (found_of matches.now) origin }
     ensures { IfOk result (λ call. IsResumed (found_of matches.now) file.now call) }
 {
     let resuming = resuming_in(alloc, matches, file)?;
@@ -246,6 +260,7 @@ fn resumed_call(alloc: Global, matches: &ArgMatches<'_>, file: &str) -> Result<C
         Some(operators) => Call::ResumeSeats {
             resuming,
             operators,
+            origin,
         },
         None => Call::Resume(resuming),
     })

@@ -1,7 +1,7 @@
 //! The options of a room that operators share, read by `clap`.
 ghost use Rattle.std.specs.Prelude.{IfOk};
 ghost use Rattle.clap.specs.Words.{found_of};
-ghost use Rattle.arguments_1401.specs.Calls.{AreOperatorsIn, IsOpeningIn, IsPlainIn, IsRoom, IsSeating};
+ghost use Rattle.arguments_1401.specs.Calls.{AreOperatorsIn, IsOpeningIn, IsOriginIn, IsPlainIn, IsRoom, IsSeating};
 
 use crate::commands::{Session, Subcommand, refusal};
 use crate::journals::{JOURNAL, NEW_SYNC, new_journal_in};
@@ -10,6 +10,7 @@ use crate::sizes::{SIZE, size_in};
 use calls_1401::{Call, Opening, Operators, Seating, Service};
 use clap::builder::ValueParser;
 use clap::{ArgMatches, Error};
+use exchange_1401::{Origin, OriginFault, read_origin};
 use std::alloc::{AllocError, Global};
 
 /// The port that a browser leaves out of an address, so that a page there couldn't tell whether it was asked for.
@@ -31,6 +32,15 @@ pub(crate) const PAGE: Argument = Argument {
     name: "page",
     kind: Kind::Value("PORT", ANY_PORT, &[]),
     help: "The port on 127.0.0.1 for seat 1's page in a browser; each further seat has the next port",
+    ..FREE
+};
+
+/// Where a proxy brings the first page to others.
+pub(crate) const ORIGIN: Argument = Argument {
+    name: "origin",
+    kind: Kind::Value("ORIGIN", TEXT, &[]),
+    needs: &["page"],
+    help: "Where a proxy brings seat 1's page to others, as https://NAME:8443; each further seat has the next port",
     ..FREE
 };
 
@@ -56,6 +66,7 @@ const ARGUMENTS: &[Argument] = &[
         ..FREE
     },
     PAGE,
+    ORIGIN,
     Argument {
         name: "image",
         kind: Kind::Value("FILE", TEXT, &[]),
@@ -100,14 +111,54 @@ pub(crate) fn operators_in(matches: &ArgMatches<'_>) -> Option<Operators>
     }
 }
 
-/// Why there can't be pages for these operators, if there can't.
-pub(crate) fn pages_refused(operators: Operators) -> Option<&'static str> {
+/// The origin outside that the options name, if they name one.
+pub(crate) fn origin_in(
+    alloc: Global,
+    matches: &ArgMatches<'_>,
+) -> Result<Option<Origin>, OriginFault>
+    ensures { IfOk result (λ origin. IsOriginIn (found_of matches.now) origin) }
+{
+    match matches.get_str("origin") {
+        Some(text) => Ok(Some(read_origin(alloc, text)?)),
+        None => Ok(None),
+    }
+}
+
+/// The refusal of an origin of a subcommand that can't be read. If memory was refused for it, that is the error.
+pub(crate) fn origin_refusal(
+    alloc: Global,
+    of: &Subcommand,
+    matches: &ArgMatches<'_>,
+    fault: OriginFault,
+) -> Result<Error, AllocError> {
+    if fault == OriginFault::Memory {
+        return Err(AllocError);
+    }
+    let word = matches.get_str("origin").unwrap_or("");
+    let text = format!(in alloc; "invalid value '{word}' for '--origin <ORIGIN>': {fault}")?;
+    refusal(alloc, of, text.as_str())
+}
+
+/// Why there can't be pages for these operators, if there can't: here, or where a proxy brings them.
+pub(crate) fn pages_refused(operators: Operators, origin: Option<&Origin>) -> Option<&'static str> {
     let first = operators.page?;
-    let Some(last) = first.checked_add(u16::from(operators.seats).saturating_sub(1)) else {
+    let further = u16::from(operators.seats).saturating_sub(1);
+    let Some(last) = first.checked_add(further) else {
         return Some("the pages of all seats need ports beyond 65535");
     };
     if first <= UNNAMED_PORT && UNNAMED_PORT <= last {
         return Some("no page can be at port 80, which browsers leave out of what they send");
+    }
+    origin_refused(first, last, further, origin?)
+}
+
+/// Why a proxy can't bring the pages at the ports from the first to the last to others, if it can't.
+fn origin_refused(first: u16, last: u16, further: u16, origin: &Origin) -> Option<&'static str> {
+    let Some(outside) = origin.port.checked_add(further) else {
+        return Some("the pages of all seats need ports of --origin beyond 65535");
+    };
+    if origin.host.as_str() == "127.0.0.1" && origin.port <= last && first <= outside {
+        return Some("--origin names ports of 127.0.0.1 at which the pages already are");
     }
     None
 }
@@ -120,9 +171,13 @@ pub(crate) fn serve_call(
 ) -> Result<Call, Error>
     ensures { IfOk result (λ call. IsRoom (found_of matches.now) operators call) }
 {
-    match pages_refused(operators) {
+    let origin = match origin_in(alloc, matches) {
+        Ok(origin) => origin,
+        Err(fault) => return Err(origin_refusal(alloc, serve(), matches, fault)?),
+    };
+    match pages_refused(operators, origin.as_ref()) {
         Some(text) => Err(refusal(alloc, serve(), text)?),
-        None => Ok(room_call(alloc, matches, operators)?),
+        None => Ok(room_call(alloc, matches, operators, origin)?),
     }
 }
 
@@ -141,7 +196,9 @@ fn room_call(
     alloc: Global,
     matches: &ArgMatches<'_>,
     operators: Operators,
+    origin: Option<Origin>,
 ) -> Result<Call, AllocError>
+    requires { IsOriginIn (found_of matches.now) origin }
     ensures { IfOk result (λ call. IsRoom (found_of matches.now) operators call) }
 {
     let Operators { seats, port, page } = operators;
@@ -150,7 +207,7 @@ fn room_call(
             let size = size_in(matches);
             Ok(Call::Serve(Service { size, seats, port }))
         },
-        _ => Ok(Call::ServeSeats(seating_in(alloc, matches, operators)?)),
+        _ => Ok(Call::ServeSeats(seating_in(alloc, matches, operators, origin)?)),
     }
 }
 
@@ -169,12 +226,15 @@ fn seating_in(
     alloc: Global,
     matches: &ArgMatches<'_>,
     operators: Operators,
+    origin: Option<Origin>,
 ) -> Result<Seating, AllocError>
+    requires { IsOriginIn (found_of matches.now) origin }
     ensures { IfOk result (λ asked. IsSeating (found_of matches.now) operators asked) }
 {
     Ok(Seating {
         opening: opening_in(alloc, matches)?,
         operators,
+        origin,
         cards: name_in(alloc, matches, "cards")?,
         journal: new_journal_in(alloc, matches)?,
     })

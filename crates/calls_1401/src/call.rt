@@ -1,6 +1,7 @@
 //! What the command line asks for.
 
 use core_1401::SIZES;
+use exchange_1401::Origin;
 use source_1401::Language;
 
 /// The size of core storage if none is named.
@@ -95,6 +96,9 @@ pub struct Seating {
     pub opening: Opening,
     /// Who comes.
     pub operators: Operators,
+    /// Where a proxy brings the page of seat 1 to others, and that of each next seat at one port more; without one pages
+    /// are on 127.0.0.1 alone. There is none without pages, and no port is beyond 65535.
+    pub origin: Option<Origin>,
     /// The name of the file of a deck, which is in the hopper when they come; without one the hopper is empty.
     pub cards: Option<String>,
     /// The journal that is kept; without one none is.
@@ -223,5 +227,7 @@ pub enum Call {
         resuming: Resuming,
         /// Who comes.
         operators: Operators,
+        /// Where a proxy brings their pages to others, as `Seating` has it.
+        origin: Option<Origin>,
     },
 }

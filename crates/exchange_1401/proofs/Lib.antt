@@ -1,2 +1,5 @@
 pub mod FollowLemmas
+mod OriginExamples
+pub mod OriginLemmas
 mod RouteExamples
+mod SiteExamples

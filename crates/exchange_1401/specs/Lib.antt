@@ -2,6 +2,8 @@ pub mod Exchange
 pub mod Fields
 pub mod Limits
 pub mod Numbers
+pub mod Origins
 pub mod Responses
 pub mod Route
+pub mod Sites
 pub mod Visiting

@@ -8,6 +8,7 @@ use Rattle.exchange_1401.specs.declared.route.Route.{Route}
 use Rattle.exchange_1401.specs.declared.route.Route.TheVariants.{Page, Picture, Line, WrongMethod, Unknown}
 use Rattle.exchange_1401.specs.Fields.{has_field}
 use Rattle.exchange_1401.specs.Route.{route_of}
+use Rattle.exchange_1401.specs.Sites.{is_from_site, SiteView}
 
 -- a picture and a line need the seat
 abbrev pub needs_seat : Route → Bool
@@ -17,18 +18,17 @@ needs_seat Line = true
 needs_seat WrongMethod = false
 needs_seat Unknown = false
 
--- a request comes from the page at this origin: its Origin says so, or the browser that sends it
-abbrev pub is_own : Parts → List ℕ → Bool
-is_own head origin =
-    has_field head (codes "origin") origin || has_field head (codes "sec-fetch-site") (codes "same-origin")
+-- a request comes from the page itself: its Origin says so, or the browser that sends it
+abbrev pub is_own : Parts → SiteView → Bool
+is_own head site = is_from_site head site || has_field head (codes "sec-fetch-site") (codes "same-origin")
 
 -- it asks for a picture or brings a line, and comes from the page
-abbrev pub is_visit : Parts → List ℕ → Bool
-is_visit head origin = needs_seat (route_of head.method (uri_path head.uri)) && is_own head origin
+abbrev pub is_visit : Parts → SiteView → Bool
+is_visit head site = needs_seat (route_of head.method (uri_path head.uri)) && is_own head site
 
 -- what is noted of a request
-abbrev pub Notices : List ℕ → Request (List ℕ) → Bool → Bool → Type 0
-Notices origin request whole visit = (whole ≡ true) × (visit ≡ is_visit (head_of request) origin)
+abbrev pub Notices : SiteView → Request (List ℕ) → Bool → Bool → Type 0
+Notices site request whole visit = (whole ≡ true) × (visit ≡ is_visit (head_of request) site)
 
 -- a byte is the digit 2
 abbrev pub is_two : Option ℕ → Bool

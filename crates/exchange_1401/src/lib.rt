@@ -2,7 +2,7 @@
 //! answered.
 //!
 //! ```text
-//! read_request(rt, origin, &stream)?                     // a connection's request, once it has come whole
+//! read_request(rt, &site, &stream)?                      // a connection's request, once it has come whole
 //! answer_each(rt, &mut service, &mut requests);          // such requests in turn, to the last one
 //! route_of("GET", "/picture")                            // Route::Picture
 //! put_page(&mut response, html, policy)?;                // 200, with the page
@@ -18,7 +18,9 @@ pub mod reading;
 // what a request asks for, where it comes from, and what it goes on from
 pub mod fields;
 pub mod numbers;
+pub mod origins;
 pub mod route;
+pub mod sites;
 
 // what it is answered, also while a console sits at the seat
 pub mod responses;
@@ -28,8 +30,10 @@ pub use exchange::answer;
 pub use fields::{has_field, is_ambiguous, is_for, is_next};
 pub use listening::{Requests, answer_bytes, answer_each, page_config};
 pub use numbers::number;
+pub use origins::{Origin, OriginFault, Scheme, host_at, origin_after, origin_at, read_origin};
 pub use reading::{WholeRequest, is_accepted, is_visit, read_request, send_answer};
 pub use responses::{begin_text, end_with, end_without, put_page, refuse};
 pub use route::{Route, route_of};
+pub use sites::{Site, is_for_site, is_from_site};
 pub use sockets_1401::{has_begun, linger};
 pub use taken::TakenSeat;

@@ -6,6 +6,7 @@ ghost use Rattle.exchange_1401.specs.Visiting.{is_accepted, is_own, is_visit, ne
 use crate::fields::has_field;
 use crate::listening::page_config;
 use crate::route::{Route, route_of};
+use crate::sites::{Site, is_from_site};
 use bytes::Bytes;
 use http::Request;
 use http_server::{Connection, Response, Service};
@@ -30,11 +31,11 @@ pub struct WholeRequest {
     pub is_visit: bool,
 }
 
-/// Whether a request comes from the page at this origin: its Origin says so, or its browser.
-fn is_own(request: &Request<Bytes>, origin: &[u8]) -> bool
-    ensures { result ≡ is_own (head_of request.now) origin.now }
+/// Whether a request comes from the page of a site: its Origin says so, or its browser.
+fn is_own(request: &Request<Bytes>, site: &Site) -> bool
+    ensures { result ≡ is_own (head_of request.now) site.now }
 {
-    has_field(request, "origin", origin) || has_field(request, "sec-fetch-site", b"same-origin")
+    is_from_site(request, site) || has_field(request, "sec-fetch-site", b"same-origin")
 }
 
 /// Whether a route needs the seat.
@@ -50,11 +51,11 @@ fn needs_seat(route: Route) -> bool
     }
 }
 
-/// Whether a request asks for a picture or brings a line, and comes from the page at this origin.
-pub fn is_visit(request: &Request<Bytes>, origin: &[u8]) -> bool
-    ensures { result ≡ is_visit (head_of request.now) origin.now }
+/// Whether a request asks for a picture or brings a line, and comes from the page of this site.
+pub fn is_visit(request: &Request<Bytes>, site: &Site) -> bool
+    ensures { result ≡ is_visit (head_of request.now) site.now }
 {
-    needs_seat(route_of(request.method().as_str(), request.uri().path())) && is_own(request, origin)
+    needs_seat(route_of(request.method().as_str(), request.uri().path())) && is_own(request, site)
 }
 
 /// Whether an answer has a status from 200 to 299.
@@ -67,7 +68,7 @@ pub fn is_accepted(answer: &[u8]) -> bool
 /// What a connection's request is, once it has come whole.
 #[derive(Drop)]
 struct Notice<'a> {
-    origin: &'a [u8],
+    site: &'a Site,
     is_whole: bool,
     is_visit: bool,
 }
@@ -75,7 +76,7 @@ struct Notice<'a> {
 impl Service for Notice<'_> {
     ghost use Rattle.exchange_1401.specs.Visiting.{Notices};
 
-    ghost answers = { λ old request _ new. Notices old.origin.now request new.is_whole new.is_visit };
+    ghost answers = { λ old request _ new. Notices old.site.now request new.is_whole new.is_visit };
 
     fn call(
         &mut self,
@@ -83,7 +84,7 @@ impl Service for Notice<'_> {
         _response: &mut Response,
     ) -> Result<(), AllocError> {
         self.is_whole = true;
-        self.is_visit = is_visit(request, self.origin);
+        self.is_visit = is_visit(request, self.site);
         Ok(())
     }
 }
@@ -114,7 +115,7 @@ enum Turn {
     Refused,
 }
 
-/// Reads the request of a connection to the page at this origin, until it is whole. One that is refused for its form is
+/// Reads the request of a connection to the page of this site, until it is whole. One that is refused for its form is
 /// answered so, and then there is none.
 ///
 /// # Errors
@@ -122,12 +123,12 @@ enum Turn {
 /// If the request doesn't come in time, its refusal isn't taken, or memory or random keys are refused.
 pub fn read_request<R: AllocGlobal + RandomSource + Clock>(
     rt: &R,
-    origin: &[u8],
+    site: &Site,
     stream: &TcpStream,
 ) -> io::Result<Option<WholeRequest>> {
     stream.set_nodelay(true)?;
     let mut notice = Notice {
-        origin,
+        site,
         is_whole: false,
         is_visit: false,
     };

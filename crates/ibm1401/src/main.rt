@@ -83,8 +83,9 @@ fn run<
             Call::ResumeSeats {
                 resuming,
                 operators,
+                origin,
             },
-        ) => resume_seats(rt, resuming, operators).map_err(Fault::Open),
+        ) => resume_seats(rt, resuming, operators, origin).map_err(Fault::Open),
         Err(error) => tell(rt, error),
     }
 }
@@ -116,12 +117,13 @@ fn serve_seats<
     let Seating {
         opening,
         operators,
+        origin,
         cards,
         journal,
     } = asked;
     let machine = new_machine(rt, opening).map_err(Fault::Open)?;
     let cards = cards_of(rt, cards)?;
-    open_seats(rt, machine, cards, operators, journal).map_err(Fault::Open)
+    open_seats(rt, machine, cards, operators, origin, journal).map_err(Fault::Open)
 }
 
 /// The words of the command line, the program's own name in front.

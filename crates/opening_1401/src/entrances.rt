@@ -1,10 +1,14 @@
 //! The ports at which the operators of a room come.
-ghost use Rattle.std.specs.Prelude.{◌≤◌, IfOk, vec_len};
+ghost use Rattle.std.specs.Prelude.{◌≤◌, option_copied, IfOk, vec_len};
+ghost use Rattle.opening_1401.specs.Pages.{IsOutsideAt, IsPageAt};
 
 use crate::fault::{OpenFault, not_told};
 use calls_1401::Operators;
+use exchange_1401::{Origin, Site, origin_after};
 use holding_1401::HoldFault;
 use serving_1401::PagePort;
+use std::alloc::Global;
+use std::io;
 use std::net::{Ipv4Addr, Net, TcpListener, TcpStream};
 
 /// The listeners at these ports.
@@ -24,7 +28,7 @@ fn listener_at(
     TcpListener::bind(rt, (Ipv4Addr::LOCALHOST, port)).map_err(|_| OpenFault::Port)
 }
 
-/// The listeners for these operators.
+/// The listeners for these operators, whose pages a proxy brings to others at this origin, if there is one.
 ///
 /// # Errors
 ///
@@ -32,6 +36,7 @@ fn listener_at(
 pub(crate) fn open_entrances<R: AllocGlobal + Net<Listener = TcpListener, Stream = TcpStream>>(
     rt: &R,
     operators: Operators,
+    origin: Option<&Origin>,
 ) -> Result<Entrances, OpenFault>
     ensures { IfOk result (λ entrances. vec_len entrances.pages ≤ operators.seats) }
 {
@@ -40,10 +45,44 @@ pub(crate) fn open_entrances<R: AllocGlobal + Net<Listener = TcpListener, Stream
         None => None,
     };
     let pages = match operators.page {
-        Some(first) => open_pages(rt, first, operators.seats)?,
+        Some(first) => open_pages(rt, first, operators.seats, origin)?,
         None => Vec::new(rt.alloc()),
     };
     Ok(Entrances { consoles, pages })
+}
+
+/// Where a proxy brings the page of the seat that is so many places after the first.
+fn outside_at(
+    alloc: Global,
+    origin: Option<&Origin>,
+    places: u8,
+) -> Result<Option<Origin>, OpenFault>
+    ensures { IfOk result (λ outside. IsOutsideAt (option_copied origin) places outside) }
+{
+    let Some(origin) = origin else {
+        return Ok(None);
+    };
+    match origin_after(alloc, origin, places) {
+        Ok(Some(outside)) => Ok(Some(outside)),
+        Ok(None) => Err(OpenFault::Port),
+        Err(_) => Err(OpenFault::Hold(HoldFault::Memory)),
+    }
+}
+
+/// Where the page of the seat is that is so many places after the first; one beyond the last port is refused.
+fn site_at(
+    alloc: Global,
+    first: u16,
+    origin: Option<&Origin>,
+    places: u8,
+) -> Result<Site, OpenFault>
+    ensures { IfOk result (λ site. IsPageAt first (option_copied origin) places site) }
+{
+    let Some(port) = first.checked_add(u16::from(places)) else {
+        return Err(OpenFault::Port);
+    };
+    let outside = outside_at(alloc, origin, places)?;
+    Site::new(alloc, port, outside).map_err(|_| OpenFault::Hold(HoldFault::Memory))
 }
 
 /// The listeners of as many pages as seats, from this port on; one beyond the last port is refused.
@@ -51,23 +90,22 @@ fn open_pages<R: AllocGlobal + Net<Listener = TcpListener, Stream = TcpStream>>(
     rt: &R,
     first: u16,
     seats: u8,
+    origin: Option<&Origin>,
 ) -> Result<Vec<PagePort>, OpenFault>
     ensures { IfOk result (λ pages. vec_len pages ≤ seats) }
 {
     let mut pages = Vec::new(rt.alloc());
     for seat in 0..seats {
-        let Some(port) = first.checked_add(u16::from(seat)) else {
-            return Err(OpenFault::Port);
-        };
-        let listener = listener_at(rt, port)?;
-        if pages.push(PagePort { port, listener }).is_err() {
+        let site = site_at(rt.alloc(), first, origin, seat)?;
+        let listener = listener_at(rt, site.port())?;
+        if pages.push(PagePort { site, listener }).is_err() {
             return Err(OpenFault::Hold(HoldFault::Memory));
         }
     }
     Ok(pages)
 }
 
-/// Tells on standard output that the room is open, and where each page is.
+/// Tells on standard output that the room is open, and where each page is, here and outside.
 ///
 /// # Errors
 ///
@@ -75,8 +113,16 @@ fn open_pages<R: AllocGlobal + Net<Listener = TcpListener, Stream = TcpStream>>(
 pub(crate) fn tell_ready(rt: &impl Print, pages: &[PagePort]) -> Result<(), OpenFault> {
     println!(rt; "READY").map_err(not_told)?;
     for (before, page) in pages.iter().enumerate() {
-        let port = page.port;
-        println!(rt; "SEAT {} http://127.0.0.1:{port}/", before + 1).map_err(not_told)?;
+        print_page(rt, before + 1, &page.site).map_err(not_told)?;
     }
     Ok(())
+}
+
+/// Prints where the page of a seat is.
+fn print_page(rt: &impl Print, seat: usize, site: &Site) -> io::Result<()> {
+    let port = site.port();
+    match site.outside() {
+        None => println!(rt; "SEAT {seat} http://127.0.0.1:{port}/"),
+        Some(outside) => println!(rt; "SEAT {seat} http://127.0.0.1:{port}/ {outside}/"),
+    }
 }

@@ -9,6 +9,7 @@ use crate::entrances::{Entrances, open_entrances};
 use crate::fault::{OpenFault, not_kept};
 use crate::seating::{open_new, serve_room};
 use calls_1401::{NewJournal, Operators, Resuming};
+use exchange_1401::Origin;
 use holding_1401::{HoldFault, durability_of, read_chosen, tell_cut};
 use keeping_1401::{
     Durability, JournalFile, TakenUp, TextKeeper, Verifier, find_journal, verify_journal,
@@ -57,8 +58,8 @@ pub fn resume_seats<
         + AllocGlobal
         + Files<File = File>
         + Net<Listener = TcpListener, Stream = TcpStream>,
->(rt: &R, asked: Resuming, operators: Operators) -> Result<(), OpenFault> {
-    let entrances = open_entrances(rt, operators)?;
+>(rt: &R, asked: Resuming, operators: Operators, origin: Option<Origin>) -> Result<(), OpenFault> {
+    let entrances = open_entrances(rt, operators, origin.as_ref())?;
     resume_at(rt, asked, operators.seats, &entrances)
 }
 

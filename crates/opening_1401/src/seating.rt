@@ -12,6 +12,7 @@ use crate::serving::start_fault;
 use calls_1401::{NewJournal, Opening, Operators};
 use core_1401::Core;
 use devices_1401::Card;
+use exchange_1401::Origin;
 use holding_1401::{HoldFault, durability_of, read_file};
 use image_1401::{Image, read_image};
 use keeping_1401::{JournalFile, MadeJournal, MadeName, TextKeeper, begin_journal};
@@ -83,9 +84,9 @@ pub fn new_machine(
     Ok(NewMachine { size, image })
 }
 
-/// Opens a machine to operators whose seats are taken again, with these cards in its hopper. It tells on standard
-/// output when it listens, with the address of each page, and at the end how many commands the journal has. QUIT on
-/// standard input, or its end, closes the room.
+/// Opens a machine to operators whose seats are taken again, with these cards in its hopper; a proxy brings their
+/// pages to others at this origin, if there is one. It tells on standard output when it listens, with the address of
+/// each page, and at the end how many commands the journal has. QUIT on standard input, or its end, closes the room.
 ///
 /// # Errors
 ///
@@ -110,11 +111,12 @@ pub fn open_seats<
     machine: NewMachine,
     cards: Vec<Card>,
     operators: Operators,
+    origin: Option<Origin>,
     journal: Option<NewJournal>,
 ) -> Result<(), OpenFault> {
     let NewMachine { size, image } = machine;
     let before = Before::Program { image, cards };
-    let entrances = open_entrances(rt, operators)?;
+    let entrances = open_entrances(rt, operators, origin.as_ref())?;
     open_new(rt, size, operators.seats, before, journal, &entrances)
 }
 

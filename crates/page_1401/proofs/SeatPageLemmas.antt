@@ -20,6 +20,7 @@ use Rattle.exchange_1401.specs.Fields.{count_in, is_ambiguous, is_next}
 use Rattle.exchange_1401.specs.Exchange.{Follows}
 use Rattle.exchange_1401.specs.Responses.{IsRefused}
 use Rattle.exchange_1401.specs.Route.{route_of}
+use Rattle.exchange_1401.specs.Sites.{SiteView}
 use Rattle.page_1401.specs.SeatPage.{Answers, AnswersRoute, GoesOn, PageView}
 use Rattle.page_1401.specs.Showing.{HasLooked, Sees, ShowsPicture}
 use Rattle.page_1401.specs.Taking.{AnswersLine, TakesLine}
@@ -54,10 +55,10 @@ answers_line : (size : ℕ) (lost : List SeatedCommand → Type 0) (before : Sea
     → AnswersLine size lost before bytes response after → GoesOn before after
 answers_line size lost before bytes response after a = record { number_is = a.number_is; grows = a.grows }
 
-takes : (size : ℕ) (lost : List SeatedCommand → Type 0) (origin : List ℕ) (head : Parts) (bytes : List ℕ)
+takes : (size : ℕ) (lost : List SeatedCommand → Type 0) (site : SiteView) (head : Parts) (bytes : List ℕ)
     (before : SeatView) (response : Response) (after : SeatView)
-    → TakesLine size lost origin head bytes before response after → GoesOn before after
-takes size lost origin head bytes before response after t =
+    → TakesLine size lost site head bytes before response after → GoesOn before after
+takes size lost site head bytes before response after t =
     let Refused : ℕ → Type 0 = λ status. IsRefused status response × (after ≡ before) in
     let Taken : Type 0 = AnswersLine size lost before bytes response after in
     either _ (MatchBool (is_next (count_in head) before.made) Taken (Refused 409)) (Refused 403) (GoesOn before after) t

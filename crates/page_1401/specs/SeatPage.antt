@@ -1,5 +1,5 @@
 -- What requests are answered at the page of a seat, and what they leave (own).
-use Rattle.std.specs.Prelude.{◌≡◌, ℕ, List, MatchBool}
+use Rattle.std.specs.Prelude.{◌≡◌, ℕ, List, MatchBool, Option}
 use mathlib.Core.List.{IsPrefix}
 use Rattle.http_uri.specs.Uri.{uri_path, uri_query}
 use Rattle.http.specs.declared.request.Request.{Request}
@@ -8,23 +8,30 @@ use Rattle.http_server.specs.declared.response.Response.{Response}
 use Rattle.http_server.specs.Response.{IsResponse}
 use Rattle.lone_room_1401.specs.declared.entry.SeatedCommand.{SeatedCommand}
 use Rattle.room_1401.specs.Seen.{SeatView}
+use Rattle.exchange_1401.specs.declared.origins.Origin.{Origin}
 use Rattle.exchange_1401.specs.declared.route.Route.{Route}
 use Rattle.exchange_1401.specs.declared.route.Route.TheVariants.{Page, Picture, Line, WrongMethod, Unknown}
 use Rattle.page_1401.specs.Asked.{asked_in}
-use Rattle.exchange_1401.specs.Fields.{host_of, is_ambiguous, is_for, origin_of}
+use Rattle.exchange_1401.specs.Fields.{is_ambiguous}
 use Rattle.exchange_1401.specs.Responses.{IsRefused, page_fields}
 use Rattle.exchange_1401.specs.Route.{route_of}
+use Rattle.exchange_1401.specs.Sites.{is_for_site, SiteView}
 use Rattle.page_1401.specs.Showing.{ShowsPicture}
 use Rattle.page_1401.specs.Taking.{TakesLine}
 
--- how many seats there are, the port of the loopback, the page, what its browser may do with it, and what the seat
--- knows
+-- how many seats there are, the port of the loopback, the origin outside if there is one, the page, what its browser
+-- may do with it, and what the seat knows
 pub record PageView : Type 0 where
   pub seats : ℕ
   pub port : ℕ
+  pub outside : Option Origin
   pub page : List ℕ
   pub policy : List ℕ
   pub seat : SeatView
+
+-- where the page is
+abbrev pub site_of : PageView → SiteView
+site_of page = record { port = page.port; outside = page.outside }
 
 -- the same page, and what its seat knows then
 abbrev pub with_seat : PageView → SeatView → PageView
@@ -39,17 +46,17 @@ AnswersRoute size lost Picture old request response new =
     ShowsPicture size old.seats (asked_in (uri_query (head_of request).uri)) old.seat response new.seat
     × (new ≡ with_seat old new.seat)
 AnswersRoute size lost Line old request response new =
-    TakesLine size lost (origin_of old.port) (head_of request) (body_of request) old.seat response new.seat
+    TakesLine size lost (site_of old) (head_of request) (body_of request) old.seat response new.seat
     × (new ≡ with_seat old new.seat)
 AnswersRoute size lost WrongMethod old request response new = IsRefused 405 response × (new ≡ old)
 AnswersRoute size lost Unknown old request response new = IsRefused 404 response × (new ≡ old)
 
--- a request that isn't for the page's own host and port is refused, and so is a request that says twice where it comes
+-- a request that isn't for the page's own host and port, here or outside, is refused, and so is a request that says twice where it comes
 -- from or what it goes on from; both leave all as it was
 abbrev pub Answers : ℕ → (List SeatedCommand → Type 0) → PageView → Request (List ℕ) → Response → PageView → Type 0
 Answers size lost old request response new =
     let head = head_of request in
-    MatchBool (is_for head (host_of old.port))
+    MatchBool (is_for_site head (site_of old))
     (MatchBool (is_ambiguous head)
     (IsRefused 400 response × (new ≡ old))
     (AnswersRoute size lost (route_of head.method (uri_path head.uri)) old request response new))

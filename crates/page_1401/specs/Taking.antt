@@ -1,5 +1,5 @@
 -- A console line, as a request brings one (own).
-use Rattle.std.specs.Prelude.{◌≡◌, ℕ, ◌⊎◌, Bool, List, [], Option, codes, MatchBool}
+use Rattle.std.specs.Prelude.{◌≡◌, ℕ, ◌⊎◌, Bool, List, [], Option, MatchBool}
 use mathlib.Core.List.{IsPrefix}
 use Rattle.http.specs.declared.request.Parts.{Parts}
 use Rattle.http_server.specs.declared.response.Response.{Response}
@@ -12,8 +12,9 @@ use Rattle.text_1401.specs.ConsoleLine.{said_by}
 use Rattle.console_1401.specs.declared.attending.Unanswered.{Unanswered}
 use Rattle.console_1401.specs.declared.attending.Unanswered.TheVariants.{Memory, Unkept}
 use Rattle.console_1401.specs.SeatTurns.{AnswersAtSeat, IsUnanswered}
-use Rattle.exchange_1401.specs.Fields.{count_in, has_field, is_next}
+use Rattle.exchange_1401.specs.Fields.{count_in, is_next}
 use Rattle.exchange_1401.specs.Responses.{IsRefused, IsText, text_fields}
+use Rattle.exchange_1401.specs.Sites.{is_from_site, SiteView}
 
 -- a line was carried out and isn't answered: 507 if memory was refused for its reply, 500 if its entry wasn't kept
 abbrev pub IsUnansweredBy : Unanswered → Response → Type 0
@@ -46,10 +47,10 @@ pub record AnswersLine (size : ℕ) (lost : List SeatedCommand → Type 0) (befo
   pub grows : IsPrefix before.list after.list
 
 -- a line has to come from the seat's own page, and to go on from what the seat made; else nothing is carried out
-abbrev pub TakesLine : ℕ → (List SeatedCommand → Type 0) → List ℕ → Parts → List ℕ → SeatView → Response → SeatView
+abbrev pub TakesLine : ℕ → (List SeatedCommand → Type 0) → SiteView → Parts → List ℕ → SeatView → Response → SeatView
     → Type 0
-TakesLine size lost origin head line before response after =
-    MatchBool (has_field head (codes "origin") origin)
+TakesLine size lost site head line before response after =
+    MatchBool (is_from_site head site)
     (MatchBool (is_next (count_in head) before.made)
     (AnswersLine size lost before line response after)
     (IsRefused 409 response × (after ≡ before)))

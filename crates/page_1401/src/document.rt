@@ -2106,8 +2106,10 @@ seatsDrawn=`${seat} ${seats}`;
 document.title=filled(TEXTS.documentTitle,{seat});
 byId('seats').replaceChildren();
 added(byId('seats'),'span',{textContent:TEXTS.seats});
+const{protocol,hostname}=location;
+const port=Number(location.port||(protocol==='https:'?443:80))- seat;
 for(let n=1;n<=seats;n++){
-const address=`http://${location.hostname}:${Number(location.port) - seat + n}/`;
+const address=`${protocol}//${hostname}:${port + n}/`;
 const link=added(byId('seats'),'a',{href:address,textContent:n});
 link.setAttribute('aria-label',filled(n===seat?TEXTS.thisSeat:TEXTS.seat,{n}));
 if(n===seat)link.setAttribute('aria-current','page');
@@ -2786,7 +2788,7 @@ begin();
 /// The `content-security-policy` of the page: its own script and style by their SHA-256, exchanges with its own server,
 /// and nothing else.
 pub const POLICY: &str = "default-src 'none'; \
-    script-src 'sha256-Klkn3zrvdMTrviY1jO3dQEueS4BA8dpJcNrBhB3ScjI='; \
+    script-src 'sha256-kT/GMXqryuXcaaJ4uBgLlN6pqe4QCwYkVziZU1gdOMs='; \
     style-src 'sha256-5rwYPnFzPlEyhvXKQgbEUChyhVj+FnRxO6BDqFFDxlQ='; \
     img-src data:; \
     connect-src 'self'; \

@@ -1,7 +1,8 @@
 //! The page in a browser that an operator of the IBM 1401 has at a seat: requests of HTTP, answered at the seat.
 //!
 //! ```text
-//! let mut page = SeatPage::new(alloc, rt, &room, seat, 8, 8080, html, policy)?;  // at http://127.0.0.1:8080/
+//! let site = Site::new(alloc, 8080, None)?;              // at http://127.0.0.1:8080/
+//! let mut page = SeatPage::new(alloc, rt, &room, seat, 8, &site, html, policy);
 //! answer_page(rt, &mut page, &mut requests);             // its requests in turn, to the last one
 //! page.into_seat()                                       // the seat, with all that it made
 //! ```
@@ -24,9 +25,9 @@ pub mod seat_page;
 
 pub use asked::{Asked, asked_by};
 pub use exchange_1401::{
-    Requests, Route, TakenSeat, WholeRequest, answer, answer_bytes, answer_each, has_begun,
-    is_accepted, linger, page_config, read_request, route_of, send_answer,
+    Origin, Requests, Route, Site, TakenSeat, WholeRequest, answer, answer_bytes, answer_each,
+    has_begun, is_accepted, linger, page_config, read_request, route_of, send_answer,
 };
 pub use listening::answer_page;
 pub use picture_lines::picture_text;
-pub use seat_page::{SeatPage, page_origin};
+pub use seat_page::SeatPage;

@@ -7,7 +7,7 @@ ghost use Rattle.page_1401.specs.Taking.{AnswersLine, HasLost, IsUnansweredBy, T
 
 use bytes::Bytes;
 use console_1401::{Unanswered, answer_line};
-use exchange_1401::{begin_text, end_with, end_without, has_field, is_next, refuse};
+use exchange_1401::{Site, begin_text, end_with, end_without, is_from_site, is_next, refuse};
 use http::{Request, StatusCode};
 use http_server::Response;
 use room_1401::{Keeper, RoomId, Seat, SharedRoom};
@@ -52,16 +52,16 @@ pub(crate) fn take_line<J: RoomId, R: Wait + Drop, P: Keeper + Drop, W: Wait>(
     wait: &W,
     room: &SharedRoom<J, R, P>,
     seat: &mut Seat<J>,
-    origin: &[u8],
+    site: &Site,
     request: &Request<Bytes>,
     response: &mut Response,
 ) -> Result<(), AllocError>
     requires { IsBlank response.old }
     ensures ok { OnOk result (TakesLine J.size (HasLost P.has_failed P.kept P.first P.form J.size)
-        origin.now (head_of request.now) (body_of request.now) seat.old response.new seat.new) }
+        site.now (head_of request.now) (body_of request.now) seat.old response.new seat.new) }
     ensures err { OnErr result (seat.new ≡ seat.old) }
 {
-    if !has_field(request, "origin", origin) {
+    if !is_from_site(request, site) {
         return refuse(response, StatusCode::FORBIDDEN);
     }
     if !is_next(request, seat.made()) {

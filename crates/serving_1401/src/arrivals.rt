@@ -4,7 +4,7 @@
 use crate::crowd::{Crowd, NAPS, Stage};
 use crossbeam_channel::{Sender, bounded};
 use desk_1401::{SeatsFault, Service};
-use page_1401::{WholeRequest, has_begun, linger, read_request, send_answer};
+use page_1401::{Site, WholeRequest, has_begun, linger, read_request, send_answer};
 use room_1401::RoomId;
 use std::alloc::{AllocGlobal, Global};
 use std::io::{Read, Write};
@@ -40,7 +40,7 @@ pub(crate) fn accept_arrivals<J, R>(
     rt: &R,
     service: &Service<J>,
     listener: &TcpListener,
-    origin: &[u8],
+    site: &Site,
     crowd: &Crowd,
     asked: Sender<Asked>,
 )
@@ -49,7 +49,7 @@ where
     R: Threads + Wait + Sync + Clock + AllocGlobal + RandomSource,
 {
     thread::scope(thread::scope_env(), rt, move |scope| {
-        accept_each_arrival(scope, alloc, rt, service, listener, origin, crowd, asked)
+        accept_each_arrival(scope, alloc, rt, service, listener, site, crowd, asked)
     });
 }
 
@@ -60,7 +60,7 @@ fn accept_each_arrival<'s, E: 's, J, R>(
     rt: &'s R,
     service: &'s Service<J>,
     listener: &TcpListener,
-    origin: &'s [u8],
+    site: &'s Site,
     crowd: &'s Crowd,
     asked: Sender<Asked>,
 )
@@ -75,9 +75,7 @@ where
             break;
         };
         number = next_after(number);
-        match let_in(
-            scope, alloc, rt, origin, crowd, stream, number, looks, &asked,
-        ) {
+        match let_in(scope, alloc, rt, site, crowd, stream, number, looks, &asked) {
             // Once one was refused, the next one isn't waited for until there is a place again.
             Ok(is_inside) => looks = if is_inside { NAPS } else { 1 },
             Err(fault) => service.note(rt, fault),
@@ -101,7 +99,7 @@ fn let_in<'s, E: 's, R>(
     scope: &Scope<'s, E>,
     alloc: Global,
     rt: &'s R,
-    origin: &'s [u8],
+    site: &'s Site,
     crowd: &'s Crowd,
     stream: TcpStream,
     number: u64,
@@ -125,7 +123,7 @@ where
         return Ok(false);
     }
     let started = scope.spawn(move || {
-        attend_arrival(alloc, rt, origin, crowd, &stream, number, asked);
+        attend_arrival(alloc, rt, site, crowd, &stream, number, asked);
         crowd.leave(rt, number);
     });
     if started.is_err() {
@@ -139,7 +137,7 @@ where
 fn attend_arrival<R>(
     alloc: Global,
     rt: &R,
-    origin: &[u8],
+    site: &Site,
     crowd: &Crowd,
     stream: &TcpStream,
     number: u64,
@@ -151,7 +149,7 @@ where
     if !has_begun(rt, stream) {
         return;
     }
-    let Ok(Some(request)) = read_request(rt, origin, stream) else {
+    let Ok(Some(request)) = read_request(rt, site, stream) else {
         return;
     };
     if !crowd.go_on(rt, number, Stage::Asking) {

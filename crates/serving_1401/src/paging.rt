@@ -7,7 +7,7 @@ use crate::visits::Visits;
 use crossbeam_channel::{Receiver, Sender, bounded};
 use desk_1401::{SeatsFault, Service};
 use page_1401::document::{PAGE, POLICY};
-use page_1401::{SeatPage, TakenSeat, answer_each, answer_page, page_origin};
+use page_1401::{SeatPage, Site, TakenSeat, answer_each, answer_page};
 use room_1401::{Keeper, RoomId, Seat, SharedRoom};
 use std::alloc::{AllocGlobal, Global};
 use std::net::TcpListener;
@@ -20,8 +20,8 @@ use std::time::Clock;
 /// Where a page is served.
 #[derive(Drop)]
 pub struct PagePort {
-    /// The number of the port on 127.0.0.1, as a browser names it. Not 80, which a browser leaves out.
-    pub port: u16,
+    /// The port on 127.0.0.1, as a browser names it, and the origin outside, if there is one.
+    pub site: Site,
     /// The listener at that port.
     pub listener: TcpListener,
 }
@@ -93,25 +93,12 @@ where
     R: Threads + Wait + Sync + Clock + AllocGlobal + RandomSource,
     requires { (0 < number) × (number ≤ J.seats) }
 {
-    let (Ok((asked, receiver)), Ok(crowd), Ok(origin)) = (
-        bounded(alloc, MOST_INSIDE),
-        Crowd::new(alloc),
-        page_origin(alloc, page.port),
-    ) else {
+    let (Ok((asked, receiver)), Ok(crowd)) = (bounded(alloc, MOST_INSIDE), Crowd::new(alloc)) else {
         service.give_up(rt, &page.listener, SeatsFault::Memory);
         return;
     };
     answer_all(
-        alloc,
-        rt,
-        room,
-        service,
-        page,
-        number,
-        origin.as_slice(),
-        &crowd,
-        asked,
-        receiver,
+        alloc, rt, room, service, page, number, &crowd, asked, receiver,
     );
 }
 
@@ -123,7 +110,6 @@ fn answer_all<J, H, K, R>(
     service: &Service<J>,
     page: &PagePort,
     number: u8,
-    origin: &[u8],
     crowd: &Crowd,
     asked: Sender<Asked>,
     receiver: Receiver<Asked>,
@@ -142,7 +128,7 @@ where
             requires { (0 < number) × (number ≤ J.seats) }
         {
             accept_and_answer(
-                scope, alloc, rt, room, service, page, number, origin, crowd, asked, receiver,
+                scope, alloc, rt, room, service, page, number, crowd, asked, receiver,
             )
         },
     );
@@ -157,7 +143,6 @@ fn accept_and_answer<'s, E: 's, J, H, K, R>(
     service: &'s Service<J>,
     page: &'s PagePort,
     number: u8,
-    origin: &'s [u8],
     crowd: &'s Crowd,
     asked: Sender<Asked>,
     receiver: Receiver<Asked>,
@@ -169,16 +154,16 @@ where
     R: Threads + Wait + Sync + Clock + AllocGlobal + RandomSource + 's,
     requires { (0 < number) × (number ≤ J.seats) }
 {
-    let listener = &page.listener;
+    let PagePort { site, listener } = page;
     let accepting = scope.spawn(move || accept_arrivals(
-        alloc, rt, service, listener, origin, crowd, asked,
+        alloc, rt, service, listener, site, crowd, asked,
     ));
     if accepting.is_err() {
         service.give_up(rt, listener, SeatsFault::Thread);
         return;
     }
     let visits = Visits::new(rt, service, receiver);
-    answer_visits(alloc, rt, room, service, page.port, number, visits);
+    answer_visits(alloc, rt, room, service, site, number, visits);
 }
 
 /// Answers the requests of a page one after the other. While a console sits at its seat they are refused. A request
@@ -188,7 +173,7 @@ fn answer_visits<J, H, K, R>(
     rt: &R,
     room: &SharedRoom<J, H, K>,
     service: &Service<J>,
-    port: u16,
+    site: &Site,
     number: u8,
     visits: Visits<'_, J, R>,
 )
@@ -207,7 +192,7 @@ where
         match service.take_free(rt, number) {
             Some(seat) => {
                 let seats = service.seats();
-                let seat = answer_at(alloc, rt, room, seat, seats, port, &mut visits);
+                let seat = answer_at(alloc, rt, room, seat, seats, site, &mut visits);
                 service.put_back(rt, seat);
             }
             None => answer_each(rt, &mut TakenSeat, &mut visits),
@@ -216,15 +201,14 @@ where
     }
 }
 
-/// Answers requests at the page of a seat, until the page gives the seat back; or none, if there is no memory for the
-/// page.
+/// Answers requests at the page of a seat, until the page gives the seat back.
 fn answer_at<J, H, K, R>(
     alloc: Global,
     rt: &R,
     room: &SharedRoom<J, H, K>,
     seat: Seat<J>,
     seats: u8,
-    port: u16,
+    site: &Site,
     visits: &mut Visits<'_, J, R>,
 ) -> Seat<J>
 where
@@ -235,12 +219,7 @@ where
     requires { seats ≡ J.seats }
     ensures { result.number ≡ seat.number }
 {
-    match SeatPage::new(alloc, rt, room, seat, seats, port, PAGE, POLICY) {
-        Ok(page) => {
-            let mut page = page;
-            answer_page(rt, &mut page, visits);
-            page.into_seat()
-        }
-        Err(seat) => seat,
-    }
+    let mut page = SeatPage::new(alloc, rt, room, seat, seats, site, PAGE, POLICY);
+    answer_page(rt, &mut page, visits);
+    page.into_seat()
 }
