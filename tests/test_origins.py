@@ -92,7 +92,7 @@ class Outside(ProgramTest):
             (own, f"{OUTSIDE} {OUTSIDE}", 403), (own, "https://other.example:8443", 403),
             (own, f"https://{NAME}:{room.page}", 403),
             (NAME, OUTSIDE, 403), (own.upper(), OUTSIDE, 403), (f"{NAME}:{room.page}", OUTSIDE, 403),
-            (f"{NAME}.:8443", OUTSIDE, 403), ("other.example:8443", OUTSIDE, 403), (OUTSIDE, OUTSIDE, 403),
+            (f"{NAME}.:8443", OUTSIDE, 403), ("other.example:8443", OUTSIDE, 403), (OUTSIDE, OUTSIDE, 400),
             (own, OUTSIDE, 200),
         ]:
             name = f"for {host}, from {origin}"
@@ -181,12 +181,15 @@ class Refused(ProgramTest):
             self.refused_by_both(str(port), error, *words)
 
     def test_without_a_page(self):
-        missing = "error: the following required arguments were not provided:\n  --page <PORT>..."
-        for name, words in [("serve", ["serve", "--port", "1401", "--seats", "2"]),
-                            ("serve that keeps seats", ["serve", "--port", "1401", "--seats", "2", "--keep-seats"]),
-                            ("resume", ["resume", "a.journal", "--port", "1401", "--seats", "2"]),
-                            ("resume at a console", ["resume", "a.journal"])]:
-            self.expect(name, program(*words, "--origin", OUTSIDE), 2, "", missing)
+        page, ports = "--page <PORT>", "--seats <K>\n  <--port <P>|--page <PORT>>"
+        for name, words, missing in [
+            ("serve", "serve --port 1401 --seats 2", page),
+            ("serve that keeps seats", "serve --port 1401 --seats 2 --keep-seats", page),
+            ("resume", "resume a.journal --port 1401 --seats 2", page),
+            ("resume at a console", "resume a.journal", ports),
+        ]:
+            error = f"error: the following required arguments were not provided:\n  {missing}\n\n..."
+            self.expect(name, program(*words.split(), "--origin", OUTSIDE), 2, "", error)
 
     def test_twice(self):
         words = ["serve", "--seats", "1", "--page", "8080", "--origin", OUTSIDE, "--origin", OUTSIDE]

@@ -62,7 +62,7 @@ const ARGUMENTS: &[Argument] = &[
     Argument {
         name: "keep-seats",
         kind: Kind::Flag,
-        help: "Gives the seat of a console that has ended to the next operator (implied by the next four options)",
+        help: "Gives the seat of a console that has ended to the next operator (implied by the next five options)",
         ..FREE
     },
     PAGE,
