@@ -82,7 +82,10 @@ fn site_at(
         return Err(OpenFault::Port);
     };
     let outside = outside_at(alloc, origin, places)?;
-    Site::new(alloc, port, outside).map_err(|_| OpenFault::Hold(HoldFault::Memory))
+    match Site::new(alloc, port, outside) {
+        Ok(site) => Ok(site),
+        Err(_) => Err(OpenFault::Hold(HoldFault::Memory)),
+    }
 }
 
 /// The listeners of as many pages as seats, from this port on; one beyond the last port is refused.
