@@ -1,5 +1,5 @@
 -- Where the pages of a room's seats are (own).
-use Rattle.std.specs.Prelude.{◌≡◌, ℕ, ◌+◌, ⊥, Option, None, Some}
+use Rattle.std.specs.Prelude.{◌≡◌, ℕ, ◌+◌, Option, None, Some}
 use Rattle.exchange_1401.specs.declared.origins.Origin.{Origin}
 use Rattle.exchange_1401.specs.Origins.{IsFurther}
 use Rattle.exchange_1401.specs.Sites.{SiteView}

@@ -57,7 +57,7 @@ fn outside_at(
     origin: Option<&Origin>,
     places: u8,
 ) -> Result<Option<Origin>, OpenFault>
-    ensures { IfOk result (λ outside. IsOutsideAt (option_copied origin) places outside) }
+    ensures { IfOk result (λ outside. IsOutsideAt (option_copied origin.entry) places outside) }
 {
     let Some(origin) = origin else {
         return Ok(None);
@@ -76,7 +76,7 @@ fn site_at(
     origin: Option<&Origin>,
     places: u8,
 ) -> Result<Site, OpenFault>
-    ensures { IfOk result (λ site. IsPageAt first (option_copied origin) places site) }
+    ensures { IfOk result (λ site. IsPageAt first (option_copied origin.entry) places site) }
 {
     let Some(port) = first.checked_add(u16::from(places)) else {
         return Err(OpenFault::Port);
