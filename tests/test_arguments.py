@@ -176,7 +176,7 @@ ROWS = [
 # The calls that read a file. What those of an image or a source alone say is shorter, and as old as they are.
 UNREAD = [
     "assemble FILE", "load FILE", "serve --port 1401 --seats 1 --image FILE",
-    "disassemble FILE", "run FILE", "run --load FILE", "run --cards FILE job",
+    "disassemble FILE", "disassemble --load FILE", "run FILE", "run --load FILE", "run --cards FILE job",
     "serve --port 1401 --seats 1 --cards FILE",
     "journal FILE", "journal --check FILE", "resume FILE", "resume --journal new FILE",
 ]

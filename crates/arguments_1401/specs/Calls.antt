@@ -217,10 +217,15 @@ IsLoad found file asked =
     (name : String Global) × (journal : Option NewJournal) × (asked ≡ load_call name journal)
     × (string_bytes name ≡ file) × IsJournalIn found journal
 
--- `disassemble` of a file
-abbrev pub IsDisassembled : List ℕ → Call → Type 0
-IsDisassembled file asked =
-    (name : String Global) × (asked ≡ call.Disassemble name) × (string_bytes name ≡ file)
+-- `disassemble` of a file: of an image, or of a deck
+abbrev pub disassemble_call : Bool → String Global → ℕ → Call
+disassemble_call false file size = call.Disassemble file
+disassemble_call true file size = call.DisassembleDeck file size
+
+abbrev pub IsDisassembled : Found → List ℕ → Call → Type 0
+IsDisassembled found file asked =
+    (deck : Bool) × (name : String Global) × (size : ℕ) × (asked ≡ disassemble_call deck name size)
+    × (string_bytes name ≡ file) × IsFlagIn found (codes "load") deck × IsNumberOr 16 found (codes "size") 4000 size
 
 -- `serve`; without operators, which clap lets nobody leave out, it is a console of 4,000 places
 abbrev pub IsServedBy : Found → Option Operators → Call → Type 0
@@ -235,7 +240,7 @@ IsServed found asked =
 pub record IsOfFile (name : List ℕ) (found : Found) (file : List ℕ) (asked : Call) : Type 0 where
   pub assemble : name ≡ codes "assemble" → IsAssembled found file asked
   pub load : name ≡ codes "load" → IsLoad found file asked
-  pub disassemble : name ≡ codes "disassemble" → IsDisassembled file asked
+  pub disassemble : name ≡ codes "disassemble" → IsDisassembled found file asked
   pub run : name ≡ codes "run" → IsRun found file asked
   pub journal : name ≡ codes "journal" → IsShown found file asked
   pub resume : name ≡ codes "resume" → IsResumed found file asked

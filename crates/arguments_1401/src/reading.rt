@@ -2,8 +2,8 @@
 ghost use Rattle.std.specs.Prelude.{◌≡◌, IfOk, IfSome, OnOk, codes};
 ghost use Rattle.clap.specs.Words.{found_of};
 ghost use Rattle.arguments_1401.specs.Options.{IsNameIn};
-ghost use Rattle.arguments_1401.specs.Calls.{IsAsked, IsConsole, IsJob, IsLoad, IsOf, IsOfFile, IsRun};
-ghost use Rattle.arguments_1401.specs.Calls.{switches_named};
+ghost use Rattle.arguments_1401.specs.Calls.{IsAsked, IsConsole, IsDisassembled, IsJob, IsLoad, IsOf, IsOfFile};
+ghost use Rattle.arguments_1401.specs.Calls.{IsRun, switches_named};
 
 use crate::assembling::{assemble, assemble_call};
 use crate::commands::{Session, Subcommand, command_of, refusal};
@@ -62,13 +62,31 @@ fn load() -> &'static Subcommand {
     &LOAD
 }
 
+/// The arguments of `disassemble`: whether the file is a deck, and the size of core storage for it.
+const LISTING: &[Argument] = &[
+    Argument {
+        name: "load",
+        kind: Kind::Flag,
+        help: "FILE is a deck: lists what it has loaded when its program begins, with * for what was carried out",
+        ..FREE
+    },
+    SIZE,
+    Argument {
+        name: "file",
+        kind: Kind::File,
+        is_required: true,
+        help: "The file: an image or a deck; - is a name like any other",
+        ..FREE
+    },
+];
+
 /// The subcommand `disassemble`.
 static DISASSEMBLE: Subcommand = Subcommand {
     name: "disassemble",
     whole_name: "ibm1401 disassemble",
-    about: "Lists the instructions and the data of a core image",
+    about: "Lists the instructions and the data of a core image, or of what a deck loads",
     session: Session::Nothing,
-    arguments: &[IMAGE],
+    arguments: LISTING,
 };
 
 /// A reference to it.
@@ -325,9 +343,23 @@ fn file_call(alloc: Global, name: &str, options: &ArgMatches<'_>, file: &str) ->
         "run" => run_call(alloc, options, file),
         "journal" => journal_call(alloc, options, file),
         "resume" => resume_call(alloc, options, file),
-        _ => Ok(Call::Disassemble {
-            file: String::from_str(alloc, file)?,
-        }),
+        _ => {
+            let call = disassemble_call(alloc, options, file)?;
+            Ok(call)
+        }
+    }
+}
+
+/// What the options of `disassemble` ask for.
+fn disassemble_call(alloc: Global, matches: &ArgMatches<'_>, file: &str) -> Result<Call, Error>
+    ensures { IfOk result (λ call. IsDisassembled (found_of matches.now) file.now call) }
+{
+    let size = size_in(matches);
+    let file = String::from_str(alloc, file)?;
+    if matches.get_flag("load") {
+        Ok(Call::DisassembleDeck { file, size })
+    } else {
+        Ok(Call::Disassemble { file })
     }
 }
 

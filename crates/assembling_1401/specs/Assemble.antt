@@ -62,6 +62,7 @@ IsWhyNotAssembled language size source (fault.Unread name) = ⊥
 IsWhyNotAssembled language size source (fault.Source why) = IsMemory why ⊎ (assembly_in language size source ≡ Err why)
 IsWhyNotAssembled language size source (fault.Faulty told) = ⊥
 IsWhyNotAssembled language size source (fault.Deck why) = ⊥
+IsWhyNotAssembled language size source (fault.Unloaded why) = ⊥
 IsWhyNotAssembled language size source (fault.File name why) = ⊥
 IsWhyNotAssembled language size source (fault.Image why) = ⊥
 IsWhyNotAssembled language size source fault.Memory = IsOk (assembly_in language size source)

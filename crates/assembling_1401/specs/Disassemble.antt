@@ -1,6 +1,13 @@
--- What a call that lists an image has written and told, once the file is read (own).
+-- What a call that lists an image or a deck has written and told, once the file is read (own).
 use Rattle.std.specs.Prelude.{◌≡◌, ◌⊎◌, ℕ, ⊤, Bool, List, Option, Result, Err}
-use Rattle.disassembly_1401.specs.ImageListing.{listing_text}
+use Rattle.cpu_1401.specs.State.{power_on}
+use Rattle.deck_1401.specs.Entry.{AtEntry, IsWhyUnloaded, loaded_deck}
+use Rattle.deck_1401.specs.LoadedCore.{IsLoadedDeck}
+use Rattle.deck_1401.specs.declared.entry.LoadFault.{LoadFault}
+use Rattle.deck_1401.specs.declared.loaded_core.LoadedDeck.{LoadedDeck}
+use Rattle.devices_1401.specs.declared.card.Card.{Card}
+use Rattle.disassembly_1401.specs.ImageListing.{listing_text, marked_text}
+use Rattle.job_1401.specs.Unattended.{with_deck}
 use Rattle.image_1401.specs.declared.image.Image.{Image}
 use Rattle.image_1401.specs.ImageText.{IsTextOf}
 use Rattle.image_1401.specs.Refusal.{IsRefused}
@@ -21,6 +28,7 @@ IsWhyNotListed text (fault.Unread name) = ⊥
 IsWhyNotListed text (fault.Source why) = ⊥
 IsWhyNotListed text (fault.Faulty told) = ⊥
 IsWhyNotListed text (fault.Deck why) = ⊥
+IsWhyNotListed text (fault.Unloaded why) = ⊥
 IsWhyNotListed text (fault.File name why) = ⊥
 IsWhyNotListed text (fault.Image why) = IsRefused text why
 IsWhyNotListed text fault.Memory = (image : Image) × IsTextOf text image
@@ -46,3 +54,52 @@ pub record WroteListing (text : List ℕ) (old new : Option (List ℕ)) (failed 
 abbrev pub DisassembleDid : List ℕ → Option (List ℕ) → Option (List ℕ) → Bool → Result ⊤ AssembleFault → Type 0
 DisassembleDid text old new failed outcome =
     NotListed text old new outcome ⊎ WroteListing text old new failed outcome
+
+-- the most instructions that a deck may take to load itself
+abbrev pub most_steps : ℕ
+most_steps = 1000000
+
+-- these cards, taken by the load key of a machine at power-on up to the entry of their program
+abbrev pub loaded_on : ℕ → List Card → Result AtEntry LoadFault
+loaded_on size cards = loaded_deck most_steps (with_deck cards (power_on size))
+
+-- the listing of what these cards load, with the signs of what was carried out
+pub record IsListingOfDeck (size : ℕ) (cards : List Card) (listing : List ℕ) : Type 0 where
+  pub loaded : LoadedDeck
+  pub loads : IsLoadedDeck (loaded_on size cards) loaded
+  pub listing_is : listing ≡ marked_text loaded.carried loaded.image
+
+-- why nothing was written: the machine stopped before the entry, or memory was refused
+abbrev pub IsWhyUnlisted : ℕ → List Card → AssembleFault → Type 0
+IsWhyUnlisted size cards fault.Size = ⊥
+IsWhyUnlisted size cards (fault.Unread name) = ⊥
+IsWhyUnlisted size cards (fault.Source why) = ⊥
+IsWhyUnlisted size cards (fault.Faulty told) = ⊥
+IsWhyUnlisted size cards (fault.Deck why) = ⊥
+IsWhyUnlisted size cards (fault.Unloaded why) = IsWhyUnloaded (loaded_on size cards) why
+IsWhyUnlisted size cards (fault.File name why) = ⊥
+IsWhyUnlisted size cards (fault.Image why) = ⊥
+IsWhyUnlisted size cards fault.Memory = ⊤
+IsWhyUnlisted size cards fault.Output = ⊥
+IsWhyUnlisted size cards (fault.Unwritten name) = ⊥
+IsWhyUnlisted size cards (fault.OneFile first second) = ⊥
+
+-- Nothing was written of a deck.
+pub record DeckUnlisted (size : ℕ) (cards : List Card) (old new : Option (List ℕ)) (outcome : Result ⊤ AssembleFault)
+    : Type 0 where
+  pub why : AssembleFault
+  pub told : outcome ≡ Err why
+  pub reason : IsWhyUnlisted size cards why
+  pub unwritten : new ≡ old
+
+-- The listing of a deck was written, and nothing else.
+pub record WroteDeckListing (size : ℕ) (cards : List Card) (old new : Option (List ℕ)) (failed : Bool)
+    (outcome : Result ⊤ AssembleFault) : Type 0 where
+  pub listing : List ℕ
+  pub listing_is : IsListingOfDeck size cards listing
+  pub written : Wrote listing old new failed outcome
+
+-- what a call of a deck did
+abbrev pub DisassembledDeck : ℕ → List Card → Option (List ℕ) → Option (List ℕ) → Bool → Result ⊤ AssembleFault → Type 0
+DisassembledDeck size cards old new failed outcome =
+    DeckUnlisted size cards old new outcome ⊎ WroteDeckListing size cards old new failed outcome

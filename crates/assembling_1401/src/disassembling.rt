@@ -1,11 +1,17 @@
 //! What the subcommand `disassemble` does.
-ghost use Rattle.std.specs.Prelude.{IfOk, IfErr};
-ghost use Rattle.assembling_1401.specs.Disassemble.{DisassembleDid, IsListingOf, IsWhyNotListed};
+ghost use Rattle.std.specs.Prelude.{◌≡◌, true, IfOk, IfErr};
+ghost use Rattle.core_1401.specs.Storage.{is_core_size};
+ghost use Rattle.assembling_1401.specs.Disassemble.{DisassembleDid, DisassembledDeck, IsListingOf, IsListingOfDeck};
+ghost use Rattle.assembling_1401.specs.Disassemble.{IsWhyNotListed, IsWhyUnlisted};
 
 use crate::assembling::write_text;
 use crate::fault::AssembleFault;
-use disassembly_1401::list_image;
+use core_1401::CoreFault;
+use cpu_1401::Machine;
+use deck_1401::{LOADING_STEPS, LoadFault, loaded_image};
+use disassembly_1401::{list_image, list_marked};
 use image_1401::read_image;
+use job_1401::CardList;
 use std::alloc::Global;
 use streams_1401::Sink;
 
@@ -37,6 +43,49 @@ fn listing_of(alloc: Global, text: &[u8]) -> Result<Vec<u8>, AssembleFault>
         Err(fault) => return Err(AssembleFault::Image(fault)),
     };
     match list_image(alloc, &image) {
+        Ok(listing) => Ok(listing),
+        Err(_) => Err(AssembleFault::Memory),
+    }
+}
+
+/// Writes the listing of what a deck loads: the cells of core storage when its program begins, on a machine of this size
+/// that takes it by the load key, with an asterisk for each instruction that was carried out.
+///
+/// # Errors
+///
+/// `Unloaded` if the machine stops before, has no card, or is still loading after 1,000,000 instructions, and `Memory`
+/// if there is no room for it; nothing is written then. `Output` if the listing isn't written, or a part of it alone.
+pub fn write_deck_listing<W: Sink>(
+    alloc: Global,
+    cards: &CardList,
+    size: u16,
+    writer: &mut W,
+) -> Result<(), AssembleFault>
+    requires { is_core_size size ≡ true }
+    ensures { DisassembledDeck size cards.now (W.received writer.old) (W.received writer.new)
+        (W.has_failed writer.new) result }
+{
+    let lines = deck_listing(alloc, cards, size)?;
+    write_text(&lines, writer)
+}
+
+/// The listing of what a deck loads.
+fn deck_listing(alloc: Global, cards: &CardList, size: u16) -> Result<Vec<u8>, AssembleFault>
+    requires { is_core_size size ≡ true }
+    ensures ok { IfOk result (λ listing. IsListingOfDeck size cards.now listing.items) }
+    ensures err { IfErr result (IsWhyUnlisted size cards.now) }
+{
+    let mut machine = match Machine::power_on(alloc, size) {
+        Ok(machine) => machine,
+        Err(CoreFault::Memory) => return Err(AssembleFault::Memory),
+        Err(CoreFault::Size) => unreachable!(),
+    };
+    let loaded = match loaded_image(alloc, &mut machine, cards, LOADING_STEPS) {
+        Ok(loaded) => loaded,
+        Err(LoadFault::Memory) => return Err(AssembleFault::Memory),
+        Err(fault) => return Err(AssembleFault::Unloaded(fault)),
+    };
+    match list_marked(alloc, &loaded.image, &loaded.carried) {
         Ok(listing) => Ok(listing),
         Err(_) => Err(AssembleFault::Memory),
     }

@@ -1,7 +1,7 @@
 //! Why nothing is written of a source or an image, or not all of it.
 
 use autocoder_1401::AsmFault;
-use deck_1401::DeckFault;
+use deck_1401::{DeckFault, LoadFault};
 use files_1401::FileFault;
 use image_1401::ImageFault;
 use thiserror::Error;
@@ -24,6 +24,9 @@ pub enum AssembleFault {
     /// The image of the source has no deck that loads itself.
     #[error("{0}")]
     Deck(DeckFault),
+    /// The deck to be listed doesn't load itself.
+    #[error("the deck isn't loaded: {0}")]
+    Unloaded(LoadFault),
     /// The image to be listed can't be read from the file of this name.
     #[error("{0}: {1}")]
     File(String, FileFault),

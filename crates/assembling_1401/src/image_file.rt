@@ -1,8 +1,10 @@
-//! The subcommand `disassemble`, from the image's file to standard output.
+//! The subcommand `disassemble`, from a file's image or the cards of a deck to standard output.
 
-use crate::disassembling::write_disassembly;
+use crate::assembling::check_size;
+use crate::disassembling::{write_deck_listing, write_disassembly};
 use crate::fault::AssembleFault;
 use files_1401::{FileFault, read_whole};
+use job_1401::CardList;
 use std::io;
 use std::rt::Files;
 use streams_1401::ToWriter;
@@ -36,4 +38,20 @@ pub fn disassemble_file<R: Files + Print + AllocGlobal>(
     let text = read_image_file(rt, file)?;
     let mut writer = ToWriter::new(io::writer(rt));
     write_disassembly(rt.alloc(), text.as_slice(), &mut writer)
+}
+
+/// Writes the listing of what a deck loads into core storage of this size to standard output.
+///
+/// # Errors
+///
+/// `Size` if none of that size is made; `Unloaded` if the machine isn't brought to the entry of a program; or `Memory`;
+/// nothing is written then. `Output` if the listing isn't written, or a part of it alone.
+pub fn disassemble_deck<R: Print + AllocGlobal>(
+    rt: &R,
+    cards: &CardList,
+    size: u16,
+) -> Result<(), AssembleFault> {
+    check_size(size)?;
+    let mut writer = ToWriter::new(io::writer(rt));
+    write_deck_listing(rt.alloc(), cards, size, &mut writer)
 }

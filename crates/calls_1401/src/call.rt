@@ -197,6 +197,13 @@ pub enum Call {
         /// The name of the image's file.
         file: String,
     },
+    /// The listing of what a deck loads into core storage, on standard output.
+    DisassembleDeck {
+        /// The name of the deck's file.
+        file: String,
+        /// How many places core storage has.
+        size: u16,
+    },
     /// A program run to its end.
     Run(Job),
     /// A room that operators share, each with one connection.

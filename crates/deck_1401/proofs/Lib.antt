@@ -7,7 +7,9 @@ pub mod CellLoadLemmas
 pub mod ClearCardLemmas
 pub mod DeckLemmas
 pub mod DeckTextLemmas
+pub mod EntryLemmas
 pub mod FittingLemmas
+pub mod LoadedCoreLemmas
 pub mod LoaderCardLemmas
 pub mod LoadsItselfLemmas
 pub mod PlacesLemmas

@@ -2,6 +2,7 @@
 //!
 //! ```text
 //! write_deck(alloc, &image)?    // the text of the deck, a card a line
+//! loaded_image(alloc, &mut machine, &cards, LOADING_STEPS)?    // any deck's core storage at its program's entry
 //! ```
 //!
 //! The first card clears storage from its end down to place 100. The second clears the rest above the card, and sets
@@ -19,5 +20,11 @@ pub mod fault;
 mod cards;
 pub mod deck;
 
+// a deck of unknown making up to its program's entry, and what core storage holds then
+pub mod entry;
+pub mod loaded_core;
+
 pub use deck::write_deck;
+pub use entry::{CarriedOut, LOADING_STEPS, LoadFault, load_deck};
 pub use fault::DeckFault;
+pub use loaded_core::{LoadedDeck, core_image, loaded_image};

@@ -1,6 +1,6 @@
 -- The listing of an image: instructions and data with their addresses (own).
 use Rattle.std.specs.Prelude.{ℕ, ◌+◌, Bool, false, ◌&&◌, nat_le, if◌then◌else◌, List, [], ◌∷◌, ◌++◌, length, map, drop}
-use Rattle.std.specs.Prelude.{Option, None, Some, codes}
+use Rattle.std.specs.Prelude.{Option, None, Some, codes, get_or}
 use Rattle.std.specs.List.{flat_map}
 use Rattle.bcd_1401.specs.declared.cell.Cell.{Cell}
 use Rattle.cpu_1401.specs.Operation.{operation_of, has_length}
@@ -37,10 +37,22 @@ as_data cells = codes "         " ++ cells_text cells
 abbrev pub what_stands : List Cell → List ℕ
 what_stands cells = if is_instruction cells && is_written_again cells then as_instruction cells else as_data cells
 
--- the line of a stretch: its address, and what is there
-unfoldable pub stretch_line : Segment → List ℕ
-stretch_line stretch =
-    digits_in 5 stretch.address ++ codes " " ++ what_stands stretch.cells ++ codes "\n"
+-- the sign of an address: an asterisk if an instruction was carried out there, and else a blank
+abbrev pub sign_of : Bool → List ℕ
+sign_of carried = if carried then codes "*" else codes " "
+
+-- the line of a stretch: its address, its sign, and what is there
+unfoldable pub stretch_line : Bool → Segment → List ℕ
+stretch_line carried stretch =
+    digits_in 5 stretch.address ++ sign_of carried ++ what_stands stretch.cells ++ codes "\n"
+
+-- whether an instruction was carried out at an address, by a list of this from 000 on
+abbrev pub is_carried : List Bool → ℕ → Bool
+is_carried carried at = get_or carried at false
+
+-- the same, of a list by address
+abbrev pub marked_line : List Bool → Segment → List ℕ
+marked_line carried stretch = stretch_line (is_carried carried stretch.address) stretch
 
 -- the entry in decimal, which ends its line
 unfoldable pub start_text : ℕ → List ℕ
@@ -58,6 +70,10 @@ end_text start = codes "         " ++ entry_text start
 abbrev pub start_line : ℕ → List ℕ
 start_line start = digits_in 5 start ++ end_text start
 
--- the listing of an image, a line a stretch
-unfoldable pub listing_text : Image → List ℕ
-listing_text image = flat_map stretch_line (stretches_of image.segments) ++ start_line image.start
+-- the listing of an image, a line a stretch, with the signs of the addresses at which instructions were carried out
+unfoldable pub marked_text : List Bool → Image → List ℕ
+marked_text carried image = flat_map (marked_line carried) (stretches_of image.segments) ++ start_line image.start
+
+-- the listing of an image without such signs
+abbrev pub listing_text : Image → List ℕ
+listing_text image = marked_text [] image

@@ -5,7 +5,7 @@ ghost use Rattle.cpu_1401.specs.Operation.{operation_of};
 ghost use Rattle.instruction_text_1401.specs.InstructionText.{graphic_of};
 ghost use Rattle.disassembly_1401.specs.ImageListing.{is_legal, is_instruction, as_instruction, as_data, what_stands};
 ghost use Rattle.disassembly_1401.specs.ImageListing.{stretch_line, start_text, entry_text, end_text, start_line};
-ghost use Rattle.disassembly_1401.specs.ImageListing.{listing_text};
+ghost use Rattle.disassembly_1401.specs.ImageListing.{is_carried, listing_text, marked_line, marked_text, sign_of};
 
 use crate::instruction::put_instruction;
 use crate::stretches::stretches;
@@ -139,23 +139,41 @@ fn put_what_stands(text: &mut Vec<u8>, cells: &Cells) -> Result<(), AllocError>
     }
 }
 
+/// The sign of an address: an asterisk if an instruction was carried out there.
+fn sign_of(carried: bool) -> u8
+    ensures { result ∷ [] ≡ sign_of carried }
+{
+    if carried { b'*' } else { b' ' }
+}
+
 /// Adds the line of a stretch.
 #[tactic(auto, unfolding(crate::specs::ImageListing::stretch_line))]
-fn put_line(text: &mut Vec<u8>, stretch: &Segment) -> Result<(), AllocError>
-    ensures { OnOk result (text.new.items ≡ text.old.items ++ stretch_line stretch.now) }
+fn put_line(text: &mut Vec<u8>, carried: bool, stretch: &Segment) -> Result<(), AllocError>
+    ensures { OnOk result (text.new.items ≡ text.old.items ++ stretch_line carried stretch.now) }
 {
     put_digits(text, 5, u64::from(stretch.address))?;
-    text.push(b' ')?;
+    text.push(sign_of(carried))?;
     put_what_stands(text, &stretch.cells)?;
     Ok(text.push(b'\n')?)
 }
 
+/// Whether an instruction was carried out at an address.
+fn is_carried(carried: &[bool], at: u16) -> bool
+    ensures { result ≡ is_carried carried.now at }
+{
+    match carried.get(usize::from(at)) {
+        Some(is) => *is,
+        None => false,
+    }
+}
+
 /// Adds the lines of stretches.
-fn put_lines(text: &mut Vec<u8>, stretches: &[Segment]) -> Result<(), AllocError>
-    ensures { OnOk result (text.new.items ≡ text.old.items ++ flat_map stretch_line stretches.now) }
+fn put_lines(text: &mut Vec<u8>, carried: &[bool], stretches: &[Segment]) -> Result<(), AllocError>
+    ensures { OnOk result (text.new.items
+        ≡ text.old.items ++ flat_map (marked_line carried.now) stretches.now) }
 {
     for stretch in stretches {
-        put_line(text, stretch)?;
+        put_line(text, is_carried(carried, stretch.address), stretch)?;
     }
     Ok(())
 }
@@ -203,13 +221,25 @@ fn put_start(text: &mut Vec<u8>, start: u16) -> Result<(), AllocError>
 /// # Errors
 ///
 /// If the memory for the text is refused.
-#[tactic(auto, unfolding(crate::specs::ImageListing::listing_text))]
 pub fn list_image(alloc: Global, image: &Image) -> Result<Vec<u8>, AllocError>
     ensures { IfOk result (λ text. text.items ≡ listing_text image.now) }
 {
+    list_marked(alloc, image, &[])
+}
+
+/// The same listing, with an asterisk after each address at which an instruction was carried out: those that `carried`
+/// says so of, from 000 on.
+///
+/// # Errors
+///
+/// If the memory for the text is refused.
+#[tactic(auto, unfolding(crate::specs::ImageListing::marked_text))]
+pub fn list_marked(alloc: Global, image: &Image, carried: &[bool]) -> Result<Vec<u8>, AllocError>
+    ensures { IfOk result (λ text. text.items ≡ marked_text carried.now image.now) }
+{
     let stretches = stretches(alloc, image.segments.as_slice())?;
     let mut text = Vec::new(alloc);
-    put_lines(&mut text, &stretches)?;
+    put_lines(&mut text, carried, &stretches)?;
     put_start(&mut text, image.start)?;
     Ok(text)
 }

@@ -3,6 +3,7 @@
 //! ```text
 //! put_instruction(&mut text, &cells)?     // MCW  510,509
 //! list_image(alloc, &image)?              // 00600 M510509  MCW  510,509, and so on
+//! list_marked(alloc, &image, &carried)?   // 00600*M510509  MCW  510,509, where it was carried out
 //! ```
 //!
 //! The text of an instruction is a source line from column 16 on, as `instruction_text_1401` writes it. If the
@@ -14,6 +15,6 @@ pub mod instruction;
 mod stretches;
 mod written_again;
 
-pub use image_listing::list_image;
+pub use image_listing::{list_image, list_marked};
 pub use instruction::put_instruction;
 pub use instruction_text_1401::Mnemonic;

@@ -14,6 +14,7 @@ assemble_status (assemble.Unread name) = 1
 assemble_status (assemble.Source why) = 1
 assemble_status (assemble.Faulty lines) = 1
 assemble_status (assemble.Deck why) = 1
+assemble_status (assemble.Unloaded why) = 1
 assemble_status (assemble.File name why) = 1
 assemble_status (assemble.Image why) = 1
 assemble_status assemble.Memory = 1

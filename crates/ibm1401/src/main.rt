@@ -13,12 +13,12 @@ use crate::fault::{Fault, report};
 use crate::help::tell;
 use crate::hopper::cards_of;
 use arguments_1401::read_call;
-use assembling_1401::{assemble_file, disassemble_file};
+use assembling_1401::{assemble_file, check_size, disassemble_deck, disassemble_file};
 use calls_1401::{Call, Seating};
 use files_1401::hold_closed_streams;
 use holding_1401::{journal_file, keep_console, keep_loaded, load_file, resume_file};
 use opening_1401::{new_machine, open_room, open_seats, resume_seats};
-use running_1401::{ErrorOutput, run_file};
+use running_1401::{ErrorOutput, read_cards, run_file};
 use std::fs::File;
 use std::io::{IsTerminal, StdinLock};
 use std::net::{Net, TcpListener, TcpStream};
@@ -68,6 +68,7 @@ fn run<
         Ok(Call::Assemble(asked)) => assemble_file(rt, asked).map_err(Fault::Assemble),
         Ok(Call::Load { file }) => load_file(rt, file).map_err(Fault::Hold),
         Ok(Call::Disassemble { file }) => disassemble_file(rt, file).map_err(Fault::Assemble),
+        Ok(Call::DisassembleDeck { file, size }) => list_deck(rt, file, size),
         Ok(Call::Run(job)) => run_file(rt, error_output, job).map_err(Fault::Run),
         Ok(Call::Serve(service)) => open_room(rt, service).map_err(Fault::Open),
         Ok(Call::ServeSeats(asked)) => serve_seats(rt, asked),
@@ -98,6 +99,17 @@ fn hold_console<R: Input<Reader = StdinLock<'static>> + Print + AllocGlobal>(
     let mut reader = FromReader::new(rt.reader());
     let mut writer = ToWriter::new(io::writer(rt));
     console(rt.alloc(), size, &mut reader, &mut writer).map_err(Fault::Console)
+}
+
+/// Lists what the deck of a file loads.
+fn list_deck<R: Files + Print + Eprint + AllocGlobal>(
+    rt: &R,
+    file: String,
+    size: u16,
+) -> Result<(), Fault> {
+    check_size(size).map_err(Fault::Assemble)?;
+    let cards = read_cards(rt, file).map_err(Fault::Run)?;
+    disassemble_deck(rt, &cards, size).map_err(Fault::Assemble)
 }
 
 /// Opens a room whose seats are taken again. What it begins with is read before the ports are asked for.
