@@ -56,6 +56,8 @@ HIGH = """\
                DCW  @ @
                END  START
 """
+# A card that branches to a place beyond a small core.
+DECK = "BV00\n"
 JOURNAL = "JOURNAL1 1400\n1\t1\tDEPOSIT 0500 ~A\tOK\n2\t2\tDEPOSIT 0500 ~B\tOK\n3\t1\tEXAMINE 0500 1\t~B\n"
 
 
@@ -73,7 +75,7 @@ class Room:
         test.addCleanup(folder.cleanup)
         self.path = Path(folder.name)
         texts = {"source": SOURCE, "wide": WIDE, "faulty": FAULTY, "job": JOB, "high": HIGH, "journal": JOURNAL}
-        for name, text in {**texts, "cards": "FIRST\nSECOND\n"}.items():
+        for name, text in {**texts, "cards": "FIRST\nSECOND\n", "deck": DECK}.items():
             (self.path / name).write_text(text)
         shutil.copy(TOP / "examples/five_and_five.image", self.path / "image")
         (self.path / "folder").mkdir()
@@ -132,6 +134,8 @@ ROWS = [
      {"new": f"JOURNAL1 4000\n{LOADED}3\t0\tEXAMINE 1400 1\t \n"}),
     ("load --sync image", LAST_PLACE, MISUSE, "", None, {}),
     ("run job", "", 1, "", NO_CARD, {}),
+    ("disassemble --load deck", "", 0, "00001*BV00     B    1500\n01500          END  1500\n", "", {}),
+    ("disassemble --load --size 1400 deck", "", 1, "", "ibm1401: the deck isn't loaded: NOMARK at 1500\n", {}),
     ("run --cards cards job", "", 0, "FIRST\n", HALTED, {}),
     ("run --cards cards --punch new job", "", 0, "FIRST\n", HALTED, {"new": "FIRST\n"}),
     ("run --cards cards --paper new job", "", 0, "", HALTED, {"new": "FIRST\n"}),
