@@ -105,7 +105,16 @@ NOT_OF_OLD_DECKS = [
     ("     L         EQU  *+X00", "8 OPERAND", None),
     ("               DA   1X5,G,G", "8 OPERAND", None),
     ("               DA   1X5,X4", "8 OPERAND",
-     "25: OPERAND: X4 isn't G, C, 0 or one of X1 to X3, each once, after the areas"),
+     "25: OPERAND: X4 isn't G, C, 0, ' or one of X1 to X3, each once, after the areas"),
+    ("               DA   1X5,','", "8 OPERAND",
+     "25: OPERAND: ',' isn't G, C, 0, ' or one of X1 to X3, each once, after the areas"),
+    ("               DCW  @A@,B@", "8 OPERAND", "24: OPERAND: ,B@ is more than the operation takes"),
+    ("               DCW  #10000", "8 OPERAND", "21: OPERAND: #10000 isn't a constant"),
+    ("               DC   #51", "8 OPERAND", "21: OPERAND: #51 isn't a constant"),
+    (f"               DCW  {'1' * 51}", "8 OPERAND",
+     f"21: OPERAND: {'1' * 51} is longer than a number of 50 digits"),
+    (f"               MLC  +{'1' * 21},5", "8 OPERAND",
+     f"21: OPERAND: +{'1' * 21} is longer than a number of 20 digits"),
     ("               DSA  UNDEF,1", "7 UNDEFINED", "21: UNDEFINED: UNDEF isn't the label of any line"),
     ("               DSA  +5", "8 OPERAND", "21: OPERAND: +5 is a literal, but an address is needed here"),
     ("               DSA  4000", "9 OUT OF CORE", 
@@ -157,15 +166,15 @@ LEFT_OUT = {
     "4 LABEL": ["110       DCW  @X@"],
     "6 OPERATION": [
         *(f"          {name:5}X" for name in (
-            "INCLD", "CALL", "GET", "PUT", "OPEN", "CLOSE", "DIOCS", "DTF", "HEADR", "INSER", "DELET"
+            "INCLD", "CALL", "GET", "PUT", "OPEN", "CLOSE", "DIOCS", "DTF"
         )),
         *(f"          {name:5}5,6" for name in ("MBC", "MBD", "RCB", "PCB", "PFR", "DCR", "SD", "RD", "WD")),
     ],
     "8 OPERAND": [
         "UNIT      EQU  %U1",
         *(f"          {statement}" for statement in (
-            "ORG", "B", "BW", "W    5,X", "P    5,X", "DA   1X5,R", "MLC  TAG+TAG,6", "MLC  TAG+2+1,6", "MLC  TAG, 6",
-            "DCW  @A@B@", f"DCW  @{'A' * 51}@", f"DCW  +{'1' * 21}",
+            "ORG", "W    5,X", "P    5,X", "DA   1X5,R", "MLC  TAG+TAG,6", "MLC  TAG+2+1,6", "MLC  TAG, 6",
+            f"DCW  @{'A' * 51}@", "MLC  @A@B@,6", f"MLC  +{'1' * 21},6", "DC   #51",
         )),
     ],
 }

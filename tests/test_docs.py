@@ -138,10 +138,11 @@ class Autocoder(ProgramTest):
 
     def test_warnings(self):
         warned = re.findall(r"```text\n(warned\.source:[^\n]*\n)(.*?)```", self.text, re.DOTALL)
-        self.assertEqual(10, len(warned))
+        self.assertEqual(11, len(warned))
         for warning, lines in warned:
             (self.folder / "warned.source").write_text(lines)
-            for language in ["ibm"] if "this machine has no instruction" in warning else ["plain", "ibm"]:
+            is_wider = re.search("this machine has no instruction|a card for the system", warning)
+            for language in ["ibm"] if is_wider else ["plain", "ibm"]:
                 call = ["assemble", "--language", language, "warned.source"]
                 image = program(*call, cwd=self.folder)
                 self.expect(f"{warning.strip()}, {language}: without --all", image, 0, "...")

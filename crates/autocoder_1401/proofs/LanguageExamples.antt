@@ -9,6 +9,7 @@ use Rattle.bcd_1401.specs.declared.cell.Cell.{Cell}
 use Rattle.image_1401.specs.declared.image.Image.{Image}
 use Rattle.image_1401.specs.declared.image.Segment.{Segment}
 use Rattle.source_1401.specs.Flaw.{stretch}
+use Rattle.source_1401.specs.Heading.{system_cards}
 use Rattle.source_1401.specs.Language.{wider_line}
 use Rattle.source_1401.specs.LanguageFlaw.{wider_columns}
 use Rattle.source_1401.specs.Mnemonic.{instructions, assembler_operations}
@@ -32,7 +33,7 @@ use Rattle.autocoder_1401.specs.declared.assembly.Assembly.{Assembly}
 -- what a source is in 4,000 places, with all tables open
 stands_for : List ℕ → Result Assembly AsmFault
 unfolding columns_of instructions assembler_operations wide_instructions wide_operations graphics wider_line
-    wide_line_with number_text address_text characters_text without_last_blanks listing_line spelling literal_spelling base_spelling adjustment_spelling
+    wide_line_with system_cards number_text address_text characters_text without_last_blanks listing_line spelling literal_spelling base_spelling adjustment_spelling
     index_spelling digits
 stands_for source = assembly_in Ibm 4000 source
 
@@ -158,7 +159,7 @@ constants_of_addresses = refl
 -- the faults of a source in 4,000 places, each with what is wrong
 wrong_in : List ℕ → List Explanation
 unfolding columns_of instructions assembler_operations wide_instructions wide_operations graphics wider_line
-    wide_line_with wider_columns
+    wide_line_with system_cards wider_columns
 wrong_in source = all_explained Ibm 4000 (lines_of source)
 
 a_second_ctl : wrong_in (codes "               CTL  66\n               CTL  66\n               END  0\n")

@@ -8,8 +8,14 @@ use std::str;
 use symbols_1401::AsmFault;
 use warnings_1401::{Loss, Overlap, Warning, WarningKind};
 
-/// How many digits a number has at most.
-const MOST_DIGITS: usize = 20;
+/// How many digits a number has at most that should be where something else is wrong, in this language: a constant has
+/// more in the wider one.
+fn most_digits(language: Language, flaw: OperandFlaw) -> usize {
+    match (language, flaw) {
+        (Language::Ibm, OperandFlaw::NoConstant) => 50,
+        _ => 20,
+    }
+}
 
 /// The column in which a label begins.
 const LABEL_COLUMN: u8 = 6;
@@ -27,13 +33,13 @@ fn name_in(columns: &[u8]) -> &str {
     str::from_utf8(columns).unwrap_or("").trim_end()
 }
 
-/// Whether a word is a number but for its length.
-fn is_long(word: &str) -> bool {
+/// Whether a word is a number but for its length, which is more than this.
+fn is_long(word: &str, most: usize) -> bool {
     let digits = match word.as_bytes() {
         [b'+' | b'-', digits @ ..] => digits,
         digits => digits,
     };
-    digits.len() > MOST_DIGITS && digits.iter().all(|digit| digit.is_ascii_digit())
+    digits.len() > most && digits.iter().all(|digit| digit.is_ascii_digit())
 }
 
 /// Whether a word is a text without a second at sign.
@@ -45,7 +51,13 @@ fn is_open(word: &str) -> bool {
 }
 
 /// What is wrong with an operand, which is this word.
-fn operand_help(alloc: Global, flaw: OperandFlaw, word: &str) -> Result<String, AllocError> {
+fn operand_help(
+    alloc: Global,
+    language: Language,
+    flaw: OperandFlaw,
+    word: &str,
+) -> Result<String, AllocError> {
+    let most = most_digits(language, flaw);
     match flaw {
         OperandFlaw::AddressMissing => String::from_str(alloc, "an address is missing"),
         OperandFlaw::CharacterMissing => String::from_str(alloc, "the d-character is missing"),
@@ -57,8 +69,8 @@ fn operand_help(alloc: Global, flaw: OperandFlaw, word: &str) -> Result<String, 
         OperandFlaw::NoSuffix => String::from_str(alloc, "SFX takes one letter or digit"),
         OperandFlaw::TooMuch => format!(in alloc; "{word} is more than the operation takes"),
         _ if word.is_empty() => String::from_str(alloc, "an operand is missing"),
-        OperandFlaw::NoAddress | OperandFlaw::NoConstant if is_long(word) => {
-            format!(in alloc; "{word} is longer than a number of 20 digits")
+        OperandFlaw::NoAddress | OperandFlaw::NoConstant if is_long(word, most) => {
+            format!(in alloc; "{word} is longer than a number of {most} digits")
         }
         OperandFlaw::NoAddress | OperandFlaw::NoConstant if is_open(word) => {
             format!(in alloc; "{word} has no second at sign up to column 72; a text has at most 50")
@@ -79,7 +91,9 @@ fn operand_help(alloc: Global, flaw: OperandFlaw, word: &str) -> Result<String, 
         OperandFlaw::NoTape => format!(in alloc; "{word} isn't a tape, such as 1 or %U1"),
         OperandFlaw::NoTimes => format!(in alloc; "{word} isn't a number from 1 to 99"),
         OperandFlaw::NoOptions => {
-            format!(in alloc; "{word} isn't G, C, 0 or one of X1 to X3, each once, after the areas")
+            format!(in alloc;
+                "{word} isn't G, C, 0, ' or one of X1 to X3, each once, after the areas"
+            )
         }
         OperandFlaw::Literal => format!(in alloc;
             "{word} is a literal, but an address is needed here"
@@ -224,6 +238,7 @@ fn outside_help(
 /// What is wrong at a fault of this line, in a few words.
 fn help_of(
     alloc: Global,
+    language: Language,
     explanation: Explanation,
     line: &[u8],
     suffix: Option<u8>,
@@ -286,7 +301,7 @@ fn help_of(
         Cause::EndlessChain => {
             return format!(in alloc; "from {word} on, EQU refers to EQU without end");
         }
-        Cause::BadOperand(flaw) => return operand_help(alloc, flaw, word),
+        Cause::BadOperand(flaw) => return operand_help(alloc, language, flaw, word),
         Cause::PastArea => "the field ends after its area",
         Cause::OutOfCore => "a place or an address isn't in core, whose size --size names",
         Cause::NoEnd => "the source ends without END",
@@ -324,7 +339,7 @@ pub fn fault_lines(
             .map_or(kind.as_str(), |(_, name)| name);
         let help = match explanation.cause {
             Cause::OutOfCore => outside_help(alloc, language, source, size)?,
-            _ => help_of(alloc, *explanation, text, suffix)?,
+            _ => help_of(alloc, language, *explanation, text, suffix)?,
         };
         let shown = format!(in alloc; "{file}:{line}:{column}: {name}: {help}\n")?;
         lines.push_str(shown.as_str())?;
@@ -337,6 +352,7 @@ pub fn warning_column(kind: WarningKind) -> u8 {
     match kind {
         WarningKind::UnusedLabel => 6,
         WarningKind::NotFitted
+        | WarningKind::Loses(Loss::Card)
         | WarningKind::UnsetIndicator
         | WarningKind::NeverBranches
         | WarningKind::StartsNothing
@@ -377,6 +393,9 @@ fn warning_help(alloc: Global, kind: WarningKind) -> Result<String, AllocError> 
             return format!(in alloc; "no word mark is at {place:05}: the instruction runs on");
         }
         WarningKind::Overlaps(overlap) => return overlap_help(alloc, overlap),
+        WarningKind::Loses(Loss::Card) => {
+            "a card for the system that assembled the source is read as a comment"
+        }
         WarningKind::Loses(Loss::Text) => {
             "the text ends at its second at sign: the at sign after a blank is in the remark"
         }

@@ -3,6 +3,7 @@ use Rattle.std.proofs.Common.{◌≡◌, ℕ, true, List, [], ◌∷◌, ◌++�
 use Rattle.std.specs.Prelude.{codes}
 use Rattle.bcd_1401.specs.Graphic.{graphics}
 use Rattle.source_1401.specs.Flaw.{stretch}
+use Rattle.source_1401.specs.Heading.{system_cards}
 use Rattle.source_1401.specs.Language.{wider_line}
 use Rattle.source_1401.specs.LanguageFlaw.{wider_columns}
 use Rattle.source_1401.specs.Mnemonic.{instructions, assembler_operations}
@@ -40,7 +41,7 @@ use Rattle.explanations_1401.specs.declared.explanation.Explanation.{Explanation
 -- what the lines of a source say, with all tables open
 said : List ℕ → List Line
 unfolding columns_of instructions assembler_operations wide_instructions wide_operations graphics wider_line
-    wide_line_with
+    wide_line_with system_cards
 said source = lines_in Ibm source
 
 told : List ℕ → List AsmFault
@@ -50,7 +51,7 @@ told source = line_faults Ibm (said source)
 -- what is wrong with a source
 wrong_in : List ℕ → List Explanation
 unfolding columns_of instructions assembler_operations wide_instructions wide_operations graphics wider_line
-    wide_line_with wider_columns
+    wide_line_with system_cards wider_columns
 wrong_in source = explained_lines Ibm (lines_of source)
 
 wrong : ℕ → AsmKind → ℕ → ℕ → Cause → Explanation

@@ -53,6 +53,7 @@ undivided (bodies.Suffix suffix) e = refl
 undivided (bodies.Transfer of) e = refl
 undivided (bodies.Chain chain) e = refl
 undivided (bodies.AddressConstant constant) e = refl
+undivided (bodies.Blanks places) e = refl
 undivided (bodies.LabelledOrigin of) e = refl
 undivided (bodies.LiteralOrigin of) e = refl
 undivided (bodies.WideField None) e = refl

@@ -10,6 +10,7 @@ use Rattle.bcd_1401.specs.declared.cell.Cell.{Cell}
 use Rattle.image_1401.specs.declared.image.Image.{Image}
 use Rattle.image_1401.specs.declared.image.Segment.{Segment}
 use Rattle.source_1401.specs.Context.{lines_said}
+use Rattle.source_1401.specs.Heading.{system_cards}
 use Rattle.source_1401.specs.Language.{wider_line}
 use Rattle.source_1401.specs.Mnemonic.{instructions, assembler_operations}
 use Rattle.source_1401.specs.SourceLine.{columns_of, lines_of}
@@ -30,7 +31,7 @@ use Rattle.listing_1401.specs.SymbolTable.{length_text, symbol_line, symbols_tex
 
 -- the lines of a source, with all tables open
 lines_in : List ℕ → List Line
-unfolding columns_of instructions assembler_operations wide_instructions wide_operations wider_line wide_line_with
+unfolding columns_of instructions assembler_operations wide_instructions wide_operations wider_line wide_line_with system_cards
 lines_in source = lines_said Ibm (lines_of source)
 
 -- a cell by its graphic, with a tilde before it if it has a word mark

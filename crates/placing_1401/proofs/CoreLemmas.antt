@@ -43,11 +43,12 @@ use Rattle.placing_1401.specs.PlacedImage.{entry_in_row, entry_by, entry_with, e
 use Rattle.placing_1401.specs.Cells.{address_or_zero, plain, marked, with_word_mark, operand_codes, d_codes}
 use Rattle.placing_1401.specs.Cells.{constant_codes, constant_cells, literal_codes, literal_cells, with_mark_at}
 use Rattle.placing_1401.specs.Cells.{with_field, area_cells, chain_cells, instruction_cells, signed_codes, field_cells}
-use Rattle.placing_1401.specs.Cells.{address_constant_cells, group_mark, repeated, areas_cells, contents_cells}
+use Rattle.placing_1401.specs.Cells.{address_constant_cells, group_mark, record_mark, repeated, areas_cells, contents_cells}
 use Rattle.placing_1401.specs.Cells.{row_cells, body_cells, statement_cells, numbered, cells_from, fields_behind}
 use Rattle.placing_1401.specs.Characters.{char_of, char_with, characters_of, codes_in}
 use Rattle.placing_1401.specs.Literals.{key_length}
-use Rattle.placing_1401.specs.Placement.{Placement, unplaced, instruction_length, constant_length, areas_length}
+use Rattle.placing_1401.specs.Placement.{Placement, unplaced, instruction_length, constant_length, area_stride}
+use Rattle.placing_1401.specs.Placement.{areas_length}
 use Rattle.placing_1401.specs.Placement.{chain_length, contents_length, entry_value, pending, behind_literals}
 use Rattle.placing_1401.specs.Placement.{own_value, start_by, start_of, placed_after, placed}
 use Rattle.placing_1401.specs.PlacementLaws.{total}
@@ -195,13 +196,21 @@ group_mark_length : (is_asked : Bool) → length (group_mark is_asked) ≡ (if i
 group_mark_length true = refl
 group_mark_length false = refl
 
+record_mark_length : (is_asked : Bool) → length (record_mark is_asked) ≡ (if is_asked then 1 else 0)
+record_mark_length true = refl
+record_mark_length false = refl
+
 areas_few : (areas : Option Areas) (lines : List Line) → length (areas_cells areas lines) ≤ areas_length areas
 areas_few None lines = omega arith
 areas_few (Some areas) lines =
-    let one = area_length areas.length (fields_behind lines) in
-    let marked = repeated areas.count (area_cells areas.length (fields_behind lines)) in
-    let all : length marked ≡ areas.count * areas.length =
-    repeated_length areas.count (area_cells areas.length (fields_behind lines)) ∙ ap (λ (n : ℕ). areas.count * n) one in
+    let area = area_cells areas.length (fields_behind lines) ++ record_mark areas.has_record_marks in
+    let one : length area ≡ area_stride areas =
+    length-append (area_cells areas.length (fields_behind lines)) (record_mark areas.has_record_marks)
+    ∙ ap (λ (n : ℕ). n + length (record_mark areas.has_record_marks)) (area_length areas.length (fields_behind lines))
+    ∙ ap (λ (n : ℕ). areas.length + n) (record_mark_length areas.has_record_marks) in
+    let marked = repeated areas.count area in
+    let all : length marked ≡ areas.count * area_stride areas =
+    repeated_length areas.count area ∙ ap (λ (n : ℕ). areas.count * n) one in
     omega (arith, all, length-append marked (group_mark areas.has_group_mark), group_mark_length areas.has_group_mark)
 
 chain_few : (chain : Chain) → length (chain_cells chain) ≤ chain_length chain

@@ -182,6 +182,11 @@ with_field area span = if span.is_marked then with_mark_at area (span.first - 1)
 abbrev pub area_cells : ℕ → List Span → List Cell
 area_cells length spans = fold with_field (with_mark_at (replicate length blank) 0) spans
 
+-- a record mark, if one is asked for
+abbrev pub record_mark : Bool → List Cell
+record_mark true = plain (char_of (byte "'")) ∷ []
+record_mark false = []
+
 -- this many areas
 abbrev pub repeated : ℕ → List Cell → List Cell
 repeated zero area = []
@@ -192,11 +197,12 @@ abbrev pub group_mark : Bool → List Cell
 group_mark true = marked (char_of (byte "\"")) ∷ []
 group_mark false = []
 
--- areas, and a group mark after the last
+-- areas, a record mark after each, and a group mark after the last
 abbrev pub areas_cells : Option Areas → List Line → List Cell
 areas_cells None lines = []
 areas_cells (Some areas) lines =
-    repeated areas.count (area_cells areas.length (fields_behind lines)) ++ group_mark areas.has_group_mark
+    repeated areas.count (area_cells areas.length (fields_behind lines) ++ record_mark areas.has_record_marks)
+    ++ group_mark areas.has_group_mark
 
 -- a chain: its operation with a word mark, as often as it is repeated
 abbrev pub chain_cells : Chain → List Cell

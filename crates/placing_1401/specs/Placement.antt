@@ -89,9 +89,14 @@ abbrev pub constant_length : Option Constant → ℕ
 constant_length None = 0
 constant_length (Some constant) = (characters_of constant).len
 
+-- an area, and the record mark after it
+abbrev pub area_stride : Areas → ℕ
+area_stride areas = areas.length + (if areas.has_record_marks then 1 else 0)
+
 abbrev pub areas_length : Option Areas → ℕ
 areas_length None = 0
-areas_length (Some areas) = areas.count * areas.length + (if areas.has_group_mark then 1 else 0)
+areas_length (Some areas) =
+    areas.count * area_stride areas + (if areas.has_group_mark then 1 else 0)
 
 -- how many places a chain takes: one for each of its instructions
 abbrev pub chain_length : Chain → ℕ

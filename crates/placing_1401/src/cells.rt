@@ -9,7 +9,7 @@ ghost use Rattle.placing_1401.specs.Cells.{operand_codes, d_codes, operands_cell
 ghost use Rattle.placing_1401.specs.Cells.{literal_cells, fields_behind, with_mark_at, with_field, repeated};
 ghost use Rattle.placing_1401.specs.Cells.{areas_cells, unit_codes, chain_cells, contents_cells, row_cells};
 ghost use Rattle.placing_1401.specs.Cells.{signed_place, signed_address, field_cells, address_constant_cells};
-ghost use Rattle.placing_1401.specs.Cells.{group_mark};
+ghost use Rattle.placing_1401.specs.Cells.{group_mark, record_mark};
 ghost use Rattle.placing_1401.specs.Placement.{start_by};
 ghost use Rattle.placing_1401.specs.View.{places_of};
 
@@ -378,6 +378,20 @@ fn put_group_mark(is_asked: bool, out: &mut Vec<Cell>) -> Result<(), AsmFault>
     Ok(())
 }
 
+/// Puts a record mark, if it is asked for.
+fn put_record_mark(is_asked: bool, out: &mut Vec<Cell>) -> Result<(), AsmFault>
+    ensures ok { OnOk result (out.new.items ≡ out.old.items ++ record_mark is_asked) }
+    ensures err { IfErr result IsMemory }
+{
+    if is_asked {
+        out.push(Cell {
+            char: char_of(b'\''),
+            mark: false,
+        })?;
+    }
+    Ok(())
+}
+
 /// Puts areas, with the word marks of the fields after them.
 fn put_areas(
     alloc: Global,
@@ -394,6 +408,7 @@ fn put_areas(
     let mut area = vec![in alloc; Cell::BLANK; usize::from(areas.length)]?;
     mark(&mut area, 0);
     mark_fields(&mut area, lines);
+    put_record_mark(areas.has_record_marks, &mut area)?;
     put_repeated(areas.count, &area, out)?;
     put_group_mark(areas.has_group_mark, out)
 }

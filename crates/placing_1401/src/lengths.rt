@@ -2,7 +2,8 @@
 ghost use Rattle.std.specs.Prelude.{◌≡◌, ◌*◌, ◌<◌, ◌≤◌, Some, IfOk, IfErr};
 ghost use Rattle.source_1401.specs.Operands.{count_of};
 ghost use Rattle.symbols_1401.specs.Fault.{IsMemory};
-ghost use Rattle.placing_1401.specs.Placement.{instruction_length, constant_length, areas_length, chain_length};
+ghost use Rattle.placing_1401.specs.Placement.{instruction_length, constant_length, area_stride, areas_length};
+ghost use Rattle.placing_1401.specs.Placement.{chain_length};
 ghost use Rattle.placing_1401.specs.Placement.{contents_length};
 ghost use Rattle.placing_1401.specs.Values.{last_place};
 
@@ -48,12 +49,21 @@ fn constant_length(constant: Option<Constant>) -> u32
     }
 }
 
-/// How many places areas take, with the group mark after them.
+/// How many places an area takes, with the record mark after it.
+fn area_stride(areas: Areas) -> u32
+    ensures value { result ≡ area_stride areas }
+    ensures bound { result ≤ 65536 }
+{
+    let mark = if areas.has_record_marks { 1 } else { 0 };
+    u32::from(areas.length) + mark
+}
+
+/// How many places areas take, with the record mark after each and the group mark after them.
 fn areas_length(areas: Areas) -> u32
     ensures { result ≡ areas_length (Some areas) }
 {
     let behind = if areas.has_group_mark { 1 } else { 0 };
-    u32::from(areas.count) * u32::from(areas.length) + behind
+    u32::from(areas.count) * area_stride(areas) + behind
 }
 
 /// How many places the instructions of a chain take.

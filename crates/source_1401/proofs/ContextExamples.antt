@@ -8,6 +8,7 @@ use Rattle.bcd_1401.specs.Graphic.{graphics}
 use Rattle.source_1401.specs.AreaLiterals.{DeclaredAreas, areas_of_line, no_areas}
 use Rattle.source_1401.specs.Context.{lines_said, size_asked}
 use Rattle.source_1401.specs.Description.{describe, operands_in}
+use Rattle.source_1401.specs.Heading.{system_cards}
 use Rattle.source_1401.specs.Language.{is_sound, wider_line}
 use Rattle.source_1401.specs.Mnemonic.{instructions, assembler_operations}
 use Rattle.source_1401.specs.SourceLine.{columns_of}
@@ -37,7 +38,7 @@ use Rattle.source_1401.specs.declared.statement.Statement.{Statement}
 -- what lines say together in the wider language, with all tables open
 said : List (List ℕ) → List Line
 unfolding columns_of instructions assembler_operations wide_instructions wide_operations graphics wider_line
-    wide_line_with
+    wide_line_with system_cards
 said texts = lines_said languages.Ibm texts
 
 body_in : Line → Option Body
@@ -231,6 +232,7 @@ areas has_group_mark =
       count = 2;
       length = 5;
       has_group_mark = has_group_mark;
+      has_record_marks = false;
       index = 0;
       counts_from_zero = false;
     })))
@@ -338,7 +340,7 @@ nothing_is_wrong_with_recorded = refl
 -- with all tables open
 size_said : List ℕ → Option ℕ
 unfolding columns_of instructions assembler_operations wide_instructions wide_operations graphics wider_line
-    wide_line_with
+    wide_line_with system_cards
 size_said source = size_asked languages.Ibm source
 
 sizes_that_are_asked_for : map size_said (codes "               ctl  66"

@@ -131,6 +131,7 @@ body_stays these (bodies.Chain chain) none = refl
 body_stays these (bodies.AddressConstant constant) none =
     ap (λ (of : Operands). bodies.AddressConstant (record constant { operands = of }))
     (operands_stay these constant.operands none)
+body_stays these (bodies.Blanks places) none = refl
 body_stays these (bodies.LabelledOrigin of) none = ap bodies.LabelledOrigin (operands_stay these of none)
 body_stays these (bodies.LiteralOrigin of) none = ap bodies.LiteralOrigin (operands_stay these of none)
 body_stays these (bodies.WideField span) none = refl

@@ -1,7 +1,8 @@
 -- Lines in the wider language, computed.
-use Rattle.std.proofs.Common.{◌≡◌, ℕ, true, false, List, [], ◌∷◌, ◌++◌, map, replicate, refl}
+use Rattle.std.proofs.Common.{◌≡◌, ℕ, true, false, List, [], ◌∷◌, ◌++◌, map, replicate, None, refl}
 use Rattle.std.specs.Prelude.{Bool, codes}
 use Rattle.bcd_1401.specs.Graphic.{graphics}
+use Rattle.source_1401.specs.Heading.{system_cards}
 use Rattle.source_1401.specs.Language.{is_sound, wider_line, line_in}
 use Rattle.source_1401.specs.Mnemonic.{instructions, assembler_operations}
 use Rattle.source_1401.specs.SourceLine.{columns_of}
@@ -11,6 +12,7 @@ use Rattle.source_1401.specs.WideOperation.{wide_operations}
 use Rattle.source_1401.specs.WideStatement.{wide_line_with}
 use Rattle.source_1401.specs.declared.language.Language.TheVariants as languages
 use Rattle.source_1401.specs.declared.statement.Line.{Line}
+use Rattle.source_1401.specs.declared.statement.LineCheck.TheVariants as bytes
 
 small_letters_are_capitals : capitals (columns_of (codes "abc  tab       dcw  @a b@"))
     ≡ columns_of (codes "abc  TAB       DCW  @A B@")
@@ -41,7 +43,7 @@ one_in_a_text_stays = refl
 -- what a line says in the wider language, and in the plain one, with all tables open
 wide : List ℕ → Line
 unfolding columns_of instructions assembler_operations wide_instructions wide_operations graphics wider_line
-    wide_line_with
+    wide_line_with system_cards
 wide text = line_in languages.Ibm text
 
 plain : List ℕ → Line
@@ -81,6 +83,13 @@ a_tab_stays_foreign = refl
 a_heading_has_bytes_that_are_no_graphics : sound (codes "               job  wages {march}") ≡ true
 unfolding sound
 a_heading_has_bytes_that_are_no_graphics = refl
+
+-- cards for the system that assembled a source, with anything in the other columns
+cards_say_nothing : map wide (codes "     AUTOCODER RUN  THRU OUTPUT" ∷ codes "               headr" ∷ codes "     X1        INSER5,A"
+    ∷ codes "     CORE      ASGN 1403 PRINTER 2" ∷ [])
+    ≡ replicate 4 (record { bytes = bytes.Good; statement = None })
+unfolding wide
+cards_say_nothing = refl
 
 -- labels of lines that had none, and one that is missing
 lines_with_labels_and_without : map sound (codes "     BACK      ORG  *&X00" ∷ codes "                    5,5"

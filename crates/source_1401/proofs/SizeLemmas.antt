@@ -11,9 +11,9 @@ use Rattle.std.proofs.lemmas.Bool.Decides.{nat_tests}
 use Rattle.std.proofs.lemmas.List.{length-append, length-replicate, length-take}
 use Rattle.std.proofs.lemmas.Slice.Eq.{bytes_eq-Decides}
 use Rattle.std.proofs.lemmas.Str.Ascii.{lowercase-uppercase}
-use Rattle.source_1401.specs.Constant.{constant_of}
 use Rattle.source_1401.specs.Context.{control_in, control_of, first_size, may_be_control, size_of, size_or}
 use Rattle.source_1401.specs.Control.{is_control_size, size_by}
+use Rattle.source_1401.specs.Heading.{is_wide_comment}
 use Rattle.source_1401.specs.Language.{is_sound, line_in, wider_line}
 use Rattle.source_1401.specs.Literal.{signed_address}
 use Rattle.source_1401.specs.Mnemonic.{operation_of}
@@ -22,7 +22,8 @@ use Rattle.source_1401.specs.SourceLine.{columns_of, columns_in, is_comment, lin
 use Rattle.source_1401.specs.Statement.{body_by, line_with, statement_of}
 use Rattle.source_1401.specs.WideBody.{shared_body_by}
 use Rattle.source_1401.specs.WideColumns.{capitals, plus_signs}
-use Rattle.source_1401.specs.WideConstant.{address_or_none, constant_by, constant_or_address}
+use Rattle.source_1401.specs.WideConstant.{address_or_none, blanks_or_else, constant_by, constant_or_address}
+use Rattle.source_1401.specs.WideConstant.{many_blanks, wide_constant_of}
 use Rattle.source_1401.specs.WideMnemonic.{AWideRow, wide_row_of}
 use Rattle.source_1401.specs.WideOperation.{AWideOwnRow, wide_operations, wide_operation_of}
 use Rattle.source_1401.specs.WideStatement.{instruction_or_else, wide_body_by, wide_line_with}
@@ -90,12 +91,18 @@ of_either : (is_marked : Bool) (constant : Option Constant) (columns : List ℕ)
 of_either is_marked (Some constant) columns = (of_constant is_marked (Some constant) None columns).0
 of_either is_marked None columns = (of_constant is_marked None (signed_address (operand_in columns)) columns).1
 
+of_blanks : (is_marked : Bool) (blanks : Option ℕ) (columns : List ℕ)
+    → control_of (blanks_or_else is_marked blanks columns) ≡ None
+of_blanks true (Some places) columns = refl
+of_blanks false (Some places) columns = refl
+of_blanks is_marked None columns = of_either is_marked (wide_constant_of columns) columns
+
 of_shared : (operation : Option Operation) (columns : List ℕ)
     → control_of (shared_body_by operation columns) ≡ None
 of_shared None columns = refl
 of_shared (Some (operations.Instruction instruction)) columns = refl
-of_shared (Some operations.MarkedConstant) columns = of_either true (constant_of (lone_operand columns)) columns
-of_shared (Some operations.Constant) columns = of_either false (constant_of (lone_operand columns)) columns
+of_shared (Some operations.MarkedConstant) columns = of_blanks true (many_blanks (lone_operand columns)) columns
+of_shared (Some operations.Constant) columns = of_blanks false (many_blanks (lone_operand columns)) columns
 of_shared (Some operations.Space) columns = refl
 of_shared (Some operations.Areas) columns = refl
 of_shared (Some operations.Field) columns = refl
@@ -154,7 +161,7 @@ of_wide_line : (len : ℕ) (columns : List ℕ)
     → (has_no_control columns ≡ true → control_in (wide_line_with len columns).statement ≡ None)
     × is_good (control_in (wide_line_with len columns).statement) ≡ true
 unfolding wide_line_with
-of_wide_line len columns = by (is_comment columns)
+of_wide_line len columns = by (is_wide_comment columns)
   where
     by : (b : Bool)
         → (has_no_control columns ≡ true → control_in (cond b None (Some (wide_statement_of columns))) ≡ None)

@@ -75,7 +75,7 @@ a_constant_has_a_word_mark_or_none = refl
 
 areas_and_a_field_of_them : map says (codes "     REC       DA   2X4" ∷ codes "     KEY            3,4" ∷ [])
     ≡ good (labels.Label (named (codes "REC")))
-    (bodies.Areas (Some (record { count = 2; length = 4; has_group_mark = false; index = 0; counts_from_zero = false })))
+    (bodies.Areas (Some (record { count = 2; length = 4; has_group_mark = false; has_record_marks = false; index = 0; counts_from_zero = false })))
     ∷ good (labels.Label (named (codes "KEY")))
     (bodies.Field (Some (record { first = 3; last = 4; is_marked = true }))) ∷ []
 unfolding says

@@ -67,6 +67,49 @@ other_constants_stay : map (asks (codes "DCW  ")) (codes "+5 " ∷ codes "-12345
 unfolding asks
 other_constants_stay = refl
 
+abbrev the_text : List ℕ → Body
+the_text graphics = bodies.MarkedConstant (Some (constants.Text (text_of graphics)))
+
+-- a text goes on to its last at sign if it would be none else
+at_signs_in_a_text : map (asks (codes "DCW  ")) (codes "@A@B@ " ∷ codes "@A@B@" ∷ codes "@@@ a remark"
+    ∷ codes "@A@B C@D@ " ∷ codes "@A@B C@" ∷ codes "@A@ B@ " ∷ codes "@A @B@ C" ∷ [])
+    ≡ map the_text (codes "A@B" ∷ codes "A@B" ∷ codes "@" ∷ codes "A@B C@D" ∷ codes "A@B C" ∷ codes "A" ∷ codes "A @B" ∷ [])
+unfolding asks
+at_signs_in_a_text = refl
+
+-- another operand, or something at the last at sign, isn't in the text
+no_texts : map (bad (codes "DCW  ")) (codes "@A@,B@ " ∷ codes "@A@B@C " ∷ codes "@@ " ∷ codes "@ " ∷ codes "A@B@ " ∷ [])
+    ≡ replicate 5 true
+unfolding bad
+no_texts = refl
+
+abbrev sevens : ℕ → List ℕ
+sevens count = replicate count 55
+
+long_numbers : map (asks (codes "DC   ")) (sevens 21 ∷ (codes "+" ++ sevens 50) ∷ (codes "-" ++ sevens 30 ++ codes " a") ∷ [])
+    ≡ map bodies.Constant (Some (constants.Number (text_of (sevens 21))) ∷ Some (constants.Plus (text_of (sevens 50)))
+    ∷ Some (constants.Minus (text_of (sevens 30))) ∷ [])
+unfolding asks
+long_numbers = refl
+
+too_long_numbers : map (bad (codes "DCW  ")) (sevens 51 ∷ (codes "+" ++ sevens 51) ∷ (sevens 30 ++ codes "A") ∷ [])
+    ≡ replicate 3 true
+unfolding bad
+too_long_numbers = refl
+
+many_blanks_are_constants : map (asks (codes "DCW  ")) (codes "#50 " ∷ codes "#51 " ∷ codes "#00400 a remark"
+    ∷ codes "#9999" ∷ [])
+    ≡ bodies.MarkedConstant (Some (constants.Blanks 50)) ∷ map bodies.Blanks (51 ∷ 400 ∷ 9999 ∷ [])
+unfolding asks
+many_blanks_are_constants = refl
+
+-- DC has no more than 50
+too_many_blanks : bad (codes "DCW  ") (codes "#10000 ") ∷ bad (codes "DC   ") (codes "#51 ")
+    ∷ bad (codes "DCW  ") (codes "#51,1 ") ∷ bad (codes "DCW  ") (codes "#0 ") ∷ []
+    ≡ replicate 4 true
+unfolding bad
+too_many_blanks = refl
+
 not_one_address : map (bad (codes "DSA  ")) (codes "+5 " ∷ codes "@A@ " ∷ codes "TAB,1 " ∷ codes "%U1 "
     ∷ codes "*+X00 " ∷ codes " TAB" ∷ [])
     ≡ replicate 6 true
@@ -138,15 +181,19 @@ ends_good_and_bad : map (bad (codes "END  ")) (codes "   " ∷ codes " GO" ∷ c
 unfolding bad
 ends_good_and_bad = refl
 
-abbrev areas_by : Bool → ℕ → Bool → Option Areas
-areas_by has_group_mark index counts_from_zero =
+abbrev areas_marked : Bool → Bool → ℕ → Bool → Option Areas
+areas_marked has_group_mark has_record_marks index counts_from_zero =
     Some (record {
       count = 2;
       length = 5;
       has_group_mark = has_group_mark;
+      has_record_marks = has_record_marks;
       index = index;
       counts_from_zero = counts_from_zero;
     })
+
+abbrev areas_by : Bool → ℕ → Bool → Option Areas
+areas_by has_group_mark index counts_from_zero = areas_marked has_group_mark false index counts_from_zero
 
 abbrev areas : Bool → Option Areas
 areas has_group_mark = areas_by has_group_mark 0 false
@@ -156,6 +203,13 @@ options_of_areas : map (asks (codes "DA   ")) (codes "2X5 " ∷ codes "2X5,C " �
     ≡ map bodies.Areas (replicate 3 (areas false) ++ replicate 3 (areas true))
 unfolding asks
 options_of_areas = refl
+
+record_marks_after_areas : map (asks (codes "DA   ")) (codes "2X5,' " ∷ codes "2X5,',C a remark" ∷ codes "2X5,G,'"
+    ∷ codes "2X5,X2,' " ∷ [])
+    ≡ map bodies.Areas (areas_marked false true 0 false ∷ areas_marked false true 0 false
+    ∷ areas_marked true true 0 false ∷ areas_marked false true 2 false ∷ [])
+unfolding asks
+record_marks_after_areas = refl
 
 options_of_fields : map (asks (codes "DA   ")) (codes "2X5,X1 " ∷ codes "2X5,0 " ∷ codes "2X5,X2,0,G "
     ∷ codes "2X5,0,C,X3" ∷ codes "2X5,G,X1 a remark" ∷ codes "2X5,0" ∷ [])
@@ -172,9 +226,9 @@ no_options_of_fields : map (bad (codes "DA   ")) (codes "1X5,X1,X1 " ∷ codes "
 unfolding bad
 no_options_of_fields = refl
 
-no_options_of_areas : map (bad (codes "DA   ")) (codes "1X5,G,G " ∷ codes "1X5,C,G,C " ∷ codes "1X5, " ∷ codes "1X5,,G "
+no_options_of_areas : map (bad (codes "DA   ")) (codes "1X5,G,G " ∷ codes "1X5,',' " ∷ codes "1X5,C,G,C " ∷ codes "1X5, " ∷ codes "1X5,,G "
     ∷ codes "1X5,GC " ∷ codes "1X5,X " ∷ codes "G,1X5 " ∷ codes "1X5G " ∷ [])
-    ≡ replicate 8 true
+    ≡ replicate 9 true
 unfolding bad
 no_options_of_areas = refl
 

@@ -77,7 +77,7 @@ unfolding asks
 zones_by_their_other_name = refl
 
 a_branch_on_an_indicator : asks (codes "B    ") (codes "A,/ ")
-    ≡ whole (byte "B") (form 1 1 d.Optional) (the (codes "A")) fields.Absent (Some (byte "/"))
+    ≡ whole (byte "B") (form 0 1 d.Optional) (the (codes "A")) fields.Absent (Some (byte "/"))
 unfolding asks
 a_branch_on_an_indicator = refl
 
@@ -106,6 +106,21 @@ a_branch_by_zone_alone : asks (codes "BWZ  ") (codes "     ")
     ≡ whole (byte "V") (form 0 0 d.Never) fields.Absent fields.Absent None
 unfolding asks
 a_branch_by_zone_alone = refl
+
+a_branch_by_its_own_name_alone : asks (codes "B    ") (codes "     ")
+    ≡ whole (byte "B") (form 0 1 d.Optional) fields.Absent fields.Absent None
+unfolding asks
+a_branch_by_its_own_name_alone = refl
+
+a_branch_by_word_mark_alone : asks (codes "BW   ") (codes "     ")
+    ≡ whole (byte "V") (form 0 0 d.Never) fields.Absent fields.Absent None
+unfolding asks
+a_branch_by_word_mark_alone = refl
+
+a_branch_by_word_mark : asks (codes "BW   ") (codes "A,B ")
+    ≡ whole (byte "V") (form 2 2 (d.Fixed (byte "1"))) (the (codes "A")) (the (codes "B")) (Some (byte "1"))
+unfolding asks
+a_branch_by_word_mark = refl
 
 a_branch_by_bits : asks (codes "BBE  ") (codes "A,B,1 ")
     ≡ whole (byte "W") two_and_d (the (codes "A")) (the (codes "B")) (Some (byte "1"))

@@ -1,6 +1,6 @@
 -- The table of the kinds of statement: a row for each kind, a column for each thing that the assembler asks of one
 -- (Autocoder, "Declarative Operations", "Assembler Control").
-use Rattle.std.specs.Prelude.{Bool, true, false, not, Option, None, is_some}
+use Rattle.std.specs.Prelude.{ℕ, Bool, true, false, not, Option, None, Some, is_some}
 use Rattle.std.specs.Option.{option_map_or}
 use Rattle.source_1401.specs.LoneAddress.{is_one_address, is_value, is_wide_entry, is_wide_origin, is_wide_value}
 use Rattle.source_1401.specs.Operands.{has_malformed}
@@ -17,6 +17,7 @@ use Rattle.source_1401.specs.declared.description.Point.TheVariants as point
 use Rattle.source_1401.specs.declared.description.Relation.TheVariants as relations
 use Rattle.source_1401.specs.declared.operands.OperandField.TheVariants as fields
 use Rattle.source_1401.specs.declared.operands.Operands.{Operands}
+use Rattle.source_1401.specs.declared.statement.Areas.{Areas}
 use Rattle.source_1401.specs.declared.statement.Body.{Body}
 use Rattle.source_1401.specs.declared.statement.Body.TheVariants as bodies
 use Rattle.source_1401.specs.declared.statement.SizeField.{SizeField}
@@ -100,6 +101,18 @@ end_row of =
       next = next.Literals;
     }
 
+-- many blanks are placed as one area is
+abbrev pub one_area : ℕ → Areas
+one_area places =
+    record {
+      count = 1;
+      length = places;
+      has_group_mark = false;
+      has_record_marks = false;
+      index = 0;
+      counts_from_zero = false;
+    }
+
 -- the row of a statement
 abbrev pub describe : Body → Description
 describe bodies.Unknown = record plain { is_known = false }
@@ -122,6 +135,8 @@ describe (bodies.Space places) =
     record plain { is_well_formed = is_some places; names = point.Last; contents = contents.Space places }
 describe (bodies.Areas made) =
     record plain { is_well_formed = is_some made; areas = areas.Makes made; contents = contents.Areas made }
+describe (bodies.Blanks places) =
+    record plain { names = point.Last; contents = contents.Areas (Some (one_area places)) }
 describe (bodies.Field span) = field_row label.OfField span
 describe (bodies.WideField span) = field_row label.Optional span
 describe (bodies.Equate of) = record (equate_row of) { is_well_formed = is_value of }
@@ -219,6 +234,7 @@ body_under rule (bodies.Transfer of) = bodies.Transfer (operands_under rule of)
 body_under rule (bodies.Chain chain) = bodies.Chain chain
 body_under rule (bodies.AddressConstant constant) =
     bodies.AddressConstant (record constant { operands = operands_under rule constant.operands })
+body_under rule (bodies.Blanks places) = bodies.Blanks places
 body_under rule (bodies.LabelledOrigin of) = bodies.LabelledOrigin (operands_under rule of)
 body_under rule (bodies.LiteralOrigin of) = bodies.LiteralOrigin (operands_under rule of)
 body_under rule (bodies.WideField span) = bodies.WideField span

@@ -45,6 +45,7 @@ areas_of word =
       count = count;
       length = length;
       has_group_mark = false;
+      has_record_marks = false;
       index = 0;
       counts_from_zero = false;
     })

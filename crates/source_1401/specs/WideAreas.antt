@@ -12,12 +12,20 @@ use Rattle.source_1401.specs.declared.statement.Span.{Span}
 use Rattle.source_1401.specs.declared.wide_areas.AreaOptions.{AreaOptions}
 
 abbrev pub no_options : AreaOptions
-no_options = record { has_group_mark = false; is_cleared = false; index = 0; counts_from_zero = false }
+no_options =
+    record {
+      has_group_mark = false;
+      has_record_marks = false;
+      is_cleared = false;
+      index = 0;
+      counts_from_zero = false;
+    }
 
--- these options and that of a letter or a zero, if it isn't among them
+-- these options and that of a letter, a record mark or a zero, if it isn't among them
 abbrev pub option_and : AreaOptions → ℕ → Option AreaOptions
 option_and these letter =
     if (letter == byte "G") && not these.has_group_mark then Some (record these { has_group_mark = true })
+    else if (letter == byte "'") && not these.has_record_marks then Some (record these { has_record_marks = true })
     else if (letter == byte "C") && not these.is_cleared then Some (record these { is_cleared = true })
     else if (letter == byte "0") && not these.counts_from_zero then Some (record these { counts_from_zero = true })
     else None
@@ -46,6 +54,7 @@ abbrev pub areas_with : Areas → AreaOptions → Areas
 areas_with areas options =
     record areas {
       has_group_mark = options.has_group_mark;
+      has_record_marks = options.has_record_marks;
       index = options.index;
       counts_from_zero = options.counts_from_zero;
     }

@@ -29,9 +29,10 @@ wide_instructions =
     (codes "MLCWA", byte "L", firsts.UnitOrAddress, (0, 2, d.Never), Some (2, 2, d.Required)) ∷
     (codes "MLNS ", byte "D", firsts.Address, (0, 2, d.Never), None) ∷
     (codes "MLZS ", byte "Y", firsts.Address, (0, 2, d.Never), None) ∷
-    (codes "B    ", byte "B", firsts.Address, (1, 1, d.Optional), Some (2, 2, d.Required)) ∷
+    (codes "B    ", byte "B", firsts.Address, (0, 1, d.Optional), Some (2, 2, d.Required)) ∷
     (codes "BCE  ", byte "B", firsts.Address, (2, 2, d.Required), Some (0, 0, d.Never)) ∷
     (codes "BWZ  ", byte "V", firsts.Address, (2, 2, d.Required), Some (0, 0, d.Never)) ∷
+    (codes "BW   ", byte "V", firsts.Address, (2, 2, d.Fixed (byte "1")), Some (0, 0, d.Never)) ∷
     (codes "BBE  ", byte "W", firsts.Address, (2, 2, d.Required), Some (0, 0, d.Never)) ∷
     (codes "BM   ", byte "V", firsts.Address, (2, 2, d.Fixed (byte "K")), None) ∷
     (codes "BIN  ", byte "B", firsts.Address, (1, 1, d.Required), None) ∷

@@ -1,8 +1,8 @@
 -- What the columns of a line say in the wider language (Autocoder, "Coding Sheet", "Operation").
 use Rattle.std.specs.Prelude.{ℕ, if◌then◌else◌, List, Option, None, Some}
-use Rattle.source_1401.specs.Heading.{wide_bytes_with}
+use Rattle.source_1401.specs.Heading.{is_wide_comment, wide_bytes_with}
 use Rattle.source_1401.specs.Label.{label_in}
-use Rattle.source_1401.specs.SourceLine.{columns_in, is_comment}
+use Rattle.source_1401.specs.SourceLine.{columns_in}
 use Rattle.source_1401.specs.Units.{wide_operands}
 use Rattle.source_1401.specs.WideBody.{shared_body_of}
 use Rattle.source_1401.specs.WideMnemonic.{AWideRow, form_by, wide_row_of}
@@ -46,6 +46,6 @@ unfoldable pub wide_line_with : ℕ → List ℕ → Line
 wide_line_with len columns =
     record {
       bytes = wide_bytes_with len columns;
-      statement = if is_comment columns then None
+      statement = if is_wide_comment columns then None
           else Some (wide_statement_of columns);
     }

@@ -27,7 +27,7 @@ pub struct Text {
 
 impl Text {
     /// These graphics.
-    fn from_slice(text: &[u8]) -> Text
+    pub(crate) fn from_slice(text: &[u8]) -> Text
         requires { length text.now ≤ 50 }
         ensures { result ≡ text_of text.now }
     {
@@ -50,7 +50,7 @@ impl Text {
 pub enum Constant {
     /// These graphics, which stand between two at signs.
     Text(Text),
-    /// These digits, one to twenty, without a sign.
+    /// These digits, one to twenty, without a sign; up to fifty in the wider language, but for a literal.
     Number(Text),
     /// These digits with a plus sign: zone BA over the units.
     Plus(Text),
@@ -81,7 +81,7 @@ fn quoted(text: &[u8]) -> Option<Text>
 }
 
 /// Whether the bytes are digits.
-fn are_digits(text: &[u8]) -> bool
+pub(crate) fn are_digits(text: &[u8]) -> bool
     ensures { result ≡ list_all is_digit text.now }
 {
     text.iter().all(|byte| is_digit(*byte))

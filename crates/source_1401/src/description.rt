@@ -265,6 +265,24 @@ fn areas_row(areas: &Option<Areas>) -> Description
     }
 }
 
+/// The row of DCW of many blanks: they are placed as one area is, which has no fields.
+fn blanks_row(places: u16) -> Description
+    ensures { result ≡ describe (bodies.Blanks places) }
+{
+    Description {
+        names: Point::Last,
+        contents: Contents::Areas(Some(Areas {
+            count: 1,
+            length: places,
+            has_group_mark: false,
+            has_record_marks: false,
+            index: 0,
+            counts_from_zero: false,
+        })),
+        ..PLAIN
+    }
+}
+
 /// The row of EQU, whose operands are as it asks or not.
 fn equate_row(operands: &Operands, is_well_formed: bool) -> Description
     ensures { result ≡ record (equate_row operands.now) { is_well_formed = is_well_formed } }
@@ -468,6 +486,7 @@ impl Body {
             Body::Transfer(operands) => transfer_row(operands),
             Body::Chain(chain) => chain_row(*chain),
             Body::AddressConstant(constant) => address_constant_row(constant),
+            Body::Blanks(places) => blanks_row(*places),
         }
     }
 }
@@ -501,7 +520,8 @@ impl Body {
             | Body::WideEnd(_)
             | Body::Heading(_)
             | Body::Transfer(_)
-            | Body::AddressConstant(_) => Relation::Apart,
+            | Body::AddressConstant(_)
+            | Body::Blanks(_) => Relation::Apart,
         }
     }
 }
@@ -551,6 +571,7 @@ impl Body {
             | Body::Transfer(_)
             | Body::Chain(_)
             | Body::AddressConstant(_)
+            | Body::Blanks(_)
             | Body::LabelledOrigin(_)
             | Body::LiteralOrigin(_)
             | Body::WideField(_)
@@ -595,7 +616,8 @@ impl Body {
             | Body::Control(_)
             | Body::SecondControl
             | Body::Suffix(_)
-            | Body::Chain(_) => self,
+            | Body::Chain(_)
+            | Body::Blanks(_) => self,
         }
     }
 }

@@ -57,6 +57,7 @@ pub use flaw::{
     Flaw, OperandFlaw, OperationFlaw, Stretch, first_base, foreign_column, label_stretch,
     operation_flaw, operation_stretch, second_base, statement_stretch,
 };
+pub use heading::is_system_line;
 pub use label::{LABEL_LENGTH, Label, LabelField};
 pub use language::Language;
 pub use language_flaw::{

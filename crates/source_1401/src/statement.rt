@@ -24,10 +24,12 @@ use crate::operands::{Operands, lone_operand, two_operands};
 pub struct Areas {
     /// How many there are, 1 to 99.
     pub count: u8,
-    /// How many places each has, 1 to 999.
+    /// How many places each has, 1 to 999; up to 9,999 for the blanks of a DCW in the wider language.
     pub length: u16,
     /// Whether a group mark with a word mark follows the last, in the wider language.
     pub has_group_mark: bool,
+    /// Whether a record mark without a word mark follows each, in the wider language.
+    pub has_record_marks: bool,
     /// The index register that the symbols of their fields have, 0 for none; one in the wider language alone.
     pub index: u8,
     /// Whether the symbols of their fields count from 000, in the wider language.
@@ -127,6 +129,8 @@ pub enum Body {
     Chain(Chain),
     /// DSA, DCW and DC of an address, in the wider language.
     AddressConstant(AddressConstant),
+    /// DCW of 51 to 9,999 blanks, in the wider language, with a word mark at the high place.
+    Blanks(u16),
     /// ORG, in the wider language: the next place, which it may give a label before.
     LabelledOrigin(Operands),
     /// LTORG, in the wider language: the next place, likewise, from which literals are placed.
@@ -199,6 +203,7 @@ pub(crate) fn areas_of(word: &[u8]) -> Option<Areas>
         count: count as u8,
         length: length as u16,
         has_group_mark: false,
+        has_record_marks: false,
         index: 0,
         counts_from_zero: false,
     })

@@ -14,6 +14,8 @@ use crate::statement::{AREA_LENGTH, Areas, Span, areas_of, span_of};
 pub struct AreaOptions {
     /// G: a group mark follows the last area.
     pub has_group_mark: bool,
+    /// A record mark: one follows each area.
+    pub has_record_marks: bool,
     /// C: the areas are cleared, as they are without it.
     pub is_cleared: bool,
     /// X1, X2 or X3, by its number: the index register of the symbols of the fields; 0 for none.
@@ -26,18 +28,23 @@ impl AreaOptions {
     /// None of them.
     const NONE: AreaOptions = AreaOptions {
         has_group_mark: false,
+        has_record_marks: false,
         is_cleared: false,
         index: 0,
         counts_from_zero: false,
     };
 
-    /// These, and the one of this letter, or of a zero; nothing if it is unknown, or among them already.
+    /// These, and the one of this letter, of a record mark, or of a zero; nothing if it is unknown, or among them already.
     fn with(self, letter: u8) -> Option<AreaOptions>
         ensures { result ≡ option_and self letter }
     {
         match letter {
             b'G' if !self.has_group_mark => Some(AreaOptions {
                 has_group_mark: true,
+                ..self
+            }),
+            b'\'' if !self.has_record_marks => Some(AreaOptions {
+                has_record_marks: true,
                 ..self
             }),
             b'C' if !self.is_cleared => Some(AreaOptions {
@@ -97,6 +104,7 @@ impl Areas {
     {
         Areas {
             has_group_mark: options.has_group_mark,
+            has_record_marks: options.has_record_marks,
             index: options.index,
             counts_from_zero: options.counts_from_zero,
             ..self

@@ -38,7 +38,7 @@ const BINARY_TAPE: FirstOperand = Tape(b'B');
 /// The mnemonics that the plain language hasn't, or of which it has fewer forms: the columns 16 to 20, the graphic
 /// of the operation character, what the first operand is, the form that is tried first, and the one that is tried
 /// after it.
-static WIDE_INSTRUCTIONS: [WideRow; 46] = [
+static WIDE_INSTRUCTIONS: [WideRow; 47] = [
     (*b"MLC  ", b'M', UnitOrAddress, TO_TWO, Some(TWO_AND_D)),
     (*b"MCW  ", b'M', UnitOrAddress, TO_TWO, Some(TWO_AND_D)),
     (*b"LCA  ", b'L', UnitOrAddress, TO_TWO, Some(TWO_AND_D)),
@@ -49,11 +49,12 @@ static WIDE_INSTRUCTIONS: [WideRow; 46] = [
         *b"B    ",
         b'B',
         Address,
-        (1, 1, DCharacter::Optional),
+        (0, 1, DCharacter::Optional),
         Some(TWO_AND_D),
     ),
     (*b"BCE  ", b'B', Address, TWO_AND_D, Some(ALONE)),
     (*b"BWZ  ", b'V', Address, TWO_AND_D, Some(ALONE)),
+    (*b"BW   ", b'V', Address, (2, 2, Fixed(b'1')), Some(ALONE)),
     (*b"BBE  ", b'W', Address, TWO_AND_D, Some(ALONE)),
     (*b"BM   ", b'V', Address, (2, 2, Fixed(b'K')), None),
     (*b"BIN  ", b'B', Address, ONE_AND_D, None),

@@ -2,7 +2,8 @@
 ghost use Rattle.std.specs.Prelude.{◌≡◌};
 ghost use Rattle.source_1401.specs.WideStatement.{wide_instruction, wide_body_of, wide_statement_of, wide_line_with};
 
-use crate::columns::{COLUMNS, columns_in, is_comment};
+use crate::columns::{COLUMNS, columns_in};
+use crate::heading::is_wide_comment;
 use crate::label::LabelField;
 use crate::language::Language;
 use crate::mnemonic::Instruction;
@@ -62,7 +63,7 @@ impl Line {
     {
         Line {
             bytes: LineCheck::of_wide(len, columns),
-            statement: if is_comment(columns) {
+            statement: if is_wide_comment(columns) {
                 None
             } else {
                 Some(Statement::from_wide_columns(columns))

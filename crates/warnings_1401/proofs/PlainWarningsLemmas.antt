@@ -2,7 +2,6 @@
 use Rattle.std.proofs.Common.{◌≡◌, ◌≢◌, ℕ, ◌+◌, Bool, true, false, cond, not, ◌&&◌, List, [], ◌∷◌, map, Option, None}
 use Rattle.std.proofs.Common.{Some}
 use Rattle.std.specs.List.{list_all}
-use Rattle.std.specs.Option.{option_map_or}
 use Rattle.std.proofs.lemmas.Bool.{and_parts, not-true, true≢false}
 use Rattle.std.proofs.lemmas.List.Elements.{All-append, All-cons, All-nil}
 use Rattle.bcd_1401.specs.declared.cell.Cell.{Cell}
@@ -24,6 +23,7 @@ use Rattle.warnings_1401.specs.Loss.{losses_of}
 use Rattle.warnings_1401.specs.Overlap.{overlaps_of}
 use Rattle.warnings_1401.specs.Warnings.{is_not_fitted, is_unused, branches_unset, compares_unlike, read_on, warned_if}
 use Rattle.warnings_1401.specs.Warnings.{warned_of, statement_warnings, line_warnings, warnings_from, all_warnings}
+use Rattle.warnings_1401.specs.Warnings.{card_lost, warnings_with}
 use Rattle.warnings_1401.specs.Warnings.{is_of_areas, never_branches, starts_nothing, overlap_warned, loss_warned}
 use Rattle.warnings_1401.specs.Warnings.{own_warnings, place_warnings, facts_of, AllFitted, PlainIsCarriedOut}
 use Rattle.warnings_1401.specs.declared.loss.Loss.{Loss}
@@ -123,9 +123,8 @@ of_line known storage number facts text sound =
     (and_parts (are_good (line_of text).bytes) (is_sound_statement (line_of text).statement) sound).1
   where
     by : (b : Bool) → is_sound_statement (cond b None (Some (statement_of (columns_of text)))) ≡ true
-        → AllFitted (option_map_or (statement_warnings known storage number facts)
-        (cond b None (Some (statement_of (columns_of text)))) [])
-    by true sound = All-nil IsOther
+        → AllFitted (warnings_with known storage number facts (cond b None (Some (statement_of (columns_of text)))))
+    by true sound = loss_warning (card_lost facts.loss) number
     by false sound =
         of_statement known storage number facts (statement_of (columns_of text))
         (plain_is_fitted (columns_in 16 20 (columns_of text)) (columns_in 21 72 (columns_of text))

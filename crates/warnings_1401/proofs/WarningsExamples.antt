@@ -1,7 +1,8 @@
 -- Sources without a fault, and their warnings, worked out by hand.
-use Rattle.std.proofs.Common.{◌≡◌, ℕ, List, [], ◌∷◌, ◌++◌, Option, None, Some, refl}
+use Rattle.std.proofs.Common.{◌≡◌, ℕ, List, [], ◌∷◌, ◌++◌, map, Option, None, Some, refl}
 use Rattle.std.specs.Prelude.{codes}
 use Rattle.bcd_1401.specs.Graphic.{graphics}
+use Rattle.source_1401.specs.Heading.{system_cards}
 use Rattle.source_1401.specs.Language.{wider_line}
 use Rattle.source_1401.specs.Mnemonic.{instructions, assembler_operations}
 use Rattle.source_1401.specs.SourceLine.{columns_of}
@@ -11,7 +12,7 @@ use Rattle.source_1401.specs.WideStatement.{wide_line_with}
 use Rattle.source_1401.specs.declared.language.Language.TheVariants.{Ibm, Plain}
 use Rattle.symbols_1401.specs.Reading.{lines_in}
 use Rattle.warnings_1401.specs.Loss.{loss_of}
-use Rattle.warnings_1401.specs.Warnings.{all_warnings}
+use Rattle.warnings_1401.specs.Warnings.{all_warnings, card_lost}
 use Rattle.warnings_1401.specs.declared.loss.Loss.TheVariants as losses
 use Rattle.warnings_1401.specs.declared.warning.Warning.{Warning}
 use Rattle.warnings_1401.specs.declared.warning.WarningKind.{WarningKind}
@@ -19,7 +20,7 @@ use Rattle.warnings_1401.specs.declared.warning.WarningKind.TheVariants as kinds
 
 -- the warnings of a source in 350 places, with all tables open
 warned_of : List ℕ → List Warning
-unfolding columns_of instructions assembler_operations graphics
+unfolding columns_of instructions assembler_operations graphics system_cards
 warned_of source = all_warnings 350 source (lines_in Plain source)
 
 warned : ℕ → WarningKind → Warning
@@ -50,7 +51,7 @@ like = refl
 -- the warnings of a source in the wider language, in 4,000 places
 wide_warned_of : List ℕ → List Warning
 unfolding columns_of instructions assembler_operations wide_instructions wide_operations graphics wider_line
-    wide_line_with
+    wide_line_with system_cards
 wide_warned_of source = all_warnings 4000 source (lines_in Ibm source)
 
 -- a label that only a literal names is used, and its number may get a sign by way of the literal
@@ -90,22 +91,36 @@ overlapped : warned_of
 unfolding warned_of warned overlap
 overlapped = refl
 
+-- a card for the system, by its operation
+a_card_is_lost : loss_of (codes "     AUTOCODER RUN  THRU OUTPUT") ∷ loss_of (codes "               headr")
+    ∷ loss_of (codes "     * a comment to RUN") ∷ loss_of (codes "               B    RUN") ∷ []
+    ≡ Some losses.Card ∷ Some losses.Card ∷ None ∷ None ∷ []
+unfolding columns_of system_cards
+a_card_is_lost = refl
+
+-- a comment may have any text
+cards_are_warned_of : map card_lost (Some losses.Card ∷ Some losses.Text ∷ Some losses.Column73 ∷ None ∷ [])
+    ≡ Some losses.Card ∷ None ∷ None ∷ None ∷ []
+cards_are_warned_of = refl
+
 -- a text that ends before another at sign, and what is in column 73 after operands up to column 72
 lost : loss_of (codes "               DCW  @A @ B@") ≡ Some losses.Text
+unfolding columns_of system_cards
 lost = refl
 
 kept : loss_of (codes "               DCW  @A @ B") ≡ None
+unfolding columns_of system_cards
 kept = refl
 
 column_72 : List ℕ
 column_72 = codes "               DCW  @12345678901234567890123456789012345678901234567890@"
 
 goes_past : loss_of (column_72 ++ codes ",275") ≡ Some losses.Column73
-unfolding column_72
+unfolding column_72 columns_of system_cards
 goes_past = refl
 
 ends_there : loss_of (column_72 ++ codes " 275") ≡ None
-unfolding column_72
+unfolding column_72 columns_of system_cards
 ends_there = refl
 
 -- a switch A to G may be on; X is none

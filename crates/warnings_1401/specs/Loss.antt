@@ -1,8 +1,9 @@
--- What a line loses: operands after a text or after the last column for them (own).
+-- What a line loses: all of it, or operands after a text or after the last column for them (own).
 use Rattle.std.specs.Prelude.{ℕ, ◌+◌, ◌==◌, Bool, false, not, ◌&&◌, if◌then◌else◌, List, [], ◌∷◌, drop, take}
 use Rattle.std.specs.Prelude.{map, slice_index_or, Option, None, Some}
 use Rattle.std.specs.List.{list_any}
 use Rattle.source_1401.specs.Constant.{is_at_sign}
+use Rattle.source_1401.specs.Heading.{is_system_line}
 use Rattle.source_1401.specs.Punctuation.{at_sign, blank}
 use Rattle.source_1401.specs.SourceLine.{lines_of}
 use Rattle.warnings_1401.specs.declared.loss.Loss.{Loss}
@@ -34,7 +35,8 @@ goes_on line =
 -- what a line loses
 abbrev pub loss_of : List ℕ → Option Loss
 loss_of line =
-    if goes_on line then Some losses.Column73
+    if is_system_line line then Some losses.Card
+    else if goes_on line then Some losses.Column73
     else if is_cut (operand_columns line) then Some losses.Text
     else None
 

@@ -40,6 +40,7 @@ use Rattle.placing_1401.specs.Fitted.{is_fitted, is_one_of}
 use Rattle.warnings_1401.specs.Loss.{losses_of}
 use Rattle.warnings_1401.specs.Overlap.{overlaps_of}
 use Rattle.warnings_1401.specs.declared.loss.Loss.{Loss}
+use Rattle.warnings_1401.specs.declared.loss.Loss.TheVariants as losses
 use Rattle.warnings_1401.specs.declared.overlap.Overlap.{Overlap}
 use Rattle.warnings_1401.specs.declared.warning.LineFacts.{LineFacts}
 use Rattle.warnings_1401.specs.declared.warning.Warning.{Warning}
@@ -271,9 +272,19 @@ abbrev pub statement_warnings : Known → List Cell → ℕ → LineFacts → St
 statement_warnings known storage number facts this =
     own_warnings known number this ++ place_warnings storage number facts this
 
+-- what a line loses that is read as a comment: all of it, if it is a card for the system
+abbrev pub card_lost : Option Loss → Option Loss
+card_lost None = None
+card_lost (Some losses.Card) = Some losses.Card
+card_lost (Some losses.Text) = None
+card_lost (Some losses.Column73) = None
+
+abbrev pub warnings_with : Known → List Cell → ℕ → LineFacts → Option Statement → List Warning
+warnings_with known storage number facts None = loss_warned (card_lost facts.loss) number
+warnings_with known storage number facts (Some this) = statement_warnings known storage number facts this
+
 abbrev pub line_warnings : Known → List Cell → ℕ → LineFacts → Line → List Warning
-line_warnings known storage number facts line =
-    option_map_or (statement_warnings known storage number facts) line.statement []
+line_warnings known storage number facts line = warnings_with known storage number facts line.statement
 
 -- what is known of a line
 abbrev pub facts_of : ℕ → Option Overlap → Option Loss → LineFacts

@@ -1,17 +1,19 @@
-//! What a line loses: operands after a text, or after the last column for them.
+//! What a line loses: all of it, or operands after a text, or after the last column for them.
 ghost use Rattle.std.specs.Prelude.{◌≡◌, ◌≤◌, false, drop, length, take, IfOk, IfErr};
 ghost use Rattle.std.specs.List.{list_any};
 ghost use Rattle.source_1401.specs.Constant.{is_at_sign};
 ghost use Rattle.symbols_1401.specs.Fault.{IsMemory};
 ghost use Rattle.warnings_1401.specs.Loss.{operand_columns, operands_len, is_cut, goes_on, loss_of, losses_of};
 
-use source_1401::split_line;
+use source_1401::{is_system_line, split_line};
 use std::alloc::Global;
 use symbols_1401::AsmFault;
 
 /// What a line loses.
 #[derive(Clone, Copy, Debug, PartialEq, Eq)]
 pub enum Loss {
+    /// All that it holds: it is a card for the system that assembled a source, and is read as a comment.
+    Card,
     /// What follows a text that ends before another at sign of the line: it is a remark.
     Text,
     /// What is in column 73, after operands that go on up to column 72.
@@ -85,7 +87,9 @@ fn goes_on(line: &[u8]) -> bool
 fn loss_of(line: &[u8]) -> Option<Loss>
     ensures { result ≡ loss_of line.now }
 {
-    if goes_on(line) {
+    if is_system_line(line) {
+        Some(Loss::Card)
+    } else if goes_on(line) {
         Some(Loss::Column73)
     } else if is_cut(operand_columns(line)) {
         Some(Loss::Text)

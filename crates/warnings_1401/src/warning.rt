@@ -13,7 +13,7 @@ ghost use Rattle.warnings_1401.specs.Warnings.{is_unit, is_unfitted, is_unfitted
 ghost use Rattle.warnings_1401.specs.Warnings.{tests_comparison, is_unset, branches_unset, is_signed_literal};
 ghost use Rattle.warnings_1401.specs.Warnings.{lone_symbol, stays_unsigned, are_unlike, compares_unlike, longest};
 ghost use Rattle.warnings_1401.specs.Warnings.{ends, open_place, chain_read_on, read_on, warned_if, warned_of};
-ghost use Rattle.warnings_1401.specs.Warnings.{line_warnings, warnings_from, all_warnings};
+ghost use Rattle.warnings_1401.specs.Warnings.{card_lost, line_warnings, warnings_from, all_warnings};
 ghost use Rattle.warnings_1401.specs.Warnings.{is_of_areas, is_idle, never_branches};
 ghost use Rattle.warnings_1401.specs.Warnings.{may_begin, names_phase, starts_nothing};
 ghost use Rattle.warnings_1401.specs.Warnings.{overlap_warned, loss_warned, own_warnings, place_warnings};
@@ -530,6 +530,16 @@ fn warn_of_place(
     warn_of_loss(warnings, loss, number)
 }
 
+/// What a line loses that is read as a comment: all of it, if it is a card for the system.
+fn card_lost(loss: Option<Loss>) -> Option<Loss>
+    ensures { result ≡ card_lost loss }
+{
+    match loss {
+        Some(Loss::Card) => loss,
+        Some(Loss::Text | Loss::Column73) | None => None,
+    }
+}
+
 /// Adds the warnings of the line of this number.
 fn warn_of_line(
     warnings: &mut Vec<Warning>,
@@ -547,7 +557,7 @@ fn warn_of_line(
             warn_of_own(warnings, &this.notes, number, statement)?;
             warn_of_place(warnings, &this.filling.storage, number, facts, statement)
         }
-        None => Ok(()),
+        None => warn_of_loss(warnings, card_lost(facts.loss), number),
     }
 }
 
