@@ -179,7 +179,8 @@ class Page:
         path.write_bytes(base64.b64decode(shot))
 
     def complaints(self):
-        """What the page has written to the browser's console: its errors and its warnings."""
+        """What the page has written to the browser's console: its errors and its warnings. That the networks of the host
+        have changed is none of them."""
         found = []
         for event in self.browser.events:
             params = event.get("params", {})
@@ -191,7 +192,7 @@ class Page:
                 found.append(params["entry"]["text"] + " " + params["entry"].get("url", ""))
             elif event["method"] == "Runtime.consoleAPICalled":
                 found.append(str([each.get("value") for each in params["args"]]))
-        return found
+        return [each for each in found if "net::ERR_NETWORK_CHANGED" not in each]
 
 
 def write_pictures():

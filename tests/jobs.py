@@ -52,6 +52,20 @@ STEPS = [
     "00401\t~.       \tH                   \t00000\t00333\tHALT\n",
 ]
 
+# Prints and punches columns 1 to 64 of a card: seven steps.
+COPY = """\
+               ORG  400
+     START     SW   101,201
+               R
+               SW   1
+               MLC  64,164
+               MLC  64,264
+               WP
+               H    *-3
+               NOP
+               END  START
+"""
+
 # Goes round without an end, by itself or with a line printed each time.
 ROUND = "               ORG  400\n     START     B    START\n               END  START\n"
 LINES_WITHOUT_END = "               ORG  400\n     START     W\n               B    START\n               END  START\n"

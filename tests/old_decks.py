@@ -64,6 +64,43 @@ REFUSED_TOGETHER = [
     ("- A SUM#3,0 / - LTORG 3998 / - END", 2, "9 OUT OF CORE"),
     ("- LTORG 4001 / - END", 1, "9 OUT OF CORE"),
     ("- SFX A / TAG DCW #1 / - SFX / - B TAG / - END", 4, "7 UNDEFINED"),
+    # the name of a unit is no place
+    ("T EQU %U1 / - MLC T+1,5,R / - END", 2, "9 OUT OF CORE"),
+    ("T EQU %U1 / - MLC T-0+X1,5,R / - END", 2, "9 OUT OF CORE"),
+    ("T EQU %U1 / - MLC T+X0,5,R / - END", 2, "9 OUT OF CORE"),
+    ("T EQU %U1 / - MLC 5,T,R / - END", 2, "9 OUT OF CORE"),
+    ("T EQU %U1 / - A T,5 / - END", 2, "9 OUT OF CORE"),
+    ("- MCW T,5 / T EQU %U1 / - END", 1, "9 OUT OF CORE"),
+    ("T EQU %U1 / - MLC T+99999,5,R / - END", 2, "9 OUT OF CORE"),
+    ("T EQU %U1 / - MLC +T,5 / - END", 2, "9 OUT OF CORE"),
+    ("T EQU %U1 / - DSA T / - END", 2, "9 OUT OF CORE"),
+    ("T EQU %U1 / - DC -T / - END", 2, "9 OUT OF CORE"),
+    ("T EQU %U1 / - ORG T / - END", 2, "9 OUT OF CORE"),
+    ("T EQU %U1 / - LTORG T+99999 / - END", 2, "9 OUT OF CORE"),
+    ("T EQU %U1 / A EQU T / - END", 2, "9 OUT OF CORE"),
+    ("A EQU T+99999 / B EQU A+99999 / T EQU %U1 / - END", 1, "9 OUT OF CORE"),
+    ("T EQU %U1 / - EX T / - END", 2, "9 OUT OF CORE"),
+    ("T EQU %U1 / - XFR T / - END", 2, "9 OUT OF CORE"),
+    ("T EQU %U1 / - END T", 2, "9 OUT OF CORE"),
+    ("T EQU %U1 / T EQU %U2 / - END", 2, "5 DOUBLE LABEL"),
+    ("- EQU %U1 / - END", 1, "4 LABEL"),
+    ("T EQU %U1+1 / - END", 1, "8 OPERAND"),
+    ("T EQU %U1,5 / - END", 1, "8 OPERAND"),
+    ("- CU 5,R / - END", 1, "8 OPERAND"),
+    ("- CU T,R / - END", 1, "7 UNDEFINED"),
+    # a constant at a place of its own
+    ("4000 DCW @X@ / - END", 1, "9 OUT OF CORE"),
+    ("2 DCW @WXYZ@ / - END", 1, "9 OUT OF CORE"),
+    ("99999 DC 0 / - END", 1, "9 OUT OF CORE"),
+    ("110 DCW +TAG / TAG DCW #3 / - END", 1, "8 OPERAND"),
+    ("110 DCW #51 / - END", 1, "8 OPERAND"),
+    ("110 DSA 5 / - END", 1, "4 LABEL"),
+    ("110 DS 3 / - END", 1, "4 LABEL"),
+    ("110 H / - END", 1, "4 LABEL"),
+    ("123456 DCW 0 / - END", 1, "4 LABEL"),
+    # the place after the highest
+    ("- ORG 3999 / - DCW 0 / - ORG 5 / - ORG / - DCW 0 / - END 5", 5, "9 OUT OF CORE"),
+    ("- ORG 3999 / - DCW 00 / - ORG / - END 5", 2, "9 OUT OF CORE"),
 ]
 
 
@@ -98,7 +135,10 @@ NOT_OF_OLD_DECKS = [
      "16: OPERATION: CHAIN must come directly after an instruction or another CHAIN"),
     ("               A    %U1,5", "8 OPERAND", "21: OPERAND: %U1 is neither an address nor a literal"),
     ("               MU   1,5,R", "8 OPERAND", "21: OPERAND: 1 isn't a unit, such as %U1"),
-    ("               RT   X,5", "8 OPERAND", "21: OPERAND: X isn't a tape, such as 1 or %U1"),
+    ("               RT   12,5", "8 OPERAND", "21: OPERAND: 12 isn't a tape, such as 1 or %U1"),
+    ("     16000     DCW  @X@", "9 OUT OF CORE",
+     "1: OUT OF CORE: its first place is 16000, 12001 past the last place in core, 3999, which --size sets"),
+    ("     3999      DC   %U1", "8 OPERAND", "21: OPERAND: %U1 isn't a constant"),
     ("               XFR  5+X1", "8 OPERAND", "21: OPERAND: 5+X1 has no value; a number or a label has one"),
     ("               B    1,UNDEF,X", "7 UNDEFINED", "23: UNDEFINED: UNDEF isn't the label of any line"),
     ("               ORG  *+X1", "8 OPERAND", "21: OPERAND: *+X1 has no value; a number or a label has one"),
@@ -155,6 +195,8 @@ TOGETHER_REFUSED = [
     # an area literal is declared, whatever else is wrong with its line
     ("               A    SUM#3,Q\n"
      "               A    SUM,5\n", 1, "7 UNDEFINED", "27: UNDEFINED: Q isn't the label of any line"),
+    ("     T         EQU  %U1\n               MLC  T+1,5,R\n", 2, "9 OUT OF CORE", "1: OUT OF CORE: the name of a"
+     " unit is no place: it may be the first operand of an instruction for units, alone"),
     ("     REC       DA   1X5\n     F\n", 2, "8 OPERAND", "21: OPERAND: an operand is missing"),
     ("     REC       DA   1X5\n                    6\n", 2, "8 OPERAND", "21: OPERAND: the field ends after its area"),
     ("     REC       DA   1X5\n"
@@ -163,7 +205,7 @@ TOGETHER_REFUSED = [
 
 # What neither language has: lines from column 6 on, by the fault of each.
 LEFT_OUT = {
-    "4 LABEL": ["110       DCW  @X@"],
+    "4 LABEL": ["110       DSA  TAG", "110       DS   3", "0110      H"],
     "6 OPERATION": [
         *(f"          {name:5}X" for name in (
             "INCLD", "CALL", "GET", "PUT", "OPEN", "CLOSE", "DIOCS", "DTF"
@@ -171,9 +213,8 @@ LEFT_OUT = {
         *(f"          {name:5}5,6" for name in ("MBC", "MBD", "RCB", "PCB", "PFR", "DCR", "SD", "RD", "WD")),
     ],
     "8 OPERAND": [
-        "UNIT      EQU  %U1",
         *(f"          {statement}" for statement in (
-            "ORG", "W    5,X", "P    5,X", "DA   1X5,R", "MLC  TAG+TAG,6", "MLC  TAG+2+1,6", "MLC  TAG, 6",
+            "W    5,X", "P    5,X", "DA   1X5,R", "MLC  TAG+TAG,6", "MLC  TAG+2+1,6", "MLC  TAG, 6",
             f"DCW  @{'A' * 51}@", "MLC  @A@B@,6", f"MLC  +{'1' * 21},6", "DC   #51",
         )),
     ],

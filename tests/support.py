@@ -108,6 +108,10 @@ def difference(what, found, wanted):
     return [f"{what} is {found[-300:]!r}, not {wanted[-300:]!r}"]
 
 
+# What a served room reports at once if an entry of its journal isn't kept.
+UNWRITTEN = "ibm1401: the journal cannot be written; no command is carried out any more\n"
+
+
 def misuse(error, usage=""):
     """What the program says of a command line that it can't read, with the usage that it shows, if there is one."""
     shown = f"Usage: ibm1401 {usage}\n\n" if usage else ""
@@ -195,9 +199,9 @@ class ProgramTest(unittest.TestCase):
             wrong += apart("its end", found, last)
         self.check(name, wrong)
 
-    def refused(self, name, response, wanted):
-        """A subtest: a response has this version of HTTP and this status, and no body."""
-        self.within(name, response, f"HTTP/{wanted} ", "\r\n\r\n")
+    def refused(self, name, response, wanted, text=""):
+        """A subtest: a response has this version of HTTP and this status, and no other body than this text."""
+        self.within(name, response, f"HTTP/{wanted} ", f"\r\n\r\n{text}")
 
 
 def apart(what, found, wanted):
@@ -391,6 +395,11 @@ class Server:
         """Where the page of a seat is."""
         return f"http://127.0.0.1:{self.page + seat - 1}"
 
+    def elsewhere(self, seat=1):
+        """What a request hears that is for another host than the page of a seat."""
+        also = f" or {self.outside[seat - 1]}/" if self.outside else ""
+        return f"this page is at {self.address(seat)}/{also}\n"
+
     def ask(self, seat, method="GET", path="/", text=None, fields=()):
         """A request at the page of a seat, as a library sends it: its status and its body. It is made again while
         nothing comes back: the page closes a connection whose request doesn't come within a second."""
@@ -420,11 +429,11 @@ class Server:
         port = self.page + seat - 1
         return ask(port, head(f"GET {target}", {"Host": f"127.0.0.1:{port}", **fields}).encode())
 
-    def post(self, seat, line, count, **fields):
+    def post(self, seat, line, count, path="/line", **fields):
         """The bytes of the response to a line, sent as the page does but for these fields; None leaves one out."""
         own = {"Host": f"127.0.0.1:{self.page + seat - 1}", "Origin": self.address(seat), "X_1401_Line": count}
         own |= {**fields, "Content_Length": len(line)}
-        return ask(self.page + seat - 1, f"{head('POST /line', own)}{line}".encode())
+        return ask(self.page + seat - 1, f"{head(f'POST {path}', own)}{line}".encode())
 
     def after(self, seat=1):
         """After how many commands the machine is, as a picture says; or what came in its place."""

@@ -16,6 +16,7 @@ import unittest
 from pathlib import Path
 
 sys.dont_write_bytecode = True
+from tests.chains import DOUBTFUL, SIMH
 from tests.support import free_ports
 
 TOP = Path(__file__).resolve().parent.parent
@@ -32,6 +33,9 @@ SOURCE = """\
                END  START
 """
 WIDE = SOURCE.replace("MLC", "mlc")
+# One with a group mark, and the same in SIMH's graphics.
+MARKED = SOURCE.replace("@X@", '@"@')
+SIMHS = SOURCE.replace("@X@", "@}@")
 FAULTY = "               BOO\n               BOO\n               END  333\n"
 # A program that reads two cards if there are two, prints and punches the first, and halts on if switch B is on.
 JOB = """\
@@ -75,6 +79,7 @@ class Room:
         test.addCleanup(folder.cleanup)
         self.path = Path(folder.name)
         texts = {"source": SOURCE, "wide": WIDE, "faulty": FAULTY, "job": JOB, "high": HIGH, "journal": JOURNAL}
+        texts.update({"marked": MARKED, "simhs": SIMHS, "plus": "A+B\n"})
         for name, text in {**texts, "cards": "FIRST\nSECOND\n", "deck": DECK}.items():
             (self.path / name).write_text(text)
         shutil.copy(TOP / "examples/five_and_five.image", self.path / "image")
@@ -98,6 +103,13 @@ NO_CARD = f"ibm1401: READER at 0404 (line 3, R): no card in the hopper after 1 s
 STEPS = "00400\t~,001    \tSW   001            \t00000\t00000\t00001| |~ \n"
 STEPS += "00404\t~1       \tR                   \t00000\t00000\tREADER\n"
 IMAGE = "IMAGE2 04000\n00333 10 ~M341342~.~X~Y\nEND 00333\n"
+MARKED_IMAGE = IMAGE.replace("X", '"')
+OWN_DECK = (
+    ",008015,022029,036040,044051,056060/I99H039C039062B036/1001099\n"
+    ",047055,059063,067071,075079)044056,181L199099)060)081)181/039,0011040\n"
+    f"{'M341342.':8}\"{'Y':30}L039371,340,341,342,040,040,040,0401040\n{'':39}/333080\n"
+)
+PLUS = f"ibm1401: plus: {DOUBTFUL}\n"
 SYMBOLS = "START  00333 00007 0001\nA      00341 00001 0003\nB      00342 00001 0004\n"
 REFERENCES = "START  0001 0005\nA      0003 0001\nB      0004 0001\n"
 LISTING = "".join(f"{front} {line}\n" for front, line in zip(
@@ -129,6 +141,12 @@ ROWS = [
      "faulty:1:16: OPERATION: BOO isn't an operation\nfaulty:2:16: OPERATION: BOO isn't an operation\n", {}),
     ("assemble wide", "", 1, "", "ibm1401: line 1: 3 GRAPHIC\n", {}),
     ("assemble --language ibm wide", "", 0, IMAGE, "", {}),
+    ("assemble simhs", "", 1, "", "ibm1401: line 3: 3 GRAPHIC\n", {}),
+    ("assemble --graphics ours simhs", "", 1, "", f"ibm1401: simhs: {SIMH}\nibm1401: line 3: 3 GRAPHIC\n", {}),
+    ("assemble --graphics simh simhs", "", 0, MARKED_IMAGE, "", {}),
+    ("assemble --source-graphics simh simhs", "", 0, MARKED_IMAGE, "", {}),
+    ("assemble --deck new marked", "", 0, "", "", {"new": OWN_DECK}),
+    ("assemble --deck new --out-graphics simh marked", "", 0, "", "", {"new": OWN_DECK.replace('"', "}")}),
     ("load image", LAST_PLACE, 0, " \nBYE\n", "", {}),
     ("load --journal new image", LAST_PLACE, 0, " \nBYE\n", "",
      {"new": f"JOURNAL1 4000\n{LOADED}3\t0\tEXAMINE 1400 1\t \n"}),
@@ -136,6 +154,14 @@ ROWS = [
     ("run job", "", 1, "", NO_CARD, {}),
     ("disassemble --load deck", "", 0, "00001*BV00     B    1500\n01500          END  1500\n", "", {}),
     ("disassemble --load --size 1400 deck", "", 1, "", "ibm1401: the deck isn't loaded: NOMARK at 1500\n", {}),
+    ("disassemble --load --graphics simh deck", "", 0, "00001*BV00     B    1500\n01500          END  1500\n", "", {}),
+    ("disassemble --graphics simh deck", "", MISUSE, "", None, {}),
+    ("run --load --image new deck", "", 1, "", None, {"new": "IMAGE2 04000\n00001 04 ~BV00\nEND 01500\n"}),
+    ("run --image new job", "", MISUSE, "", None, {}),
+    ("run --cards plus --punch new job", "", 0, "A+B\n", PLUS + HALTED, {"new": "A+B\n"}),
+    ("run --cards plus --punch new --out-graphics fortran job", "", 0, "A+B\n", PLUS + HALTED, {"new": 'A"B\n'}),
+    ("run --cards plus --punch new --graphics fortran --source-graphics ours job", "", 0, "A&B\n", HALTED,
+     {"new": "A+B\n"}),
     ("run --cards cards job", "", 0, "FIRST\n", HALTED, {}),
     ("run --cards cards --punch new job", "", 0, "FIRST\n", HALTED, {"new": "FIRST\n"}),
     ("run --cards cards --paper new job", "", 0, "", HALTED, {"new": "FIRST\n"}),
@@ -174,6 +200,8 @@ ROWS = [
     ("serve --port 1401 --seats 2 --origin https://museum.example", "", MISUSE, "", None, {}),
     ("resume --port 1401 --seats 2 --origin https://museum.example journal", "", MISUSE, "", None, {}),
     ("serve --port 1401 --seats 2 --image image --size 4000", "", MISUSE, "", None, {}),
+    ("serve --port 1401 --seats 2 --graphics simh", "", MISUSE, "", None, {}),
+    ("serve --port 1401 --seats 2 --renew-after 5", "", MISUSE, "", None, {}),
     ("assemble -o new --deck new source", "", MISUSE, "", None, {}),
 ]
 

@@ -107,7 +107,7 @@ class DeckToPaper(Browser):
         self.page.browser.call("Browser.setDownloadBehavior", behavior="allow", downloadPath=str(self.folder))
         self.page.click("save-key")
         saved = self.folder / "paper.txt"
-        wait_until(saved.exists)
+        wait_until(lambda: saved.exists() and saved.stat().st_size)
         self.holds("the paper is saved as text", saved, self.paper)
         self.page.value("tearOff() && 0")
         self.shows("the paper isn't torn off unasked", "byId('ask').open")
@@ -140,6 +140,26 @@ class TwoPages(Browser):
         next_card = "byId('card-next').querySelector('.typed').textContent.trim()"
         self.shows("and its card", next_card, "FROM SEAT 2")
 
+    def test_another_seat_that_runs_a_program(self):
+        """The page says so, and so do the keys that would act in the middle of it."""
+        second = self.open_page(2)
+        second.value("say('DEPOSIT 0500 ~B500~.').then(() => say('START 0500'))")
+        self.shows("it is at work", "byId('others').textContent",
+                   "Seat 2 is at work (START): its keys act on this machine too.")
+        second.value("byId('pace').selectedIndex = 1, pressRun(), 0")
+        runs = "Seat 2 runs a program: LOAD, RUN, STEP and START AT would act in the middle of it."
+        self.shows("it runs", "byId('others').textContent", runs)
+        self.shows("the panel says so", "byId('running').textContent", "seat 2 runs a program")
+        for key in "load-key", "step-key", "run-key", "start-key":
+            self.shows(f"{key} says so", f"byId('{key}').title", runs)
+        second.value("attract.pressed = run.began = -Infinity, 0")
+        self.shows("its parts are six seconds long", "run.grown", 60, second)
+        self.shows("it runs still", "view.others.gap > 2000 && byId('others').textContent", runs)
+        second.click("stop-key")
+        self.shows("it ends", "byId('running').textContent === '' && byId('load-key').title === TEXTS.loadTitle")
+        self.shows("who was last at work is said", "/^others gave \\d+ commands since you came; the last command is of "
+                   "seat 2: RUN \\d+$/.test(byId('others').textContent)")
+
     def test_a_place_that_has_changed_glows(self):
         second = self.open_page(2)
         self.page.value("byId('find-at').value = '0700', byId('find').requestSubmit()")
@@ -168,6 +188,66 @@ class TwoPages(Browser):
         # The browser itself reports the line that was refused.
         self.same("one complaint, of that line", ["409" in each for each in window.complaints()], [True])
         self.pages.remove(window)
+
+
+class Holding(Browser):
+    """A page holds the machine for a minute: the keys of the others are off, and say why."""
+
+    def test_a_hold(self):
+        second = self.open_page(2)
+        notice = "byId('notice').hidden ? '' : byId('notice-words').textContent"
+        second.click("hold-key")
+        self.shows("its own page says so", notice, "You hold the machine: the keys of the other pages are off.", second)
+        self.shows("and its key ends it", "byId('hold-key').textContent", "Let others go on", second)
+        why = "Seat 2 holds the machine, so the keys are off here."
+        self.shows("the other page says who", notice, why)
+        self.shows("and for how long", "/^ \\(\\d+ s\\)$/.test(byId('notice-left').textContent)")
+        keys = "['load-key', 'run-key', 'step-key', 'feed-key', 'afresh-key', 'send-key', 'hold-key'].every"
+        self.shows("its keys are off", f"{keys}(id => isOff(byId(id)))")
+        self.shows("and say why", "byId('load-key').title", why)
+        count = self.served.after()
+        told = "say('START 0001').then(outcome => outcome.failed.replace(/\\d+ more/, 'N more'))"
+        self.shows("a line isn't carried out", told, "Not carried out: seat 2 holds the machine for N more seconds.")
+        self.unchanged("the machine is as it was", self.served, count)
+        self.shows("the holder's line is", "say('START 0002').then(outcome => outcome.reply)", "OK", second)
+        second.click("hold-key")
+        self.shows("it ends", "byId('notice').hidden && !isOff(byId('load-key')) && byId('load-key').title",
+                   self.page.value("TEXTS.loadTitle"))
+        self.shows("the other page goes on", "say('START 0003').then(outcome => outcome.reply)", "OK")
+        # The browser itself reports the line that was refused.
+        self.same("one complaint, of that line", ["423" in each for each in self.page.complaints()], [True])
+        self.pages.remove(self.page)
+
+    def test_a_run_of_another_page_stops(self):
+        second = self.open_page(2)
+        self.page.value("say('DEPOSIT 0500 ~B500~.').then(() => say('START 0500')).then(() => pressRun()), 0")
+        self.shows("it runs", "run !== null && run.slices > 2")
+        second.click("hold-key")
+        self.shows("it ends, and says why", "run === null && byId('said-words').textContent.replace(/\\d+ more/, 'N more')",
+                   "Not carried out: seat 2 holds the machine for N more seconds.")
+        self.pages.remove(second)
+        second.call("Page.navigate", url="about:blank")
+        self.shows("the hold ends with its page", "byId('notice').hidden && !isOff(byId('run-key'))")
+        self.pages.remove(self.page)
+
+    def test_seats_that_are_taken(self):
+        """They are marked, and named so."""
+        room = self.room("serve", seats=3, pages=True)
+        page = self.open(room.address(2))
+        self.check("the page sees the machine", "" if page.is_ready() else "it doesn't")
+        marked = "[...document.querySelectorAll('#seats a.taken')].map(a => a.getAttribute('aria-label')).join()"
+        self.shows("nobody else is there", marked, "", page)
+        with room.console() as console:
+            console.say(b"REGS\n")
+            self.shows("a console sits at seat 1", marked, "seat 1, taken", page)
+        self.shows("it has left", marked, "", page)
+
+    def test_a_room_of_one_seat_has_no_such_key(self):
+        room = self.room("serve", seats=1, pages=True, consoles=False)
+        page = self.open(room.address())
+        self.check("the page sees the machine", "" if page.is_ready() else "it doesn't")
+        self.shows("its key isn't shown", "byId('hold-key').hidden", page=page)
+        self.shows("that of two seats is", "byId('hold-key').hidden", False)
 
 
 class KeysAlone(Browser):
@@ -308,18 +388,60 @@ class Amounts(Browser):
         self.shows("all are read", "byId('said-words').textContent === TEXTS.stops.READER")
         self.shows("the last one too", "view.picture.read", "CARD 619")
 
-    def test_tearing_off_is_stopped(self):
-        for line in "DEPOSIT 0500 ~2~B500~.", "START 0500", "RUN 400":
+    def print_lines(self, many):
+        """Has the machine print lines, two instructions each."""
+        for line in "DEPOSIT 0500 ~2~B500~.", "START 0500", f"RUN {2 * many}":
             self.page.value(f"say('{line}')")
-        self.shows("200 lines are printed", "view.paper.length", 200)
+        self.shows(f"{many} lines are printed", "view.paper.length", many)
+
+    def tear_off(self):
+        """Presses the key, and says yes."""
         self.page.value("tearOff() && 0")
         self.shows("the page asks", "byId('ask').open")
         self.page.click("ask-yes")
-        words = "/^[1-9][0-9]* of 200 lines taken$/.test(byId('torn-words').textContent)"
+
+    def test_tearing_off_is_stopped(self):
+        """Each request is slowed down here, to leave time to press the key."""
+        self.print_lines(400)
+        self.page.value("window.asked = fetch, fetch = (...all) => (all[0] === '/lines' ? delay(500) : "
+                        "Promise.resolve()).then(() => asked(...all)), 0")
+        self.tear_off()
+        words = "/^[1-9][0-9]* of 400 lines taken$/.test(byId('torn-words').textContent)"
         self.shows("it is shown how far it is", words)
         self.page.click("take-stop")
-        self.shows("it is stopped", "taking === null && torn.length > 0 && torn.length < 200 "
-                   "&& torn.length + view.paper.length", 200)
+        self.shows("it is stopped", "taking === null && torn.length > 0 && torn.length < 400 "
+                   "&& torn.length + view.paper.length", 400)
+
+    def test_a_full_printer_and_a_full_stacker(self):
+        """Each is taken by one key."""
+        self.print_lines(500)
+        self.page.value("window.took = 0, window.began = 0, tearOff().then(() => took = performance.now() - began), 0")
+        self.shows("the page asks", "byId('ask').open")
+        self.page.value("began = performance.now(), byId('ask-yes').click()")
+        self.shows("the paper", "took > 0 && torn.length", 500)
+        self.page.value("say('DEPOSIT 0500 ~4').then(() => say('RUN 1000'))")
+        self.shows("500 cards are punched", "byId('STACKER').textContent", "500")
+        self.page.value("took = 0, began = performance.now(), "
+                        "takeAllCards().then(() => took = performance.now() - began), 0")
+        self.shows("the cards", "took > 0 && taken.length", 500)
+
+    def test_five_hundred_whole_cards(self):
+        self.page.value("window.took = 0, window.began = performance.now(), feedDeck(Array.from({length: 500}, "
+                        "(_, n) => `CARD ${n}`.padEnd(80, 'X'))).then(() => took = performance.now() - began), 0")
+        self.shows("all are in the hopper", "took > 0 && byId('HOPPER').textContent",
+                   "500")
+
+    def test_a_run_that_waits_for_the_paper(self):
+        """It says so, and goes on when the paper is torn off."""
+        for line in "DEPOSIT 0500 ~2~B500~.", "START 0500":
+            self.page.value(f"say('{line}')")
+        self.page.value("pressRun(), 0")
+        self.shows("it waits", "byId('said-words').textContent === TEXTS.waits.FORMS && run !== null")
+        self.tear_off()
+        again = "torn.length >= 500 && view.paper.length === 500 && run.waits"
+        self.shows("it goes on, and waits again", again, "FORMS")
+        self.page.click("stop-key")
+        self.shows("STOP ends it", "run === null && byId('said-words').textContent === TEXTS.stops.FORMS")
 
     def test_all_punched_cards(self):
         for line in "DEPOSIT 0500 ~4~B500~.", "START 0500", "RUN 60":
@@ -328,6 +450,81 @@ class Amounts(Browser):
         self.page.click("all-cards-key")
         self.shows("all are taken", "taken.length === 30 && byId('STACKER').textContent", "000")
         self.shows("and counted", "byId('taken-words').textContent", "30 cards were taken.")
+
+
+class LongRuns(Browser):
+    """A run that nobody watches: its parts grow, and the journal lasts."""
+
+    # Entries of a day, by the length of each part in tenths of a second, and from how long after a press on.
+    DAY = """(() => {
+        let entries = 0;
+        for (let at = 0; at < 86400000; at += SLICE_MS * grownBy(at)) entries++;
+        return entries;
+    })()"""
+
+    def test_a_day_takes_less_than_a_fifth_of_a_journal(self):
+        entries = self.page.value(self.DAY)
+        self.check("entries", "" if 14_000 < entries < 20_000 else f"{entries}")
+        self.shows("a part is a tenth of a second in the first minute", "grownBy(0) + grownBy(59999)", 2)
+        self.shows("and six seconds at most", "grownBy(1e9) * SLICE_MS", 6000)
+
+    def begin(self, idle):
+        """A run that goes on after nobody has pressed anything for so many milliseconds."""
+        for line in "DEPOSIT 0500 ~B500~.", "START 0500":
+            self.page.value(f"say('{line}')")
+        self.page.value("byId('pace').selectedIndex = 1, pressRun(), 0")
+        self.page.value(f"run.began -= {idle}, attract.pressed -= {idle}, run.wake(), 0")
+
+    def test_stop_answers_at_once(self):
+        """In the middle of a long part too."""
+        self.begin(1_000_000)
+        self.shows("parts are long", "run.grown === 60 && run.steps > 500")
+        self.page.value("window.took = 0, window.began = performance.now(), byId('stop-key').click(), "
+                        "(async () => { while (run) await delay(2); took = performance.now() - began; })(), 0")
+        self.shows("it stops", "took > 0")
+
+    def test_a_press_makes_them_short_again(self):
+        self.begin(1_000_000)
+        self.shows("parts are long", "run.grown", 60)
+        self.page.press("Shift")
+        self.shows("they are short", "run.grown", 1)
+
+    def test_it_pauses_when_the_journal_is_nearly_full(self):
+        self.begin(0)
+        # In turn: a look that is under way puts its own picture there first.
+        self.page.value("""inTurn(async () => {
+            look = async () => true, view.picture = {...view.picture, after: 95000};
+            return 0;
+        })""")
+        self.shows("it pauses", "run === null && byId('said-words').textContent.startsWith('Paused after')")
+
+    def test_a_run_that_was_left(self):
+        """The guide says so to whoever comes, and lights the key that clears the machine."""
+        self.begin(0)
+        self.page.value("attract.touched -= IDLE.attractMs, 0")
+        self.shows("the guide says what is left", "byId('guide-now').textContent === TEXTS.guide.left")
+        self.shows("the key is lit", "document.querySelector('.lit').id", "afresh-key")
+
+
+class Rooms(Browser):
+    """A page knows its room by its name."""
+
+    def test_another_room(self):
+        """What was meant for the one before isn't sent to it."""
+        self.page.value("say('START 0003')")
+        self.shows("the room has a name", "/^[0-9A-F]{16}$/.test(view.picture.room)")
+        self.page.value("""window.asked = fetch, window.old = view.picture.room, fetch = async (path, how) => {
+            const response = await asked(path.replace(/room=\\w*/, 'room=' + '0'.repeat(16)), how);
+            if (response.status !== 200 || !path.startsWith('/picture')) return response;
+            return new Response((await response.text()).replace(old, '0'.repeat(16)));
+        }, 0""")
+        self.shows("the page says so", "byId('said-words').textContent === TEXTS.said.newRoom")
+        refused = "send('START 0001').then(outcome => outcome.failed === TEXTS.outcomes[409])"
+        self.shows("a line that names it is refused in the other", refused)
+        self.page.value("fetch = asked, 0")
+        self.shows("the page goes on", "say('START 0002').then(outcome => outcome.reply)", "OK")
+        self.same("the line wasn't carried out", self.served.made(), 2)
+        self.pages.remove(self.page)
 
 
 class Words(Browser):
@@ -365,6 +562,23 @@ class Words(Browser):
         wanted = "There are 2 cards in the hopper. LOAD reads the first one."
         self.shows("cards in the hopper", "welcomeWords()", wanted)
 
+    def test_the_first_words_at_an_image(self):
+        """What the staff has put into the machine isn't to be cleared, and no deck is run by the page itself."""
+        room = self.room("serve", "--image", EXAMPLES / "five_and_five.image", seats=1, pages=True, consoles=False)
+        page = self.open(room.address())
+        self.check("the page sees the machine", "" if page.is_ready() else "it doesn't")
+        self.shows("its words", "byId('said-words').textContent", "A program is in core storage. RUN carries it out.",
+                   page)
+        self.shows("the guide's", "byId('guide-now').textContent === TEXTS.guide.prepared", page=page)
+        self.shows("no key is lit", "document.querySelectorAll('.lit').length", 0, page)
+        page.value("say('START 0900')")
+        self.shows("without an address", "welcomeWords()", "The staff has put a program into core storage. START AT its "
+                   "address, then RUN.", page)
+        page.value("attract.touched = view.changed = -Infinity, 0")
+        self.shows("nobody is there for long", "isIdle()", False, page)
+        page.value("hold.isPrepared = false")
+        self.shows("another machine would run by itself then", "isIdle() || attract.on", page=page)
+
     def test_a_journal_that_cannot_be_written(self):
         """Its banner stays when the room is closed a moment later."""
         self.page.value("view.unkept = true, setLink('closed')")
@@ -387,6 +601,81 @@ class Words(Browser):
         self.shows("form 3, line 2", "paperText([{form: 3, line: 2, text: 'A'}])", "\f\f\nA\n")
         self.shows("past form 9999", "paperText([{form: 9999, line: 1, text: 'A'}, {form: 0, line: 1, text: 'B'}])"
                    ".slice(9998)", "A\n\fB\n")
+
+
+class Renewal(Browser):
+    """Rooms that follow each other, as far as the page has part in it: the server's answers are made up here."""
+
+    ANSWERS = """window.asked = fetch, window.posted = 0, window.text = 'RENEWAL ON\\n', window.name = '',
+        fetch = async (path, how) => {
+            if (path === '/renewal') {
+                if (how.method === 'POST') posted++, name = '0'.repeat(16);
+                return new Response(text);
+            }
+            const response = await asked(path, how);
+            if (!name || !String(path).startsWith('/picture') || response.status !== 200) return response;
+            return new Response((await response.text()).replace(/^ROOM \\w+/, 'ROOM ' + name));
+        }, Object.assign(renewal, {mode: '', asked: -Infinity}), 0"""
+
+    def answer(self, more=""):
+        """Puts the made-up answers in place of the server's, once the server's own first answer has come."""
+        self.shows("the server's own answer has come", "renewal.mode", "OFF")
+        self.page.value(self.ANSWERS + more)
+
+    def test_a_notice(self):
+        self.answer()
+        self.shows("rooms follow each other", "renewal.mode", "ON")
+        self.page.value("text = 'RENEWAL IN 43\\n', renewal.asked = -Infinity, 0")
+        wanted = "This machine is put away in 43 seconds, and a new one follows."
+        self.shows("the notice", "byId('notice').hidden ? '' : byId('notice').textContent.trim()", wanted)
+        self.page.value("text = 'RENEWAL ON\\n', renewal.asked = -Infinity, 0")
+        self.shows("it goes", "byId('notice').hidden")
+
+    def test_start_afresh_asks_for_a_new_room(self):
+        self.answer()
+        self.shows("rooms follow each other", "renewal.mode", "ON")
+        self.page.value("pressAfresh() && 0")
+        self.shows("the page asks", "byId('ask').open")
+        self.page.click("ask-yes")
+        self.shows("a new room is asked for", "posted", 1)
+        self.shows("the page goes on in it", "byId('said-words').textContent === TEXTS.said.clear")
+
+    def test_a_new_room(self):
+        """Here the answers are the server's own."""
+        room = self.room("serve", "--renew-after", 5, seats=1, pages=True, consoles=False)
+        page = self.open(room.address())
+        self.check("the page sees the machine", "" if page.is_ready() else "it doesn't")
+        page.value("say('FEED ONE')")
+        self.shows("rooms follow each other", "renewal.mode", "ON", page)
+        page.value("window.old = view.picture.room, pressAfresh(), 0")
+        self.shows("the page asks", "byId('ask').open", page=page)
+        page.click("ask-yes")
+        self.shows("it goes on in a new room", "view.picture.room !== old && view.picture.after", 0, page)
+        self.shows("which is clear", "byId('said-words').textContent === TEXTS.said.clear", page=page)
+        words = "[...document.querySelectorAll('#log .words')].some(each => each.textContent === TEXTS.said.newRoom)"
+        self.shows("the page says so", words, page=page)
+        self.shows("a line is carried out there", "say('FEED TWO').then(outcome => outcome.reply)", "OK", page)
+
+    def test_no_new_room_is_asked_for_where_none_follows(self):
+        self.answer(", text = 'RENEWAL OFF\\n', 0")
+        self.shows("none follows", "renewal.mode", "OFF")
+        self.page.value("startAfresh()")
+        self.shows("none is asked for", "posted", 0)
+
+
+class TakenSeat(Browser):
+    """A page whose seat a console has."""
+
+    def test_it_waits_for_the_seat(self):
+        room = self.room("serve", seats=1, pages=True)
+        with room.console() as console:
+            console.say(b"REGS\n")
+            page = self.open(room.address())
+            self.shows("the page is there, and says so", "byId('banner').textContent", "Somebody sits at this seat with "
+                       "a console. This page goes on when that operator has left.", page)
+            self.shows("its keys are off", "isOff(byId('load-key'))", page=page)
+        self.shows("it takes the seat when that is free", "view.link === 'fine' && byId('banner').hidden", page=page)
+        self.shows("and gives lines", "say('FEED ONE').then(outcome => outcome.reply)", "OK", page)
 
 
 class Looking(Browser):

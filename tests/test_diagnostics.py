@@ -98,7 +98,7 @@ NO_OPERAND = "WARNING: no operand names the label"
 NEVER_SET = "WARNING: no instruction sets the indicator that the branch tests"
 
 # The examples with a label that no operand names, and the line that has it.
-UNUSED = {"five_and_five": 6, "sort_cards": 14, "sorted_records": 31}
+UNUSED = {"five_and_five": 6}
 
 # Sources that assemble, and their warnings.
 WARNED = [

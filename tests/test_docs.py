@@ -142,7 +142,8 @@ class Autocoder(ProgramTest):
         for warning, lines in warned:
             (self.folder / "warned.source").write_text(lines)
             is_wider = re.search("this machine has no instruction|a card for the system", warning)
-            for language in ["ibm"] if is_wider else ["plain", "ibm"]:
+            is_plain = "the text ends at its second at sign" in warning
+            for language in ["ibm"] if is_wider else ["plain"] if is_plain else ["plain", "ibm"]:
                 call = ["assemble", "--language", language, "warned.source"]
                 image = program(*call, cwd=self.folder)
                 self.expect(f"{warning.strip()}, {language}: without --all", image, 0, "...")

@@ -197,6 +197,61 @@ class Attract(Browser):
         self.shows("it doesn't begin then", "isIdle()", False)
 
 
+class Senses(Browser):
+    """What a visitor sees and hears of a machine at work."""
+
+    def test_what_am_i_looking_at(self):
+        self.page.mouse("about-key")
+        parts = "byId('about').open && document.querySelectorAll('#about-drawing rect').length"
+        self.shows("a drawing of three parts", parts, 3)
+        self.shows("ten words", "document.querySelectorAll('#about-words dt').length", 10)
+        self.page.press("Escape")
+        self.shows("it closes", "byId('about').open", False)
+
+    def test_cards_and_paper_move(self):
+        self.page.value("window.moved = [], moveCard = () => moved.push('card'), movePaper = n => moved.push(n), 0")
+        self.page.value("feedChosen().then(pressLoad)")
+        self.shows("a card goes through the read station", "moved.join()", "card")
+        self.page.value("pressRun()")
+        self.shows("the paper moves by a line", "moved.join()", "card,1")
+
+    def test_sound_is_off_until_it_is_asked_for(self):
+        heard = "sound = name => speaker && heard.push(name)"
+        self.page.value(f"window.heard = [], {heard}, 0")
+        self.page.value("feedChosen().then(pressLoad).then(pressRun)")
+        self.shows("nothing is heard", "heard.length + (speaker === null ? 0 : 1)", 0)
+        self.page.mouse("sound-key")
+        self.shows("the key says that it is on", "byId('sound-key').getAttribute('aria-pressed')", "true")
+        self.page.value("heard.length = 0, view.ended = null, feedChosen().then(pressLoad).then(pressRun)")
+        self.shows("reader and printer are heard", "heard.includes('read') && heard.includes('print')")
+
+    def test_the_pace_of_1960(self):
+        """A printed line takes a tenth of a second, and a card 75 milliseconds."""
+        for line in "DEPOSIT 0500 ~2~B500~.", "START 0500":
+            self.page.value(f"say('{line}')")
+        self.page.value("byId('pace').selectedIndex = PACES.indexOf(OWN_PACE)")
+        self.page.value("window.began = performance.now(), pressRun(), 0")
+        self.shows("lines are printed", "view.paper.length >= 12")
+        self.shows("no faster than a printer", "view.paper.length - OWN_STEPS / 2 <= (performance.now() - began) / 100")
+        self.page.click("stop-key")
+
+    def test_the_lamps_of_a_console(self):
+        """The bits of a character, with a check bit that makes their number odd: a blank is C, 1 is 1, 0 is C82."""
+        self.page.value("say('DEPOSIT 0500 ~1').then(() => say('START 0500'))")
+        self.page.mouse("view-key")
+        row = "row => [...row.querySelectorAll('.on')].map(lamp => lamp.textContent).join('')"
+        lit = f"[...byId('bulbs').children].map({row}).join('|')"
+        self.shows("B and A at 0, OP at 500, and I as five digits", lit, "C|C|1|C82|C82|C41|C82|C82")
+        self.shows("the registers are hidden then", "byId('registers').hidden")
+
+    def test_a_card_to_take_home(self):
+        """It is printed alone, with the visitor's name."""
+        text = "document.body.className + ':' + byId('card-to-print').querySelector('.typed').textContent"
+        self.page.value(f"released = HELLO.slice(0, NAME_COLUMN) + 'ADA', window.print = () => {{ printed = {text}; }}, "
+                        "window.printed = '', printCard()")
+        self.shows("it has the name", "printed.startsWith('prints-card:,008015') && printed.slice(52).trim()", "ADA")
+
+
 class Programs(Browser):
     """Each program that can be chosen, fed, loaded and run."""
 

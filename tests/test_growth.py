@@ -112,10 +112,9 @@ class Growth(ProgramTest):
         whole = image.with_suffix(".disassembly").read_bytes()
 
         def disassemble(how):
-            faults = [MEMORY, b"ibm1401: image refused: 1 MEMORY\n"]
-            return written_end(program("disassemble", image, **how), whole, faults)
+            return written_end(program("disassemble", image, **how), whole, [MEMORY])
 
-        self.each(disassemble, "memory refused", "image refused: 1 MEMORY")
+        self.each(disassemble, "memory refused")
 
     def hold_run(self, language):
         """A subtest: what went out of a run is a beginning of the paper, and the end is reported in any case."""

@@ -3,7 +3,7 @@ import unittest
 
 from tests.preloaded import needs_compiler
 from tests.refused_growth import LINES, MEMORY, THREAD, UNKEPT, each_growth, replies
-from tests.support import ProgramTest, difference
+from tests.support import UNWRITTEN, ProgramTest, difference
 
 REFUSED = b"FAULT 1 MEMORY\n"
 
@@ -65,7 +65,7 @@ def kept_outcome(asked, ran, text, given):
     commands which were carried out; the file has all of them, but for a last one that wasn't kept and has no reply."""
     # The thread that was refused may be another one than the console's.
     is_unserved = ran.stderr == THREAD and not any(reply for _, reply in asked)
-    is_unkept = ran.stderr == UNKEPT
+    is_unkept = ran.stderr == UNWRITTEN.encode() + UNKEPT
     kept = [] if is_unserved else [each for each in asked if each[1] != REFUSED and each[0] != b"QUIT\n"]
     wrong = wrong_replies(kept, replies((*given, *(line for line, _ in kept)))[len(given):])
     lost = [line for line, reply in asked if not reply]
@@ -74,7 +74,8 @@ def kept_outcome(asked, ran, text, given):
     wrong += ["a command that isn't kept is answered"] if is_unkept and not lost else []
     commands = [*given, *(line for line, _ in kept if is_command(line))]
     wrong += difference("standard output", ran.stdout, f"READY\nJOURNAL {len(commands)}\n")
-    wrong += [f"{ran}"] if (ran.returncode, ran.stderr) not in ((0, b""), (1, THREAD), (1, UNKEPT)) else []
+    wrong += [f"{ran}"] if (ran.returncode, ran.stderr) not in (
+        (0, b""), (1, THREAD), (1, UNWRITTEN.encode() + UNKEPT)) else []
     found = [line.split(b"\t")[2].split()[0] for line in text.splitlines()[1:]]
     there = commands[:-1] if is_unkept else commands
     wrong += difference("the journal", b" ".join(found), b" ".join(line.split()[0] for line in there))

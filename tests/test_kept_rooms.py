@@ -1,10 +1,12 @@
 """A served room of whose journal an entry can't be kept: what its consoles and its page show from then on."""
+import os
 import resource
+import select
 import signal
 import socket
 import unittest
 
-from tests.support import SECONDS, ProgramTest, wait_until
+from tests.support import SECONDS, UNWRITTEN, ProgramTest, wait_until
 
 # A journal's file may have the head and one entry of this test, and only a part of the next.
 MOST_BYTES = 50
@@ -108,7 +110,13 @@ class AnEntryThatIsNotKept(ProgramTest):
         self.fail_at_a_console()
         output, error = self.server.communicate(b"QUIT\n", timeout=SECONDS)
         self.assertEqual(output, b"JOURNAL 2\n")
-        self.assertEqual((self.server.returncode, error), (1, b"ibm1401: session ended: UNKEPT\n"))
+        self.assertEqual((self.server.returncode, error.decode()), (1, f"{UNWRITTEN}ibm1401: session ended: UNKEPT\n"))
+
+    def test_standard_error_reports_it_at_once(self):
+        self.fail_at_a_console()
+        self.assertTrue(select.select([self.server.stderr], [], [], SECONDS)[0])
+        self.assertEqual(os.read(self.server.stderr.fileno(), 1000).decode(), UNWRITTEN)
+        self.assertIsNone(self.server.poll(), "the room goes on")
 
 
 if __name__ == "__main__":

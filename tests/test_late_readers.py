@@ -9,7 +9,7 @@ import threading
 import time
 import unittest
 
-from tests.support import SECONDS, ProgramTest, wait_until
+from tests.support import SECONDS, UNWRITTEN, ProgramTest, wait_until
 
 # How late a client begins to read.
 LATE = 0.2
@@ -116,7 +116,7 @@ class LateReaders(ProgramTest):
         kept = path.read_bytes().count(b"\tOK\n")
         self.check("some were kept", "" if kept > 100 else f"{kept} were")
         self.same("each kept entry has its reply", replies, b"OK\n" * kept)
-        error = "ibm1401: session ended: UNKEPT\n"
+        error = f"{UNWRITTEN}ibm1401: session ended: UNKEPT\n"
         self.ended(room, "the room", kept + 1, status=1, error=error)
 
     def test_a_reply_that_is_not_taken_at_the_rooms_quit_still_comes(self):

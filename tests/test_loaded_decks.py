@@ -70,7 +70,7 @@ class LoadedDecks(ProgramTest):
         for name, deck, why in [
             ("no card", "", "READER at 0000"),
             ("no last card", "".join(HAND_PUNCHED.splitlines(True)[:-1]), "READER at 0047"),
-            ("no operation", "(\n", "OPCODE at 0001"),
+            ("no operation", "]\n", "OPCODE at 0001"),
             ("a program outside of core", "B500\n".replace("500", "I9I"), "NOMARK at 15999"),
             ("a loop", "B001\n", "LIMIT at 0001"),
         ]:

@@ -1,6 +1,7 @@
 """How much memory a file takes that is read whole: a few bytes for each of its own."""
 import os
 import subprocess
+import sys
 import tempfile
 import unittest
 from pathlib import Path
@@ -16,21 +17,48 @@ BEGIN = b"               ORG  400\n     START     H\n               NOP\n"
 END = b"               END  START\n"
 HALT = (BEGIN + END).decode()
 
-# A source that is mostly empty lines, and images of short segments and of word marks, as their first bytes, what comes
-# again and again, and their last bytes.
+# Sources of empty lines, of comments and of short statements, and images of short segments and of word marks, as their
+# first bytes, what comes again and again, and their last bytes.
 EMPTY_LINES = (BEGIN, b"\n", END)
+COMMENTS = (BEGIN, b"     *\n", END)
+STATEMENTS = (BEGIN, b"               ORG  0\n", b"               ORG  404\n" + END)
 SHORT_SEGMENTS = (b"IMAGE1 4000\n", b"0400 01 A\n", b"END 0400\n")
 WORD_MARKS = (b"IMAGE2 16000\n", b"00400 40 " + b"~A" * 40 + b"\n", b"END 00400\n")
-# What some calls take at most for each byte of a file of this many bytes. It is more than the others do, and doesn't
-# grow.
+
+# Sources of lines without statements, by what their lines are.
+SPARSE = {"empty lines": EMPTY_LINES, "comments": COMMENTS}
+# What is done with a source.
+OF_SOURCES = (["assemble"], ["assemble", "--deck", "deck"], ["run"])
+
+# Calls that hold one segment of an image at a time, each with its status and the image.
+OF_IMAGES = {
+    "short segments disassembled": (0, SHORT_SEGMENTS, ["disassemble"]),
+    "short segments run": (1, SHORT_SEGMENTS, ["run", "--limit", "5"]),
+    "word marks run": (1, WORD_MARKS, ["run", "--limit", "5"]),
+}
+
+# What some calls take at most for each byte of a file of this many bytes. It is more than the others do, since a text
+# is written whole or not at all, and since a call holds each statement. It doesn't grow.
 SHORTER_BYTES = 4_194_304
 MORE_EACH = {
-    "a source of empty lines assembled": (12, 0, EMPTY_LINES, ["assemble"]),
-    "the same listed": (90, 0, EMPTY_LINES, ["assemble", "--list"]),
-    "the same run": (140, 0, EMPTY_LINES, ["run"]),
-    "an image of short segments disassembled": (17, 0, SHORT_SEGMENTS, ["disassemble"]),
-    "an image of word marks disassembled": (48, 0, WORD_MARKS, ["disassemble"]),
+    "a source of empty lines listed": (14, 0, EMPTY_LINES, ["assemble", "--list"]),
+    "the same with its tables": (15, 0, EMPTY_LINES, ["assemble", "--list", "--symbols", "--xref"]),
+    "a source of short statements assembled": (9, 0, STATEMENTS, ["assemble"]),
+    "the same listed": (11, 0, STATEMENTS, ["assemble", "--list"]),
+    "the same run": (10, 0, STATEMENTS, ["run"]),
+    "an image of word marks disassembled": (12, 0, WORD_MARKS, ["disassemble"]),
 }
+
+
+# Makes a call, and prints its status and the most memory that it took, in kibibytes. It is a process of its own: what
+# the caller of a process had counts as that process's too, and this one has little.
+MEASURE = """
+import os, subprocess, sys
+null = subprocess.DEVNULL
+ran = subprocess.Popen(sys.argv[1:], stdin=null, stdout=null, stderr=null)
+_, ended, used = os.wait4(ran.pid, 0)
+print(os.waitstatus_to_exitcode(ended), used.ru_maxrss)
+"""
 
 
 class MemoryTest(unittest.TestCase):
@@ -44,13 +72,11 @@ class MemoryTest(unittest.TestCase):
 
     def peak(self, status, *words):
         """The most memory that a call took, in bytes. Its status is looked at."""
-        call = [PROGRAM, *words]
-        null = subprocess.DEVNULL
-        ran = subprocess.Popen(call, cwd=self.folder, stdin=null, stdout=null, stderr=null)
-        _, ended, used = os.wait4(ran.pid, 0)
-        ran.returncode = os.waitstatus_to_exitcode(ended)
-        self.assertEqual(ran.returncode, status, words)
-        return used.ru_maxrss * 1_024
+        call = [sys.executable, "-S", "-c", MEASURE, PROGRAM, *words]
+        ran = subprocess.run(call, cwd=self.folder, capture_output=True, check=True, text=True)
+        ended, kibibytes = map(int, ran.stdout.split())
+        self.assertEqual(ended, status, words)
+        return kibibytes * 1_024
 
     def expect_few(self, status, small, large, *words, most=MOST_EACH):
         """A call takes at most so many bytes for each byte of `file` more than it does for a short one."""
@@ -85,11 +111,18 @@ class MemoryTest(unittest.TestCase):
         each = (self.peak(0, "run", "--load", "file", "--cards", "more") - before) / (2 * MOST_BYTES)
         self.assertLessEqual(each, MOST_EACH, f"{each:.1f} bytes of memory for a byte")
 
+    def test_images_take_a_few_bytes_a_byte(self):
+        for name, (status, (first, again, last), call) in OF_IMAGES.items():
+            with self.subTest(name):
+                many = (MOST_BYTES - len(first) - len(last)) // len(again)
+                self.expect_few(status, first + again + last, first + again * many + last, *call, "file")
+
     def test_an_image_that_is_loaded_takes_a_few_bytes_a_byte(self):
-        # Its segments are more than the journal has entries.
+        # Its segments are more than the journal has entries. Each is held in 84 bytes, and has 10 in the file.
         first, again, last = SHORT_SEGMENTS
         many = (MOST_BYTES - len(first) - len(last)) // len(again)
-        self.expect_few(1, first + again * 100_001 + last, first + again * many + last, "load", "file")
+        small, large = first + again * 100_001 + last, first + again * many + last
+        self.expect_few(1, small, large, "load", "file", most=10)
 
     def test_what_is_no_image_and_no_journal_takes_a_few_bytes_a_byte(self):
         for text in b"\n", b" ", b"A":
@@ -101,6 +134,13 @@ class MemoryTest(unittest.TestCase):
         for text in b" ", b"A":
             with self.subTest(text):
                 self.expect_few(1, text, text * MOST_BYTES, "run", "file")
+
+    def test_empty_lines_and_comments_take_a_few_bytes_a_byte(self):
+        for name, (first, again, last) in SPARSE.items():
+            many = (MOST_BYTES - len(first) - len(last)) // len(again)
+            for call in OF_SOURCES:
+                with self.subTest(f"{name}: {' '.join(call)}"):
+                    self.expect_few(0, first + again + last, first + again * many + last, *call, "file")
 
     def test_sources_and_listings_take_no_more_than_they_do(self):
         for name, (most, status, (first, again, last), call) in MORE_EACH.items():

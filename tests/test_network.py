@@ -151,7 +151,8 @@ class Network(ProgramTest):
                              ("with the loopback's origin", {"Host": host}),
                              ("with another port", {"Host": f"{NAME}:{self.served.page}", "Origin": self.outside()}),
                              ("for another seat", {"Host": f"{NAME}:{self.first + 1}", "Origin": self.outside(2)})]:
-            self.refused(f"a line {name}", self.served.post(1, "START 1", 0, **fields), "1.1 403")
+            text = "" if fields.get("Host", host) == host else self.served.elsewhere()
+            self.refused(f"a line {name}", self.served.post(1, "START 1", 0, **fields), "1.1 403", text)
         self.machine_is("none was carried out", 0)
         line = self.served.post(1, "START 1", 0, Host=host, Origin=self.outside())
         self.within("a line", line, "HTTP/1.1 200 ", "\r\n\r\nOK\n")
@@ -163,7 +164,8 @@ class Network(ProgramTest):
         self.same("it", (status(response), field(response, "Location")), (301, f"{self.outside(2)}/"))
 
     def test_limits(self):
-        self.same("a body too long", self.post(1, "X" * 1025, self.outside())[0], 413)
+        self.same("a line too long", self.post(1, "X" * 1025, self.outside())[0], 413)
+        self.same("a body too long", self.post(1, "X" * 16385, self.outside())[0], 413)
         many = [word for _ in range(1000) for word in ("-o", "/dev/null", f"{self.outside()}/")]
         ran = run(["curl", "-s", "-Z", "--parallel-max", "20", "--cacert", self.folder / "ibm1401.crt", "--resolve",
                    f"{NAME}:{self.first}:127.0.0.1", "-w", "%{http_code}\n", *many])

@@ -73,7 +73,8 @@ class Outside(ProgramTest):
                 for what, fields in [("the other seat's host", {"Host": other_host, "Origin": own}),
                                      ("the other seat's origin", {"Host": host, "Origin": other}),
                                      ("the other seat's", {"Host": other_host, "Origin": other})]:
-                    self.refused(f"{name}: {what}", room.post(seat, "START 1", 1, **fields), "1.1 403")
+                    text = "" if fields["Host"] == host else room.elsewhere(seat)
+                    self.refused(f"{name}: {what}", room.post(seat, "START 1", 1, **fields), "1.1 403", text)
             self.ended(room, f"{origin}: the room", 2)
 
     def test_lines(self):
@@ -114,7 +115,7 @@ class Outside(ProgramTest):
                              (NAME, 403), ("other.example:8443", 403), (f"localhost:{room.page}", 403)]:
             self.same(f"for {host}", status(room.get(1, PICTURE, Host=host)), wanted)
         target = room.get(1, f"{OUTSIDE}{PICTURE}", Host=f"{NAME}:8443")
-        self.refused("a target with a host of its own", target, "1.1 403")
+        self.refused("a target with a host of its own", target, "1.1 403", room.elsewhere())
         self.ended(room, "the room", 0)
 
     def test_which_pictures_take_the_seat(self):

@@ -278,6 +278,23 @@ class Hostile(unittest.TestCase):
                 client.close()
 
 
+class Queue(unittest.TestCase):
+    """Connections that the room hasn't accepted yet."""
+
+    def test_three_hundred_connections_at_once_wait_and_none_comes_again_after_a_second(self):
+        with Room() as room:
+            room.process.send_signal(signal.SIGSTOP)
+            begun = time.monotonic()
+            waiting = [room.connect() for _ in range(300)] + [room.console() for _ in range(300)]
+            took = time.monotonic() - begun
+            room.process.send_signal(signal.SIGCONT)
+            self.assertLess(took, 1, "a connection that finds no place tries again after a second at the earliest")
+            for connection in waiting:
+                connection.close()
+            self.assertEqual(room.status_of(), 200)
+            self.assertEqual(room.quit(), (0, b"JOURNAL 0\n"))
+
+
 class Stopped(unittest.TestCase):
     """A process that is stopped and goes on."""
 

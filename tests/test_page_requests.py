@@ -205,6 +205,19 @@ class Pictures(PageTest):
             self.ended(room, f"{name}: the room", len(given) + 1)
 
 
+class Elsewhere(PageTest):
+    """A request for another host is refused, and hears where the page is."""
+
+    def test_localhost(self):
+        room = self.pages(2)
+        for seat in 1, 2:
+            for path in "/", "/picture?core=0&paper=0", "/nothing":
+                response = room.get(seat, path, Host=f"localhost:{room.page + seat - 1}")
+                self.refused(f"seat {seat}, {path}", response, "1.1 403", f"this page is at {room.address(seat)}/\n")
+                self.same(f"seat {seat}, {path}: its type", field(response, "content-type"), "text/plain; charset=utf-8")
+        self.same("by another method", room.ask(1, "PUT", "/", "", {"Host": "localhost"}), (403, room.elsewhere().encode()))
+
+
 class Lines(PageTest):
     """Lines that a page sends."""
 
@@ -247,12 +260,10 @@ class Lines(PageTest):
             ("the null origin", count, {"Origin": "null"}, 403),
             ("https", count, {"Origin": f"https://127.0.0.1:{port}"}, 403),
             ("the origin localhost", count, {"Origin": f"http://localhost:{port}"}, 403),
-            ("a foreign host", count, {"Host": "museum.example"}, 403),
-            ("a foreign host with our port", count, {"Host": f"museum.example:{port}"}, 403),
-            ("the host localhost", count, {"Host": f"localhost:{port}"}, 403),
-            ("the host of another seat", count, {"Host": f"127.0.0.1:{port + 1}"}, 403),
         ]:
             self.refused(name, room.post(1, line, made, **fields), f"1.1 {wanted}")
+        for host in "museum.example", f"museum.example:{port}", f"localhost:{port}", f"127.0.0.1:{port + 1}":
+            self.refused(f"for {host}", room.post(1, line, count, Host=host), "1.1 403", room.elsewhere())
         self.refused("a line of more than 1,024 bytes", room.post(1, "X" * 1_025, count), "1.1 413")
         self.unchanged("they leave the machine as it was", room, before)
         self.same("and the seat's count", room.made(), count)

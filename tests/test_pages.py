@@ -18,13 +18,16 @@ TAKEN = b"a console sits at this seat\n"
 USAGE = "serve [OPTIONS] --seats <K> <--port <P>|--page <PORT>>"
 
 
-def each_route(port):
-    """A request of each route, the last one without what a line has to say of its sender."""
+def refused_of_a_taken_seat(port):
+    """Requests that aren't for the text of this page."""
     own = f"HTTP/1.1\r\nHost: 127.0.0.1:{port}\r\n"
     return [
-        ("the page", f"GET / {own}\r\n"),
         ("a picture", f"GET /picture?core=0&paper=0 {own}\r\n"),
         ("a line of anybody", f"POST /line {own}Content-Length: 4\r\n\r\nREGS"),
+        ("the page by another method", f"POST / {own}Content-Length: 0\r\n\r\n"),
+        ("the page of another host", "GET / HTTP/1.1\r\nHost: museum.example\r\n\r\n"),
+        ("the page with two origins", f"GET / {own}Origin: http://a\r\nOrigin: http://b\r\n\r\n"),
+        ("an unknown path", f"GET /none {own}\r\n"),
     ]
 
 
@@ -62,11 +65,12 @@ class WhoeverComesFirst(Pages):
         self.holds("what was refused is no command", kept, text)
 
     def page_is_refused(self, room):
-        """Subtests: each request of seat 1 is refused while a console has it."""
-        for name, request in each_route(room.page):
+        """Subtests: each request of seat 1 but that for the page's text is refused while a console has it."""
+        self.is_page("the page itself is there", room.ask(1))
+        for name, request in refused_of_a_taken_seat(room.page):
             response = ask(room.page, request.encode())
             self.within(f"refused at its page: {name}", response, "HTTP/1.1 503 ", b"\r\n\r\n" + TAKEN)
-        self.same("its page is refused", room.ask(1), (503, TAKEN))
+        self.same("a picture is refused", room.ask(1, path="/picture?core=0&paper=0"), (503, TAKEN))
         self.same("so is a line there", room.give(1, 1, b"DEPOSIT 0700 ~2"), (503, TAKEN))
 
     def page_has_the_seat(self, room):

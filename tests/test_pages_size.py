@@ -15,8 +15,8 @@ MOST_LINES = {
     "docs/ARCHITECTURE.md": 160,
     "docs/CONTRIBUTING.md": 120,
     "docs/COSTS.md": 120,
-    "docs/THEOREMS.md": 320,
-    "docs/DECISIONS.md": 490,
+    "docs/THEOREMS.md": 330,
+    "docs/DECISIONS.md": 500,
     "docs/GLOSSARY.md": 60,
 }
 MOST_COLUMNS = 120

@@ -4,6 +4,7 @@ import os
 import re
 import unittest
 
+from tests.chains import SIMH
 from tests.jobs import NO_CARD, SALES, SALES_CALL, SALES_ENDING, ending
 from tests.support import EXAMPLES, MOST_BYTES, NO_FILE, TOP, ProgramTest, misuse, program, run, shell
 
@@ -63,16 +64,18 @@ class Refused(ProgramTest):
      START     H    START
      SPARE     DCW  @A @ B@
                EX   START
+               DCW  @12345678901234567890123456789012345678901234567890@,275
                ORG  START
                H    START
                DCW  0
                END  START
 """)
         told = ["2:21: WARNING: the text ends at its second at sign: the at sign after a blank is in the remark",
-                "3:16: WARNING: nothing is started here: all is loaded before the program runs"]
+                "3:16: WARNING: nothing is started here: all is loaded before the program runs",
+                "4:73: WARNING: the operands end with column 72: what follows isn't read"]
         error = "".join(f"{self.source}:{each}\n" for each in told)
         ran = program("run", self.source)
-        end = "ibm1401: HALT at 0333 (line 5, H START) after 1 step; 0 cards read, 0 lines printed, 0 cards punched\n"
+        end = "ibm1401: HALT at 0333 (line 6, H START) after 1 step; 0 cards read, 0 lines printed, 0 cards punched\n"
         self.expect("it", ran, 0, "", error + end)
 
     def test_files_that_cannot_be_read(self):
@@ -97,15 +100,17 @@ class Refused(ProgramTest):
 
     def test_decks(self):
         bad = "no card has this character"
-        for text, fault in [
-            ("A\n" * 6 + " " * 11 + "~\n", f"line 7, column 12: {bad}"),
+        for text, *said in [
+            ("A\n" * 6 + " " * 11 + "~\n", SIMH, f"line 7, column 12: {bad}"),
+            ("A\n" * 6 + " " * 11 + "`\n", f"line 7, column 12: {bad}"),
             ("A\n" * 6 + " " * 11 + "\u00e9\n", f"line 7, column 12: {bad}"),
             ("\n" + "A" * 81 + "\n", "line 2, column 81: a card has 80 columns"),
             ("A\rB\n", f"line 1, column 2: {bad}"),
         ]:
             self.deck.write_text(text, newline="")
             ran = program("run", self.source, "--cards", self.deck, "--punch", self.none)
-            self.expect(f"{text[-20:]!r}: {fault}", ran, 1, "", f"ibm1401: {self.deck}: {fault}\n")
+            error = "".join(f"ibm1401: {self.deck}: {each}\n" for each in said)
+            self.expect(f"{text[-20:]!r}: {said}", ran, 1, "", error)
         self.check("nothing is made", "there is a file" if self.none.exists() else "")
 
     def test_permission_denied(self):
@@ -199,9 +204,10 @@ class LoadKey(ProgramTest):
         self.first.write_text(",008009.\n")
         ran = program("run", "--load", self.first, "--size", "1401")
         self.expect("a size", ran, 1, "", "ibm1401: size refused\n")
-        self.first.write_text("A\n" * 6 + " " * 11 + "~\n")
         fault = f"ibm1401: {self.first}: line 7, column 12: no card has this character\n"
-        self.expect("a deck", program("run", "--load", self.first), 1, "", fault)
+        for byte, said in ("`", ""), ("~", f"ibm1401: {self.first}: {SIMH}\n"):
+            self.first.write_text("A\n" * 6 + " " * 11 + f"{byte}\n")
+            self.expect(f"a deck with {byte}", program("run", "--load", self.first), 1, "", said + fault)
         none = self.folder / "none"
         self.expect("no deck", program("run", "--load", none), 1, "", f"ibm1401: {none}: no such file\n")
 

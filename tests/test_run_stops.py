@@ -113,6 +113,44 @@ class StopTest(SourceTest):
                     shown,
                 )
 
+    def test_the_number_of_a_line_has_as_many_digits_as_it_needs(self):
+        # After 9,997 comments the statement is on line 9,999; after one more line it is on line 10,000.
+        comments = "     * A COMMENT\n" * 9_997
+        for more, number in ("", 9_999), ("\n", 10_000):
+            with self.subTest(number):
+                self.expect_limit(
+                    comments + more + "               ORG  400\n"
+                    "     START     H    START\n"
+                    "               END  START\n",
+                    f"line {number}, START H START",
+                )
+
+    def test_a_line_that_ends_in_a_carriage_return_is_shown_without_it(self):
+        self.expect_limit(
+            "               ORG  400\r\n"
+            "     START     H    START\r\n"
+            "               END  START\r\n",
+            "line 2, START H START",
+        )
+
+    def test_a_constant_with_the_characters_of_an_instruction_is_shown(self):
+        self.expect_limit(
+            "               ORG  400\n"
+            "     ENTRY     DCW  @.400@\n"
+            "               NOP\n"
+            "               END  400\n",
+            "line 2, ENTRY DCW @.400@",
+        )
+
+    def test_an_equ_places_nothing_and_is_not_shown(self):
+        self.expect_limit(
+            "               ORG  400\n"
+            "               H    123\n"
+            "     START     EQU  400\n"
+            "               END  START\n",
+            "line 2, H 123",
+        )
+
     def test_cells_after_an_instruction_are_none_of_a_shorter_line(self):
         # The line of the constant has one cell of the four that are the instruction's.
         self.expect_limit(

@@ -10,7 +10,7 @@ import threading
 import unittest
 
 from tests.preloaded import needs_compiler, preloading
-from tests.support import PROGRAM, SECONDS, ProgramTest, a_port, program, shell, wait_until
+from tests.support import PROGRAM, SECONDS, UNWRITTEN, ProgramTest, a_port, program, shell, wait_until
 
 # How many served rooms are killed, and how many operators each of them has.
 KILLS = 200
@@ -18,7 +18,7 @@ OPERATORS = 8
 # How many commands an operator has ready: more than are answered before a kill.
 READY_LINES = 2_000
 ONE_ENTRY = b"JOURNAL1 4000\n1\t1\tSTART 0001\tOK\n"
-UNKEPT = "ibm1401: session ended: UNKEPT\n"
+UNKEPT = f"{UNWRITTEN}ibm1401: session ended: UNKEPT\n"
 
 
 class Kept(ProgramTest):

@@ -3,14 +3,11 @@ import shutil
 import subprocess
 import unittest
 
+from tests.chains import BUSINESS, FORMULAS, OURS
+from tests.jobs import COPY, ending
 from tests.support import EXAMPLES, TOP, ProgramTest, program, shell
 
 PEER = shutil.which("i1401")
-
-# The graphics of all codes from 0 on: ours, and those of i1401's decks for business and for formulas.
-OURS = " 1234567890#@:>(^/STUVWXYZ',%=\\+-JKLMNOPQR!$*];_&ABCDEFGHI?.)[<\""
-BUSINESS = " 1234567890#@:>{^/STUVWXYZ|,%~\\\"-JKLMNOPQR!$*];_&ABCDEFGHI?.)[<}"
-FORMULAS = " 1234567890=':>{^/STUVWXYZ|,(~\\\"-JKLMNOPQR!$*];_+ABCDEFGHI?.)[<}"
 
 
 class Graphics(ProgramTest):
@@ -44,6 +41,31 @@ class Peer(ProgramTest):
             codes = [f"d {101 + code} {code:o}" for code in range(64)]
             self.peer(*words, f"attach cdp {cards}", *codes, "d 400 104", "d 401 173", "d 402 100", "go 400")
             self.holds(f"{words}", cards, f"{graphics}\n")
+
+    def test_what_it_punches_is_read_here(self):
+        """Cards with all 64 characters, of either chain, print as this machine's graphics."""
+        source = self.folder / "copy.source"
+        source.write_text(COPY)
+        for words, chain in ([], "simh"), (["set cdp fortran"], "fortran"):
+            cards = self.folder / "punched.cards"
+            cards.unlink(missing_ok=True)
+            codes = [f"d {101 + code} {code:o}" for code in range(64)]
+            self.peer(*words, f"attach cdp {cards}", *codes, "d 400 104", "d 401 173", "d 402 100", "go 400")
+            ran = program("run", source, "--cards", cards, "--graphics", chain)
+            self.expect(chain, ran, 0, f"{OURS}\n", ending("HALT", 427, 7, 1, 1, 1, "line 8, H *-3"))
+
+    def test_our_decks_boot_there_in_its_graphics(self):
+        """The cells of a deck of either chain are the characters that the source has."""
+        source, deck = self.folder / "cells.source", self.folder / "deck"
+        signs = "#%&('=+\""
+        source.write_text(f"               ORG  500\n               DCW  @{signs}@\n     GO        H\n"
+                          "               NOP\n               END  GO\n")
+        for chain in "simh", "fortran":
+            self.expect(chain, program("assemble", source, "--deck", deck, "--out-graphics", chain))
+            said = self.peer(f"attach cdr {deck}", "boot cdr", "e 500-507")
+            cells = [line.split(":\t")[1] for line in said.splitlines() if line.startswith(tuple("5s")) and ":\t" in line]
+            wanted = [f"{OURS.index(sign) + 64 * (at == 0):03o}" for at, sign in enumerate(signs)]
+            self.same(f"{chain}: the cells", cells, wanted)
 
     def test_our_decks_load_there_and_print_the_same(self):
         for name, cards in ("five_and_five", None), ("sales", EXAMPLES / "sales.cards"):

@@ -191,14 +191,21 @@ class OldDecks(Language):
                 self.expect(f"{statement}: {taken} in its place", program("assemble", self.source), 0, "...")
 
     def test_the_deck_that_it_shows(self):
+        """From SIMH's graphics to paper, by the commands of the page, and once more from the deck that it makes."""
         shown = re.search(r"## From cards to paper\n.*?```autocoder\n(.*?)```" + ".*?```text\n(.*?)```" * 2,
                           self.page, re.DOTALL)
-        cards = self.folder / "old.cards"
-        cards.write_text(shown[2])
-        self.expect("no warning", self.assemble(shown[1], "--all", "--list"), 0, "...")
-        ran = program("run", "--language", "ibm", self.source, "--cards", cards, "--switches", "A")
-        reported = "HALT at 0542 (line 15, H *-3) after 23 steps; 3 cards read, 4 lines printed, 0 cards punched"
-        self.expect("its paper", ran, 0, shown[3], f"ibm1401: {reported}\n")
+        self.source.write_text(shown[1])
+        (self.folder / "old.cards").write_text(shown[2])
+        commands = re.findall(r"^    \./ibm1401 (.* old\.source.*)$", self.page, re.MULTILINE)
+        self.same("a command for each", len(commands), 3)
+        reported = "HALT at 0554 (line 18, H *-3) after 26 steps; 3 cards read, 4 lines printed, 0 cards punched"
+        for command, output, error in zip(commands, ("...", shown[3], ""), ("", f"ibm1401: {reported}\n", "")):
+            self.expect(command, program(*command.split(), cwd=self.folder), 0, output, error)
+        words = ["--graphics", "fortran", "--cards", "old.cards", "--switches", "A"]
+        ran = program("run", "--load", "old.deck", *words, cwd=self.folder)
+        self.expect("the deck", ran, 0, shown[3], "ibm1401: HALT at 0554...")
+        ran = program("assemble", "--language", "ibm", self.source)
+        self.expect("without the option", ran, 1, "", "ibm1401: line 19: 8 OPERAND\n")
 
 
 if __name__ == "__main__":

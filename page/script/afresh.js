@@ -29,16 +29,16 @@ async function pressAfresh() {
   if (!mayCommand() || taking || feed) return;
   const question = othersAtWork() ? TEXTS.afreshOthers : TEXTS.afreshAsk;
   if (!(await confirmed(question))) return;
-  if (run) run.stop = true;
+  stopRun();
   while (run) await delay(SLICE_MS);
-  await startAfresh();
+  await startAfresh(renewal.mode === 'ON' ? renewRoom : clearMachine);
   guide.begin();
 }
 /* What this page has taken and kept is gone too, and its words are as at first. */
-async function startAfresh() {
+async function startAfresh(clear = clearMachine) {
   note('words', TEXTS.said.clearing);
   tell(TEXTS.said.clearing);
-  const isDone = await clearMachine();
+  const isDone = (await clear()) !== false && isClear(view.picture);
   torn.length = taken.length = 0;
   drawTaken();
   tellDeck('');
@@ -49,6 +49,16 @@ async function startAfresh() {
   drawKeyed();
   tell(isDone ? TEXTS.said.clear : TEXTS.said.notClear);
 }
+/* Sends lines in as few requests as there may be, as long as each reply is of this form. */
+async function sendInTurn(lines, wanted) {
+  const {breaks} = view;
+  for (let sent = 0; sent < lines.length;) {
+    const {replies} = await inTurn(() => sendAll(lines.slice(sent), breaks));
+    if (replies.length === 0 || !replies.every(reply => wanted.test(reply))) return false;
+    sent += replies.length;
+  }
+  return true;
+}
 async function clearMachine() {
   const {HOPPER, PAPER, STACKER, SWITCHES} = view.picture.registers, {size} = view.picture;
   const lines = [...SWITCHES.replace(/-/g, '')].map(name => `SWITCH ${name} OFF`);
@@ -56,11 +66,7 @@ async function clearMachine() {
   if (HOPPER) await takeMany('LOAD', 'OK', HOPPER, drawn, drawn);
   if (PAPER) await takeMany('LINE', 'LINE ', PAPER, drawn, drawn);
   if (STACKER) await takeMany('CARD', 'CARD ', STACKER, drawn, drawn);
-  const {breaks} = view;
-  for (const line of [...lines, ...clearingLines(size)]) {
-    const outcome = await inTurn(() => send(line, breaks));
-    if (!/^(OK|STOP 01)/.test(outcome.reply || '')) return false;
-  }
+  if (!(await sendInTurn([...lines, ...clearingLines(size)], /^(OK|STOP 01)/))) return false;
   view.core = 0;
   await inTurn(look);
   return true;

@@ -1,14 +1,15 @@
-/* Idle minutes: the machine runs a deck by itself until somebody touches it. Each such run takes about a hundred
-   entries of the journal, and none begins once half of the journal is used. */
+/* Idle minutes: the machine runs a deck by itself until somebody touches it, unless the staff has prepared it. Each
+   such run takes about a hundred entries of the journal, and none begins once half of the journal is used. */
 const IDLE = {attractMs: 180000, pauseMs: 90000, seatMs: 20000, mostAfter: JOURNAL_ENTRIES / 2};
-const attract = {on: false, stop: false, touched: performance.now(), ended: -Infinity};
+const attract = {on: false, stop: false, touched: performance.now(), pressed: performance.now(), ended: -Infinity};
 
 /* A hand on the page ends the attract loop, and does nothing else. */
 function touch(event) {
-  attract.touched = performance.now();
+  attract.touched = attract.pressed = performance.now();
+  if (run) run.wake();
   if (!attract.on || event.isTrusted === false) return;
   attract.stop = true;
-  if (run) run.stop = true;
+  stopRun();
   if (event.key === 'Tab') return;
   event.preventDefault();
   event.stopPropagation();
@@ -18,7 +19,7 @@ function noteHand() {
 }
 function isIdle() {
   const now = performance.now(), {picture} = view;
-  if (!picture || !mayCommand() || run || feed || taking || document.hidden) return false;
+  if (!picture || hold.isPrepared || !mayCommand() || run || feed || taking || document.hidden) return false;
   if (document.querySelector('dialog[open]') || picture.after > IDLE.mostAfter) return false;
   const wanted = IDLE.attractMs + picture.seat * IDLE.seatMs;
   return now - attract.touched > wanted && now - view.changed > wanted - IDLE.attractMs + IDLE.pauseMs

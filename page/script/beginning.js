@@ -74,7 +74,7 @@ function listenForClicks() {
     'load-key': pressLoad, 'run-key': pressRun, 'stop-key': pressStop, 'step-key': pressStep,
     'pick-key': () => byId('file').click(), 'card-key': takeCard, 'deck-key': () => feedText(byId('deck').value),
     'feed-key': feedChosen, 'all-cards-key': takeAllCards, 'afresh-key': pressAfresh, 'guide-key': () => guide.press(),
-    'view-key': pressView, 'sound-key': pressSound, 'card-print-key': printCard,
+    'view-key': pressView, 'hold-key': pressHold, 'sound-key': pressSound, 'card-print-key': printCard,
     'about-key': () => byId('about').showModal(), 'about-close': () => byId('about').close(),
     'feed-again-key': () => feedDeck([...taken]),
     'save-cards-key': () => saveFile('taken.cards', `${taken.join('\n')}\n`),
@@ -159,6 +159,8 @@ async function poll() {
     if (!taking && !(feed && !feed.waits)) await inTurn(look);
     if (view.picture) drawOthers();
     guide.look();
+    lookForRenewal();
+    lookForHold();
     attractIfIdle();
     await delay(view.link !== 'fine' ? RETRY_MS : document.hidden ? HIDDEN_POLL_MS : POLL_MS);
   }
@@ -167,6 +169,7 @@ async function begin() {
   tell(TEXTS.said.welcome);
   note('words', TEXTS.said.firstNote);
   while (!(await inTurn(look))) await delay(RETRY_MS);
+  await lookForHold();
   tell(welcomeWords());
   guide.begin();
   poll();

@@ -55,7 +55,7 @@ async function feedFile(file) {
   }
 }
 
-/* Feeds cards one by one; while the hopper is full it waits. */
+/* Feeds cards, many with a request; while the hopper is full it waits. */
 async function feedDeck(cards, words) {
   if (feed) return tellDeck(TEXTS.alreadyFeeding, true);
   if (!mayCommand()) return tellDeck(TEXTS.outcomes.off, true);
@@ -78,21 +78,23 @@ async function feedAll(cards) {
     drawFeed();
     if (feed.stop) why = TEXTS.stoppedByYou;
     else if (feed.waits) await waitForRoom();
-    else why = await feedCard(cards[feed.fed], breaks);
+    else why = await feedSome(cards.slice(feed.fed, feed.fed + CHUNK), breaks);
   }
   return why;
 }
 const feedLine = card => card === '' ? 'FEED' : `FEED ${card}`;
 
-/* Feeds one card; says why that wasn't possible, if it should not be tried again. */
-async function feedCard(card, breaks) {
-  const outcome = await inTurn(() => send(feedLine(card), breaks));
-  feed.waits = outcome.reply === 'REFUSED 2 HOPPER';
-  if (outcome.reply === 'OK') feed.fed++;
-  return outcome.reply === 'OK' || feed.waits ? '' : outcome.failed || wordsOf(outcome.reply) || outcome.reply;
+/* Feeds some cards; says why that wasn't possible, if it should not be tried again. */
+async function feedSome(cards, breaks) {
+  const {failed, replies} = await inTurn(() => sendAll(cards.map(feedLine), breaks));
+  if (failed) return failed;
+  const reply = replies[replies.length - 1];
+  feed.fed += replies.filter(each => each === 'OK').length;
+  feed.waits = reply === 'REFUSED 2 HOPPER';
+  return reply === 'OK' || feed.waits ? '' : wordsOf(reply) || reply;
 }
 async function waitForRoom() {
-  await delay(POLL_MS);
+  await delay(WAIT_MS);
   await inTurn(look);
   feed.waits = view.picture.registers.HOPPER >= MOST_CARDS;
 }

@@ -12,10 +12,11 @@ const MOST_DETOURS = 3;
 const guide = {
   at: 0, state: 'off', detours: 0, since: 0,
 
-  /* Begins with the first step; if somebody has left something in the machine, with the key that clears it. */
+  /* Begins with the first step; if somebody has left something in the machine, with the key that clears it. What the
+     staff has put into it isn't to be cleared. */
   begin() {
-    const isLeft = view.picture !== null && !isClear(view.picture);
-    Object.assign(this, {at: 0, detours: 0, since: performance.now(), state: isLeft ? 'left' : 'on'});
+    const isLeft = view.picture !== null && !isClear(view.picture), left = hold.isPrepared ? 'prepared' : 'left';
+    Object.assign(this, {at: 0, detours: 0, since: performance.now(), state: isLeft ? left : 'on'});
     byId('program').value = 'hello';
     drawProgram();
     this.draw();
@@ -33,8 +34,10 @@ const guide = {
     } else if (event !== 'run' && ++this.detours > MOST_DETOURS) this.state = 'aside';
     this.draw();
   },
-  /* After a while without a step the guide steps aside. */
+  /* After a while without a step the guide steps aside. A run that nobody has touched for longer was left here. */
   look() {
+    const isLeft = run !== null && !attract.on && performance.now() - attract.touched > IDLE.attractMs;
+    if (isLeft && this.state !== 'left' && this.state !== 'prepared') this.begin();
     const isLate = performance.now() - this.since > GUIDE_WAITS_MS;
     if ((this.state === 'on' && this.at > 0 || this.state === 'left') && isLate && !run) {
       this.state = 'aside';

@@ -8,44 +8,64 @@ function madeAfter(line, reply, count) {
   return RECORDED.test(reply) ? count + 1 : count;
 }
 
-/* Sends a line, and says what became of it: its reply, or in words how it failed. A line that was meant for the machine
-   as it was before the connection broke isn't sent. */
-async function send(line, breaks = view.breaks) {
+/* Posts a body, and says what became of it: the text of the answer, or in words how it failed. What was meant for the
+   machine as it was before the connection broke isn't sent. */
+async function post(path, body, breaks) {
   if (breaks !== view.breaks) return {failed: TEXTS.outcomes.broken};
   if (view.made === null && !(await look())) return {failed: bannerText()};
-  const count = view.made;
+  const count = view.made, {room} = view.picture;
   view.made = null;
   let response, text;
   try {
-    const headers = {'Content-Type': 'text/plain', 'X-1401-Line': String(count)};
-    response = await fetch('/line', {method: 'POST', body: line, cache: 'no-store', headers});
+    const headers = {'Content-Type': 'text/plain', 'X-1401-Line': String(count), 'X-1401-Room': room};
+    response = await fetch(path, {method: 'POST', body, cache: 'no-store', headers});
     text = await response.text();
   } catch {
-    return lostLine(count);
+    return lostLine(count, room);
   }
-  if (response.status !== 200) return refusedLine(statusOf(response));
+  if (response.status === 423) takeHold(text);
+  return response.status === 200 ? {text, count} : refusedLine(statusOf(response));
+}
+/* Sends a line: its reply, or how it failed. */
+async function send(line, breaks = view.breaks) {
+  const {failed, text, count} = await post('/line', line, breaks);
+  if (failed) return {failed};
   const reply = text.replace(/\n$/, '');
   view.made = madeAfter(line, reply, count);
+  noteFault(reply);
+  return {reply};
+}
+/* Sends commands in one request. They are carried out one after the other, up to the first whose reply isn't OK, a
+   printed line or a card; there are as many replies. */
+async function sendAll(lines, breaks) {
+  const {failed, text, count} = await post('/lines', lines.join('\n'), breaks);
+  if (failed) return {failed, replies: []};
+  const replies = text.split('\n').slice(0, -1);
+  view.made = count + replies.filter(reply => RECORDED.test(reply)).length;
+  noteFault(replies[replies.length - 1]);
+  return {replies};
+}
+function noteFault(reply) {
   if (reply === 'FAULT 2 JOURNAL FULL') view.full = true;
   if (reply === 'FAULT 4 UNKEPT') view.unkept = true;
   drawBanner();
-  return {reply};
 }
 
 function refusedLine(status) {
   if (status === 500) view.unkept = true;
   if (LINK_OF_STATUS[status] && status !== 507) setLink(LINK_OF_STATUS[status]);
   drawBanner();
-  return {failed: filled(TEXTS.outcomes[status] || TEXTS.outcomes.other, {status})};
+  const {seat, left} = hold;
+  return {failed: filled(TEXTS.outcomes[status] || TEXTS.outcomes.other, {status, seat, left})};
 }
 
 /* The connection failed, so the line may have been carried out or not: the count of the next picture says which. */
-async function lostLine(count) {
+async function lostLine(count, room) {
   note('bad', TEXTS.lostAsking);
   setLink('lost');
   while (!(await look())) await delay(RETRY_MS);
   const since = view.made - count;
-  if (since < 0) return {failed: TEXTS.lostNewRoom};
+  if (view.picture.room !== room) return {failed: TEXTS.lostNewRoom};
   if (since === 0) return {failed: TEXTS.lostNotDone};
   return {failed: since === 1 ? TEXTS.lostDone : filled(TEXTS.lostUnclear, {n: since})};
 }

@@ -9,11 +9,15 @@ const view = {
   breaks: 0,        // how often the server was gone, or another room was there
   unkept: false, full: false,
   since: null,      // the counts of the first picture
-  others: {count: 0, at: -Infinity},    // how many commands others gave since then, and when the last one was seen
+  // how many commands others gave since then, when the last one was seen, since when they have come
+  // without a pause, how long the pause before the last one was, and the last command of all, with its seat
+  others: {count: 0, at: -Infinity, began: -Infinity, gap: 0, last: null},
   changed: 0,       // when the count of commands was last seen to change
   ended: null,      // the I register after a halt, until this page gives another command
 };
-const OTHERS_MS = 6000;
+const OTHERS_MS = 8000;
+const PAUSE_MS = 800;
+const LONGEST_PART_MS = 7000;
 const torn = [];    // the printed lines that this page has taken
 const taken = [];   // the punched cards that this page has taken
 
@@ -37,9 +41,11 @@ function inTurn(task) {
   return result;
 }
 
-/* A picture, whose paper begins with the last line that the page has; null where the machine is still as it was. */
+/* A picture, whose paper begins with the last line that the page has; null where the machine is still as it was. It has
+   the name of its room, and always comes if the page knows another room. */
 async function askForPicture(kept, after) {
-  const part = `core=${pad(view.core, 4)}&paper=${Math.max(0, kept.length - 1)}`;
+  const room = view.picture ? view.picture.room : '';
+  const part = `room=${room}&core=${pad(view.core, 4)}&paper=${Math.max(0, kept.length - 1)}`;
   const query = after === null ? part : `${part}&after=${after}`;
   const response = await fetch(`/picture?${query}`, {cache: 'no-store', signal: AbortSignal.timeout(10 * RETRY_MS)});
   const text = await response.text();
@@ -58,7 +64,7 @@ function joined(kept, picture) {
 
 /* Takes a picture in, and asks for further ones until all printed lines are there. */
 async function takeIn(picture) {
-  const isNewRoom = view.picture && (picture.after < view.picture.after || picture.made < view.picture.made);
+  const isNewRoom = view.picture !== null && picture.room !== view.picture.room;
   let lines = joined(isNewRoom ? [] : view.paper, picture);
   for (let turns = 0; turns < 2 * MOST_CARDS / FORM_LINES; turns++) {
     if (lines !== null && lines.length === picture.registers.PAPER) break;
@@ -73,20 +79,38 @@ async function takeIn(picture) {
   view.picture = picture;
   draw();
 }
-/* The server has another machine: what was meant for the old one isn't sent. */
+/* The server has another machine, in a room of another name: what was meant for the old one isn't sent. */
 function enterRoom() {
   Object.assign(view, {full: false, unkept: false, ended: null, breaks: view.breaks + 1});
   view.others.count = 0;
+  forgetRenewal();
+  forgetHold();
   note('words', TEXTS.said.newRoom);
   tell(TEXTS.said.newRoom);
 }
 function noteOthers({after, made}) {
   const count = after - view.since.after - (made - view.since.made), now = performance.now();
-  if (count > view.others.count) view.others.at = now;
+  if (count > view.others.count) {
+    const gap = now - view.others.at;
+    if (gap > PAUSE_MS) view.others.began = now;
+    Object.assign(view.others, {at: now, gap: gap > LONGEST_PART_MS ? 0 : gap});
+  }
   view.others.count = count;
   if (!view.picture || after !== view.picture.after) view.changed = now;
 }
 const othersAtWork = () => performance.now() - view.others.at < OTHERS_MS;
+/* The last command, if another seat gave it. */
+function lastOfOthers() {
+  const {last} = view.others;
+  return last && view.picture && last.seat !== view.picture.seat ? last : null;
+}
+/* Another seat runs a program: its commands have come for some time without a pause, or its last one is a part of a run
+   and the next part may be under way. */
+function othersRun() {
+  const {at, began, gap} = view.others, last = lastOfOthers(), since = performance.now() - at;
+  if (last && /^RUN (?!1$)/.test(last.line)) return since < PAUSE_MS + 2 * gap;
+  return since < PAUSE_MS && at - began > 2 * PAUSE_MS;
+}
 
 /* Looks once, and draws what is new. False where there was nothing to see; the banner then says why. */
 async function look() {

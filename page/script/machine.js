@@ -18,8 +18,15 @@ const OWN_STEPS = 12;
 const PACES = [1, 10, 100, 400, 100000, OWN_PACE];
 const FASTEST = 4;
 const SLICE_MS = 100;
-const MOST_SLICES = 600;
+/* How many cards or lines go into one request: it has at most 16,384 bytes. */
+const CHUNK = 100;
+/* After a minute in which nobody has pressed anything a part of a run grows from a tenth of a second to six seconds. */
+const GROW_AFTER_MS = 60000;
+const GROW_MS = 3000;
+const MOST_GROWN = 60;
+const MOST_STEPS = 1000000;
 const POLL_MS = 250;
+const WAIT_MS = 50;
 const HIDDEN_POLL_MS = 1000;
 const RETRY_MS = 1000;
 /* The punched rows of a graphic, from the top of the card down; see docs/MACHINE.md, Card code. */

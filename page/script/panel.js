@@ -62,12 +62,23 @@ function drawHead() {
   }
 }
 
-/* As far as pictures say it: that another seat has just given commands, and how many all others gave. */
+/* What another seat does; its number and its last line are known unless this page gave the last command. */
+function othersWords(what) {
+  const last = lastOfOthers();
+  return last ? filled(TEXTS[`seat${what}`], last) : TEXTS[`others${what}`];
+}
+/* That another seat runs a program, which the keys that start one say too, or has just given commands; and how many all
+   others gave, and the last one. */
 function drawOthers() {
   const {count} = view.others;
-  const words = othersAtWork() ? TEXTS.othersNow : count > 0 ? counted(TEXTS.others, count) : '';
-  setText(byId('others'), words);
+  const now = othersWords(othersRun() ? 'Run' : 'Now'), before = count > 0 ? counted(TEXTS.others, count) : '';
+  setText(byId('others'), othersAtWork() ? now : before + (before && lastOfOthers() ? othersWords('Last') : ''));
   byId('others').classList.toggle('wrong', othersAtWork());
+  for (const id of ['load-key', 'step-key', 'start-key', 'run-key']) {
+    const why = isKeptOff() ? holdWords() : othersRun() ? othersWords('Run') : '';
+    setAttribute(byId(id), 'title', why || TEXTS[byId(id).dataset.title]);
+  }
+  drawRun();
 }
 
 function drawPanel() {

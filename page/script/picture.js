@@ -27,12 +27,12 @@ function registersOf(line) {
   return values;
 }
 function pictureOf(text) {
-  const lines = text.split('\n');
+  const [head, ...lines] = text.split('\n'), [room] = partsOf(head, /^ROOM (\w+)$/);
   const [seat, seats, made] = partsOf(lines[0], /^SEAT (\d+) OF (\d+) MADE (\d+)$/).map(Number);
   const after = Number(partsOf(lines[1], /^AFTER (\d+)$/)[0]);
   const [from, size] = partsOf(lines[7], /^CORE (\d+) OF (\d+)$/).map(Number);
   const picture = {
-    seat, seats, made, after, from, size, cells: [], lines: [], registers: registersOf(lines[2]),
+    room, seat, seats, made, after, from, size, cells: [], lines: [], registers: registersOf(lines[2]),
     next: afterWord(lines[3], 'NEXT'), read: afterWord(lines[4], 'READ') || '',
     hopper: afterWord(lines[5], 'HOPPER'), punched: afterWord(lines[6], 'PUNCHED'),
   };

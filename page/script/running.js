@@ -3,7 +3,7 @@ let run = null;     // the run that goes on
 
 /* Whether lines can be sent now. */
 function mayCommand() {
-  return view.link === 'fine' && !view.unkept && !view.full;
+  return view.link === 'fine' && !view.unkept && !view.full && !isKeptOff();
 }
 /* A halt is an end for most programs: what comes next isn't carried out unless it is an instruction, or asked twice. */
 function warnsOfEnd() {
@@ -44,13 +44,18 @@ async function pressStart(event) {
   tellOutcome(await say(`START ${byId('start-at').value.trim()}`), TEXTS.said.start);
 }
 function pressStop() {
-  if (run) run.stop = true;
+  stopRun();
+}
+function stopRun() {
+  if (!run) return;
+  run.stop = true;
+  run.wake();
 }
 
-/* RUN in parts, about ten a second, so STOP ends it and the others get their turn. */
+/* RUN in parts, ten a second at first, so STOP ends it and the others get their turn. */
 async function pressRun() {
   if (run || !mayCommand() || warnsOfEnd()) return;
-  run = {stop: false, slices: 0, steps: 0, waits: ''};
+  run = {stop: false, slices: 0, steps: 0, waits: '', began: performance.now(), grown: 1, wake: () => {}};
   view.ended = null;
   drawKeys();
   happened('run');
@@ -65,7 +70,7 @@ async function pressRun() {
   drawPanel();
 }
 function tellRun(ended, outcome, stop) {
-  const counts = {steps: withCommas(ended.steps), slices: ended.slices};
+  const counts = {steps: withCommas(ended.steps)};
   if (!stop || stop.name !== 'LIMIT') return tellOutcome(outcome, '');
   tell(ended.stop ? counted(TEXTS.said.stopped, ended.steps, counts) : filled(TEXTS.said.pause, counts));
 }
@@ -73,21 +78,37 @@ async function runParts() {
   for (;;) {
     const outcome = await runPart(), stop = stopOf(outcome.reply);
     if (!stop || run.stop) return outcome;
-    if (await waitsFor(stop.name)) continue;
-    if (stop.name !== 'LIMIT' || run.slices >= MOST_SLICES || run.stop) return outcome;
+    const hasWaited = await waitsFor(stop.name);
+    if (hasWaited && !run.stop) continue;
+    if (stop.name !== 'LIMIT' || view.picture.after >= JOURNAL_NEARLY || run.stop) return outcome;
   }
 }
 async function runPart() {
-  const pace = PACES[byId('pace').selectedIndex], line = `RUN ${pace === OWN_PACE ? OWN_STEPS : pace}`;
+  const pace = PACES[byId('pace').selectedIndex];
+  run.grown = grownBy(performance.now() - Math.max(run.began, attract.pressed));
+  const steps = Math.min(MOST_STEPS, run.grown * (pace === OWN_PACE ? OWN_STEPS : pace)), line = `RUN ${steps}`;
   if (run.slices === 0) note('you', line);
   const began = performance.now(), before = view.picture, {breaks} = view;
   const outcome = await inTurn(() => send(line, breaks)), stop = stopOf(outcome.reply);
   run.slices++;
   run.steps += stop ? stop.steps : 0;
   drawRun();
-  const wanted = pace === OWN_PACE && stop ? await ownTime(before, stop.steps) : SLICE_MS;
-  if (stop && stop.name === 'LIMIT') await delay(Math.max(0, wanted - (performance.now() - began)));
+  const wanted = pace === OWN_PACE && stop ? await ownTime(before, stop.steps) : SLICE_MS * run.grown;
+  const rest = attract.pressed > began ? SLICE_MS : wanted + began - performance.now();
+  if (stop && stop.name === 'LIMIT') await napInRun(rest);
   return outcome;
+}
+/* How many times longer a part is, this long after somebody has pressed something. Each part is an entry of the
+   journal, and so a day of running takes less than a fifth of one. */
+function grownBy(idle) {
+  return Math.min(MOST_GROWN, Math.max(1, 1 + Math.floor((idle - GROW_AFTER_MS) / GROW_MS)));
+}
+/* Waits until the next part is due, or until somebody presses something. */
+function napInRun(ms) {
+  return run.stop ? null : new Promise(done => {
+    run.wake = done;
+    setTimeout(done, Math.max(0, ms));
+  });
 }
 /* How long the machine itself takes for what was done since a picture: 800 cards read, 250 punched and 600 lines
    printed a minute. */
@@ -97,18 +118,24 @@ async function ownTime(before, steps) {
   const more = (name, by) => Math.max(0, by * (registers[name] - before.registers[name]));
   return Math.max(SLICE_MS, steps * .2 + 75 * more('HOPPER', -1) + 240 * more('STACKER', 1) + 100 * more('PAPER', 1));
 }
-/* A run that stops for cards that are being fed, or for paper or cards that are being taken, goes on after that. */
+/* A run that stops for cards that are being fed, or for a full printer or stacker, waits, says so, and goes on. */
 async function waitsFor(stop) {
-  const waiting = {READER: () => feed !== null && view.picture.registers.HOPPER === 0,
-    FORMS: () => taking !== null, STACKER: () => taking !== null}[stop];
-  if (!waiting || !(stop === 'READER' ? feed : taking)) return false;
+  const waiting = {
+    READER: () => feed !== null && view.picture.registers.HOPPER === 0,
+    FORMS: () => taking !== null || view.paper.length >= MOST_CARDS,
+    STACKER: () => taking !== null || view.picture.registers.STACKER >= MOST_CARDS,
+  }[stop];
+  await inTurn(look);
+  if (!waiting || !mayCommand() || stop === 'READER' && !feed) return false;
   run.waits = stop;
-  while (!run.stop && waiting()) {
+  tell(TEXTS.waits[stop]);
+  while (!run.stop && mayCommand() && waiting()) {
     drawRun();
-    await delay(POLL_MS);
+    await delay(WAIT_MS);
     await inTurn(look);
   }
   run.waits = '';
+  tell('');
   return true;
 }
 
@@ -125,7 +152,10 @@ function drawKeys() {
   for (const id of ['card-key', 'all-cards-key']) setOff(byId(id), !may || taking !== null || STACKER === 0);
   drawRun();
 }
+function runWords() {
+  if (!run) return othersRun() ? othersWords('Running') : '';
+  return run.waits ? TEXTS.waits[run.waits] : filled(TEXTS.running, {steps: withCommas(run.steps)});
+}
 function drawRun() {
-  const words = !run ? '' : run.waits ? TEXTS.waits[run.waits] : filled(TEXTS.running, {steps: withCommas(run.steps)});
-  setText(byId('running'), words);
+  setText(byId('running'), runWords());
 }

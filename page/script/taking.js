@@ -1,26 +1,25 @@
 /* What is taken from the machine: printed lines and punched cards. */
 let taking = null;      // what is being taken, one after the other
 
-/* Takes up to this many with a line; each reply that begins so is handed on. How many were taken. */
+/* Takes up to this many with a line, many with a request; each reply that begins so is handed on. How many were
+   taken. */
 async function takeMany(line, begins, all, each, drawn) {
   const {breaks} = view;
   taking = {stop: false};
   drawKeys();
-  byId('take-stop').hidden = all < 10;
-  let n = 0, outcome = {}, shown = 0;
-  while (n < all && !taking.stop) {
-    outcome = await inTurn(() => send(line, breaks));
-    if (!outcome.reply || !outcome.reply.startsWith(begins)) break;
-    each(outcome.reply);
-    n++;
-    if (performance.now() - shown < SLICE_MS) continue;
-    shown = performance.now();
+  byId('take-stop').hidden = all <= CHUNK;
+  let n = 0, outcome = {replies: []}, isRefused = false;
+  while (n < all && !isRefused && !taking.stop) {
+    outcome = await inTurn(() => sendAll(Array(Math.min(CHUNK, all - n)).fill(line), breaks));
+    const found = outcome.replies.filter(reply => reply.startsWith(begins));
+    found.forEach(each);
+    n += found.length;
+    isRefused = found.length === 0 || found.length < outcome.replies.length;
     drawn(n);
   }
-  const wasFailed = n < all && !taking.stop;
   taking = null;
   endTaking();
-  if (wasFailed) noteOutcome(outcome);
+  if (isRefused) noteOutcome(outcome.failed ? outcome : {reply: outcome.replies[outcome.replies.length - 1]});
   return n;
 }
 function endTaking() {

@@ -5,6 +5,7 @@ LANGUAGES.de = {
   skip: 'Zum Stapel und zu den Tasten',
   headline: 'Datenverarbeitungssystem', subline: 'Gemeinsamer Maschinenraum',
   seatsLabel: 'Die Plätze dieses Raums', seats: 'Plätze', seat: 'Platz {n}', thisSeat: 'Platz {n}, dieser hier',
+  takenSeat: 'Platz {n}, besetzt',
   after: {one: '1 Befehl', many: '{n} Befehle'}, afterTitle: 'wie viele Befehle die Maschine von allen Plätzen bekam',
   answers: 'Die Maschine antwortet.',
   aboutKey: 'Was sehe ich hier?', soundKey: 'Ton', helpKey: 'Tasten', closeKey: 'Schließen', yesKey: 'Ja',
@@ -25,7 +26,8 @@ LANGUAGES.de = {
   paces: ['10 Schritte je Sekunde', '100 je Sekunde', '1.000 je Sekunde', '4.000 je Sekunde', '1.000.000 je Sekunde',
     'das Tempo von 1960'],
   running: 'läuft: {steps} Schritte',
-  waits: {READER: 'wartet auf Karten', FORMS: 'wartet auf das Papier', STACKER: 'wartet auf die Ablage'},
+  waits: {READER: 'Der Lauf wartet auf die nächsten Karten.', FORMS: 'Der Lauf wartet: Papier abreißen.',
+    STACKER: 'Der Lauf wartet: gestanzte Karten nehmen.'},
 
   core: 'Kernspeicher', tabsLabel: 'welche 600 Stellen gezeigt werden',
   findLabel: 'Adresse', findKey: 'Zeigen', follow: 'I folgen',
@@ -108,6 +110,15 @@ LANGUAGES.de = {
   sendKey: 'SENDEN', linesTitle: 'Die Zeilen, und was sie tun (oder HELP)',
   others: {one: 'andere gaben 1 Befehl, seit Sie da sind', many: 'andere gaben {n} Befehle, seit Sie da sind'},
   othersNow: 'Ein anderer Platz arbeitet: seine Tasten wirken auch auf diese Maschine.',
+  othersRun: 'Ein anderer Platz lässt ein Programm laufen: LOAD, RUN, STEP und START AT würden mitten darin wirken.',
+  othersRunning: 'ein anderer Platz lässt ein Programm laufen',
+  seatNow: 'Platz {seat} arbeitet ({line}): seine Tasten wirken auch auf diese Maschine.',
+  seatRun: 'Platz {seat} lässt ein Programm laufen: LOAD, RUN, STEP und START AT würden mitten darin wirken.',
+  seatRunning: 'Platz {seat} lässt ein Programm laufen', seatLast: '; der letzte Befehl ist von Platz {seat}: {line}',
+  holdKey: 'Maschine halten', releaseHold: 'Andere weitermachen lassen',
+  holdTitle: 'eine Minute lang gibt keine andere Seite der Maschine Zeilen; Konsolen schon',
+  holder: 'Sie halten die Maschine: die Tasten der anderen Seiten sind aus.',
+  keptOff: 'Platz {seat} hält die Maschine, darum sind die Tasten hier aus.', secondsLeft: '({n} s)',
   fedInLog: {one: '(1 Karte eingelegt)', many: '({n} Karten eingelegt)'},
   tornInLog: {one: '(1 Zeile genommen)', many: '({n} Zeilen genommen)'},
   cardsInLog: {one: '(1 Karte genommen)', many: '({n} Karten genommen)'},
@@ -121,6 +132,8 @@ LANGUAGES.de = {
   busy: 'Zu viele Anfragen warten bei dieser Seite. Sie versucht es weiter.',
   unkept: 'Die Datei des Journals lässt sich nicht schreiben; die Maschine nimmt keine Befehle an. Bitte das '
     + 'Personal rufen.',
+  renewal: {one: 'Diese Maschine wird in 1 Sekunde weggeräumt, und eine neue folgt.',
+    many: 'Diese Maschine wird in {n} Sekunden weggeräumt, und eine neue folgt.'},
   full: 'Das Journal ist voll; die Maschine nimmt keine Befehle mehr an. Bitte das Personal rufen.',
   nearlyFull: 'Das Journal hat {n} seiner 100.000 Einträge. Bitte das Personal rufen.',
   refusedStatus: 'Der Server hat abgelehnt, was diese Seite wollte ({status}).',
@@ -134,6 +147,7 @@ LANGUAGES.de = {
       + 'Sehen Sie nach, und senden Sie es noch einmal.',
     403: 'Nicht ausgeführt: der Server nimmt keine Zeilen von dieser Seite.',
     410: 'Nicht ausgeführt: der Raum ist geschlossen.',
+    423: 'Nicht ausgeführt: Platz {seat} hält die Maschine noch {left} Sekunden lang.',
     503: 'Nicht ausgeführt: an diesem Platz sitzt eine Konsole.',
     busy: 'Nicht ausgeführt: zu viele Anfragen warten bei dieser Seite.',
     507: 'Ausgeführt, aber für die Antwort war kein Speicher da.',
@@ -153,6 +167,7 @@ LANGUAGES.de = {
     welcomeCards: {one: 'Im Magazin liegt 1 Karte. LOAD liest sie.',
       many: 'Im Magazin liegen {n} Karten. LOAD liest die erste.'},
     welcomeProgram: 'Ein Programm ist im Kernspeicher. RUN führt es aus.',
+    welcomePrepared: 'Das Museum hat ein Programm in den Kernspeicher gelegt. START AT seine Adresse, dann RUN.',
     load: 'Die erste Karte wurde nach 001 bis 080 gelesen. RUN führt sie aus.',
     start: 'Das I-Register ist gesetzt. RUN beginnt dort.',
     step: 'Ein Befehl wurde ausgeführt.',
@@ -160,11 +175,11 @@ LANGUAGES.de = {
       many: '{n} Befehle wurden ausgeführt, wie verlangt. RUN geht weiter.'},
     stopped: {one: 'Von Ihnen angehalten nach 1 Schritt. RUN geht weiter.',
       many: 'Von Ihnen angehalten nach {n} Schritten. RUN geht weiter.'},
-    pause: 'Pause nach {slices} Teilen, {steps} Schritten, denn jeder Teil ist ein Eintrag im Journal. RUN geht '
-      + 'weiter.',
+    pause: 'Pause nach {steps} Schritten, denn das Journal ist fast voll. Bitte das Personal rufen.',
     afterEnd: 'Das Programm ist zu Ende. Legen Sie ein anderes ein und drücken Sie LOAD. (Noch einmal: weiter '
       + 'nach dem Halt.)',
     newRoom: 'Das Personal hat eine andere Maschine gestartet. Was Sie vorher taten, ist nicht darin.',
+    renewing: 'Eine neue Maschine wird verlangt ..',
     clearing: 'Die Maschine wird geleert ..', clear: 'Die Maschine ist leer: keine Karte, kein Papier, nichts im '
       + 'Speicher.',
     notClear: 'Die Maschine ließ sich nicht leeren, weil jemand anders arbeitet. Versuchen Sie es noch einmal.',
@@ -234,6 +249,8 @@ LANGUAGES.de = {
     off: 'Die Führung bringt Sie in etwa zwei Minuten zu einer gedruckten Zeile mit Ihrem Namen.',
     left: 'Jemand hat Karten, Papier oder ein Programm in der Maschine gelassen. "Von vorn" leert sie; '
       + 'oder machen Sie damit weiter.',
+    prepared: 'Das Museum hat diese Maschine vorbereitet: sie begann mit einem Programm oder mit Karten. Drücken Sie '
+      + 'LOAD, wenn Karten da sind, dann RUN. "Von vorn" würde sie leeren.',
     aside: 'Die Führung ist zur Seite getreten. Sie beginnt wieder, wenn Sie wollen.',
     done: 'Ihr Name ist auf dem Papier. Sichern Sie es, drucken Sie die Karte, oder wählen Sie ein anderes Programm.',
     attract: 'Niemand ist hier, darum läuft die Maschine allein. Ein Druck auf den Bildschirm oder eine Taste '

@@ -27,8 +27,10 @@ use Rattle.calls_1401.specs.declared.call.Start.TheVariants as start
 use Rattle.calls_1401.specs.declared.call.Told.{Told}
 use Rattle.calls_1401.specs.declared.call.Told.TheVariants as told
 use Rattle.exchange_1401.specs.declared.origins.Origin.{Origin}
+use Rattle.machine_graphics.specs.declared.graphics.Graphics.{Graphics}
 use Rattle.exchange_1401.specs.Origins.{is_text_of}
-use Rattle.arguments_1401.specs.Options.{IsFlagIn, IsNamedSizeIn, IsNameIn, IsNumberIn, IsNumberOr, language_in}
+use Rattle.arguments_1401.specs.Options.{IsFlagIn, IsNamedSizeIn, IsNameIn, IsNumberIn, IsNumberOr}
+use Rattle.arguments_1401.specs.Options.{graphics_by, graphics_in, language_in}
 
 -- what is written: tables with or without the listing, or else the listing, or else the image
 abbrev pub product_of : Bool → Bool → Bool → Product
@@ -60,6 +62,8 @@ tells_all told.All = true
 pub record IsAssembling (found : Found) (name : List ℕ) (asked : Assembling) : Type 0 where
   pub file : string_bytes asked.file ≡ name
   pub language : asked.language ≡ language_in (first_value found (codes "language"))
+  pub source : asked.source_graphics ≡ graphics_by found (codes "source-graphics")
+  pub made : asked.deck_graphics ≡ graphics_by found (codes "out-graphics")
   pub size : IsNamedSizeIn found asked.size
   pub product : IsProductIn found asked.product
   pub out : IsNameIn found (codes "output") asked.out
@@ -84,7 +88,11 @@ pub record IsJob (found : Found) (name : List ℕ) (on : List Bool) (asked : Job
   pub punch : IsNameIn found (codes "punch") asked.punch
   pub paper : IsNameIn found (codes "paper") asked.paper
   pub trace : IsNameIn found (codes "trace") asked.trace
+  pub image : IsNameIn found (codes "image") asked.image
   pub language : asked.language ≡ language_in (first_value found (codes "language"))
+  pub graphics : asked.graphics ≡ graphics_in (first_value found (codes "graphics"))
+  pub source : asked.source_graphics ≡ graphics_by found (codes "source-graphics")
+  pub punched : asked.punch_graphics ≡ graphics_by found (codes "out-graphics")
   pub size : IsNamedSizeIn found asked.size
   pub limit : IsNumberOr 32 found (codes "limit") 1000000000 asked.limit
   pub switches : asked.switches ≡ on
@@ -170,7 +178,9 @@ pub record IsSeating (found : Found) (who : Operators) (asked : Seating) : Type 
   pub operators : asked.operators ≡ who
   pub origin : IsOriginIn found asked.origin
   pub cards : IsNameIn found (codes "cards") asked.cards
+  pub graphics : asked.graphics ≡ graphics_in (first_value found (codes "graphics"))
   pub journal : IsJournalIn found asked.journal
+  pub renewal : IsNumberIn 16 found (codes "renew-after") asked.renewal
 
 -- `serve` for these operators: a plain room where they come by consoles alone is gone with them
 abbrev pub IsRoomThat : Found → Operators → Bool → Call → Type 0
@@ -218,13 +228,14 @@ IsLoad found file asked =
     × (string_bytes name ≡ file) × IsJournalIn found journal
 
 -- `disassemble` of a file: of an image, or of a deck
-abbrev pub disassemble_call : Bool → String Global → ℕ → Call
-disassemble_call false file size = call.Disassemble file
-disassemble_call true file size = call.DisassembleDeck file size
+abbrev pub disassemble_call : Bool → String Global → Option Graphics → ℕ → Call
+disassemble_call false file chain size = call.Disassemble file
+disassemble_call true file chain size = call.DisassembleDeck file chain size
 
 abbrev pub IsDisassembled : Found → List ℕ → Call → Type 0
 IsDisassembled found file asked =
-    (deck : Bool) × (name : String Global) × (size : ℕ) × (asked ≡ disassemble_call deck name size)
+    (deck : Bool) × (name : String Global) × (size : ℕ)
+    × (asked ≡ disassemble_call deck name (graphics_in (first_value found (codes "graphics"))) size)
     × (string_bytes name ≡ file) × IsFlagIn found (codes "load") deck × IsNumberOr 16 found (codes "size") 4000 size
 
 -- `serve`; without operators, which clap lets nobody leave out, it is a console of 4,000 places

@@ -1,12 +1,15 @@
 -- What the options of a subcommand say, as they were found among the words (own).
 use Rattle.std.specs.Prelude.{◌≡◌, ◌≢◌, ◌<◌, ◌^◌, ℕ, Bool, true, false, List, Option, None, Some, String}
 use Rattle.std.specs.Prelude.{codes, option_map, option_and_then, string_bytes, unwrap_or, if◌then◌else◌}
+use Rattle.std.specs.Option.{option_or}
 use Rattle.std.specs.Str.{bytes_eq}
 use Rattle.std.specs.Str.Parse.{IsNumeral, digits_value, without_leading_plus}
 use Rattle.clap.specs.Words.{first_value, matched_of, one_text}
 use Rattle.clap.specs.declared.parser.matches.Found.{Found}
 use Rattle.clap.specs.declared.parser.matches.ValueSource.{ValueSource}
 use Rattle.clap.specs.declared.parser.matches.ValueSource.TheVariants.{CommandLine}
+use Rattle.machine_graphics.specs.declared.graphics.Graphics.{Graphics}
+use Rattle.machine_graphics.specs.declared.graphics.Graphics.TheVariants as chains
 use Rattle.source_1401.specs.declared.language.Language.{Language}
 use Rattle.source_1401.specs.declared.language.Language.TheVariants.{Ibm, Plain}
 
@@ -54,3 +57,19 @@ IsNamedSizeIn found size =
 abbrev pub language_in : Option (List ℕ) → Language
 language_in None = Plain
 language_in (Some name) = if bytes_eq name (codes "ibm") then Ibm else Plain
+
+-- the print chain of this name; any other than the two of SIMH is this machine's
+abbrev pub graphics_named : List ℕ → Graphics
+graphics_named name =
+    if bytes_eq name (codes "simh") then chains.Simh
+    else if bytes_eq name (codes "fortran") then chains.Fortran
+    else chains.Ours
+
+-- the print chain that an option names, if it names one
+abbrev pub graphics_in : Option (List ℕ) → Option Graphics
+graphics_in name = option_map graphics_named name
+
+-- the print chain that this option names, or else the one for all
+abbrev pub graphics_by : Found → List ℕ → Option Graphics
+graphics_by found option =
+    option_or (graphics_in (first_value found option)) (graphics_in (first_value found (codes "graphics")))

@@ -4,6 +4,7 @@ ghost use Rattle.clap.specs.Words.{first_value, found_of};
 ghost use Rattle.arguments_1401.specs.Calls.{IsAssembled, IsAssembling, IsProductIn, are_one};
 
 use crate::commands::{Session, Subcommand, refusal};
+use crate::graphics::{GRAPHICS, OUT_GRAPHICS, SOURCE_GRAPHICS, graphics_by};
 use crate::languages::{LANGUAGE, language_in};
 use crate::options::{Argument, FREE, Kind, TEXT, name_in};
 use crate::sizes::{SIZE, named_size_in};
@@ -50,6 +51,9 @@ const ARGUMENTS: &[Argument] = &[
         ..FREE
     },
     LANGUAGE,
+    GRAPHICS,
+    SOURCE_GRAPHICS,
+    OUT_GRAPHICS,
     SIZE,
     Argument {
         name: "file",
@@ -134,6 +138,8 @@ fn assembling_in(
     Ok(Assembling {
         file: String::from_str(alloc, file)?,
         language: language_in(matches),
+        source_graphics: graphics_by(matches, "source-graphics"),
+        deck_graphics: graphics_by(matches, "out-graphics"),
         size: named_size_in(matches),
         product: product_in(matches),
         out: name_in(alloc, matches, "output")?,

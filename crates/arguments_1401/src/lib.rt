@@ -13,6 +13,7 @@ mod commands;
 
 // the words of each subcommand, and the options that several have
 mod assembling;
+mod graphics;
 mod journals;
 mod languages;
 mod serving;

@@ -7,6 +7,7 @@ ghost use Rattle.arguments_1401.specs.Calls.{IsRun, switches_named};
 
 use crate::assembling::{assemble, assemble_call};
 use crate::commands::{Session, Subcommand, command_of, refusal};
+use crate::graphics::{GRAPHICS, OUT_GRAPHICS, SOURCE_GRAPHICS, graphics_by, graphics_in};
 use crate::journals::{
     JOURNAL, NEW_SYNC, journal_call, new_journal_in, resume, resume_call, show_journal,
 };
@@ -70,6 +71,10 @@ const LISTING: &[Argument] = &[
         help: "FILE is a deck: lists what it has loaded when its program begins, with * for what was carried out",
         ..FREE
     },
+    Argument {
+        needs: &["load"],
+        ..GRAPHICS
+    },
     SIZE,
     Argument {
         name: "file",
@@ -126,7 +131,17 @@ const RUNNING: &[Argument] = &[
         help: "The file for a trace: a line for each step, with what it changed",
         ..FREE
     },
+    Argument {
+        name: "image",
+        kind: Kind::Value("OUT", TEXT, &[]),
+        needs: &["load"],
+        help: "The file for the core image of what the deck has loaded when its program begins",
+        ..FREE
+    },
     LANGUAGE,
+    GRAPHICS,
+    SOURCE_GRAPHICS,
+    OUT_GRAPHICS,
     SIZE,
     Argument {
         name: "limit",
@@ -213,7 +228,11 @@ fn job_in(
         punch: None,
         paper: None,
         trace: None,
+        image: None,
         language: language_in(matches),
+        graphics: graphics_in(matches),
+        source_graphics: graphics_by(matches, "source-graphics"),
+        punch_graphics: graphics_by(matches, "out-graphics"),
         size: named_size_in(matches),
         limit: matches.get_one("limit").unwrap_or(DEFAULT_LIMIT),
         switches,
@@ -228,17 +247,20 @@ fn name_files(alloc: Global, matches: &ArgMatches<'_>, job: &mut Job) -> Result<
     ensures punch { OnOk result (IsNameIn (found_of matches.now) (codes "punch") job.new.punch) }
     ensures paper { OnOk result (IsNameIn (found_of matches.now) (codes "paper") job.new.paper) }
     ensures trace { OnOk result (IsNameIn (found_of matches.now) (codes "trace") job.new.trace) }
+    ensures image { OnOk result (IsNameIn (found_of matches.now) (codes "image") job.new.image) }
     ensures rest { OnOk result (job.new ≡ record job.old {
       cards = job.new.cards;
       punch = job.new.punch;
       paper = job.new.paper;
       trace = job.new.trace;
+      image = job.new.image;
     }) }
 {
     job.cards = name_in(alloc, matches, "cards")?;
     job.punch = name_in(alloc, matches, "punch")?;
     job.paper = name_in(alloc, matches, "paper")?;
     job.trace = name_in(alloc, matches, "trace")?;
+    job.image = name_in(alloc, matches, "image")?;
     Ok(())
 }
 
@@ -354,10 +376,15 @@ fn file_call(alloc: Global, name: &str, options: &ArgMatches<'_>, file: &str) ->
 fn disassemble_call(alloc: Global, matches: &ArgMatches<'_>, file: &str) -> Result<Call, Error>
     ensures { IfOk result (λ call. IsDisassembled (found_of matches.now) file.now call) }
 {
+    let graphics = graphics_in(matches);
     let size = size_in(matches);
     let file = String::from_str(alloc, file)?;
     if matches.get_flag("load") {
-        Ok(Call::DisassembleDeck { file, size })
+        Ok(Call::DisassembleDeck {
+            file,
+            graphics,
+            size,
+        })
     } else {
         Ok(Call::Disassemble { file })
     }

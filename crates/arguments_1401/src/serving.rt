@@ -4,6 +4,7 @@ ghost use Rattle.clap.specs.Words.{found_of};
 ghost use Rattle.arguments_1401.specs.Calls.{AreOperatorsIn, IsOpeningIn, IsOriginIn, IsPlainIn, IsRoom, IsSeating};
 
 use crate::commands::{Session, Subcommand, refusal};
+use crate::graphics::{GRAPHICS, graphics_in};
 use crate::journals::{JOURNAL, NEW_SYNC, new_journal_in};
 use crate::options::{Argument, FREE, Kind, TEXT, name_in};
 use crate::sizes::{SIZE, size_in};
@@ -41,6 +42,15 @@ pub(crate) const ORIGIN: Argument = Argument {
     kind: Kind::Value("ORIGIN", TEXT, &[]),
     needs: &["page"],
     help: "Where a proxy brings seat 1's page to others, as https://NAME:8443; each further seat has the next port",
+    ..FREE
+};
+
+/// When a new room follows.
+const RENEW_AFTER: Argument = Argument {
+    name: "renew-after",
+    kind: Kind::Value("MINUTES", ValueParser::Signed(1, 1440), &[]),
+    needs: &["page"],
+    help: "Begins a new room after MINUTES without a command, when a page asks for it, or before a journal is full",
     ..FREE
 };
 
@@ -82,6 +92,11 @@ const ARGUMENTS: &[Argument] = &[
     },
     JOURNAL,
     NEW_SYNC,
+    RENEW_AFTER,
+    Argument {
+        needs: &["cards"],
+        ..GRAPHICS
+    },
     SIZE,
 ];
 
@@ -236,6 +251,8 @@ fn seating_in(
         operators,
         origin,
         cards: name_in(alloc, matches, "cards")?,
+        graphics: graphics_in(matches),
         journal: new_journal_in(alloc, matches)?,
+        renewal: matches.get_one::<u16>("renew-after"),
     })
 }

@@ -2,10 +2,10 @@
 use Rattle.std.specs.Prelude.{◌≡◌, ◌⊎◌, ℕ, ⊤, Bool, IsTrue, if◌then◌else◌, List, [], ◌∷◌, ◌++◌, Option, Some, Result}
 use Rattle.std.specs.Prelude.{Ok, Err, IsOk, codes}
 use Rattle.std.specs.Io.KnownBytes.{Appends}
-use Rattle.std.specs.List.{flat_map}
 use Rattle.symbols_1401.specs.Fault.{IsMemory}
 use Rattle.symbols_1401.specs.Reading.{lines_in}
 use Rattle.listing_1401.specs.CrossReference.{references_text}
+use Rattle.listing_1401.specs.Listing.{listing_text}
 use Rattle.listing_1401.specs.SymbolTable.{symbols_text}
 use Rattle.autocoder_1401.specs.Assembly.{assembly_in}
 use Rattle.autocoder_1401.specs.declared.assembly.Assembly.{Assembly}
@@ -20,14 +20,6 @@ use Rattle.calls_1401.specs.declared.call.Product.TheVariants as product
 use Rattle.calls_1401.specs.declared.call.Tables.{Tables}
 use Rattle.assembling_1401.specs.declared.fault.AssembleFault.{AssembleFault}
 use Rattle.assembling_1401.specs.declared.fault.AssembleFault.TheVariants as fault
-
--- a line of a listing with its line feed
-abbrev pub line_text : List ℕ → List ℕ
-line_text line = line ++ codes "\n"
-
--- the lines of a listing, each with its line feed
-unfoldable pub listing_text : List (List ℕ) → List ℕ
-listing_text lines = flat_map line_text lines
 
 -- a part of a text after those before it, with an empty line between them
 abbrev pub with_part : List ℕ → List ℕ → List ℕ

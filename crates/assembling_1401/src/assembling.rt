@@ -4,13 +4,11 @@ ghost use Rattle.core_1401.specs.Storage.{is_core_size};
 ghost use Rattle.image_1401.specs.Image.{IsInCore};
 ghost use Rattle.autocoder_1401.specs.Assembly.{assembly_in, with_listing};
 ghost use Rattle.calls_1401.specs.declared.call.Product.TheVariants.{Image as InImage, Listing, Tables as InTables};
-ghost use Rattle.assembling_1401.specs.Assemble.{listing_text, with_part, tables_text, IsProductOf, IsWhyNotAssembled};
+ghost use Rattle.assembling_1401.specs.Assemble.{with_part, tables_text, IsProductOf, IsWhyNotAssembled};
 ghost use Rattle.assembling_1401.specs.Assemble.{IsDeckOf, IsWhyNoDeckOf, Wrote, AssembleDid};
 
 use crate::fault::AssembleFault;
-use autocoder_1401::{
-    AssemblyTables, ListingLine, assemble_image, assemble_in, assemble_with_tables,
-};
+use autocoder_1401::{AssemblyTables, assemble_image, assemble_listing, assemble_with_tables};
 use calls_1401::{Product, Tables};
 use core_1401::Core;
 use deck_1401::{DeckFault, write_deck};
@@ -153,13 +151,9 @@ fn source_listing(
     ensures ok { IfOk result (λ text. IsProductOf language size source.now Listing text.items) }
     ensures err { IfErr result (IsWhyNotAssembled language size source.now) }
 {
-    let assembly = match assemble_in(alloc, language, source, size) {
-        Ok(assembly) => assembly,
-        Err(why) => return Err(AssembleFault::Source(why)),
-    };
-    match listing_text(alloc, assembly.listing.as_slice()) {
+    match assemble_listing(alloc, language, source, size) {
         Ok(text) => Ok(text),
-        Err(_) => Err(AssembleFault::Memory),
+        Err(why) => Err(AssembleFault::Source(why)),
     }
 }
 
@@ -186,13 +180,12 @@ fn source_tables(
 
 /// The tables that are asked for, an empty line between one and the next.
 fn tables_text(alloc: Global, made: &AssemblyTables, asked: Tables) -> Result<Vec<u8>, AllocError>
-    ensures { IfOk result (λ text. text.items ≡ tables_text asked (listing_text made.now.assembly.listing)
-        made.now.symbols.items made.now.references.items) }
+    ensures { IfOk result (λ text. text.items ≡ tables_text asked made.now.listing.items made.now.symbols.items
+        made.now.references.items) }
 {
     let mut text = Vec::new(alloc);
     if asked.listing {
-        let listing = listing_text(alloc, made.assembly.listing.as_slice())?;
-        put_part(&mut text, listing.as_slice())?;
+        put_part(&mut text, made.listing.as_slice())?;
     }
     if asked.symbols {
         put_part(&mut text, made.symbols.as_slice())?;
@@ -212,19 +205,6 @@ fn put_part(text: &mut Vec<u8>, part: &[u8]) -> Result<(), AllocError>
     }
     text.extend_from_slice(part)?;
     Ok(())
-}
-
-/// The lines of a listing, each with its line feed.
-#[tactic(auto, unfolding(crate::specs::Assemble::listing_text))]
-fn listing_text(alloc: Global, lines: &[ListingLine]) -> Result<Vec<u8>, AllocError>
-    ensures { IfOk result (λ text. text.items ≡ listing_text lines.now) }
-{
-    let mut text = Vec::new(alloc);
-    for line in lines {
-        text.extend_from_slice(line.as_slice())?;
-        text.push(b'\n')?;
-    }
-    Ok(text)
 }
 
 /// Writes a text.

@@ -10,7 +10,7 @@ use core_1401::CoreFault;
 use cpu_1401::Machine;
 use deck_1401::{LOADING_STEPS, LoadFault, loaded_image};
 use disassembly_1401::{list_image, list_marked};
-use image_1401::read_image;
+use image_1401::lend_image;
 use job_1401::CardList;
 use std::alloc::Global;
 use streams_1401::Sink;
@@ -38,7 +38,7 @@ fn listing_of(alloc: Global, text: &[u8]) -> Result<Vec<u8>, AssembleFault>
     ensures ok { IfOk result (λ listing. IsListingOf text.now listing.items) }
     ensures err { IfErr result (IsWhyNotListed text.now) }
 {
-    let image = match read_image(alloc, text) {
+    let image = match lend_image(text) {
         Ok(image) => image,
         Err(fault) => return Err(AssembleFault::Image(fault)),
     };

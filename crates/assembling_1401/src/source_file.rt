@@ -4,12 +4,13 @@ use crate::assembling::{assembly_text, check_size, source_deck, write_assembly};
 use crate::fault::AssembleFault;
 use autocoder_1401::{AsmKind, explained_faults, fault_lines, warning_lines, warnings};
 use calls_1401::{Assembling, Product, Told, is_refused, size_for};
-use files_1401::{FileFault, WriteFault, is_one_file, read_whole, write_whole};
+use files_1401::{FileFault, WriteFault, is_one_file, put_whole, read_whole};
+use machine_graphics::{Graphics, Suggestion, in_ours, in_theirs, suggest_foreign};
 use source_1401::Language;
 use std::alloc::Global;
 use std::io;
 use std::rt::Files;
-use streams_1401::{ToWriter, put_all};
+use streams_1401::ToWriter;
 
 /// The bytes of a source's file.
 ///
@@ -23,9 +24,6 @@ fn read_source(rt: &(impl Files + AllocGlobal), name: String) -> Result<Vec<u8>,
         Err(_) => Err(AssembleFault::Unread(name)),
     }
 }
-
-/// The name of standard output, to which a text is written as it comes.
-const STANDARD_OUTPUT: &str = "/dev/stdout";
 
 /// Looks at two names, the second one of a file that is written, if there are both.
 ///
@@ -83,30 +81,34 @@ fn put_file(
     name: String,
     text: &[u8],
 ) -> Result<(), AssembleFault> {
-    if name.as_str() == STANDARD_OUTPUT {
-        let mut writer = ToWriter::new(io::writer(rt));
-        return match put_all(&mut writer, text) {
-            Ok(()) => Ok(()),
-            Err(_) => Err(AssembleFault::Unwritten(name)),
-        };
-    }
-    match write_whole(rt, name.as_str(), text) {
+    match put_whole(rt, name.as_str(), text) {
         Ok(()) => Ok(()),
         Err(WriteFault::Memory) => Err(AssembleFault::Memory),
         Err(WriteFault::Unwritten) => Err(AssembleFault::Unwritten(name)),
     }
 }
 
-/// Writes the deck of a source to the file of this name.
+/// Where the deck of a source is written to.
+#[derive(Drop)]
+struct DeckFile {
+    /// The name of the file.
+    name: String,
+    /// The chain whose graphics it has.
+    graphics: Option<Graphics>,
+}
+
+/// Writes the deck of a source to this file.
 fn put_deck(
     rt: &(impl Files + Print + AllocGlobal),
     language: Language,
     source: &[u8],
     size: u16,
-    name: String,
+    deck: DeckFile,
 ) -> Result<(), AssembleFault> {
     check_size(size)?;
     let text = source_deck(rt.alloc(), language, source, size)?;
+    let DeckFile { name, graphics } = deck;
+    let text = in_theirs(graphics, text);
     put_file(rt, name, text.as_slice())
 }
 
@@ -141,12 +143,12 @@ fn write_asked<R: Files + Print + AllocGlobal>(
     size: u16,
     product: Product,
     out: Option<String>,
-    deck: Option<String>,
+    deck: Option<DeckFile>,
 ) -> Result<(), AssembleFault> {
-    let Some(name) = deck else {
+    let Some(deck) = deck else {
         return write_product(rt, language, source, size, product, out);
     };
-    put_deck(rt, language, source, size, name)?;
+    put_deck(rt, language, source, size, deck)?;
     if product == Product::Image && out.is_none() {
         return Ok(());
     }
@@ -201,6 +203,21 @@ fn tell_warnings(
     Ok(())
 }
 
+/// Reports which chain a source of this name may be for, if a byte isn't allowed in it.
+fn report_suggestion(
+    rt: &impl Eprint,
+    name: &str,
+    suggested: Option<Suggestion>,
+    outcome: &Result<(), AssembleFault>,
+) {
+    match (suggested, outcome) {
+        (Some(suggested), Err(AssembleFault::Source(first))) if first.kind == AsmKind::Graphic => {
+            let _ = eprintln!(rt; "ibm1401: {name}: {suggested}");
+        }
+        _ => {}
+    }
+}
+
 /// Assembles the source of a file, and writes its image, its listing or its tables, and its deck. Of a source that
 /// assembles the warnings are told after that, if all is to be told.
 ///
@@ -216,6 +233,8 @@ pub fn assemble_file<R: Files + Print + Eprint + AllocGlobal>(
     let Assembling {
         file,
         language,
+        source_graphics,
+        deck_graphics,
         size,
         product,
         out,
@@ -229,12 +248,22 @@ pub fn assemble_file<R: Files + Print + Eprint + AllocGlobal>(
     let Ok(name) = file.clone() else {
         return Err(AssembleFault::Memory);
     };
-    let source = read_source(rt, file)?;
+    let text = read_source(rt, file)?;
+    let suggested = match (source_graphics, told) {
+        (None, Told::First) => None,
+        _ => suggest_foreign(source_graphics, text.as_slice()),
+    };
+    let source = in_ours(source_graphics, text);
     let size = size_for(size, language, source.as_slice());
-    match (
-        write_asked(rt, language, source.as_slice(), size, product, out, deck),
-        told,
-    ) {
+    let deck = deck.map(|name| {
+        DeckFile {
+            name,
+            graphics: deck_graphics,
+        }
+    });
+    let outcome = write_asked(rt, language, source.as_slice(), size, product, out, deck);
+    report_suggestion(rt, name.as_str(), suggested, &outcome);
+    match (outcome, told) {
         (Err(AssembleFault::Source(first)), Told::All) if first.kind != AsmKind::Memory => Err(
             all_told(
                 rt.alloc(),

@@ -25,7 +25,7 @@ none_found {X} language size lines answer value e = by (first_fault language lin
 
 -- the law of the languages
 pub agrees_with_plain : (language : Language) (size : ℕ) (source : List ℕ) → AgreesWithPlain language size source
-agrees_with_plain language size source = by (assembly_in Plain size source) refl
+agrees_with_plain language size source uncut = by (assembly_in Plain size source) refl
   where
     by : (answer : Result Assembly AsmFault) → assembly_in Plain size source ≡ answer
         → IfOk answer (MeansTheSame language size source)
@@ -34,7 +34,7 @@ agrees_with_plain language size source = by (assembly_in Plain size source) refl
         let said = lines_in Plain source in
         let answer = assembly_with size said source in
         let none = none_found Plain size said answer plain e in
-        let alike = lines_alike language source none in
+        let alike = lines_alike language source none uncut in
         let same_fault : first_fault language said ≡ first_fault Plain said =
         clean_in_each language said none ∙ sym none in
         record {

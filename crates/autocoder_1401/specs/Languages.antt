@@ -1,5 +1,6 @@
 -- What a source means that the plain language takes (own).
-use Rattle.std.specs.Prelude.{◌≡◌, ℕ, List, Ok, IfOk}
+use Rattle.std.specs.Prelude.{◌≡◌, ℕ, true, List, Ok, IfOk}
+use Rattle.source_1401.specs.Language.{cuts_no_text}
 use Rattle.source_1401.specs.declared.language.Language.{Language}
 use Rattle.source_1401.specs.declared.language.Language.TheVariants.{Plain}
 use Rattle.symbols_1401.specs.Reading.{lines_in}
@@ -13,6 +14,7 @@ pub record MeansTheSame (language : Language) (size : ℕ) (source : List ℕ) (
   pub lines : lines_in language source ≡ lines_in Plain source
   pub assembly : assembly_in language size source ≡ Ok plain
 
--- what the plain language takes means the same in this one
+-- what the plain language takes, and where it cuts no text, means the same in this one
 abbrev pub AgreesWithPlain : Language → ℕ → List ℕ → Type 0
-AgreesWithPlain language size source = IfOk (assembly_in Plain size source) (MeansTheSame language size source)
+AgreesWithPlain language size source =
+    cuts_no_text source ≡ true → IfOk (assembly_in Plain size source) (MeansTheSame language size source)

@@ -26,7 +26,7 @@ use placed_image_1401::make_image;
 use placing_1401::{Placing, place_all};
 use source_1401::Language;
 use std::alloc::Global;
-use symbols_1401::{AsmFault, Chains, KeptLine, SourceHashing};
+use symbols_1401::{AsmFault, Chains, Lines, SourceHashing};
 
 /// The image and the listing of a source.
 #[derive(Debug, Drop)]
@@ -46,7 +46,7 @@ pub(crate) fn make_assembly(
     alloc: Global,
     all: &Placing<'_>,
     source: &[u8],
-    lines: &[KeptLine],
+    lines: &Lines<'_>,
     size: u16,
 ) -> Result<Assembly, AsmFault>
     requires as_many { length lines.now ≡ length (lines_of source.now) }
@@ -68,7 +68,7 @@ fn faultless_assembly(
     hashing: SourceHashing,
     chains: &Chains,
     source: &[u8],
-    lines: &[KeptLine],
+    lines: &Lines<'_>,
     size: u16,
 ) -> Result<Assembly, AsmFault>
     requires as_many { length lines.now ≡ length (lines_of source.now) }
@@ -156,8 +156,8 @@ pub fn assemble_in(
         (λ fault. IsMemory fault ⊎ IsFaultOf language size (lines_in language source.now) fault) }
 {
     let read = FaultlessLines::read(alloc, language, source)?;
-    let lines = read.lines.as_slice();
-    let assembly = faultless_assembly(alloc, read.hashing, &read.chains, source, lines, size)?;
+    let lines = read.lines.lend();
+    let assembly = faultless_assembly(alloc, read.hashing, &read.chains, source, &lines, size)?;
     Ok(assembly)
 }
 
@@ -166,7 +166,7 @@ fn faultless_image(
     alloc: Global,
     hashing: SourceHashing,
     chains: &Chains,
-    lines: &[KeptLine],
+    lines: &Lines<'_>,
     size: u16,
 ) -> Result<Image, AsmFault>
     requires few { length lines.now < 2 ^ 32 }
@@ -218,7 +218,7 @@ pub fn assemble_image(
         (λ fault. IsMemory fault ⊎ IsFaultOf language size (lines_in language source.now) fault) }
 {
     let read = FaultlessLines::read(alloc, language, source)?;
-    let lines = read.lines.as_slice();
-    let image = faultless_image(alloc, read.hashing, &read.chains, lines, size)?;
+    let lines = read.lines.lend();
+    let image = faultless_image(alloc, read.hashing, &read.chains, &lines, size)?;
     Ok(image)
 }

@@ -16,6 +16,8 @@
 
 pub mod assembly; // the passes, in their order
 pub mod tables; // an assembly with its symbol table and its cross-reference
+pub mod rows; // an image with the rows of its listing
+pub mod listed; // the listing as one text
 pub mod all_faults; // all faults of a source
 pub mod explaining; // all faults of a source, each with what is wrong
 pub mod outside; // what of a line isn't in core
@@ -27,8 +29,11 @@ pub use assembly::{Assembly, assemble, assemble_image, assemble_in};
 pub use explaining::explained_faults;
 pub use explanations_1401::explanation::{Cause, Explanation};
 pub use image_1401::{Image, ImageFault, Segment, Segments, read_image, write_image};
+pub use listed::assemble_listing;
 pub use listing_1401::listing::{Listing, ListingLine};
+pub use listing_1401::rows::{Row, Rows};
 pub use messages::{fault_lines, warning_lines};
+pub use rows::{AssemblyRows, assemble_rows};
 pub use symbols_1401::fault::{AsmFault, AsmKind};
 pub use tables::{AssemblyTables, assemble_with_tables};
 pub use warning::{Warning, WarningKind, warnings};

@@ -206,6 +206,12 @@ fn outside_text(alloc: Global, size: u16, outside: Outside) -> Result<String, Al
         OutsidePart::FirstOperand => "the first operand",
         OutsidePart::SecondOperand => "the second operand",
         OutsidePart::OnlyOperand => "its value",
+        OutsidePart::UnitName => {
+            return String::from_str(
+                alloc,
+                "the name of a unit is no place: it may be the first operand of an instruction for units, alone",
+            );
+        }
     };
     let place = outside.place;
     let last = i64::from(size).saturating_sub(1);

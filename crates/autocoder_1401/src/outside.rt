@@ -7,12 +7,12 @@ ghost use Rattle.symbols_1401.specs.View.{chains_view};
 ghost use Rattle.placing_1401.specs.Values.{is_in_core};
 
 use faults_1401::FaultlessLines;
-use placing_1401::{Placing, contents_length, place_all};
+use placing_1401::{Placing, contents_length, may_name_unit, place_all};
 use source_1401::{
     Address, Addressing, Base, Description, Language, Literal, Next, Operand, OperandField, Point,
 };
 use std::alloc::Global;
-use symbols_1401::{AsmFault, Chains, KeptLine, SourceHashing, checked_sum};
+use symbols_1401::{AsmFault, Chains, Lines, SourceHashing, checked_sum};
 
 /// What of a line isn't in core.
 #[derive(Clone, Copy, Debug, PartialEq, Eq)]
@@ -29,6 +29,8 @@ pub(crate) enum OutsidePart {
     SecondOperand,
     /// Its only operand, or, for END without one, where the program begins.
     OnlyOperand,
+    /// An operand that counts from the name of a unit.
+    UnitName,
 }
 
 /// What of a line isn't in core, and where it would be.
@@ -69,11 +71,36 @@ fn address_place(all: &Placing<'_>, here: i64, address: Address) -> Result<i64, 
     checked_sum(base, i64::from(address.adjustment))
 }
 
-/// An operand of an instruction that isn't in core, with this place for an asterisk.
+/// What isn't in core if this operand isn't: this part, unless the operand counts from the name of a unit.
+fn part_of(
+    all: &Placing<'_>,
+    part: OutsidePart,
+    field: OperandField,
+) -> Result<OutsidePart, AsmFault>
+    ensures err { IfErr result IsMemory }
+{
+    let base = match field {
+        OperandField::Operand(Operand::Address(address)) => address.base,
+        OperandField::Operand(Operand::Literal(Literal::Address(literal))) => literal.address.base,
+        OperandField::Operand(Operand::Literal(Literal::Constant(_) | Literal::Area(_)))
+        | OperandField::Operand(Operand::Unit(_))
+        | OperandField::Absent
+        | OperandField::Malformed => return Ok(part),
+    };
+    match base {
+        Base::Symbol(label) if all.symbol(label)?.unit.is_some() => Ok(OutsidePart::UnitName),
+        Base::Symbol(_) | Base::Number(_) | Base::Here | Base::Register(_) | Base::NextHundred => {
+            Ok(part)
+        }
+    }
+}
+
+/// An operand, which may name a unit or may not, that isn't in core, with this place for an asterisk.
 fn operand_outside(
     all: &Placing<'_>,
     size: u16,
     here: i64,
+    is_unit: bool,
     part: OutsidePart,
     field: OperandField,
 ) -> Result<Option<Outside>, AsmFault>
@@ -81,6 +108,10 @@ fn operand_outside(
     ensures err { IfErr result IsMemory }
 {
     let place = match field {
+        OperandField::Operand(Operand::Address(address))
+            if is_unit && all.address_unit(address).is_some() => {
+            return Ok(None);
+        }
         OperandField::Operand(Operand::Address(address)) => address_place(all, here, address)?,
         OperandField::Operand(Operand::Literal(Literal::Address(literal))) => {
             address_place(all, 0, literal.address)?
@@ -90,7 +121,7 @@ fn operand_outside(
         | OperandField::Absent
         | OperandField::Malformed => return Ok(None),
     };
-    Ok(part_at(size, part, place))
+    Ok(part_at(size, part_of(all, part, field)?, place))
 }
 
 /// How many places the literals take that are used and not placed.
@@ -137,9 +168,19 @@ fn places_outside(
             let length = pending_length(so_far)?;
             OutsidePart::LastLiteral.of_places(size, so_far.start_by(row)?, length)
         }
-        Next::Behind | Next::Value => {
+        Next::Behind | Next::Value | Next::Elsewhere => {
             let length = i64::from(contents_length(&row.contents));
-            OutsidePart::LastPlace.of_places(size, so_far.next, length)
+            OutsidePart::LastPlace.of_places(size, so_far.start_by(row)?, length)
+        }
+    }
+}
+
+/// What an earlier value is: the operand of ORG and LTORG, or the first place of a constant elsewhere.
+fn value_part(next: Next) -> OutsidePart {
+    match next {
+        Next::Elsewhere => OutsidePart::FirstPlace,
+        Next::Behind | Next::Literals | Next::Value | Next::LiteralsAtValue => {
+            OutsidePart::OnlyOperand
         }
     }
 }
@@ -158,23 +199,29 @@ fn operands_outside(
         Addressing::Nothing => Ok(None),
         Addressing::Addresses(operands) => {
             let here = so_far.point_value(all, row, Point::Last)?;
-            let first = operand_outside(all, size, here, OutsidePart::FirstOperand, operands.a)?;
+            let part = OutsidePart::FirstOperand;
+            let is_unit = may_name_unit(&row.contents);
+            let first = operand_outside(all, size, here, is_unit, part, operands.a)?;
             if first.is_some() {
                 return Ok(first);
             }
-            operand_outside(all, size, here, OutsidePart::SecondOperand, operands.b)
+            let part = OutsidePart::SecondOperand;
+            operand_outside(all, size, here, false, part, operands.b)
         }
-        Addressing::EarlierValue(_) => {
+        Addressing::EarlierValue(operands) => {
             let value = so_far.point_value(so_far, row, Point::Value)?;
-            Ok(part_at(size, OutsidePart::OnlyOperand, value))
+            let part = part_of(all, value_part(row.next), operands.a)?;
+            Ok(part_at(size, part, value))
         }
-        Addressing::Equal(_) | Addressing::Value(_) => {
+        Addressing::Equal(operands) | Addressing::Value(operands) => {
             let value = so_far.point_value(all, row, Point::Value)?;
-            Ok(part_at(size, OutsidePart::OnlyOperand, value))
+            let part = part_of(all, OutsidePart::OnlyOperand, operands.a)?;
+            Ok(part_at(size, part, value))
         }
         Addressing::Entry(operands) => {
             let value = all.entry_value(operands.a)?;
-            Ok(part_at(size, OutsidePart::OnlyOperand, value))
+            let part = part_of(all, OutsidePart::OnlyOperand, operands.a)?;
+            Ok(part_at(size, part, value))
         }
     }
 }
@@ -184,7 +231,7 @@ fn outside_in(
     alloc: Global,
     hashing: SourceHashing,
     chains: &Chains,
-    lines: &[KeptLine],
+    lines: &Lines<'_>,
     size: u16,
 ) -> Result<Option<Outside>, AsmFault>
     requires chains { chains_view chains.now ≡ chains_of (sites_of lines.now) lines.now }
@@ -193,8 +240,8 @@ fn outside_in(
 {
     let all = place_all(alloc, hashing, chains, lines)?;
     let mut so_far = Placing::new(alloc, hashing, chains);
-    for line in lines {
-        let Some(statement) = &line.line().statement else {
+    for i in 0..lines.len() {
+        let Some(statement) = &lines.line(i).statement else {
             continue;
         };
         let row = statement.body.describe();
@@ -225,7 +272,7 @@ pub(crate) fn outside_of(
     ensures place { IfOk result (λ found. IfSome found (λ o. is_in_core size o.place ≡ false)) }
 {
     let read = FaultlessLines::read(alloc, language, source)?;
-    let lines = read.lines.as_slice();
-    let found = outside_in(alloc, read.hashing, &read.chains, lines, size)?;
+    let lines = read.lines.lend();
+    let found = outside_in(alloc, read.hashing, &read.chains, &lines, size)?;
     Ok(found)
 }

@@ -1,4 +1,4 @@
-//! An assembly with the tables that its listing may end with.
+//! The image of a source with its listing and its tables as texts.
 ghost use Rattle.std.specs.Prelude.{◌≡◌, ◌<◌, ◌^◌, ◌⊎◌, length, None, Some, IfOk, IfErr, OnOk};
 ghost use Rattle.source_1401.specs.SourceLine.{lines_of};
 ghost use Rattle.symbols_1401.specs.Chains.{chains_of};
@@ -7,28 +7,33 @@ ghost use Rattle.symbols_1401.specs.Reading.{lines_in};
 ghost use Rattle.symbols_1401.specs.Symbols.{sites_of};
 ghost use Rattle.symbols_1401.specs.View.{chains_view};
 ghost use Rattle.placing_1401.specs.Laws.{IsFirstOutside};
+ghost use Rattle.placing_1401.specs.PlacedImage.{image_of};
 ghost use Rattle.placing_1401.specs.Placement.{placed};
 ghost use Rattle.placing_1401.specs.Values.{first_outside};
 ghost use Rattle.placing_1401.specs.View.{places_of};
 ghost use Rattle.listing_1401.specs.CrossReference.{references_text};
+ghost use Rattle.listing_1401.specs.Listing.{listing_of, listing_text, listing_with};
 ghost use Rattle.listing_1401.specs.SymbolTable.{symbols_text};
-ghost use Rattle.autocoder_1401.specs.Assembly.{assembly_in, assembly_with};
+ghost use Rattle.autocoder_1401.specs.Assembly.{assembly_in, with_listing};
 ghost use Rattle.autocoder_1401.specs.Languages.{AgreesWithPlain};
 ghost use Rattle.autocoder_1401.specs.declared.tables.AssemblyTables.{AssemblyTables as Made};
 
-use crate::assembly::{Assembly, make_assembly};
 use faults_1401::FaultlessLines;
-use listing_1401::{Tables, make_tables};
+use image_1401::Image;
+use listing_1401::{Tables, listing_text, make_tables};
+use placed_image_1401::make_image;
 use placing_1401::{Placing, place_all};
 use source_1401::Language;
 use std::alloc::Global;
-use symbols_1401::{AsmFault, Chains, KeptLine, SourceHashing};
+use symbols_1401::{AsmFault, Chains, Lines, SourceHashing};
 
-/// An assembly, with its symbol table and its cross-reference as texts.
+/// The image of a source, with its listing, its symbol table and its cross-reference as texts.
 #[derive(Debug, Drop)]
 pub struct AssemblyTables {
-    /// The image and the listing.
-    pub assembly: Assembly,
+    /// The core image.
+    pub image: Image,
+    /// The listing: its lines, each with its line feed.
+    pub listing: Vec<u8>,
     /// The symbol table: a line for each label.
     pub symbols: Vec<u8>,
     /// The cross-reference: a line for each label.
@@ -41,26 +46,30 @@ fn make_assembly_tables(
     hashing: SourceHashing,
     all: &Placing<'_>,
     source: &[u8],
-    lines: &[KeptLine],
+    lines: &Lines<'_>,
     size: u16,
 ) -> Result<AssemblyTables, AsmFault>
     requires as_many { length lines.now ≡ length (lines_of source.now) }
     requires few { length lines.now < 2 ^ 32 }
     requires placed { places_of all.now ≡ placed lines.now }
-    ensures ok { IfOk result (λ made. made.assembly ≡ assembly_with size lines.now source.now) }
+    ensures image { IfOk result (λ made. made.image ≡ image_of size lines.now) }
+    ensures listing { IfOk result (λ made. made.listing.items
+        ≡ listing_text (listing_with lines.now (lines_of source.now))) }
     ensures symbols { IfOk result (λ made. made.symbols.items ≡ symbols_text lines.now) }
     ensures references { IfOk result (λ made. made.references.items ≡ references_text lines.now) }
     ensures inside { OnOk result (first_outside size lines.now ≡ None) }
     ensures outside { IfErr result (λ fault. IsMemory fault
         ⊎ ((first_outside size lines.now ≡ Some fault) × IsFirstOutside size lines.now fault)) }
 {
-    let assembly = make_assembly(alloc, all, source, lines, size)?;
+    let image = make_image(alloc, all, lines, size)?;
+    let listing = listing_text(alloc, all, source, lines)?;
     let Tables {
         symbols,
         references,
     } = make_tables(alloc, hashing, all, lines)?;
     Ok(AssemblyTables {
-        assembly,
+        image,
+        listing,
         symbols,
         references,
     })
@@ -72,13 +81,15 @@ fn faultless_tables(
     hashing: SourceHashing,
     chains: &Chains,
     source: &[u8],
-    lines: &[KeptLine],
+    lines: &Lines<'_>,
     size: u16,
 ) -> Result<AssemblyTables, AsmFault>
     requires as_many { length lines.now ≡ length (lines_of source.now) }
     requires few { length lines.now < 2 ^ 32 }
     requires chains { chains_view chains.now ≡ chains_of (sites_of lines.now) lines.now }
-    ensures ok { IfOk result (λ made. made.assembly ≡ assembly_with size lines.now source.now) }
+    ensures image { IfOk result (λ made. made.image ≡ image_of size lines.now) }
+    ensures listing { IfOk result (λ made. made.listing.items
+        ≡ listing_text (listing_with lines.now (lines_of source.now))) }
     ensures symbols { IfOk result (λ made. made.symbols.items ≡ symbols_text lines.now) }
     ensures references { IfOk result (λ made. made.references.items ≡ references_text lines.now) }
     ensures inside { OnOk result (first_outside size lines.now ≡ None) }
@@ -89,8 +100,8 @@ fn faultless_tables(
     make_assembly_tables(alloc, hashing, &all, source, lines, size)
 }
 
-/// The core image and the listing of a source in this language, as `assemble_in` answers them, with its symbol table
-/// and its cross-reference. Each has a line for each label, in the order of the lines that declare them: the symbol table
+/// The core image and the text of the listing of a source in this language, with its symbol table and its
+/// cross-reference. Each has a line for each label, in the order of the lines that declare them: the symbol table
 /// with its address, how many places it names, and the number of its line; the cross-reference with the number of its
 /// line and of each line that names it.
 ///
@@ -104,8 +115,12 @@ pub fn assemble_with_tables(
     source: &[u8],
     size: u16,
 ) -> Result<AssemblyTables, AsmFault>
-    // The image and the listing of the lines, or their first fault, unless memory is refused.
-    ensures exact { Gives (λ (made : Made). made.assembly) result (assembly_in language size source.now) }
+    // With the listing of the source the image is what `assemble_in` makes, or the first fault, unless memory is refused.
+    ensures exact { Gives (λ (made : Made). with_listing language source.now made.image) result
+        (assembly_in language size source.now) }
+
+    // The text of the listing of the lines.
+    ensures listing { IfOk result (λ made. made.listing.items ≡ listing_text (listing_of language (lines_of source.now))) }
 
     // What the plain language takes means the same in each language.
     ensures plain { AgreesWithPlain language size source.now }
@@ -115,7 +130,7 @@ pub fn assemble_with_tables(
     ensures references { IfOk result (λ made. made.references.items ≡ references_text (lines_in language source.now)) }
 {
     let read = FaultlessLines::read(alloc, language, source)?;
-    let lines = read.lines.as_slice();
-    let tables = faultless_tables(alloc, read.hashing, &read.chains, source, lines, size)?;
+    let lines = read.lines.lend();
+    let tables = faultless_tables(alloc, read.hashing, &read.chains, source, &lines, size)?;
     Ok(tables)
 }

@@ -2,6 +2,7 @@
 
 use core_1401::SIZES;
 use exchange_1401::Origin;
+use machine_graphics::Graphics;
 use source_1401::Language;
 
 /// The size of core storage if none is named.
@@ -36,6 +37,10 @@ pub struct Assembling {
     pub file: String,
     /// The language that it is written in.
     pub language: Language,
+    /// The chain whose graphics the source has; without one it is this machine's.
+    pub source_graphics: Option<Graphics>,
+    /// The chain whose graphics the deck gets; without one it is this machine's.
+    pub deck_graphics: Option<Graphics>,
     /// How many places core storage has; without a value those that the source asks for, or else 4,000.
     pub size: Option<u16>,
     /// What is written.
@@ -101,8 +106,12 @@ pub struct Seating {
     pub origin: Option<Origin>,
     /// The name of the file of a deck, which is in the hopper when they come; without one the hopper is empty.
     pub cards: Option<String>,
+    /// The chain whose graphics the deck has; without one it is this machine's.
+    pub graphics: Option<Graphics>,
     /// The journal that is kept; without one none is.
     pub journal: Option<NewJournal>,
+    /// After how many minutes without a command a new room follows; without a value none does.
+    pub renewal: Option<u16>,
 }
 
 /// How a program is started.
@@ -129,8 +138,17 @@ pub struct Job {
     pub paper: Option<String>,
     /// The name of the file of the trace; without one there is none.
     pub trace: Option<String>,
+    /// The name of the file of the image of what a deck has loaded when its program begins; without one there is none.
+    /// There is none without the load key.
+    pub image: Option<String>,
     /// The language of the file, if it is a source.
     pub language: Language,
+    /// The chain whose graphics the decks have that are read; without one it is this machine's.
+    pub graphics: Option<Graphics>,
+    /// The chain whose graphics a source has; without one it is this machine's.
+    pub source_graphics: Option<Graphics>,
+    /// The chain whose graphics the punched cards get; without one it is this machine's.
+    pub punch_graphics: Option<Graphics>,
     /// How many places core storage has, if the file is no image; without a value those that the source asks for, or
     /// else 4,000.
     pub size: Option<u16>,
@@ -201,6 +219,8 @@ pub enum Call {
     DisassembleDeck {
         /// The name of the deck's file.
         file: String,
+        /// The chain whose graphics the deck has; without one it is this machine's.
+        graphics: Option<Graphics>,
         /// How many places core storage has.
         size: u16,
     },

@@ -14,7 +14,7 @@ use Rattle.cpu_1401.specs.declared.condition.Condition.TheVariants.{SwitchOn, Ch
 use Rattle.cpu_1401.specs.declared.instruction.Instruction.{Instruction}
 use Rattle.panel_1401.specs.declared.stop.Stop.TheVariants as stop
 use Rattle.panel_1401.specs.declared.switch_name.SwitchName.TheVariants.{B, C, D, E, F, G}
-use Rattle.cpu_1401.specs.Rows.{meaning_in, row}
+use Rattle.machine_operations.specs.Rows.{meaning_in, row}
 use Rattle.cpu_1401.specs.State.{State}
 use Rattle.cpu_1401.specs.Stepped.{Stepped, step_to, stopped}
 use Rattle.panel_1401.specs.SwitchName.{switch_number}

@@ -7,9 +7,7 @@ pub mod Frame
 pub mod Instruction
 pub mod Kept
 pub mod NeededPlaces
-pub mod Operation
 pub mod RegisterStep
-pub mod Rows
 pub mod Run
 pub mod Source
 pub mod State

@@ -12,8 +12,8 @@ use Rattle.fields_1401.specs.Move.{move_at}
 use Rattle.fields_1401.specs.Parts.{digit_moved_at, zone_moved_at}
 use Rattle.fields_1401.specs.Suppress.{suppress_at}
 use Rattle.cpu_1401.specs.declared.instruction.Instruction.{Instruction}
-use Rattle.cpu_1401.specs.declared.operation.Operation.{Operation}
-use Rattle.cpu_1401.specs.declared.operation.Operation.TheVariants as op
+use Rattle.machine_operations.specs.declared.operation.Operation.{Operation}
+use Rattle.machine_operations.specs.declared.operation.Operation.TheVariants as op
 use Rattle.panel_1401.specs.declared.stop.Stop.TheVariants as stop
 use Rattle.cpu_1401.specs.Branch.{after_branch, branch_on_cell, go_on, passes}
 use Rattle.cpu_1401.specs.CardsAndPrinter.{after_write, after_control, after_work}
@@ -21,7 +21,7 @@ use Rattle.cpu_1401.specs.CardsAndPrinter.{punching, reading, reading_and_punchi
 use Rattle.cpu_1401.specs.CardsAndPrinter.{writing_and_punching, writing_and_reading, all_three}
 use Rattle.cpu_1401.specs.FieldStep.{after_field, after_comparison, after_clear}
 use Rattle.cpu_1401.specs.Instruction.{begins_at, instruction_of, length_at}
-use Rattle.cpu_1401.specs.Operation.{operation_of, is_unfitted, is_unfitted_length, has_length}
+use Rattle.machine_operations.specs.Operation.{operation_of, is_unfitted, is_unfitted_length, has_length}
 use Rattle.cpu_1401.specs.RegisterStep.{after_store}
 use Rattle.cpu_1401.specs.State.{State}
 use Rattle.cpu_1401.specs.Stepped.{Stepped, step_to, stopped}

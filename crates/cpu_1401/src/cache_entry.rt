@@ -3,8 +3,8 @@ ghost use Rattle.std.specs.Prelude.{◌≡◌, ◌≢◌, ◌-◌, ◌^◌, true
 ghost use Rattle.cpu_1401.specs.Decoded.{AlwaysSay};
 
 use crate::decoded::{Address, Decoded, Source};
-use crate::operation::Operation;
 use bcd_1401::Char;
+use machine_operations::Operation;
 
 /// The place of an entry that keeps nothing: no address has it.
 pub(crate) const NO_PLACE: u16 = u16::MAX;

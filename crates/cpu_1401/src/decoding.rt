@@ -8,8 +8,8 @@ ghost use Rattle.cpu_1401.specs.Stepped.{stopped};
 
 use crate::decoded::{Address, Decoded, is_ready, source_of};
 use crate::machine::Machine;
-use crate::operation::{Operation, is_unfitted};
 use bcd_1401::Char;
+use machine_operations::{Operation, is_unfitted};
 use panel_1401::Stop;
 
 impl Machine {

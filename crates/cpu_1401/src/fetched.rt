@@ -2,12 +2,12 @@
 ghost use Rattle.std.specs.Prelude.{◌≡◌, ◌+◌, ◌<◌, ◌≤◌, length, take};
 ghost use Rattle.core_1401.specs.Address.{addresses};
 ghost use Rattle.cpu_1401.specs.Fetched.{cells_at, instruction_at, longest_instruction, longest_of, next_instruction};
-ghost use Rattle.cpu_1401.specs.Operation.{operation_of};
+ghost use Rattle.machine_operations.specs.Operation.{operation_of};
 
 use crate::machine::Machine;
-use crate::operation::Operation;
 use bcd_1401::{Cell, Char};
 use core_1401::Core;
+use machine_operations::Operation;
 use std::marker::Model;
 
 /// The most cells that an instruction has.

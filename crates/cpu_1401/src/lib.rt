@@ -12,7 +12,7 @@ mod areas;
 mod loading;
 pub mod machine;
 
-// an instruction: its operation, its cells, those that it is decoded from, and the decoded ones that are kept
+// an instruction: its cells, those that it is decoded from, and the decoded ones that are kept
 mod cache_entry;
 mod condition;
 mod decoded;
@@ -20,7 +20,6 @@ mod decoding;
 pub mod fetched;
 mod instruction;
 mod kept;
-mod operation;
 
 // a step, and a run of them
 pub mod frame;

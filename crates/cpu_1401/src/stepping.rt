@@ -13,12 +13,12 @@ use crate::instruction::Instruction;
 use crate::io_request::CardWork;
 use crate::machine::Machine;
 use crate::marking::{clear_marks_there, edit_there, load_there, set_marks_there, suppress_there};
-use crate::operation::Operation;
 use core_1401::ADDRESSES;
 use fields_1401::{
     add_within, move_chars_within, move_digit_within, move_zone_within, subtract_within,
     zero_add_within, zero_subtract_within,
 };
+use machine_operations::Operation;
 use panel_1401::Stop;
 
 impl Machine {

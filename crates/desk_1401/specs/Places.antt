@@ -68,6 +68,11 @@ abbrev pub lowest_free : List PlaceView → Option ℕ
 lowest_free [] = None
 lowest_free (place ∷ places) = if is_free place then Some place.number else lowest_free places
 
+-- the numbers of the places that aren't free
+abbrev pub taken_in : List PlaceView → List ℕ
+taken_in [] = []
+taken_in (place ∷ places) = if is_free place then taken_in places else place.number ∷ taken_in places
+
 -- no place at all
 abbrev pub nowhere : PlaceView
 nowhere = record { number = 0; seat = None; is_given = false }

@@ -1,19 +1,19 @@
 //! What the lock of a service keeps.
-ghost use Rattle.std.specs.Prelude.{◌≡◌, ◌<◌, ◌≤◌, ◌^◌, false, [], Some, None, IfOk, IfErr, IfSome, IfNone};
-ghost use Rattle.std.specs.Prelude.{vec_len, vec_capacity, map, is_some};
+ghost use Rattle.std.specs.Prelude.{◌≡◌, ◌<◌, ◌≤◌, ◌^◌, ◌++◌, false, [], Some, None, IfOk, IfErr, IfSome, IfNone};
+ghost use Rattle.std.specs.Prelude.{vec_len, vec_capacity, map, is_some, OnOk};
 ghost use Rattle.std.specs.List.{list_all};
 ghost use Rattle.console_1401.specs.Served.{AreAllSeats, numbers_of};
 ghost use Rattle.desk_1401.specs.declared.fault.SeatsFault.TheVariants.{Thread};
 ghost use Rattle.desk_1401.specs.Places.{AreBack, IsAdmission, IsOneMissing, admission_at, after_admission};
 ghost use Rattle.desk_1401.specs.Places.{after_input, closed, free_place, free_seat, given, has_seat};
-ghost use Rattle.desk_1401.specs.Places.{lowest_free as lowest_free_in, noted, numbers_in, place_at, taken_back};
+ghost use Rattle.desk_1401.specs.Places.{lowest_free as lowest_free_in, noted, numbers_in, place_at, taken_back, taken_in};
 ghost use Rattle.desk_1401.specs.Places.{with_place, with_seat, without_free_seat, without_seat};
 
 use crate::fault::SeatsFault;
 use crate::input::InputEnd;
 use crate::place::Place;
 use room_1401::{RoomId, Seat};
-use std::alloc::Global;
+use std::alloc::{AllocError, Global};
 use std::marker::Model;
 
 /// What becomes of a connection.
@@ -121,6 +121,15 @@ impl<J: RoomId> Desk<J> {
         ensures { result ≡ is_some (lowest_free_in self.now.places) }
     {
         lowest_free(self.places.as_slice()).is_some()
+    }
+
+    /// The numbers of the seats that aren't free, in their order.
+    pub(crate) fn taken(&self, alloc: Global) -> Result<Vec<u8>, AllocError>
+        ensures { IfOk result (λ taken. taken.items ≡ taken_in self.now.places) }
+    {
+        let mut taken = Vec::new(alloc);
+        put_taken(self.places.as_slice(), &mut taken)?;
+        Ok(taken)
     }
 
     /// Takes the seat of a number from its place, if it is there.
@@ -260,6 +269,23 @@ fn lowest_free<J: RoomId>(places: &[Place<J>]) -> Option<u8>
                 Some(first.number())
             } else {
                 lowest_free(rest)
+            }
+        }
+    }
+}
+
+/// Adds the numbers of those of these places that aren't free.
+fn put_taken<J: RoomId>(places: &[Place<J>], taken: &mut Vec<u8>) -> Result<(), AllocError>
+    ensures { OnOk result (taken.new.items ≡ taken.old.items ++ taken_in places.now) }
+{
+    match places {
+        [] => Ok(()),
+        [first, rest @ ..] => {
+            if first.is_free() {
+                put_taken(rest, taken)
+            } else {
+                taken.push(first.number())?;
+                put_taken(rest, taken)
             }
         }
     }

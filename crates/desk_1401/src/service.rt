@@ -9,7 +9,7 @@ use crate::fault::SeatsFault;
 use crate::input::{InputEnd, read_to_quit};
 use room_1401::{RoomId, Seat};
 use sockets_1401::{Pause, passes, shut_down};
-use std::alloc::Global;
+use std::alloc::{AllocError, Global};
 use std::marker::Model;
 use std::net::{TcpListener, TcpStream};
 use std::sync::atomic::Ordering::SeqCst;
@@ -24,9 +24,6 @@ const NAP: u64 = 10;
 
 /// How many times it looks, which is for a second.
 const NAPS: u32 = 100;
-
-/// How long an open room looks again whether a port was closed, in milliseconds.
-const LOOK: u64 = 100;
 
 /// The places of a room's seats, and whether the room is being closed. Contracts see how many seats the room has.
 #[derive(Drop)]
@@ -119,19 +116,9 @@ impl<J: RoomId> Service<J> {
         self.note(rt, fault);
     }
 
-    /// Waits until a port was closed, since no connection could be accepted there, or until the room is being closed,
-    /// and returns whether a port was closed first.
-    pub fn await_closed_port<R: Wait + Clock>(&self, rt: &R) -> bool {
-        for _ in rt.forever() {
-            if self.has_closed_port.load(SeqCst) {
-                return true;
-            }
-            if self.is_closing() {
-                return false;
-            }
-            thread::sleep(rt, Duration::from_millis(LOOK));
-        }
-        unreachable!()
+    /// Whether a port was closed, since no connection could be accepted there.
+    pub fn has_closed_port(&self) -> bool {
+        self.has_closed_port.load(SeqCst)
     }
 
     /// Takes the seat of a number for its page, if the seat is there and no console sits at it.
@@ -145,6 +132,15 @@ impl<J: RoomId> Service<J> {
     /// Whether a seat is free.
     pub fn has_free<R: Wait>(&self, rt: &R) -> bool {
         self.desk.lock(rt).has_free()
+    }
+
+    /// The numbers of the seats at which a console or a page sits, in their order.
+    ///
+    /// # Errors
+    ///
+    /// If the memory for them is refused.
+    pub fn taken<R: Wait>(&self, rt: &R, alloc: Global) -> Result<Vec<u8>, AllocError> {
+        self.desk.lock(rt).taken(alloc)
     }
 
     /// Puts a seat back, which is free then.

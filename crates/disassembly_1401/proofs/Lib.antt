@@ -1,6 +1,5 @@
 pub mod AddressLemmas
 pub mod AssembledLemmas
-pub mod CarriedOutLemmas
 mod AssembledExamples
 mod WrittenAgainExamples
 pub mod LineLemmas

@@ -10,7 +10,7 @@ use Rattle.source_1401.specs.Mnemonic.{instructions, instruction_of}
 use Rattle.source_1401.specs.declared.mnemonic.DCharacter.{DCharacter}
 use Rattle.source_1401.specs.declared.mnemonic.DCharacter.TheVariants as kinds
 use Rattle.source_1401.specs.declared.mnemonic.Instruction.{Instruction}
-use Rattle.instruction_text_1401.specs.Mnemonic.{operations, operations_with_d, mnemonic_of}
+use Rattle.instruction_text_1401.specs.Mnemonic.{columns_of, operations_with_d, mnemonic_of}
 use Rattle.instruction_text_1401.specs.declared.mnemonic.Mnemonic.{Mnemonic}
 use Rattle.disassembly_1401.specs.Assembled.{has_mnemonic}
 
@@ -56,28 +56,28 @@ with_d addresses =
     list_all (λ operation. list_all (λ d. is_written_well operation addresses (Some d)) graphics) graphics
 
 pub none_with_d : with_d 0 ≡ true
-unfolding graphics instructions operations operations_with_d
+unfolding graphics instructions columns_of operations_with_d
 none_with_d = refl
 
 pub one_with_d : with_d 1 ≡ true
-unfolding graphics instructions operations operations_with_d
+unfolding graphics instructions columns_of operations_with_d
 one_with_d = refl
 
 pub two_with_d : with_d 2 ≡ true
-unfolding graphics instructions operations operations_with_d
+unfolding graphics instructions columns_of operations_with_d
 two_with_d = refl
 
 abbrev pub without_d : ℕ → Bool
 without_d addresses = list_all (λ operation. is_written_well operation addresses None) graphics
 
 pub none_without_d : without_d 0 ≡ true
-unfolding graphics instructions operations operations_with_d
+unfolding graphics instructions columns_of operations_with_d
 none_without_d = refl
 
 pub one_without_d : without_d 1 ≡ true
-unfolding graphics instructions operations operations_with_d
+unfolding graphics instructions columns_of operations_with_d
 one_without_d = refl
 
 pub two_without_d : without_d 2 ≡ true
-unfolding graphics instructions operations operations_with_d
+unfolding graphics instructions columns_of operations_with_d
 two_without_d = refl

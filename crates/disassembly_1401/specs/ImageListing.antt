@@ -3,8 +3,8 @@ use Rattle.std.specs.Prelude.{ℕ, ◌+◌, Bool, false, ◌&&◌, nat_le, if◌
 use Rattle.std.specs.Prelude.{Option, None, Some, codes, get_or}
 use Rattle.std.specs.List.{flat_map}
 use Rattle.bcd_1401.specs.declared.cell.Cell.{Cell}
-use Rattle.cpu_1401.specs.Operation.{operation_of, has_length}
-use Rattle.cpu_1401.specs.declared.operation.Operation.{Operation}
+use Rattle.machine_operations.specs.Operation.{operation_of, has_length}
+use Rattle.machine_operations.specs.declared.operation.Operation.{Operation}
 use Rattle.image_1401.specs.declared.image.Image.{Image}
 use Rattle.image_1401.specs.declared.image.Segment.{Segment}
 use Rattle.notation_1401.specs.Cells.{cells_text}

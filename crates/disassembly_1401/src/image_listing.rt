@@ -1,94 +1,36 @@
 //! The listing of a core image.
-ghost use Rattle.std.specs.Prelude.{◌≡◌, ◌==◌, ◌∷◌, [], true, ◌≤◌, ◌++◌, length, map, IfOk, OnOk};
-ghost use Rattle.std.specs.List.{flat_map, list_any};
-ghost use Rattle.cpu_1401.specs.Operation.{operation_of};
+ghost use Rattle.std.specs.Prelude.{◌≡◌, ◌∷◌, [], true, ◌≤◌, ◌++◌, ℕ, List, length, map, IfOk, OnOk};
+ghost use Rattle.std.specs.List.{flat_map};
+ghost use Rattle.bcd_1401.specs.declared.cell.Cell.{Cell as ACell};
+ghost use Rattle.machine_operations.specs.Operation.{operation_of};
 ghost use Rattle.instruction_text_1401.specs.InstructionText.{graphic_of};
 ghost use Rattle.disassembly_1401.specs.ImageListing.{is_legal, is_instruction, as_instruction, as_data, what_stands};
 ghost use Rattle.disassembly_1401.specs.ImageListing.{stretch_line, start_text, entry_text, end_text, start_line};
 ghost use Rattle.disassembly_1401.specs.ImageListing.{is_carried, listing_text, marked_line, marked_text, sign_of};
+ghost use Rattle.disassembly_1401.specs.Stretches.{built, placed_cells, stretches_of};
+ghost use Rattle.placing_1401.specs.Cells.{numbered};
 
 use crate::instruction::put_instruction;
-use crate::stretches::stretches;
+use crate::stretches::put_all;
 use crate::written_again::is_written_again;
 use bcd_1401::{Cell, Char};
 use core_1401::Cells;
-use image_1401::{Image, Segment};
+use image_1401::{Image, LentImage, Segment};
+use machine_operations::Operation;
 use notation_1401::{put_cells, put_digits};
+use placing_1401::Builder;
 use std::alloc::{AllocError, Global};
 
 /// Eight blank columns.
 static BLANKS: [u8; 8] = *b"        ";
 
-/// Whether an instruction has this length without a d-character, with up to two addresses.
-fn is_by_addresses(len: usize) -> bool
-    ensures { result ≡ list_any (λ each. each == len) (1 ∷ 4 ∷ 7 ∷ []) }
-{
-    len == 1 || len == 4 || len == 7
-}
-
-/// Whether a branch has this length.
-fn is_branch(len: usize) -> bool
-    ensures { result ≡ list_any (λ each. each == len) (4 ∷ 5 ∷ 8 ∷ []) }
-{
-    len == 4 || len == 5 || len == 8
-}
-
-/// Whether an instruction has this length without a d-character, with up to one address.
-fn is_one_or_four(len: usize) -> bool
-    ensures { result ≡ list_any (λ each. each == len) (1 ∷ 4 ∷ []) }
-{
-    len == 1 || len == 4
-}
-
-/// Whether an instruction has this length with a d-character, with up to one address.
-fn is_two_or_five(len: usize) -> bool
-    ensures { result ≡ list_any (λ each. each == len) (2 ∷ 5 ∷ []) }
-{
-    len == 2 || len == 5
-}
-
-/// Whether an instruction has this length that writes a line.
-fn is_write(len: usize) -> bool
-    ensures { result ≡ list_any (λ each. each == len) (1 ∷ 2 ∷ 4 ∷ 5 ∷ []) }
-{
-    len == 1 || len == 2 || len == 4 || len == 5
-}
-
 /// Whether a character is an operation of this machine that may have instructions of this length.
-fn is_legal(operation: Char, len: usize) -> bool
+fn is_legal(operation: Char, len: u16) -> bool
     ensures { result ≡ is_legal (operation_of operation) len }
 {
-    match operation.graphic() {
-        b'A' => is_by_addresses(len),
-        b'S' => is_by_addresses(len),
-        b'?' => is_by_addresses(len),
-        b'!' => is_by_addresses(len),
-        b'M' => is_by_addresses(len),
-        b'L' => is_by_addresses(len),
-        b'D' => is_by_addresses(len),
-        b'Y' => is_by_addresses(len),
-        b',' => is_by_addresses(len),
-        b')' => is_by_addresses(len),
-        b'/' => is_by_addresses(len),
-        b'C' => is_by_addresses(len),
-        b'Z' => is_by_addresses(len),
-        b'E' => is_by_addresses(len),
-        b'B' => is_branch(len),
-        b'V' => len == 8,
-        b'Q' => len == 4,
-        b'H' => len == 4,
-        b'N' => 1 <= len && len <= 8,
-        b'.' => is_one_or_four(len),
-        b'K' => is_two_or_five(len),
-        b'1' => is_one_or_four(len),
-        b'2' => is_write(len),
-        b'3' => is_one_or_four(len),
-        b'4' => is_one_or_four(len),
-        b'5' => is_one_or_four(len),
-        b'6' => is_one_or_four(len),
-        b'7' => is_one_or_four(len),
-        b'F' => is_two_or_five(len),
-        _ => false,
+    match Operation::from_char(operation) {
+        Some(operation) => operation.has_length(len),
+        None => false,
     }
 }
 
@@ -103,7 +45,7 @@ fn is_instruction(cells: &[Cell]) -> bool
     if behind.len() > 7 {
         return false;
     }
-    operation.mark && is_legal(operation.char, behind.len() + 1)
+    operation.mark && is_legal(operation.char, behind.len() as u16 + 1)
 }
 
 /// Adds the characters of cells by their graphics.
@@ -178,6 +120,98 @@ fn put_lines(text: &mut Vec<u8>, carried: &[bool], stretches: &[Segment]) -> Res
     Ok(())
 }
 
+/// Adds the lines of the stretches that are closed, and forgets them.
+fn put_closed(text: &mut Vec<u8>, carried: &[bool], builder: &mut Builder) -> Result<(), AllocError>
+    ensures { OnOk result ((rest : List (ℕ × ACell)) → text.new.items
+        ++ flat_map (marked_line carried.now) (built builder.new rest)
+        ≡ text.old.items ++ flat_map (marked_line carried.now) (built builder.old rest)) }
+{
+    put_lines(text, carried, &builder.done)?;
+    builder.done.clear();
+    Ok(())
+}
+
+/// Adds the lines of the stretches of a segment, but for the last stretch, which may go on.
+fn put_segment(
+    text: &mut Vec<u8>,
+    carried: &[bool],
+    builder: &mut Builder,
+    segment: &Segment,
+) -> Result<(), AllocError>
+    ensures { OnOk result ((rest : List (ℕ × ACell)) → text.new.items
+        ++ flat_map (marked_line carried.now) (built builder.new rest)
+        ≡ text.old.items ++ flat_map (marked_line carried.now)
+        (built builder.old (numbered segment.now.address segment.now.cells ++ rest))) }
+{
+    put_all(builder, segment.address, segment.cells.as_slice())?;
+    put_closed(text, carried, builder)
+}
+
+/// Adds the lines of the stretches of segments, but for the last stretch, which may go on.
+fn put_segments(
+    text: &mut Vec<u8>,
+    carried: &[bool],
+    builder: &mut Builder,
+    segments: &[Segment],
+) -> Result<(), AllocError>
+    ensures { OnOk result (text.new.items ++ flat_map (marked_line carried.now) (built builder.new [])
+        ≡ text.old.items ++ flat_map (marked_line carried.now) (built builder.old (placed_cells segments.now))) }
+{
+    for segment in segments {
+        put_segment(text, carried, builder, segment)?;
+    }
+    Ok(())
+}
+
+/// Adds the lines of the stretches of an image that is lent, but for the last stretch, which may go on.
+fn put_lent_segments(
+    text: &mut Vec<u8>,
+    builder: &mut Builder,
+    image: &LentImage<'_>,
+) -> Result<(), AllocError>
+    ensures { OnOk result (text.new.items ++ flat_map (marked_line []) (built builder.new [])
+        ≡ text.old.items ++ flat_map (marked_line []) (built builder.old (placed_cells image.now.segments))) }
+{
+    let mut rest = image.again();
+    while let Some((segment, behind)) = rest.split_first() {
+        put_segment(text, &[], builder, &segment)?;
+        rest = behind;
+    }
+    Ok(())
+}
+
+/// Adds the lines of all stretches of segments: from each word mark up to the next one, or up to a gap, at most 40
+/// cells.
+fn put_stretches(
+    alloc: Global,
+    text: &mut Vec<u8>,
+    carried: &[bool],
+    segments: &[Segment],
+) -> Result<(), AllocError>
+    ensures { OnOk result (text.new.items
+        ≡ text.old.items ++ flat_map (marked_line carried.now) (stretches_of segments.now)) }
+{
+    let mut builder = Builder::new(alloc);
+    put_segments(text, carried, &mut builder, segments)?;
+    builder.close()?;
+    put_lines(text, carried, &builder.done)
+}
+
+/// Adds the lines of all stretches of an image that is lent.
+fn put_lent_stretches(
+    alloc: Global,
+    text: &mut Vec<u8>,
+    image: &LentImage<'_>,
+) -> Result<(), AllocError>
+    ensures { OnOk result (text.new.items
+        ≡ text.old.items ++ flat_map (marked_line []) (stretches_of image.now.segments)) }
+{
+    let mut builder = Builder::new(alloc);
+    put_lent_segments(text, &mut builder, image)?;
+    builder.close()?;
+    put_lines(text, &[], &builder.done)
+}
+
 /// Adds the entry in decimal, which ends its line.
 #[tactic(auto, unfolding(crate::specs::ImageListing::start_text))]
 fn put_start_number(text: &mut Vec<u8>, start: u16) -> Result<(), AllocError>
@@ -216,19 +250,23 @@ fn put_start(text: &mut Vec<u8>, start: u16) -> Result<(), AllocError>
 /// The listing of an image: a line for each stretch of cells from a word mark up to the next one, in the order in which
 /// the image has them. A stretch that is an instruction of this machine, of a length that it may have, and that the
 /// assembler makes again of its text, is shown with its address, its characters and its text; any other with its address
-/// and its cells, as the console shows them. The last line is the entry's.
+/// and its cells, as the console shows them. The last line is the entry's. Of the image one segment is held at a time.
 ///
 /// # Errors
 ///
 /// If the memory for the text is refused.
-pub fn list_image(alloc: Global, image: &Image) -> Result<Vec<u8>, AllocError>
+#[tactic(auto, unfolding(crate::specs::ImageListing::marked_text))]
+pub fn list_image(alloc: Global, image: &LentImage<'_>) -> Result<Vec<u8>, AllocError>
     ensures { IfOk result (λ text. text.items ≡ listing_text image.now) }
 {
-    list_marked(alloc, image, &[])
+    let mut text = Vec::new(alloc);
+    put_lent_stretches(alloc, &mut text, image)?;
+    put_start(&mut text, image.start())?;
+    Ok(text)
 }
 
-/// The same listing, with an asterisk after each address at which an instruction was carried out: those that `carried`
-/// says so of, from 000 on.
+/// The same listing of an image that isn't lent, with an asterisk after each address at which an instruction was carried
+/// out: those that `carried` says so of, from 000 on.
 ///
 /// # Errors
 ///
@@ -237,9 +275,8 @@ pub fn list_image(alloc: Global, image: &Image) -> Result<Vec<u8>, AllocError>
 pub fn list_marked(alloc: Global, image: &Image, carried: &[bool]) -> Result<Vec<u8>, AllocError>
     ensures { IfOk result (λ text. text.items ≡ marked_text carried.now image.now) }
 {
-    let stretches = stretches(alloc, image.segments.as_slice())?;
     let mut text = Vec::new(alloc);
-    put_lines(&mut text, carried, &stretches)?;
+    put_stretches(alloc, &mut text, carried, image.segments.as_slice())?;
     put_start(&mut text, image.start)?;
     Ok(text)
 }

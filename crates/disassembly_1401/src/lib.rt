@@ -2,7 +2,7 @@
 //!
 //! ```text
 //! put_instruction(&mut text, &cells)?     // MCW  510,509
-//! list_image(alloc, &image)?              // 00600 M510509  MCW  510,509, and so on
+//! list_image(alloc, &lend_image(text)?)?  // 00600 M510509  MCW  510,509, and so on
 //! list_marked(alloc, &image, &carried)?   // 00600*M510509  MCW  510,509, where it was carried out
 //! ```
 //!

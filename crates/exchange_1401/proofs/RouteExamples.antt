@@ -1,7 +1,7 @@
 -- What requests ask for, computed.
 use Rattle.std.proofs.Common.{◌≡◌, refl}
 use Rattle.std.specs.Prelude.{codes}
-use Rattle.exchange_1401.specs.declared.route.Route.TheVariants.{Page, Picture, Line, WrongMethod, Unknown}
+use Rattle.exchange_1401.specs.declared.route.Route.TheVariants.{Page, Picture, Line, Lines, WrongMethod, Unknown}
 use Rattle.exchange_1401.specs.Route.{route_of}
 
 the_page : route_of (codes "GET") (codes "/") ≡ Page
@@ -16,5 +16,11 @@ a_line = refl
 a_line_by_get : route_of (codes "GET") (codes "/line") ≡ WrongMethod
 a_line_by_get = refl
 
-another_path : route_of (codes "POST") (codes "/lines") ≡ Unknown
+several_lines : route_of (codes "POST") (codes "/lines") ≡ Lines
+several_lines = refl
+
+several_lines_by_get : route_of (codes "GET") (codes "/lines") ≡ WrongMethod
+several_lines_by_get = refl
+
+another_path : route_of (codes "POST") (codes "/line/") ≡ Unknown
 another_path = refl

@@ -1,5 +1,5 @@
 -- The fields of a request that say where it comes from, and what it goes on from (own).
-use Rattle.std.specs.Prelude.{ℕ, ◌==◌, nat_lt, Bool, false, ◌||◌, if◌then◌else◌, List, ◌++◌, codes, length}
+use Rattle.std.specs.Prelude.{ℕ, ◌==◌, nat_lt, Bool, true, false, ◌||◌, if◌then◌else◌, List, ◌++◌, codes, length}
 use Rattle.std.specs.Prelude.{Option, None, Some, is_some}
 use Rattle.std.specs.Str.{bytes_eq}
 use Rattle.http_header.specs.FieldValue.{FieldValue}
@@ -25,7 +25,8 @@ is_doubled head name = nat_lt 1 (length (get_all head.headers (lowercase name)))
 
 -- a request says twice where it comes from, or what it goes on from
 abbrev pub is_ambiguous : Parts → Bool
-is_ambiguous head = is_doubled head (codes "origin") || is_doubled head (codes "x-1401-line")
+is_ambiguous head =
+    is_doubled head (codes "origin") || is_doubled head (codes "x-1401-line") || is_doubled head (codes "x-1401-room")
 
 -- a request is for this host and port: its target has none of its own, and its Host names it
 abbrev pub is_for : Parts → List ℕ → Bool
@@ -44,6 +45,14 @@ count_in head = number_in_field (get head.headers (lowercase (codes "x-1401-line
 abbrev pub is_next : Option ℕ → ℕ → Bool
 is_next None made = false
 is_next (Some count) made = count == made
+
+-- a line that names a room is for the room of this name; without a name it is for any
+abbrev pub is_name : Option FieldValue → List ℕ → Bool
+is_name None name = true
+is_name (Some found) name = bytes_eq found.bytes name
+
+abbrev pub is_for_room : Parts → List ℕ → Bool
+is_for_room head name = is_name (get head.headers (lowercase (codes "x-1401-room"))) name
 
 -- the only host and port that a seat's page is served at
 abbrev pub host_of : ℕ → List ℕ

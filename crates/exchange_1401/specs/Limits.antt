@@ -6,9 +6,13 @@ use Rattle.http_server.specs.declared.state.Config.{Config}
 abbrev pub most_head_bytes : ℕ
 most_head_bytes = 16384
 
--- the most bytes of a body: a console line has at most 200, and the reply to a longer one says so
+-- the most bytes of a body: 190 lines that feed a whole card each, and more of shorter ones
 abbrev pub most_body_bytes : ℕ
-most_body_bytes = 1024
+most_body_bytes = 16384
+
+-- the most bytes of a body that is one line: a console line has at most 200, and the reply to a longer one says so
+abbrev pub most_line_bytes : ℕ
+most_line_bytes = 1024
 
 -- the most bytes of extensions of chunks, and of trailers
 abbrev pub most_other_bytes : ℕ

@@ -2,7 +2,7 @@
 use Rattle.std.specs.Prelude.{ℕ, List, codes, if◌then◌else◌}
 use Rattle.std.specs.Str.{bytes_eq}
 use Rattle.exchange_1401.specs.declared.route.Route.{Route}
-use Rattle.exchange_1401.specs.declared.route.Route.TheVariants.{Page, Picture, Line, WrongMethod, Unknown}
+use Rattle.exchange_1401.specs.declared.route.Route.TheVariants.{Page, Picture, Line, Lines, WrongMethod, Unknown}
 
 -- the route, if its one method is the one that was used
 abbrev pub by_method : List ℕ → List ℕ → Route → Route
@@ -14,4 +14,5 @@ route_of method path =
     if bytes_eq path (codes "/") then by_method method (codes "GET") Page
     else (if bytes_eq path (codes "/picture") then by_method method (codes "GET") Picture
     else (if bytes_eq path (codes "/line") then by_method method (codes "POST") Line
-    else Unknown))
+    else (if bytes_eq path (codes "/lines") then by_method method (codes "POST") Lines
+    else Unknown)))

@@ -5,16 +5,17 @@ use Rattle.http.specs.declared.request.Request.{Request}
 use Rattle.http.specs.declared.request.Parts.{Parts}
 use Rattle.http.specs.Request.{head_of}
 use Rattle.exchange_1401.specs.declared.route.Route.{Route}
-use Rattle.exchange_1401.specs.declared.route.Route.TheVariants.{Page, Picture, Line, WrongMethod, Unknown}
+use Rattle.exchange_1401.specs.declared.route.Route.TheVariants.{Page, Picture, Line, Lines, WrongMethod, Unknown}
 use Rattle.exchange_1401.specs.Fields.{has_field}
 use Rattle.exchange_1401.specs.Route.{route_of}
 use Rattle.exchange_1401.specs.Sites.{is_from_site, SiteView}
 
--- a picture and a line need the seat
+-- a picture and lines need the seat
 abbrev pub needs_seat : Route → Bool
 needs_seat Page = false
 needs_seat Picture = true
 needs_seat Line = true
+needs_seat Lines = true
 needs_seat WrongMethod = false
 needs_seat Unknown = false
 
@@ -22,7 +23,7 @@ needs_seat Unknown = false
 abbrev pub is_own : Parts → SiteView → Bool
 is_own head site = is_from_site head site || has_field head (codes "sec-fetch-site") (codes "same-origin")
 
--- it asks for a picture or brings a line, and comes from the page
+-- it asks for a picture or brings lines, and comes from the page
 abbrev pub is_visit : Parts → SiteView → Bool
 is_visit head site = needs_seat (route_of head.method (uri_path head.uri)) && is_own head site
 

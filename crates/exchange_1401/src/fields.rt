@@ -1,7 +1,7 @@
 //! The fields of a request that say where it comes from, and what it goes on from.
 ghost use Rattle.std.specs.Prelude.{◌≡◌};
 ghost use Rattle.http.specs.Request.{head_of};
-ghost use Rattle.exchange_1401.specs.Fields.{count_in, has_field, is_ambiguous, is_doubled, is_for, is_next};
+ghost use Rattle.exchange_1401.specs.Fields.{count_in, has_field, is_ambiguous, is_doubled, is_for, is_for_room, is_next};
 
 use crate::numbers::number;
 use bytes::Bytes;
@@ -28,7 +28,9 @@ fn is_doubled(request: &Request<Bytes>, name: &str) -> bool
 pub fn is_ambiguous(request: &Request<Bytes>) -> bool
     ensures { result ≡ is_ambiguous (head_of request.now) }
 {
-    is_doubled(request, "origin") || is_doubled(request, "x-1401-line")
+    is_doubled(request, "origin")
+        || is_doubled(request, "x-1401-line")
+        || is_doubled(request, "x-1401-room")
 }
 
 /// Whether a request is for this host and port: its target has none of its own, and its Host names it.
@@ -58,5 +60,15 @@ pub fn is_next(request: &Request<Bytes>, made: u64) -> bool
     match count_in(request) {
         Some(count) => u64::from(count) == made,
         None => false,
+    }
+}
+
+/// Whether a line is for the room of this name: it names it, or names none.
+pub fn is_for_room(request: &Request<Bytes>, name: &[u8]) -> bool
+    ensures { result ≡ is_for_room (head_of request.now) name.now }
+{
+    match request.headers().get("x-1401-room") {
+        Some(found) => found.as_bytes() == name,
+        None => true,
     }
 }

@@ -19,6 +19,7 @@ pub mod reading;
 pub mod fields;
 pub mod numbers;
 pub mod origins;
+pub mod room_name;
 pub mod route;
 pub mod sites;
 
@@ -27,12 +28,13 @@ pub mod responses;
 pub mod taken;
 
 pub use exchange::answer;
-pub use fields::{has_field, is_ambiguous, is_for, is_next};
-pub use listening::{Requests, answer_bytes, answer_each, page_config};
+pub use fields::{has_field, is_ambiguous, is_for, is_for_room, is_next};
+pub use listening::{MOST_LINE_BYTES, Requests, answer_bytes, answer_each, page_config};
 pub use numbers::number;
 pub use origins::{Origin, OriginFault, Scheme, host_at, origin_after, origin_at, read_origin};
 pub use reading::{WholeRequest, is_accepted, is_visit, read_request, send_answer};
-pub use responses::{begin_text, end_with, end_without, put_page, refuse};
+pub use responses::{Document, begin_text, end_with, end_without, put_page, refuse};
+pub use room_name::RoomName;
 pub use route::{Route, route_of};
 pub use sites::{Site, is_for_site, is_from_site};
 pub use sockets_1401::{has_begun, linger};

@@ -14,8 +14,11 @@ use std::sync::Wait;
 /// The most bytes of the head of a request. A browser sends a page the cookies of all servers at the same address.
 const MOST_HEAD_BYTES: usize = 16_384;
 
-/// The most bytes of the body of a request: a line of the console has at most 200, and one that is longer is told so.
-const MOST_BODY_BYTES: usize = 1024;
+/// The most bytes of the body of a request: 190 lines that feed a whole card each, and more of shorter ones.
+const MOST_BODY_BYTES: usize = 16_384;
+
+/// The most bytes of a body that is one line: a line of the console has at most 200, and one that is longer is told so.
+pub const MOST_LINE_BYTES: usize = 1024;
 
 /// The most bytes of what a request may have beside these: extensions of chunks, and trailers.
 const MOST_OTHER_BYTES: usize = 64;

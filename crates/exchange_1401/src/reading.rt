@@ -27,7 +27,7 @@ const STATUS_AT: usize = 9;
 pub struct WholeRequest {
     /// All that its connection has sent.
     pub bytes: Vec<u8>,
-    /// Whether it asks for a picture or brings a line, and comes from the page itself.
+    /// Whether it asks for a picture or brings lines, and comes from the page itself.
     pub is_visit: bool,
 }
 
@@ -45,13 +45,14 @@ fn needs_seat(route: Route) -> bool
     match route {
         Route::Picture => true,
         Route::Line => true,
+        Route::Lines => true,
         Route::Page => false,
         Route::WrongMethod => false,
         Route::Unknown => false,
     }
 }
 
-/// Whether a request asks for a picture or brings a line, and comes from the page of this site.
+/// Whether a request asks for a picture or brings lines, and comes from the page of this site.
 pub fn is_visit(request: &Request<Bytes>, site: &Site) -> bool
     ensures { result ≡ is_visit (head_of request.now) site.now }
 {

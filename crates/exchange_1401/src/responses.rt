@@ -10,6 +10,17 @@ use http::{HeaderName, HeaderValue, StatusCode};
 use http_server::Response;
 use std::alloc::AllocError;
 
+/// A page in two parts, and what its browser may do with it.
+#[derive(Clone, Copy)]
+pub struct Document {
+    /// The first part of its text.
+    pub first: &'static [u8],
+    /// The rest of its text.
+    pub rest: &'static [u8],
+    /// Its `content-security-policy`.
+    pub policy: &'static str,
+}
+
 /// Adds a field.
 fn put_field(
     response: &mut Response,
@@ -53,19 +64,17 @@ pub fn refuse(response: &mut Response, status: StatusCode) -> Result<(), AllocEr
 }
 
 /// Fills in the page and what its browser may do with it.
-pub fn put_page(
-    response: &mut Response,
-    page: &'static [u8],
-    policy: &'static str,
-) -> Result<(), AllocError>
+pub fn put_page(response: &mut Response, document: &Document) -> Result<(), AllocError>
     requires blank { IsBlank response.old }
-    requires policy { IsTrue (is_visible_text policy.now) }
-    ensures { OnOk result (IsResponse 200 (page_fields policy.now) page.now response.new) }
+    requires policy { IsTrue (is_visible_text document.now.policy.now) }
+    ensures { OnOk result (IsResponse 200 (page_fields document.now.policy.now)
+        (document.now.first.now ++ document.now.rest.now) response.new) }
 {
     put_field(response, "content-type", "text/html; charset=utf-8")?;
-    put_field(response, "content-security-policy", policy)?;
+    put_field(response, "content-security-policy", document.policy)?;
     put_common_fields(response)?;
-    response.body.push(Bytes::from_static(page))
+    response.body.push(Bytes::from_static(document.first))?;
+    response.body.push(Bytes::from_static(document.rest))
 }
 
 /// Adds the fields of a text, before it is known.

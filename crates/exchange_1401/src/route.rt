@@ -11,6 +11,8 @@ pub enum Route {
     Picture,
     /// A console line to be answered: POST /line
     Line,
+    /// Console lines to be answered one after the other: POST /lines
+    Lines,
     /// A path that is known, by a method that it doesn't have.
     WrongMethod,
     /// A path that isn't known.
@@ -40,6 +42,9 @@ pub fn route_of(method: &str, path: &str) -> Route
     }
     if path == "/line" {
         return by_method(method, "POST", Route::Line);
+    }
+    if path == "/lines" {
+        return by_method(method, "POST", Route::Lines);
     }
     Route::Unknown
 }

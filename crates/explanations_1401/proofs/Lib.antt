@@ -1,3 +1,4 @@
 mod ChainsExamples
 pub mod ExplanationLemmas
+pub mod NotesLemmas
 pub mod ToldFaultsLemmas

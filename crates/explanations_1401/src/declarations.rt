@@ -8,7 +8,7 @@ ghost use Rattle.symbols_1401.specs.View.{symbols_view};
 
 use source_1401::Language;
 use std::alloc::Global;
-use symbols_1401::{AsmFault, KeptLine, Sites, SourceHashing, Symbols, declared, sites_anywhere};
+use symbols_1401::{AsmFault, Lines, Sites, SourceHashing, Symbols, declared, sites_anywhere};
 
 /// What is declared: by the lines up to END, and by all of them.
 #[derive(Drop)]
@@ -25,7 +25,7 @@ impl Declarations {
         alloc: Global,
         hashing: SourceHashing,
         language: Language,
-        lines: &[KeptLine],
+        lines: &Lines<'_>,
     ) -> Result<Declarations, AsmFault>
         requires { length lines.now < 2 ^ 32 }
         ensures symbols { IfOk result (λ this. symbols_view this.symbols ≡ declared_at language lines.now) }

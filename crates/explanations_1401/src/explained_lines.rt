@@ -14,18 +14,18 @@ ghost use Rattle.explanations_1401.specs.declared.explanation.Cause.TheVariants.
 use crate::declarations::Declarations;
 use crate::explanation::{Cause, Explanation, WHOLE_LINE, explain};
 use crate::own_fault::{Before, told_of};
-use source_1401::{Language, split_line};
+use source_1401::{Language, Line, split_line};
 use std::alloc::Global;
-use symbols_1401::{AsmFault, AsmKind, KeptLine, SourceHashing, read_lines};
+use symbols_1401::{AsmFault, AsmKind, Lines, SourceHashing, read_lines};
 
 /// Adds the fault of a line with what is wrong, if one is told of it.
 fn put_explained(
     language: Language,
     this: &Declarations,
-    lines: &[KeptLine],
+    lines: &Lines<'_>,
     before: Before,
     source: &[u8],
-    line: &KeptLine,
+    line: &Line,
     explanations: &mut Vec<Explanation>,
 ) -> Result<(), AsmFault>
     ensures ok { OnOk result (explanations.new.items ≡ explanations.old.items
@@ -78,7 +78,7 @@ fn put_all_explained(
     language: Language,
     this: &Declarations,
     source: &[u8],
-    lines: &[KeptLine],
+    lines: &Lines<'_>,
     explanations: &mut Vec<Explanation>,
 ) -> Result<(), AsmFault>
     requires as_many { length lines.now ≡ length (lines_of source.now) }
@@ -90,7 +90,8 @@ fn put_all_explained(
 {
     let mut before = Before::NOTHING;
     let mut sources = source;
-    for line in lines {
+    for i in 0..lines.len() {
+        let line = lines.line(i);
         let Some((text, behind)) = split_line(sources) else {
             unreachable!()
         };
@@ -107,7 +108,7 @@ fn explanations_by(
     language: Language,
     this: &Declarations,
     source: &[u8],
-    lines: &[KeptLine],
+    lines: &Lines<'_>,
 ) -> Result<Vec<Explanation>, AsmFault>
     requires as_many { length lines.now ≡ length (lines_of source.now) }
     requires few { length lines.now < 2 ^ 32 }
@@ -127,7 +128,7 @@ fn line_explanations(
     hashing: SourceHashing,
     language: Language,
     source: &[u8],
-    lines: &[KeptLine],
+    lines: &Lines<'_>,
 ) -> Result<Vec<Explanation>, AsmFault>
     requires lines { lines.now ≡ lines_said language (lines_of source.now) }
     requires as_many { length lines.now ≡ length (lines_of source.now) }
@@ -158,6 +159,6 @@ pub fn source_explanations(
         SourceHashing::from_source(source),
         language,
         source,
-        &lines,
+        &lines.lend(),
     )
 }

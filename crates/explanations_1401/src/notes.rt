@@ -14,11 +14,11 @@ ghost use Rattle.explanations_1401.specs.Noted.{known_of};
 use faults_1401::symbol_in;
 use indexmap::IndexSet;
 use source_1401::{
-    Chain, Constant, Contents, Description, Instruction, Label, LabelField, Literal, Operand,
+    Chain, Constant, Contents, Description, Instruction, Label, LabelField, Line, Literal, Operand,
     OperandField, Operands, Statement,
 };
 use std::alloc::Global;
-use symbols_1401::{AsmFault, KeptLine, SourceHashing};
+use symbols_1401::{AsmFault, Lines, SourceHashing};
 
 /// Labels.
 pub type LabelSet = IndexSet<Label, SourceHashing>;
@@ -51,12 +51,12 @@ fn note(labels: &mut LabelSet, label: Option<Label>) -> Result<(), AsmFault>
 }
 
 /// Adds the labels that a line names.
-fn note_named(labels: &mut LabelSet, line: &KeptLine) -> Result<(), AsmFault>
+fn note_named(labels: &mut LabelSet, line: &Line) -> Result<(), AsmFault>
     ensures noted { OnOk result ((other : ALabel) → contains same_label labels.new other
         ≡ (contains same_label labels.old other || is_named_in other line.now)) }
     ensures err { IfErr result IsMemory }
 {
-    let Some(Statement { body, .. }) = line.line().statement else {
+    let Some(Statement { body, .. }) = line.statement else {
         return Ok(());
     };
     let operands = body.describe().addressing.operands();
@@ -105,12 +105,12 @@ fn number_label(statement: Statement) -> Option<Label>
 }
 
 /// Adds the label of a number without a sign.
-fn note_number(labels: &mut LabelSet, line: &KeptLine) -> Result<(), AsmFault>
+fn note_number(labels: &mut LabelSet, line: &Line) -> Result<(), AsmFault>
     ensures noted { OnOk result ((other : ALabel) → contains same_label labels.new other
         ≡ (contains same_label labels.old other || is_number_in other line.now)) }
     ensures err { IfErr result IsMemory }
 {
-    let Some(statement) = line.line().statement else {
+    let Some(statement) = line.statement else {
         return Ok(());
     };
     note(labels, number_label(statement))
@@ -211,12 +211,12 @@ fn note_with_addressed(
 }
 
 /// Adds the labels of fields into which a line may bring a sign.
-fn note_signed(labels: &mut LabelSet, line: &KeptLine) -> Result<(), AsmFault>
+fn note_signed(labels: &mut LabelSet, line: &Line) -> Result<(), AsmFault>
     ensures noted { OnOk result ((other : ALabel) → contains same_label labels.new other
         ≡ (contains same_label labels.old other || is_signed_in other line.now)) }
     ensures err { IfErr result IsMemory }
 {
-    let Some(Statement { body, .. }) = line.line().statement else {
+    let Some(Statement { body, .. }) = line.statement else {
         return Ok(());
     };
     let row = body.describe();
@@ -234,10 +234,10 @@ fn is_chain_of(operation: u8, chain: Chain) -> bool
 }
 
 /// Whether a line has an instruction of this operation, or a chain of such.
-fn has_operation(operation: u8, line: &KeptLine) -> bool
+fn has_operation(operation: u8, line: &Line) -> bool
     ensures { result ≡ has_operation operation line.now }
 {
-    match line.line().statement {
+    match line.statement {
         Some(Statement { body, .. }) => match body.describe().contents {
             Contents::Instruction(instruction, _) => instruction.operation == operation,
             Contents::Chain(chain) => is_chain_of(operation, chain),
@@ -253,11 +253,11 @@ fn has_operation(operation: u8, line: &KeptLine) -> bool
 }
 
 /// Whether one of these lines has an instruction of this operation.
-fn have_operation(operation: u8, lines: &[KeptLine]) -> bool
+fn have_operation(operation: u8, lines: &Lines<'_>) -> bool
     ensures { result ≡ list_any (has_operation operation) lines.now }
 {
-    for line in lines {
-        if has_operation(operation, line) {
+    for i in 0..lines.len() {
+        if has_operation(operation, lines.line(i)) {
             return true;
         }
     }
@@ -268,15 +268,15 @@ fn have_operation(operation: u8, lines: &[KeptLine]) -> bool
 fn named_labels(
     alloc: Global,
     hashing: SourceHashing,
-    lines: &[KeptLine],
+    lines: &Lines<'_>,
 ) -> Result<LabelSet, AsmFault>
     ensures labels { IfOk result (λ labels. (label : ALabel)
         → contains same_label labels label ≡ is_named lines.now label) }
     ensures err { IfErr result IsMemory }
 {
     let mut labels = IndexSet::with_hasher(alloc, hashing);
-    for line in lines {
-        note_named(&mut labels, line)?;
+    for i in 0..lines.len() {
+        note_named(&mut labels, lines.line(i))?;
     }
     Ok(labels)
 }
@@ -285,15 +285,15 @@ fn named_labels(
 fn number_labels(
     alloc: Global,
     hashing: SourceHashing,
-    lines: &[KeptLine],
+    lines: &Lines<'_>,
 ) -> Result<LabelSet, AsmFault>
     ensures labels { IfOk result (λ labels. (label : ALabel)
         → contains same_label labels label ≡ is_number_of lines.now label) }
     ensures err { IfErr result IsMemory }
 {
     let mut labels = IndexSet::with_hasher(alloc, hashing);
-    for line in lines {
-        note_number(&mut labels, line)?;
+    for i in 0..lines.len() {
+        note_number(&mut labels, lines.line(i))?;
     }
     Ok(labels)
 }
@@ -302,15 +302,15 @@ fn number_labels(
 fn signed_labels(
     alloc: Global,
     hashing: SourceHashing,
-    lines: &[KeptLine],
+    lines: &Lines<'_>,
 ) -> Result<LabelSet, AsmFault>
     ensures labels { IfOk result (λ labels. (label : ALabel)
         → contains same_label labels label ≡ is_signed lines.now label) }
     ensures err { IfErr result IsMemory }
 {
     let mut labels = IndexSet::with_hasher(alloc, hashing);
-    for line in lines {
-        note_signed(&mut labels, line)?;
+    for i in 0..lines.len() {
+        note_signed(&mut labels, lines.line(i))?;
     }
     Ok(labels)
 }
@@ -321,7 +321,7 @@ impl Notes {
     /// # Errors
     ///
     /// `Memory` if there is no room for the labels.
-    pub fn new(alloc: Global, hashing: SourceHashing, lines: &[KeptLine]) -> Result<Notes, AsmFault>
+    pub fn new(alloc: Global, hashing: SourceHashing, lines: &Lines<'_>) -> Result<Notes, AsmFault>
         ensures ok { IfOk result (λ notes. known_of notes ≡ known_in lines.now) }
         ensures err { IfErr result IsMemory }
     {

@@ -8,9 +8,9 @@ ghost use Rattle.explanations_1401.specs.OwnFault.{loses_areas, before_next, is_
 
 use faults_1401::first_fault::{LineContext, has_double, has_undefined, is_undefined, lowest_kind};
 use source_1401::{
-    Addressing, AreaRole, DeclaredAreas, Description, LineCheck, OperandField, Statement,
+    Addressing, AreaRole, DeclaredAreas, Description, Line, LineCheck, OperandField, Statement,
 };
-use symbols_1401::{AsmKind, KeptLine, Sites, Symbols};
+use symbols_1401::{AsmKind, Sites, Symbols};
 
 /// What the lines before a line tell of its faults.
 #[derive(Clone, Copy)]
@@ -50,13 +50,13 @@ impl Before {
     }
 
     /// What is before the line after this one.
-    pub(crate) fn next(self, symbols: &Symbols, line: &KeptLine) -> Before
+    pub(crate) fn next(self, symbols: &Symbols, line: &Line) -> Before
         requires { self.at.number < 2 ^ 33 }
         ensures { result ≡ before_next (symbols_view symbols.now) self line.now }
     {
         let at = self.at.behind(line);
         let is_clean = self.is_clean && lowest_kind(symbols, self.at, line).is_none();
-        match &line.line().statement {
+        match &line.statement {
             Some(statement) => {
                 let row = statement.body.describe();
                 Before {
@@ -159,14 +159,14 @@ pub(crate) fn told_of(
     symbols: &Symbols,
     anywhere: &Sites,
     before: Before,
-    line: &KeptLine,
+    line: &Line,
 ) -> Option<AsmKind>
     ensures { result ≡ told (symbols_view symbols.now) (get same_label anywhere.now) before line.now }
 {
     if before.is_clean {
         return lowest_kind(symbols, before.at, line);
     }
-    match (line.line().bytes, &line.line().statement) {
+    match (line.bytes, &line.statement) {
         (LineCheck::Long, _) => Some(AsmKind::LongLine),
         (LineCheck::Foreign, _) => Some(AsmKind::Graphic),
         (LineCheck::Good, None) => None,
@@ -178,7 +178,7 @@ pub(crate) fn told_of(
             }
         },
         (LineCheck::Good, Some(statement)) => {
-            own_in_statement(symbols, anywhere, before, line.line().areas(), statement)
+            own_in_statement(symbols, anywhere, before, line.areas(), statement)
         },
     }
 }

@@ -12,7 +12,7 @@ use crate::declarations::Declarations;
 use crate::own_fault::{Before, told_of};
 use source_1401::Language;
 use std::alloc::Global;
-use symbols_1401::{AsmFault, AsmKind, KeptLine, Sites, SourceHashing, Symbols, read_lines};
+use symbols_1401::{AsmFault, AsmKind, Lines, Sites, SourceHashing, Symbols, read_lines};
 
 /// Adds what is told of a line.
 fn put_told(faults: &mut Vec<AsmFault>, line: u64, kind: Option<AsmKind>) -> Result<(), AsmFault>
@@ -41,7 +41,7 @@ fn put_end(faults: &mut Vec<AsmFault>, before: Before) -> Result<(), AsmFault>
 fn put_faults(
     symbols: &Symbols,
     anywhere: &Sites,
-    lines: &[KeptLine],
+    lines: &Lines<'_>,
     faults: &mut Vec<AsmFault>,
 ) -> Result<(), AsmFault>
     requires { length lines.now < 2 ^ 32 }
@@ -50,7 +50,8 @@ fn put_faults(
     ensures err { IfErr result IsMemory }
 {
     let mut before = Before::NOTHING;
-    for line in lines {
+    for i in 0..lines.len() {
+        let line = lines.line(i);
         put_told(
             faults,
             before.at.number,
@@ -65,7 +66,7 @@ fn put_faults(
 fn faults_by(
     alloc: Global,
     this: &Declarations,
-    lines: &[KeptLine],
+    lines: &Lines<'_>,
 ) -> Result<Vec<AsmFault>, AsmFault>
     requires { length lines.now < 2 ^ 32 }
     ensures ok { IfOk result (λ faults. faults.items
@@ -82,7 +83,7 @@ fn line_faults(
     alloc: Global,
     hashing: SourceHashing,
     language: Language,
-    lines: &[KeptLine],
+    lines: &Lines<'_>,
 ) -> Result<Vec<AsmFault>, AsmFault>
     requires { length lines.now < 2 ^ 32 }
     ensures ok { IfOk result (λ faults. faults.items ≡ line_faults language lines.now) }
@@ -106,5 +107,10 @@ pub fn source_faults(
     ensures err { IfErr result IsMemory }
 {
     let lines = read_lines(alloc, language, source)?;
-    line_faults(alloc, SourceHashing::from_source(source), language, &lines)
+    line_faults(
+        alloc,
+        SourceHashing::from_source(source),
+        language,
+        &lines.lend(),
+    )
 }

@@ -5,7 +5,7 @@ use Rattle.std.specs.Prelude.{is_none, is_some}
 use Rattle.std.proofs.lemmas.Bool.{or_parts, not-false, true≢false}
 use Rattle.std.specs.List.{list_all}
 use Rattle.source_1401.specs.Description.{describe, is_of_field}
-use Rattle.source_1401.specs.Language.{is_sound, is_sound_statement}
+use Rattle.source_1401.specs.Language.{cuts_no_text, is_sound, is_sound_statement}
 use Rattle.source_1401.specs.SourceLine.{lines_of}
 use Rattle.source_1401.specs.Statement.{has_bad_label, has_bad_operands, is_unlabelled, lacks_field_label}
 use Rattle.source_1401.specs.declared.language.Language.{Language}
@@ -54,6 +54,7 @@ undivided (bodies.Transfer of) e = refl
 undivided (bodies.Chain chain) e = refl
 undivided (bodies.AddressConstant constant) e = refl
 undivided (bodies.Blanks places) e = refl
+undivided (bodies.PlacedConstant placed) e = refl
 undivided (bodies.LabelledOrigin of) e = refl
 undivided (bodies.LiteralOrigin of) e = refl
 undivided (bodies.WideField None) e = refl
@@ -117,13 +118,13 @@ all_sound declared at (line ∷ lines) none =
         rw (sound_by declared at line.bytes line.statement (clean_line declared at line None (sym e))) (rest behind)
     by (Some kind) e behind rest = cc
 
--- a source in which the plain language finds no fault says the same in each language
+-- a source in which the plain language finds no fault, and in which it cuts no text, says the same in each language
 pub lines_alike : (language : Language) (source : List ℕ) → first_fault Plain (lines_in Plain source) ≡ None
-    → lines_in language source ≡ lines_in Plain source
-lines_alike Plain source none = refl
-lines_alike Ibm source none =
+    → cuts_no_text source ≡ true → lines_in language source ≡ lines_in Plain source
+lines_alike Plain source none uncut = refl
+lines_alike Ibm source none uncut =
     sound_lines_said (lines_of source)
-    (all_sound (declared_at Plain (lines_in Plain source)) first_place (lines_in Plain source) none)
+    (all_sound (declared_at Plain (lines_in Plain source)) first_place (lines_in Plain source) none) uncut
 
 -- what the plain language takes has no fault in each language
 pub clean_in_each : (language : Language) (lines : List Line) → first_fault Plain lines ≡ None

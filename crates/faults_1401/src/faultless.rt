@@ -1,5 +1,5 @@
 //! The lines of a source without a fault.
-ghost use Rattle.std.specs.Prelude.{◌≡◌, ◌<◌, ◌^◌, ◌⊎◌, length, vec_len, None, Some, IfOk, IfErr, OnOk, IfNone};
+ghost use Rattle.std.specs.Prelude.{◌≡◌, ◌<◌, ◌^◌, ◌⊎◌, length, None, Some, IfOk, IfErr, OnOk, IfNone};
 ghost use Rattle.std.specs.Prelude.{IfSome};
 ghost use Rattle.source_1401.specs.SourceLine.{lines_of};
 ghost use Rattle.symbols_1401.specs.Chains.{chains_of};
@@ -13,13 +13,15 @@ ghost use Rattle.faults_1401.specs.FirstFault.{first_fault, IsFaultless, IsFirst
 use crate::first_fault::first_fault;
 use source_1401::Language;
 use std::alloc::Global;
-use symbols_1401::{AsmFault, Chains, KeptLine, SourceHashing, Symbols, declared, read_lines};
+use symbols_1401::{
+    AsmFault, Chains, KeptLines, Lines, SourceHashing, Symbols, declared, read_lines,
+};
 
 /// The lines of a source without a fault.
 #[derive(Drop)]
 pub struct FaultlessLines {
     /// The lines.
-    pub lines: Vec<KeptLine>,
+    pub lines: KeptLines,
     /// How their labels and literals are hashed.
     pub hashing: SourceHashing,
     /// Their chains of EQUs.
@@ -27,7 +29,7 @@ pub struct FaultlessLines {
 }
 
 /// The first line with a fault, and its lowest kind.
-fn scan(symbols: &Symbols, language: Language, lines: &[KeptLine]) -> Option<AsmFault>
+fn scan(symbols: &Symbols, language: Language, lines: &Lines<'_>) -> Option<AsmFault>
     requires few { length lines.now < 2 ^ 32 }
     requires declared { symbols_view symbols.now ≡ declared_at language lines.now }
     ensures fault { result ≡ first_fault language lines.now }
@@ -42,7 +44,7 @@ fn faultless_chains(
     alloc: Global,
     hashing: SourceHashing,
     language: Language,
-    lines: &[KeptLine],
+    lines: &Lines<'_>,
 ) -> Result<Chains, AsmFault>
     requires { length lines.now < 2 ^ 32 }
     ensures ok { IfOk result (λ chains. chains_view chains ≡ chains_of (sites_of lines.now) lines.now) }
@@ -70,12 +72,12 @@ impl FaultlessLines {
         language: Language,
         source: &[u8],
     ) -> Result<FaultlessLines, AsmFault>
-        ensures lines { IfOk result (λ this. this.lines.items ≡ lines_in language source.now) }
-        ensures as_many { IfOk result (λ this. length this.lines.items ≡ length (lines_of source.now)) }
-        ensures few { IfOk result (λ this. vec_len this.lines < 2 ^ 32) }
+        ensures lines { IfOk result (λ this. this.lines ≡ lines_in language source.now) }
+        ensures as_many { IfOk result (λ this. length this.lines ≡ length (lines_of source.now)) }
+        ensures few { IfOk result (λ this. length this.lines < 2 ^ 32) }
         ensures chains { IfOk result (λ this.
-            chains_view this.chains ≡ chains_of (sites_of this.lines.items) this.lines.items) }
-        ensures none { IfOk result (λ this. first_fault language this.lines.items ≡ None) }
+            chains_view this.chains ≡ chains_of (sites_of this.lines) this.lines) }
+        ensures none { IfOk result (λ this. first_fault language this.lines ≡ None) }
         ensures faultless { OnOk result
             (IsFaultless (declared_at language (lines_in language source.now)) (lines_in language source.now)) }
         ensures first { IfErr result (λ fault. IsMemory fault
@@ -84,7 +86,7 @@ impl FaultlessLines {
     {
         let lines = read_lines(alloc, language, source)?;
         let hashing = SourceHashing::from_source(source);
-        let chains = faultless_chains(alloc, hashing, language, &lines)?;
+        let chains = faultless_chains(alloc, hashing, language, &lines.lend())?;
         Ok(FaultlessLines {
             lines,
             hashing,

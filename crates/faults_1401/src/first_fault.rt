@@ -12,10 +12,10 @@ ghost use Rattle.faults_1401.specs.FirstFault.{IsLowest, IsFaultless, IsFirstFau
 
 use source_1401::{
     Addressing, AreaLiteral, AreaRole, Base, DeclaredAreas, Description, Label, LabelField,
-    Language, LineCheck, Literal, Operand, OperandField, Statement,
+    Language, Line, LineCheck, Literal, Operand, OperandField, Statement,
 };
 use symbols_1401::{
-    AsmFault, AsmKind, Declaration, KeptLine, Sites, Symbols, is_before, is_known_at_end,
+    AsmFault, AsmKind, Declaration, Lines, Sites, Symbols, is_before, is_known_at_end,
     is_known_before, is_label_before,
 };
 
@@ -39,7 +39,7 @@ impl LineContext {
     };
 
     /// The place after a line.
-    pub fn behind(self, line: &KeptLine) -> LineContext
+    pub fn behind(self, line: &Line) -> LineContext
         requires { self.number < 2 ^ 33 }
         ensures { result ≡ place_behind self line.now }
     {
@@ -47,7 +47,7 @@ impl LineContext {
             number: self.number + 1,
             ..self
         };
-        match &line.line().statement {
+        match &line.statement {
             Some(statement) => {
                 let row = statement.body.describe();
                 LineContext {
@@ -272,22 +272,22 @@ fn lowest_in_statement(
 }
 
 /// The first kind that a line is found to have.
-fn lowest_of(symbols: &Symbols, at: LineContext, line: &KeptLine) -> Option<AsmKind>
+fn lowest_of(symbols: &Symbols, at: LineContext, line: &Line) -> Option<AsmKind>
     ensures { result ≡ lowest (symbols_view symbols.now) at line.now }
 {
-    match (line.line().bytes, &line.line().statement) {
+    match (line.bytes, &line.statement) {
         (LineCheck::Long, _) => Some(AsmKind::LongLine),
         (LineCheck::Foreign, _) => Some(AsmKind::Graphic),
         (LineCheck::Good, None) => None,
         (LineCheck::Good, Some(_)) if at.is_ended => Some(AsmKind::AfterEnd),
         (LineCheck::Good, Some(statement)) => {
-            lowest_in_statement(symbols, at, line.line().areas(), statement)
+            lowest_in_statement(symbols, at, line.areas(), statement)
         },
     }
 }
 
 /// The lowest kind of a line's faults.
-pub fn lowest_kind(symbols: &Symbols, at: LineContext, line: &KeptLine) -> Option<AsmKind>
+pub fn lowest_kind(symbols: &Symbols, at: LineContext, line: &Line) -> Option<AsmKind>
     ensures value { result ≡ lowest (symbols_view symbols.now) at line.now }
     ensures clean { IfNone result (IsClean (symbols_view symbols.now) at line.now) }
     ensures lowest { IfSome result (λ kind. IsLowest (symbols_view symbols.now) at line.now kind) }
@@ -297,14 +297,15 @@ pub fn lowest_kind(symbols: &Symbols, at: LineContext, line: &KeptLine) -> Optio
 }
 
 /// The first line with a fault, and its lowest kind.
-pub fn first_fault(symbols: &Symbols, lines: &[KeptLine]) -> Option<AsmFault>
+pub fn first_fault(symbols: &Symbols, lines: &Lines<'_>) -> Option<AsmFault>
     requires { length lines.now < 2 ^ 32 }
     ensures value { result ≡ first_fault_from (symbols_view symbols.now) first_place lines.now }
     ensures faultless { IfNone result (IsFaultless (symbols_view symbols.now) lines.now) }
     ensures first { IfSome result (λ fault. IsFirstFault (symbols_view symbols.now) lines.now fault) }
 {
     let mut at = LineContext::FIRST;
-    for line in lines {
+    for i in 0..lines.len() {
+        let line = lines.line(i);
         if let Some(kind) = lowest_kind(symbols, at, line) {
             return Some(AsmFault {
                 line: at.number,

@@ -19,4 +19,4 @@ pub use fault::{FileFault, WriteFault};
 pub use limited::{LimitedFile, size_limit};
 pub use names::is_one_file;
 pub use reading::read_whole;
-pub use writing::{create, write_whole};
+pub use writing::{create, put_whole, write_whole};

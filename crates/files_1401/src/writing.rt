@@ -10,6 +10,9 @@ use std::rt::Files;
 use std::{fs, io};
 use streams_1401::{ToWriter, put_all};
 
+/// The name of standard output, to which a text is written as it comes.
+const STANDARD_OUTPUT: &str = "/dev/stdout";
+
 /// How many names are tried for the file that is to take the place of another.
 const NAMES: u32 = 100;
 
@@ -127,6 +130,26 @@ pub fn write_whole<R: Files + AllocGlobal>(
     match put_in_place(rt, name, text) {
         Ok(()) => Ok(()),
         Err(error) if error.kind() == ErrorKind::OutOfMemory => Err(WriteFault::Memory),
+        Err(_) => Err(WriteFault::Unwritten),
+    }
+}
+
+/// Writes a text to the file of this name, whole or not at all; or to standard output, if the name is its, as it comes.
+///
+/// # Errors
+///
+/// As those of `write_whole`.
+pub fn put_whole<R: Files + Print + AllocGlobal>(
+    rt: &R,
+    name: &str,
+    text: &[u8],
+) -> Result<(), WriteFault> {
+    if name != STANDARD_OUTPUT {
+        return write_whole(rt, name, text);
+    }
+    let mut writer = ToWriter::new(io::writer(rt));
+    match put_all(&mut writer, text) {
+        Ok(()) => Ok(()),
         Err(_) => Err(WriteFault::Unwritten),
     }
 }

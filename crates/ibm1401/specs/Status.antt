@@ -30,6 +30,7 @@ job_status (job.File name why) = 1
 job_status (job.Unwritten name) = 1
 job_status (job.OneFile first second) = 2
 job_status (job.Deck name why) = 1
+job_status (job.Unloaded why) = 1
 job_status (job.Stopped ending) = 1
 job_status (job.Source why) = 1
 job_status (job.Image why) = 1

@@ -3,11 +3,12 @@
 use crate::fault::Fault;
 use devices_1401::{Card, MOST_HELD};
 use job_1401::{CardList, Cards, Deck};
+use machine_graphics::Graphics;
 use running_1401::read_cards;
 use std::alloc::Global;
 use std::rt::Files;
 
-/// The cards of a deck's file; without one there are none.
+/// The cards of a deck's file, which has the graphics of the chain that was asked for; without one there are none.
 ///
 /// # Errors
 ///
@@ -15,19 +16,24 @@ use std::rt::Files;
 pub fn cards_of(
     rt: &(impl Files + Eprint + AllocGlobal),
     name: Option<String>,
+    asked: Option<Graphics>,
 ) -> Result<Vec<Card>, Fault> {
     match name {
-        Some(name) => hopper_of(rt, name),
+        Some(name) => hopper_of(rt, name, asked),
         None => Ok(Vec::new(rt.alloc())),
     }
 }
 
 /// The cards of the file of this name.
-fn hopper_of(rt: &(impl Files + Eprint + AllocGlobal), name: String) -> Result<Vec<Card>, Fault> {
+fn hopper_of(
+    rt: &(impl Files + Eprint + AllocGlobal),
+    name: String,
+    asked: Option<Graphics>,
+) -> Result<Vec<Card>, Fault> {
     let Ok(label) = name.clone() else {
         return Err(Fault::Memory);
     };
-    let cards = read_cards(rt, name).map_err(Fault::Run)?;
+    let cards = read_cards(rt, name, asked).map_err(Fault::Run)?;
     if cards.len() > MOST_HELD {
         return Err(Fault::Hopper(label, cards.len() as u64));
     }

@@ -17,7 +17,8 @@ use assembling_1401::{assemble_file, check_size, disassemble_deck, disassemble_f
 use calls_1401::{Call, Seating};
 use files_1401::hold_closed_streams;
 use holding_1401::{journal_file, keep_console, keep_loaded, load_file, resume_file};
-use opening_1401::{new_machine, open_room, open_seats, resume_seats};
+use machine_graphics::Graphics;
+use opening_1401::{new_machine, open_room, open_seats, open_succession, resume_seats};
 use running_1401::{ErrorOutput, read_cards, run_file};
 use std::fs::File;
 use std::io::{IsTerminal, StdinLock};
@@ -68,7 +69,13 @@ fn run<
         Ok(Call::Assemble(asked)) => assemble_file(rt, asked).map_err(Fault::Assemble),
         Ok(Call::Load { file }) => load_file(rt, file).map_err(Fault::Hold),
         Ok(Call::Disassemble { file }) => disassemble_file(rt, file).map_err(Fault::Assemble),
-        Ok(Call::DisassembleDeck { file, size }) => list_deck(rt, file, size),
+        Ok(
+            Call::DisassembleDeck {
+                file,
+                graphics,
+                size,
+            },
+        ) => list_deck(rt, file, graphics, size),
         Ok(Call::Run(job)) => run_file(rt, error_output, job).map_err(Fault::Run),
         Ok(Call::Serve(service)) => open_room(rt, service).map_err(Fault::Open),
         Ok(Call::ServeSeats(asked)) => serve_seats(rt, asked),
@@ -105,10 +112,11 @@ fn hold_console<R: Input<Reader = StdinLock<'static>> + Print + AllocGlobal>(
 fn list_deck<R: Files + Print + Eprint + AllocGlobal>(
     rt: &R,
     file: String,
+    asked: Option<Graphics>,
     size: u16,
 ) -> Result<(), Fault> {
     check_size(size).map_err(Fault::Assemble)?;
-    let cards = read_cards(rt, file).map_err(Fault::Run)?;
+    let cards = read_cards(rt, file, asked).map_err(Fault::Run)?;
     disassemble_deck(rt, &cards, size).map_err(Fault::Assemble)
 }
 
@@ -131,11 +139,19 @@ fn serve_seats<
         operators,
         origin,
         cards,
+        graphics,
         journal,
+        renewal,
     } = asked;
     let machine = new_machine(rt, opening).map_err(Fault::Open)?;
-    let cards = cards_of(rt, cards)?;
-    open_seats(rt, machine, cards, operators, origin, journal).map_err(Fault::Open)
+    let cards = cards_of(rt, cards, graphics)?;
+    let served = match renewal {
+        None => open_seats(rt, machine, cards, operators, origin, journal),
+        Some(minutes) => {
+            open_succession(rt, machine, cards, operators, origin, journal, minutes)
+        }
+    };
+    served.map_err(Fault::Open)
 }
 
 /// The words of the command line, the program's own name in front.

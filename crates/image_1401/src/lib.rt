@@ -4,6 +4,7 @@
 //! ```text
 //! let image = read_image(alloc, b"IMAGE2 04000\n00400 02 ~HI\nEND 00400\n")?;
 //! image.segments.as_slice()               // one segment: H with a word mark at 400, I at 401
+//! lend_image(text)?.split_first()         // one segment after the other, none of them stored
 //! write_image(alloc, &image)?             // the same text
 //! ```
 #![tactic(auto)]
@@ -19,5 +20,5 @@ pub mod writing;
 
 pub use fault::ImageFault;
 pub use image::{Image, Segment, Segments};
-pub use reading::read_image;
+pub use reading::{LentImage, lend_image, read_image};
 pub use writing::write_image;

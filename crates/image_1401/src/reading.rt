@@ -1,8 +1,9 @@
 //! The image of a text.
 ghost use Rattle.std.specs.Prelude.{◌≡◌, ◌<◌, ◌≤◌, ◌==◌, ◌∷◌, [], length, position, Some, None, Ok, Err};
-ghost use Rattle.std.specs.Prelude.{if◌then◌else◌, IfOk, IfErr, MatchOption};
+ghost use Rattle.std.specs.Prelude.{if◌then◌else◌, IfOk, IfErr, IfSome, MatchOption};
 ghost use Rattle.std.specs.Option.{option_map};
 ghost use Rattle.image_1401.specs.ImageText.{HasTexts, IsTextOf, IsOrMemory};
+ghost use Rattle.image_1401.specs.Lent.{entry_read};
 ghost use Rattle.image_1401.specs.Refusal.{IsRefused};
 ghost use Rattle.image_1401.specs.Reading.{number_at};
 ghost use Rattle.image_1401.specs.Reading.{header_with, in_version, header_in, segment_in, end_in};
@@ -16,15 +17,35 @@ use crate::writing::COUNT_DIGITS;
 use core_1401::Cells;
 use notation_1401::{read_cells, read_digits};
 use std::alloc::Global;
+use std::marker::Model;
 
-/// The image of a text.
+/// An image that is lent by its text: its segments are read one after the other, when they are asked for. It takes no
+/// memory, however many they are. Contracts see the image.
+#[derive(Drop)]
+pub struct LentImage<'a> {
+    version: Version,
+    size: u16,
+    start: u16,
+    rest: &'a [u8],
+}
+
+impl<'a> Model for LentImage<'a> {
+    ghost use Rattle.image_1401.specs.declared.image.Image.{Image};
+    ghost use Rattle.image_1401.specs.Lent.{image_left, IsGood};
+
+    ghost Value = { Image };
+
+    ghost view = { λ lent. image_left lent.version lent.size lent.start lent.rest.now };
+
+    ghost invariant = { λ lent. IsGood lent.version lent.size lent.start lent.rest.now };
+}
+
+/// The image of a text, kept.
 ///
 /// # Errors
 ///
-/// The fault of the text's first wrong line: `Truncated` if a line is due and no line feed follows; `Header` if the
-/// first line doesn't name a version and one of its sizes; `BadRecord` if a later line is neither a segment nor the
-/// last line, or a byte follows the last line; `Range` if a segment or the entry doesn't lie in core storage of the
-/// image's size. `Memory` if the text is an image's, and the memory for it is refused.
+/// The fault of the text, as `lend_image` answers it. `Memory` if the text is an image's, and the memory for it is
+/// refused.
 pub fn read_image(alloc: Global, text: &[u8]) -> Result<Image, ImageFault>
     // What is read is the image whose text this is.
     ensures found { IfOk result (IsTextOf text.now) }
@@ -38,7 +59,112 @@ pub fn read_image(alloc: Global, text: &[u8]) -> Result<Image, ImageFault>
     // Any other text is refused for its first wrong line.
     ensures fault { IfErr result (IsRefused text.now) }
 {
-    image(alloc, text)
+    let lent = lend_image(text)?;
+    keep(alloc, &lent)
+}
+
+/// The image of a text, lent: all of the text is checked, and no segment is stored.
+///
+/// # Errors
+///
+/// The fault of the text's first wrong line: `Truncated` if a line is due and no line feed follows; `Header` if the
+/// first line doesn't name a version and one of its sizes; `BadRecord` if a later line is neither a segment nor the
+/// last line, or a byte follows the last line; `Range` if a segment or the entry doesn't lie in core storage of the
+/// image's size. Never `Memory`.
+pub fn lend_image(text: &[u8]) -> Result<LentImage<'_>, ImageFault>
+    // What is lent is the image whose text this is.
+    ensures found { IfOk result (IsTextOf text.now) }
+
+    // An image's text is lent as the image.
+    ensures again { (image : Image) → IsTextOf text.now image → IsOrMemory result image }
+    ensures versions { IfOk result HasTexts }
+
+    // Any other text is refused for its first wrong line, and none for memory.
+    ensures fault { IfErr result (IsRefused text.now) }
+    ensures own { IfErr result IsOfText }
+{
+    image(text)
+}
+
+/// Keeps an image that is lent.
+fn keep(alloc: Global, lent: &LentImage<'_>) -> Result<Image, ImageFault>
+    ensures ok { IfOk result (λ image. image ≡ lent.now) }
+    ensures err { IfErr result (λ why. why ≡ ImageFault.Memory) }
+{
+    let segments = kept_segments(alloc, lent)?;
+    Ok(Image {
+        size: lent.size(),
+        segments: Segments::from_vec(segments),
+        start: lent.start(),
+    })
+}
+
+/// The segments of an image that is lent.
+fn kept_segments(alloc: Global, lent: &LentImage<'_>) -> Result<Vec<Segment>, ImageFault>
+    ensures ok { IfOk result (λ segments. segments.items ≡ lent.now.segments) }
+    ensures err { IfErr result (λ why. why ≡ ImageFault.Memory) }
+{
+    let mut segments = Vec::new(alloc);
+    let mut rest = lent.again();
+    while let Some((segment, behind)) = rest.split_first() {
+        if segments.push(segment).is_err() {
+            return Err(ImageFault::Memory);
+        }
+        rest = behind;
+    }
+    Ok(segments)
+}
+
+impl<'a> LentImage<'a> {
+    /// How many places the core storage has.
+    pub fn size(&self) -> u16
+        ensures { result ≡ self.now.size }
+    {
+        self.size
+    }
+
+    /// The entry: the address of the first instruction.
+    pub fn start(&self) -> u16
+        ensures { result ≡ self.now.start }
+    {
+        self.start
+    }
+
+    /// The same image, lent once more.
+    pub fn again(&self) -> LentImage<'a>
+        ensures { result ≡ self.now }
+    {
+        LentImage {
+            version: self.version,
+            size: self.size,
+            start: self.start,
+            rest: self.rest,
+        }
+    }
+
+    /// The first segment, and the image of those after it; `None` if there is no segment.
+    pub fn split_first(&self) -> Option<(Segment, LentImage<'a>)>
+        ensures first { MatchOption result (self.now.segments ≡ []) (λ found.
+            self.now.segments ≡ found.0 ∷ found.1.segments) }
+        ensures same { IfSome result (λ found. (found.1.size ≡ self.now.size) × (found.1.start ≡ self.now.start)) }
+    {
+        let Some((line, behind)) = split_line(self.rest) else {
+            return None;
+        };
+        let Some(spelled) = segment(self.version, line) else {
+            return None;
+        };
+        let Ok(segment) = segment_inside(self.size, &spelled) else {
+            return None;
+        };
+        let rest = LentImage {
+            version: self.version,
+            size: self.size,
+            start: self.start,
+            rest: behind,
+        };
+        Some((segment, rest))
+    }
 }
 
 /// A segment as its line spells it, wherever it lies.
@@ -50,8 +176,9 @@ struct Spelled {
 
 /// The image of a text, or the fault of its first wrong line.
 #[tactic(auto, unfolding(crate::specs::Reading::image_in))]
-fn image(alloc: Global, text: &[u8]) -> Result<Image, ImageFault>
-    ensures { Gives result (image_in (parts_of text.now)) }
+fn image(text: &[u8]) -> Result<LentImage<'_>, ImageFault>
+    ensures whole { Gives result (image_in (parts_of text.now)) }
+    ensures own { IfErr result IsOfText }
 {
     let Some((line, behind)) = split_line(text) else {
         return Err(ImageFault::Truncated);
@@ -59,32 +186,36 @@ fn image(alloc: Global, text: &[u8]) -> Result<Image, ImageFault>
     let Some((version, size)) = header(line) else {
         return Err(ImageFault::Header);
     };
-    contents(alloc, version, size, behind)
+    contents(version, size, behind)
 }
 
-/// The image of a size whose segments and entry a text spells. A refusal of memory is reported last: the lines after it
-/// are looked at first.
-fn contents(alloc: Global, version: Version, size: u16, text: &[u8]) -> Result<Image, ImageFault>
-    ensures { Gives result (image_of size (contents_in version size (parts_of text.now))) }
+/// The image of a size whose segments and entry a text spells.
+fn contents(version: Version, size: u16, rest: &[u8]) -> Result<LentImage<'_>, ImageFault>
+    ensures whole { Gives result (image_of size (contents_in version size (parts_of rest.now))) }
+    ensures own { IfErr result IsOfText }
 {
-    let mut segments = Vec::new(alloc);
-    let mut refused = false;
+    let start = entry_behind(version, size, rest)?;
+    Ok(LentImage {
+        version,
+        size,
+        start,
+        rest,
+    })
+}
+
+/// The entry that a text spells after good segments of an image of this size.
+fn entry_behind(version: Version, size: u16, text: &[u8]) -> Result<u16, ImageFault>
+    ensures value { result ≡ entry_read (contents_in version size (parts_of text.now)) }
+    ensures own { IfErr result IsOfText }
+{
     let mut rest = text;
     while let Some((line, behind)) = split_line(rest) {
         let Some(spelled) = segment(version, line) else {
-            let start = last_entry(size, entry(version, line), behind)?;
-            if refused {
-                return Err(ImageFault::Memory);
-            }
-            let segments = Segments::from_vec(segments);
-            return Ok(Image {
-                size,
-                segments,
-                start,
-            });
+            return last_entry(size, entry(version, line), behind);
         };
-        let segment = segment_inside(size, &spelled)?;
-        refused = refused || segments.push(segment).is_err();
+        if segment_inside(size, &spelled).is_err() {
+            return Err(ImageFault::Range);
+        }
         rest = behind;
     }
     Err(ImageFault::Truncated)

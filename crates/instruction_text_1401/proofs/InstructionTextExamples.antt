@@ -5,7 +5,7 @@ use Rattle.std.specs.Prelude.{Bool, codes, unwrap_or, position}
 use Rattle.bcd_1401.specs.Graphic.{graphics}
 use Rattle.bcd_1401.specs.declared.cell.Cell.{Cell}
 use Rattle.instruction_text_1401.specs.InstructionText.{operands_text, instruction_text}
-use Rattle.instruction_text_1401.specs.Mnemonic.{operations, operations_with_d}
+use Rattle.instruction_text_1401.specs.Mnemonic.{columns_of, operations_with_d}
 
 -- the cells with these graphics, the first with a word mark
 cells : List ℕ → List Cell
@@ -17,7 +17,7 @@ cells (first ∷ more) = cell true first ∷ map (cell false) more
     cell mark graphic = record { char = unwrap_or (position (λ each. each == graphic) graphics) 0; mark = mark }
 
 text : List ℕ → List ℕ
-unfolding graphics operations operations_with_d operands_text digits cells
+unfolding graphics columns_of operations_with_d operands_text digits cells
 text graphics_of = instruction_text (cells graphics_of)
 
 moves_have_up_to_two_addresses : map text (codes "M" ∷ codes "M510" ∷ codes "M510509" ∷ [])

@@ -1,61 +1,14 @@
--- The mnemonics of instructions (Autocoder, "Operation"; those of features that this machine hasn't got from the
--- manual's index of operations).
+-- The mnemonics of instructions (Autocoder, "Operation").
 use Rattle.std.specs.Prelude.{ℕ, ◌==◌, nat_le, Bool, true, false, ◌&&◌, if◌then◌else◌, List, [], ◌∷◌, Option, None}
 use Rattle.std.specs.Prelude.{Some}
 use Rattle.std.specs.Prelude.{find, codes, unwrap_or}
-use Rattle.std.specs.Option.{option_map}
 use Rattle.std.specs.Str.{byte}
+use Rattle.machine_operations.specs.Operation.{mnemonic_at}
 use Rattle.instruction_text_1401.specs.declared.mnemonic.Mnemonic.{Mnemonic}
-
--- an operation by its graphic, and the columns 16 to 20
-abbrev pub ARow : Type 0
-ARow = ℕ × List ℕ
 
 -- an operation by its graphic, how many addresses, the graphic of the d-character, and the columns 16 to 20
 abbrev pub ARowWithD : Type 0
 ARowWithD = ℕ × ℕ × ℕ × List ℕ
-
--- the mnemonics of the operations; the last nine belong to features that this machine hasn't got
-unfoldable pub operations : List ARow
-operations =
-    (byte "A", codes "A    ") ∷
-    (byte "S", codes "S    ") ∷
-    (byte "?", codes "ZA   ") ∷
-    (byte "!", codes "ZS   ") ∷
-    (byte "M", codes "MCW  ") ∷
-    (byte "L", codes "LCA  ") ∷
-    (byte "D", codes "MN   ") ∷
-    (byte "Y", codes "MZ   ") ∷
-    (byte ",", codes "SW   ") ∷
-    (byte ")", codes "CW   ") ∷
-    (byte "/", codes "CS   ") ∷
-    (byte "C", codes "C    ") ∷
-    (byte "Z", codes "MCS  ") ∷
-    (byte "E", codes "MCE  ") ∷
-    (byte "B", codes "B    ") ∷
-    (byte "V", codes "BWZ  ") ∷
-    (byte "Q", codes "SAR  ") ∷
-    (byte "H", codes "SBR  ") ∷
-    (byte "N", codes "NOP  ") ∷
-    (byte ".", codes "H    ") ∷
-    (byte "K", codes "SS   ") ∷
-    (byte "1", codes "R    ") ∷
-    (byte "2", codes "W    ") ∷
-    (byte "3", codes "WR   ") ∷
-    (byte "4", codes "P    ") ∷
-    (byte "5", codes "RP   ") ∷
-    (byte "6", codes "WP   ") ∷
-    (byte "7", codes "WRP  ") ∷
-    (byte "F", codes "CC   ") ∷
-    (byte "@", codes "M    ") ∷
-    (byte "%", codes "D    ") ∷
-    (byte "U", codes "CU   ") ∷
-    (byte "8", codes "SRF  ") ∷
-    (byte "9", codes "SPF  ") ∷
-    (byte "P", codes "MCM  ") ∷
-    (byte "X", codes "MIZ  ") ∷
-    (byte "W", codes "BBE  ") ∷
-    (byte "#", codes "MA   ") ∷ []
 
 -- the mnemonics that say their d-character
 unfoldable pub operations_with_d : List ARowWithD
@@ -73,10 +26,8 @@ operations_with_d =
     (byte "2", 1, byte ")", codes "WM   ") ∷ []
 
 -- the mnemonic of an operation; a character that is none is its own
-abbrev pub columns_of : ℕ → List ℕ
-columns_of operation =
-    unwrap_or (option_map (λ (row : ARow). row.1) (find (λ (row : ARow). row.0 == operation) operations))
-    (operation ∷ codes "    ")
+unfoldable pub columns_of : ℕ → List ℕ
+columns_of operation = unwrap_or (mnemonic_at operation) (operation ∷ codes "    ")
 
 -- whether a sense switch has this letter
 abbrev pub is_switch : ℕ → Bool

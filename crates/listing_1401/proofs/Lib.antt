@@ -1,3 +1,6 @@
 pub mod CrossReferenceLemmas
+pub mod RowLawLemmas
+pub mod RowsLemmas
 mod PlacingExamples
+mod RowsExamples
 mod TablesExamples

@@ -1,4 +1,5 @@
 pub mod CrossReference
 pub mod Listing
+pub mod Rows
 pub mod SymbolTable
 pub mod View

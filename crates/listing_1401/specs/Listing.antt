@@ -2,7 +2,7 @@
 use Rattle.std.specs.Prelude.{ℕ, ◌+◌, ◌-◌, Bool, List, [], ◌∷◌, ◌++◌, length, map, take, drop, slice_index, ℤ, pos}
 use Rattle.std.specs.Prelude.{nat_abs, int_lt, if◌then◌else◌, Option, Some, None, codes}
 use Rattle.std.specs.Ordering.{int_eq}
-use Rattle.std.specs.List.{suffix_len}
+use Rattle.std.specs.List.{flat_map, suffix_len}
 use Rattle.bcd_1401.specs.Graphic.{graphics}
 use Rattle.bcd_1401.specs.declared.cell.Cell.{Cell}
 use Rattle.notation_1401.specs.Digits.{digits_in}
@@ -111,6 +111,7 @@ literals_by this next.Behind = []
 literals_by this next.Literals = drop (length this.addresses) this.spellings
 literals_by this next.Value = []
 literals_by this next.LiteralsAtValue = drop (length this.addresses) this.spellings
+literals_by this next.Elsewhere = []
 
 abbrev pub literals_at : Placement → Body → List Literal
 literals_at this body = literals_by this (describe body).next
@@ -163,6 +164,14 @@ listing_from all this number (line ∷ lines) (source ∷ sources) =
 -- the listing of lines, each with its text
 abbrev pub listing_with : List Line → List (List ℕ) → List (List ℕ)
 listing_with lines sources = listing_from (placed lines) (unplaced (placed lines)) 1 lines sources
+
+-- a line of a listing with its line feed
+abbrev pub line_text : List ℕ → List ℕ
+line_text line = line ++ codes "\n"
+
+-- the lines of a listing, each with its line feed
+unfoldable pub listing_text : List (List ℕ) → List ℕ
+listing_text lines = flat_map line_text lines
 
 -- the listing of a source's lines in this language
 abbrev pub listing_of : Language → List (List ℕ) → List (List ℕ)

@@ -1,5 +1,6 @@
 -- The symbol table of a source (own).
-use Rattle.std.specs.Prelude.{ℕ, ◌+◌, ◌-◌, Bool, if◌then◌else◌, List, [], ◌∷◌, ◌++◌, Option, None, Some, codes}
+use Rattle.std.specs.Prelude.{ℕ, ◌+◌, ◌-◌, Bool, if◌then◌else◌, List, [], ◌∷◌, ◌++◌, ℤ, pos, int_lt, Option, None, Some}
+use Rattle.std.specs.Prelude.{codes}
 use Rattle.std.specs.Option.{option_map}
 use Rattle.std.specs.List.{flat_map, list_any}
 use Rattle.notation_1401.specs.Digits.{digits_in}
@@ -114,10 +115,14 @@ unfoldable pub length_text : Option ℕ → List ℕ
 length_text None = codes "     "
 length_text (Some length) = digits_in 5 length
 
+-- the address that is shown for a value; that of a unit's name is no place, and has none
+abbrev pub shown_value : ℤ → Option ℤ
+shown_value value = if int_lt value (pos 0) then None else Some value
+
 -- the line of a symbol: its label in six columns, its address, its length, and the number of the line that declares it
 unfoldable pub symbol_line : Symbol → List ℕ
 symbol_line symbol =
-    symbol.label.text ++ codes " " ++ address_text (Some symbol.value) ++ codes " " ++ length_text symbol.length
+    symbol.label.text ++ codes " " ++ address_text (shown_value symbol.value) ++ codes " " ++ length_text symbol.length
     ++ codes " "
     ++ digits_in 4 symbol.line
     ++ codes "\n"

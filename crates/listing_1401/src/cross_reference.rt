@@ -12,9 +12,9 @@ use crate::symbol_table::{LINE_DIGITS, Symbol};
 use faults_1401::symbol_in;
 use indexmap::IndexMap;
 use notation_1401::put_digits;
-use source_1401::{Label, Statement};
+use source_1401::{Label, Line, Statement};
 use std::alloc::Global;
-use symbols_1401::{AsmFault, KeptLine, SourceHashing};
+use symbols_1401::{AsmFault, Lines, SourceHashing};
 
 /// For each label that is named the numbers of the lines that name it.
 pub(crate) type Uses = IndexMap<Label, Vec<u64>, SourceHashing>;
@@ -57,12 +57,12 @@ fn note_both(
 }
 
 /// Notes the labels that the line of this number names.
-fn note_line(alloc: Global, uses: &mut Uses, line: &KeptLine, number: u64) -> Result<(), AsmFault>
+fn note_line(alloc: Global, uses: &mut Uses, line: &Line, number: u64) -> Result<(), AsmFault>
     ensures noted { OnOk result ((label : ALabel) → lines_naming uses.new label
         ≡ lines_naming uses.old label ++ number_if (is_named_in label line.now) number) }
     ensures err { IfErr result IsMemory }
 {
-    let Some(Statement { body, .. }) = line.line().statement else {
+    let Some(Statement { body, .. }) = line.statement else {
         return Ok(());
     };
     let operands = body.describe().addressing.operands();
@@ -79,15 +79,15 @@ fn note_line(alloc: Global, uses: &mut Uses, line: &KeptLine, number: u64) -> Re
 pub(crate) fn uses_of(
     alloc: Global,
     hashing: SourceHashing,
-    lines: &[KeptLine],
+    lines: &Lines<'_>,
 ) -> Result<Uses, AsmFault>
     requires { length lines.now < 2 ^ 32 }
     ensures ok { IfOk result (λ uses. (label : ALabel) → lines_naming uses label ≡ uses_of lines.now label) }
     ensures err { IfErr result IsMemory }
 {
     let mut uses = IndexMap::with_hasher(alloc, hashing);
-    for (i, line) in lines.iter().enumerate() {
-        note_line(alloc, &mut uses, line, i as u64 + 1)?;
+    for i in 0..lines.len() {
+        note_line(alloc, &mut uses, lines.line(i), i as u64 + 1)?;
     }
     Ok(uses)
 }

@@ -15,10 +15,10 @@ use crate::printing::{
 };
 use bcd_1401::Cell;
 use placing_1401::{LiteralKey, Placing, put_contents, put_literal};
-use source_1401::{Addressing, Body, Description, Literal, Next};
+use source_1401::{Addressing, Body, Description, Line, Literal, Next};
 use std::alloc::Global;
 use std::marker::Model;
-use symbols_1401::{AsmFault, KeptLine, checked_sum};
+use symbols_1401::{AsmFault, Lines, checked_sum};
 
 /// A line of a listing. Contracts see the list of its bytes.
 #[derive(Debug, Drop)]
@@ -165,7 +165,7 @@ fn literals_by<'b>(so_far: &'b Placing<'_>, next: Next) -> &'b [Literal]
 {
     match next {
         Next::Literals | Next::LiteralsAtValue => pending_spellings(so_far),
-        Next::Behind | Next::Value => &[],
+        Next::Behind | Next::Value | Next::Elsewhere => &[],
     }
 }
 
@@ -191,7 +191,7 @@ fn address_at<'a>(
 }
 
 /// The address that the line of a statement here with this row shows, if it shows one.
-fn address_shown<'a>(
+pub(crate) fn address_shown<'a>(
     all: &Placing<'a>,
     so_far: &Placing<'a>,
     body: &Body,
@@ -209,12 +209,12 @@ fn address_shown<'a>(
 }
 
 /// The cells that the line of a statement here with this row shows, with these lines after it.
-fn cells_at(
+pub(crate) fn cells_at(
     alloc: Global,
     all: &Placing<'_>,
     so_far: &Placing<'_>,
     row: &Description,
-    lines: &[KeptLine],
+    lines: &Lines<'_>,
 ) -> Result<Vec<Cell>, AsmFault>
     ensures ok { IfOk result (λ cells. cells.items
         ≡ contents_cells (places_of all.now) (places_of so_far.now) row.now.contents lines.now) }
@@ -230,7 +230,7 @@ fn put_literals_of(
     alloc: Global,
     all: &Placing<'_>,
     so_far: &Placing<'_>,
-    line: &KeptLine,
+    line: &Line,
     lines: &mut Vec<ListingLine>,
 ) -> Result<(), AsmFault>
     ensures ok { OnOk result (lines.new.items ≡ lines.old.items
@@ -238,7 +238,7 @@ fn put_literals_of(
         (literals_in (places_of so_far.now) line.now.statement)) }
     ensures err { IfErr result IsMemory }
 {
-    let Some(statement) = &line.line().statement else {
+    let Some(statement) = &line.statement else {
         return Ok(());
     };
     let row = statement.body.describe();
@@ -253,14 +253,14 @@ fn line_for<'a>(
     so_far: &Placing<'a>,
     number: u64,
     source: &[u8],
-    line: &KeptLine,
-    behind: &[KeptLine],
+    line: &Line,
+    behind: &Lines<'_>,
 ) -> Result<ListingLine, AsmFault>
     ensures ok { IfOk result (λ text. text
         ≡ line_for (places_of all.now) (places_of so_far.now) number source.now line.now.statement behind.now) }
     ensures err { IfErr result IsMemory }
 {
-    match &line.line().statement {
+    match &line.statement {
         Some(statement) => {
             let row = statement.body.describe();
             let address = address_shown(all, so_far, &statement.body, &row)?;
@@ -278,8 +278,8 @@ pub(crate) fn list_line<'a>(
     so_far: &Placing<'a>,
     number: u64,
     source: &[u8],
-    line: &KeptLine,
-    behind: &[KeptLine],
+    line: &Line,
+    behind: &Lines<'_>,
     lines: &mut Vec<ListingLine>,
 ) -> Result<(), AsmFault>
     ensures listed { OnOk result (lines.new.items ≡ lines.old.items

@@ -19,7 +19,7 @@ const NUMBER_DIGITS: u8 = 4;
 const ADDRESS_DIGITS: u8 = 5;
 
 /// The most cells that a line shows.
-const SHOWN_CELLS: usize = 8;
+pub(crate) const SHOWN_CELLS: usize = 8;
 
 /// Adds blanks, as many as are asked for.
 fn put_blanks(text: &mut Vec<u8>, count: usize) -> Result<(), AsmFault>
@@ -93,7 +93,7 @@ pub(crate) fn cut_last_blanks(text: &mut Vec<u8>)
 }
 
 /// How many bytes a text has without the blanks at its end.
-fn len_without_last_blanks(text: &[u8]) -> usize
+pub(crate) fn len_without_last_blanks(text: &[u8]) -> usize
     ensures value { result ≡ length text.now - suffix_len is_blank text.now }
     ensures bound { result ≤ length text.now }
 {

@@ -7,10 +7,10 @@ ghost use Rattle.placing_1401.specs.View.{places_of};
 ghost use Rattle.listing_1401.specs.Listing.{literal_lines, literals_in, line_for, listing_from};
 
 use crate::listing::{Listing, ListingLine, list_line};
-use placing_1401::{Placing, lines_behind};
-use source_1401::split_line;
+use placing_1401::Placing;
+use source_1401::{Line, split_line};
 use std::alloc::Global;
-use symbols_1401::{AsmFault, KeptLine};
+use symbols_1401::{AsmFault, Lines};
 
 /// The listing of the lines so far.
 #[derive(Drop)]
@@ -29,8 +29,8 @@ impl<'a> ListingSoFar<'a> {
         all: &Placing<'a>,
         number: u64,
         source: &[u8],
-        line: &KeptLine,
-        behind: &[KeptLine],
+        line: &Line,
+        behind: &Lines<'_>,
     ) -> Result<(), AsmFault>
         ensures listed { OnOk result (self.new.listing.items ≡ self.old.listing.items
             ++ (literal_lines (places_of all.now) (start_of (places_of self.old.so_far) line.now.statement)
@@ -61,7 +61,7 @@ impl<'a> ListingSoFar<'a> {
         alloc: Global,
         all: &Placing<'a>,
         source: &[u8],
-        lines: &[KeptLine],
+        lines: &Lines<'_>,
     ) -> Result<(), AsmFault>
         requires as_many { length lines.now ≡ length (lines_of source.now) }
         requires few { length lines.now < 2 ^ 32 }
@@ -70,12 +70,13 @@ impl<'a> ListingSoFar<'a> {
         ensures err { IfErr result IsMemory }
     {
         let mut sources = source;
-        for (i, line) in lines.iter().enumerate() {
+        for i in 0..lines.len() {
+            let line = lines.line(i);
             let Some((text, behind)) = split_line(sources) else {
                 unreachable!()
             };
-            let later = lines_behind(lines, i);
-            self.put_line(alloc, all, i as u64 + 1, text, line, later)?;
+            let later = lines.behind(i);
+            self.put_line(alloc, all, i as u64 + 1, text, line, &later)?;
             sources = behind;
         }
         Ok(())
@@ -91,7 +92,7 @@ pub fn make_listing(
     alloc: Global,
     all: &Placing<'_>,
     source: &[u8],
-    lines: &[KeptLine],
+    lines: &Lines<'_>,
 ) -> Result<Listing, AsmFault>
     requires as_many { length lines.now ≡ length (lines_of source.now) }
     requires few { length lines.now < 2 ^ 32 }

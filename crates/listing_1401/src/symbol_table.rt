@@ -6,14 +6,16 @@ ghost use Rattle.placing_1401.specs.Placement.{unplaced};
 ghost use Rattle.placing_1401.specs.View.{places_of};
 ghost use Rattle.listing_1401.specs.SymbolTable.{span_length, length_named, symbol_with, symbol_at, listed};
 ghost use Rattle.listing_1401.specs.SymbolTable.{second_area, area_symbols, symbols_at, symbols_from, length_text};
-ghost use Rattle.listing_1401.specs.SymbolTable.{symbol_line};
+ghost use Rattle.listing_1401.specs.SymbolTable.{shown_value, symbol_line};
 
 use crate::printing::put_address;
 use notation_1401::put_digits;
 use placing_1401::{LiteralKey, Placing, contents_length};
-use source_1401::{AreaLiteral, AreaRole, Description, Label, LabelField, Point, Span, Statement};
+use source_1401::{
+    AreaLiteral, AreaRole, Description, Label, LabelField, Line, Point, Span, Statement,
+};
 use std::alloc::Global;
-use symbols_1401::{AsmFault, KeptLine, SourceHashing};
+use symbols_1401::{AsmFault, Lines, SourceHashing};
 
 /// How many digits a length has.
 const LENGTH_DIGITS: u8 = 5;
@@ -79,11 +81,11 @@ fn symbol_with(
 }
 
 /// The symbol that the line of this number declares, once all is placed.
-fn symbol_at(all: &Placing<'_>, number: u64, line: &KeptLine) -> Result<Option<Symbol>, AsmFault>
+fn symbol_at(all: &Placing<'_>, number: u64, line: &Line) -> Result<Option<Symbol>, AsmFault>
     ensures symbol { IfOk result (λ symbol. symbol ≡ symbol_at (places_of all.now) number line.now.statement) }
     ensures err { IfErr result IsMemory }
 {
-    match line.line().statement {
+    match line.statement {
         Some(statement) => symbol_with(all, number, statement),
         None => Ok(None),
     }
@@ -150,14 +152,14 @@ fn put_symbols(
     all: &Placing<'_>,
     so_far: &Placing<'_>,
     number: u64,
-    line: &KeptLine,
+    line: &Line,
     symbols: &mut Vec<Symbol>,
 ) -> Result<(), AsmFault>
     ensures ok { OnOk result (symbols.new.items ≡ symbols.old.items
         ++ symbols_at (places_of all.now) (places_of so_far.now) number line.now) }
     ensures err { IfErr result IsMemory }
 {
-    let (first, second) = line.line().areas();
+    let (first, second) = line.areas();
     put_symbol(symbols, symbol_at(all, number, line)?)?;
     put_area(all, so_far, number, first, symbols)?;
     put_area(all, so_far, number, second_area(first, second), symbols)?;
@@ -173,7 +175,7 @@ pub(crate) fn symbols_of(
     alloc: Global,
     hashing: SourceHashing,
     all: &Placing<'_>,
-    lines: &[KeptLine],
+    lines: &Lines<'_>,
 ) -> Result<Vec<Symbol>, AsmFault>
     requires { length lines.now < 2 ^ 32 }
     ensures ok { IfOk result (λ symbols. symbols.items
@@ -182,7 +184,8 @@ pub(crate) fn symbols_of(
 {
     let mut symbols = Vec::new(alloc);
     let mut so_far = Placing::new(alloc, hashing, all.chains);
-    for (i, line) in lines.iter().enumerate() {
+    for i in 0..lines.len() {
+        let line = lines.line(i);
         put_symbols(all, &so_far, i as u64 + 1, line, &mut symbols)?;
         so_far.place(line)?;
     }
@@ -202,6 +205,13 @@ fn put_length(text: &mut Vec<u8>, length: Option<u32>) -> Result<(), AsmFault>
     Ok(())
 }
 
+/// The address that a symbol's line shows, if its value is a place; that of a unit's name isn't.
+fn shown_value(value: i64) -> Option<i64>
+    ensures { result ≡ shown_value value }
+{
+    if value < 0 { None } else { Some(value) }
+}
+
 /// Adds the line of a symbol.
 #[tactic(auto, unfolding(crate::specs::SymbolTable::symbol_line))]
 fn put_symbol_line(text: &mut Vec<u8>, symbol: Symbol) -> Result<(), AsmFault>
@@ -210,7 +220,7 @@ fn put_symbol_line(text: &mut Vec<u8>, symbol: Symbol) -> Result<(), AsmFault>
 {
     text.extend_from_slice(symbol.label.text.as_slice())?;
     text.push(b' ')?;
-    put_address(text, Some(symbol.value))?;
+    put_address(text, shown_value(symbol.value))?;
     text.push(b' ')?;
     put_length(text, symbol.length)?;
     text.push(b' ')?;

@@ -11,7 +11,7 @@ use crate::cross_reference::{references_text, uses_of};
 use crate::symbol_table::{Symbol, symbols_of, symbols_text};
 use placing_1401::Placing;
 use std::alloc::Global;
-use symbols_1401::{AsmFault, KeptLine, SourceHashing};
+use symbols_1401::{AsmFault, Lines, SourceHashing};
 
 /// The tables that a listing may end with, as texts.
 #[derive(Debug, Drop)]
@@ -26,7 +26,7 @@ pub struct Tables {
 fn references_of(
     alloc: Global,
     hashing: SourceHashing,
-    lines: &[KeptLine],
+    lines: &Lines<'_>,
     symbols: &[Symbol],
 ) -> Result<Vec<u8>, AsmFault>
     requires { length lines.now < 2 ^ 32 }
@@ -42,7 +42,7 @@ fn references_of(
 fn tables_of(
     alloc: Global,
     hashing: SourceHashing,
-    lines: &[KeptLine],
+    lines: &Lines<'_>,
     symbols: &[Symbol],
 ) -> Result<Tables, AsmFault>
     requires { length lines.now < 2 ^ 32 }
@@ -68,7 +68,7 @@ pub fn make_tables(
     alloc: Global,
     hashing: SourceHashing,
     all: &Placing<'_>,
-    lines: &[KeptLine],
+    lines: &Lines<'_>,
 ) -> Result<Tables, AsmFault>
     requires few { length lines.now < 2 ^ 32 }
     requires placed { places_of all.now ≡ placed lines.now }

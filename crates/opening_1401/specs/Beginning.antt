@@ -54,5 +54,6 @@ pub record FirstGave (size : ℕ) (commands : List Command) (old new : List Seat
 -- What these seats did before operators came: the first one loaded the image, if there is one, and fed the cards; or
 -- each gave its commands of a journal again.
 abbrev pub HasBegun : ℕ → Before → List SeatView → List SeatView → Type 0
-HasBegun size (Program image cards) old new = FirstGave size (first_commands image cards.items) old new
+HasBegun size (Program program) old new =
+    FirstGave size (first_commands program.image program.cards.items) old new
 HasBegun size (Journal room) old new = GiveAll size room.journal old new

@@ -36,18 +36,32 @@ fn give_fault(fault: GiveFault) -> OpenFault
     }
 }
 
+/// What the first seat of a room does before operators come, and does again in each room that follows.
+#[derive(Drop)]
+pub(crate) struct Program {
+    /// The image that it loads, if there is one.
+    pub image: Option<Image>,
+    /// The cards that it then feeds.
+    pub cards: Vec<Card>,
+}
+
 /// What the seats of a room do before operators come.
 #[derive(Drop)]
 pub(crate) enum Before {
-    /// The first loads an image, if there is one, and then feeds these cards.
-    Program {
-        /// The image.
-        image: Option<Image>,
-        /// The cards.
-        cards: Vec<Card>,
-    },
+    /// The first loads an image, if there is one, and then feeds cards.
+    Program(Program),
     /// They give the commands of this room's journal again, each those of its number.
     Journal(Room),
+}
+
+impl Before {
+    /// Whether the machine has an image or cards when operators come, and not what others have left in it.
+    pub(crate) fn is_prepared(&self) -> bool {
+        match self {
+            Before::Program(program) => program.image.is_some() || !program.cards.is_empty(),
+            Before::Journal(_) => false,
+        }
+    }
 }
 
 /// Does what is done before operators come.
@@ -60,16 +74,16 @@ pub(crate) fn begin<J: RoomId, H: Wait + Drop, K: Keeper + Drop, W: Wait>(
     wait: &W,
     room: &SharedRoom<J, H, K>,
     seats: &mut Vec<Seat<J>>,
-    before: Before,
+    before: &Before,
 ) -> Result<(), OpenFault>
     requires seats { AreAllSeats J.seats seats.old.items }
     requires count { (0 < J.seats) × (J.seats < 2 ^ 8) }
     ensures seats { AreAllSeats J.seats seats.new.items }
-    ensures begun { OnOk result (HasBegun J.size before seats.old.items seats.new.items) }
+    ensures begun { OnOk result (HasBegun J.size before.now seats.old.items seats.new.items) }
 {
     match before {
-        Before::Program { image, cards } => {
-            begin_by_first(wait, room, seats, image, cards.as_slice())
+        Before::Program(program) => {
+            begin_by_first(wait, room, seats, &program.image, program.cards.as_slice())
         }
         Before::Journal(before) => {
             give_entries(wait, room, seats, before.journal()).map_err(give_fault)
@@ -82,13 +96,13 @@ fn begin_by_first<J: RoomId, H: Wait + Drop, K: Keeper + Drop, W: Wait>(
     wait: &W,
     room: &SharedRoom<J, H, K>,
     seats: &mut Vec<Seat<J>>,
-    image: Option<Image>,
+    image: &Option<Image>,
     cards: &[Card],
 ) -> Result<(), OpenFault>
     requires { AreAllSeats J.seats seats.old.items }
     ensures seats { AreAllSeats J.seats seats.new.items }
     ensures gave { OnOk result
-        (FirstGave J.size (first_commands image cards.now) seats.old.items seats.new.items) }
+        (FirstGave J.size (first_commands image.now cards.now) seats.old.items seats.new.items) }
 {
     // A room has a seat.
     let Some(first) = seats.first_mut() else {
@@ -102,16 +116,16 @@ fn begin_by<J: RoomId, H: Wait + Drop, K: Keeper + Drop, W: Wait>(
     wait: &W,
     room: &SharedRoom<J, H, K>,
     seat: &mut Seat<J>,
-    image: Option<Image>,
+    image: &Option<Image>,
     cards: &[Card],
 ) -> Result<(), OpenFault>
     ensures number { seat.new.number ≡ seat.old.number }
-    ensures gave { OnOk result (GaveAll J.size (first_commands image cards.now) seat.old seat.new) }
+    ensures gave { OnOk result (GaveAll J.size (first_commands image.now cards.now) seat.old seat.new) }
 {
     match image {
         None => feed_by(wait, room, seat, cards),
         Some(image) => {
-            put_image_by(wait, room, seat, &image)?;
+            put_image_by(wait, room, seat, image)?;
             feed_by(wait, room, seat, cards)
         }
     }

@@ -7,6 +7,7 @@ use calls_1401::Operators;
 use exchange_1401::{Origin, Site, origin_after};
 use holding_1401::HoldFault;
 use serving_1401::PagePort;
+use sockets_1401::lengthen_queue;
 use std::alloc::Global;
 use std::io;
 use std::net::{Ipv4Addr, Net, TcpListener, TcpStream};
@@ -20,12 +21,24 @@ pub(crate) struct Entrances {
     pub pages: Vec<PagePort>,
 }
 
-/// The listener at this port of 127.0.0.1.
+/// The listener at this port of 127.0.0.1, with a long queue.
 fn listener_at(
     rt: &impl Net<Listener = TcpListener, Stream = TcpStream>,
     port: u16,
 ) -> Result<TcpListener, OpenFault> {
-    TcpListener::bind(rt, (Ipv4Addr::LOCALHOST, port)).map_err(|_| OpenFault::Port)
+    let listener = TcpListener::bind(rt, (Ipv4Addr::LOCALHOST, port)).map_err(|_| OpenFault::Port)?;
+    lengthen_queue(&listener);
+    Ok(listener)
+}
+
+/// Listens again at the ports of a room that has ended, for the one that follows.
+pub(crate) fn listen_again(entrances: &Entrances) {
+    if let Some(listener) = &entrances.consoles {
+        lengthen_queue(listener);
+    }
+    for page in entrances.pages.as_slice() {
+        lengthen_queue(&page.listener);
+    }
 }
 
 /// The listeners for these operators, whose pages a proxy brings to others at this origin, if there is one.

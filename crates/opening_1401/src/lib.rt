@@ -4,6 +4,7 @@
 //! ```text
 //! open_room(rt, service)?                      // a console for each seat, once, until all have ended
 //! open_seats(rt, machine, cards, comers, kept)? // consoles and pages, whose seats are taken again, until QUIT
+//! open_succession(rt, machine, cards, comers, origin, kept, 20)? // the same, and a new room after 20 idle minutes
 //! resume_seats(rt, asked, comers)?             // the same, from where a journal ends
 //! ```
 #![tactic(auto)]
@@ -19,6 +20,9 @@ mod beginning;
 mod entrances;
 pub mod seating;
 
+// the same in rooms that follow each other
+pub mod succession;
+
 // the same where a journal ends
 pub mod resuming;
 
@@ -26,3 +30,4 @@ pub use fault::OpenFault;
 pub use resuming::resume_seats;
 pub use seating::{NewMachine, new_machine, open_seats};
 pub use serving::open_room;
+pub use succession::open_succession;

@@ -8,6 +8,7 @@ use crate::beginning::Before;
 use crate::entrances::{Entrances, open_entrances};
 use crate::fault::{OpenFault, not_kept};
 use crate::seating::{open_new, serve_room};
+use crate::succession::Turn;
 use calls_1401::{NewJournal, Operators, Resuming};
 use exchange_1401::Origin;
 use holding_1401::{HoldFault, durability_of, read_chosen, tell_cut};
@@ -15,7 +16,7 @@ use keeping_1401::{
     Durability, JournalFile, TakenUp, TextKeeper, Verifier, find_journal, verify_journal,
 };
 use room_1401::{Entry, Opened, Room};
-use serving_1401::foreign_seat;
+use serving_1401::{NotingKeeper, Watch, foreign_seat};
 use std::fs::File;
 use std::io::StdinLock;
 use std::marker::Brand;
@@ -91,7 +92,8 @@ fn resume_at<
     let room = room_of(rt, file, until, without.as_slice(), seats)?;
     let size = room.machine().core().size();
     let journal = new_journal(journal, sync);
-    open_new(rt, size, seats, Before::Journal(room), journal, entrances)
+    let before = Before::Journal(room);
+    open_new(rt, size, seats, &before, journal, entrances)
 }
 
 /// The same, of a journal whose seats the room has.
@@ -180,15 +182,15 @@ fn verify_room<
     let Ok(keeper) = verifier else {
         return Err(OpenFault::Hold(HoldFault::Memory));
     };
+    let watch = Watch::new(None, false);
+    let turn = Turn {
+        number: 1,
+        watch: &watch,
+    };
+    let keeper = NotingKeeper::new(keeper, &watch, rt);
     let opened = Opened::new(seats);
-    serve_room::<Brand, R, TextKeeper<Brand, Verifier<JournalFile>>>(
-        rt,
-        size,
-        seats,
-        Before::Journal(room),
-        opened,
-        keeper,
-        entrances,
-        None,
+    let before = Before::Journal(room);
+    serve_room::<Brand, R, NotingKeeper<'_, TextKeeper<Brand, Verifier<JournalFile>>, R>>(
+        rt, size, seats, &before, opened, keeper, entrances, None, turn,
     )
 }

@@ -5,10 +5,11 @@ ghost use Rattle.console_1401.specs.Served.{AreAllSeats};
 ghost use Rattle.lone_room_1401.specs.Kept.{kept_text};
 ghost use Rattle.opening_1401.specs.Outcome.{seats_outcome};
 
-use crate::beginning::{Before, begin};
+use crate::beginning::{Before, Program, begin};
 use crate::entrances::{Entrances, open_entrances, tell_ready};
 use crate::fault::{OpenFault, not_kept, not_told};
 use crate::serving::start_fault;
+use crate::succession::Turn;
 use calls_1401::{NewJournal, Opening, Operators};
 use core_1401::Core;
 use devices_1401::Card;
@@ -17,7 +18,10 @@ use holding_1401::{HoldFault, durability_of, read_file};
 use image_1401::{Image, read_image};
 use keeping_1401::{JournalFile, MadeJournal, MadeName, TextKeeper, begin_journal};
 use room_1401::{Keeper, NoKeeper, Opened, RoomId, Seat, SharedRoom};
-use serving_1401::{SeatsFault, SeatsServed, TakingTurns, serve_pages};
+use serving_1401::{
+    NotingKeeper, PagePort, SeatsFault, SeatsServed, TakingTurns, UntilRenewed, Watch,
+    serve_watched,
+};
 use std::fs::File;
 use std::io::StdinLock;
 use std::marker::Brand;
@@ -26,7 +30,7 @@ use std::random::RandomSource;
 use std::rt::{Clock, Files};
 use std::sync::Wait;
 use std::thread::Threads;
-use streams_1401::FromReader;
+use streams_1401::{FromReader, Sink, Source};
 use terminal_1401::SessionFault;
 
 /// What became of a room while it was served means this for the program.
@@ -115,12 +119,12 @@ pub fn open_seats<
     journal: Option<NewJournal>,
 ) -> Result<(), OpenFault> {
     let NewMachine { size, image } = machine;
-    let before = Before::Program { image, cards };
+    let before = Before::Program(Program { image, cards });
     let entrances = open_entrances(rt, operators, origin.as_ref())?;
-    open_new(rt, size, operators.seats, before, journal, &entrances)
+    open_new(rt, size, operators.seats, &before, journal, &entrances)
 }
 
-/// Opens a room that is kept in a new file, or isn't kept.
+/// Opens a room, with a journal in a new file or without one; no other room follows it.
 pub(crate) fn open_new<
     R: Threads
         + Wait
@@ -136,28 +140,95 @@ pub(crate) fn open_new<
     rt: &R,
     size: u16,
     seats: u8,
-    before: Before,
+    before: &Before,
     journal: Option<NewJournal>,
     entrances: &Entrances,
 ) -> Result<(), OpenFault>
     requires { vec_len entrances.now.pages ≤ seats }
 {
-    let opened = Opened::new(seats);
+    let watch = Watch::new(None, before.is_prepared());
+    let turn = Turn {
+        number: 1,
+        watch: &watch,
+    };
     let Some(NewJournal { file, sync }) = journal else {
-        return serve_room::<Brand, R, NoKeeper>(
-            rt, size, seats, before, opened, NoKeeper, entrances, None,
-        );
+        return serve_unkept(rt, size, seats, before, entrances, turn);
     };
     let made = begin_journal(rt, file, size, durability_of(sync)).map_err(not_kept)?;
-    let MadeJournal { file, name } = made;
-    let keeper = TextKeeper::<Brand, JournalFile>::new(rt.alloc(), file);
-    let made = Some(name);
-    serve_room::<Brand, R, TextKeeper<Brand, JournalFile>>(
-        rt, size, seats, before, opened, keeper, entrances, made,
+    serve_kept(rt, size, seats, before, made, entrances, turn)
+}
+
+/// Opens a room that isn't kept.
+pub(crate) fn serve_unkept<
+    R: Threads
+        + Wait
+        + Sync
+        + Clock
+        + RandomSource
+        + Input<Reader = StdinLock<'static>>
+        + Print
+        + Eprint
+        + AllocGlobal
+        + Files<File = File>,
+>(
+    rt: &R,
+    size: u16,
+    seats: u8,
+    before: &Before,
+    entrances: &Entrances,
+    turn: Turn<'_>,
+) -> Result<(), OpenFault>
+    requires { vec_len entrances.now.pages ≤ seats }
+{
+    let opened = Opened::new(seats);
+    let keeper = NotingKeeper::new(NoKeeper, turn.watch, rt);
+    serve_room::<Brand, R, NotingKeeper<'_, NoKeeper, R>>(
+        rt, size, seats, before, opened, keeper, entrances, None, turn,
     )
 }
 
-/// Opens a room of this name, by a keeper that has the head of its journal, and serves it; if it doesn't come about,
+/// Opens a room whose journal goes into the file that was made for it.
+pub(crate) fn serve_kept<
+    R: Threads
+        + Wait
+        + Sync
+        + Clock
+        + RandomSource
+        + Input<Reader = StdinLock<'static>>
+        + Print
+        + Eprint
+        + AllocGlobal
+        + Files<File = File>,
+>(
+    rt: &R,
+    size: u16,
+    seats: u8,
+    before: &Before,
+    made: MadeJournal,
+    entrances: &Entrances,
+    turn: Turn<'_>,
+) -> Result<(), OpenFault>
+    requires pages { vec_len entrances.now.pages ≤ seats }
+    requires good { ⟦<JournalFile as Sink>⟧.has_failed made.file ≡ false }
+{
+    let opened = Opened::new(seats);
+    let MadeJournal { file, name } = made;
+    let text = TextKeeper::<Brand, JournalFile>::new(rt.alloc(), file);
+    let keeper = NotingKeeper::new(text, turn.watch, rt);
+    serve_room::<Brand, R, NotingKeeper<'_, TextKeeper<Brand, JournalFile>, R>>(
+        rt,
+        size,
+        seats,
+        before,
+        opened,
+        keeper,
+        entrances,
+        Some(name),
+        turn,
+    )
+}
+
+/// Opens a room of this name, by a keeper that has the head of its journal, and serves it in its turn; if it doesn't come about,
 /// the file that was made for it is taken away.
 pub(crate) fn serve_room<
     J: RoomId + Send + Sync,
@@ -176,11 +247,12 @@ pub(crate) fn serve_room<
     rt: &R,
     size: u16,
     seats: u8,
-    before: Before,
+    before: &Before,
     opened: Opened,
     keeper: K,
     entrances: &Entrances,
     made: Option<MadeName>,
+    turn: Turn<'_>,
 ) -> Result<(), OpenFault>
     requires history { opened.book ≡ J.book }
     requires ledger { (opened.ledger ≡ J.name) × (opened.parts ≡ J.parts) × (J.parts ≡ J.seats) }
@@ -191,7 +263,7 @@ pub(crate) fn serve_room<
 {
     let alloc = rt.alloc();
     match SharedRoom::<J, &R, K>::power_on_kept(rt, alloc, size, seats, opened, keeper) {
-        Ok((room, seats)) => serve_begun(rt, room, seats, before, entrances, made),
+        Ok((room, seats)) => serve_begun(rt, room, seats, before, entrances, made, turn),
         Err(fault) => {
             remove(rt, made);
             Err(start_fault(fault))
@@ -217,9 +289,10 @@ fn serve_begun<
     rt: &R,
     room: SharedRoom<J, &R, K>,
     mut seats: Vec<Seat<J>>,
-    before: Before,
+    before: &Before,
     entrances: &Entrances,
     made: Option<MadeName>,
+    turn: Turn<'_>,
 ) -> Result<(), OpenFault>
     requires ledger { J.parts ≡ J.seats }
     requires seats { AreAllSeats J.seats seats.items }
@@ -231,10 +304,10 @@ fn serve_begun<
         return Err(fault);
     }
     drop(made);
-    serve_operators(rt, room, seats, entrances)
+    serve_operators(rt, room, seats, entrances, turn)
 }
 
-/// Tells that the room listens, serves it, and tells how many commands its journal has at the end.
+/// Reports that the room listens, serves it, and reports how many commands its journal has at the end.
 fn serve_operators<
     J: RoomId + Send + Sync,
     R: Threads
@@ -252,19 +325,73 @@ fn serve_operators<
     room: SharedRoom<J, &R, K>,
     seats: Vec<Seat<J>>,
     entrances: &Entrances,
+    turn: Turn<'_>,
 ) -> Result<(), OpenFault>
     requires ledger { J.parts ≡ J.seats }
     requires seats { AreAllSeats J.seats seats.items }
     requires count { (0 < J.seats) × (J.seats < 2 ^ 8) }
     requires pages { vec_len entrances.now.pages ≤ J.seats }
 {
-    let pages = entrances.pages.as_slice();
-    tell_ready(rt, pages)?;
+    report_open(rt, turn.number, entrances.pages.as_slice())?;
+    turn.watch.open();
     let input = FromReader::new(rt.reader());
+    if turn.watch.renews() {
+        let input = UntilRenewed::new(rt, turn.watch);
+        return serve_by(rt, room, seats, entrances, turn.watch, input);
+    }
+    serve_by(rt, room, seats, entrances, turn.watch, input)
+}
+
+/// Serves a room until this input ends it.
+fn serve_by<
+    J: RoomId + Send + Sync,
+    R: Threads
+        + Wait
+        + Sync
+        + Clock
+        + RandomSource
+        + Input<Reader = StdinLock<'static>>
+        + Print
+        + Eprint
+        + AllocGlobal,
+    K: Keeper + Drop + Send + Sync,
+    S: Source + Drop + Send,
+>(
+    rt: &R,
+    room: SharedRoom<J, &R, K>,
+    seats: Vec<Seat<J>>,
+    entrances: &Entrances,
+    watch: &Watch,
+    input: S,
+) -> Result<(), OpenFault>
+    requires ledger { J.parts ≡ J.seats }
+    requires seats { AreAllSeats J.seats seats.items }
+    requires count { (0 < J.seats) × (J.seats < 2 ^ 8) }
+    requires pages { vec_len entrances.now.pages ≤ J.seats }
+{
     let consoles = entrances.consoles.as_ref();
+    let pages = entrances.pages.as_slice();
     let door = TakingTurns::new(rt);
-    let served = serve_pages(rt.alloc(), rt, room, seats, consoles, pages, input, &door);
+    let served = serve_watched(
+        rt.alloc(),
+        rt,
+        room,
+        seats,
+        consoles,
+        pages,
+        Some(watch),
+        input,
+        &door,
+    );
     tell_end(rt, served)
+}
+
+/// Reports that the first room listens, or which of those that follow does.
+fn report_open(rt: &impl Print, number: u32, pages: &[PagePort]) -> Result<(), OpenFault> {
+    if number == 1 {
+        return tell_ready(rt, pages);
+    }
+    println!(rt; "ROOM {number}").map_err(not_told)
 }
 
 /// Tells how many commands the journal of a room has that was served.

@@ -1,13 +1,14 @@
 -- Which picture a query asks for (own).
-use Rattle.std.specs.Prelude.{ℕ, ◌==◌, nat_le, nat_lt, Bool, ◌&&◌, if◌then◌else◌, List, [], ◌∷◌, length, take}
+use Rattle.std.specs.Prelude.{ℕ, ◌==◌, nat_le, nat_lt, ◌&&◌, if◌then◌else◌, List, [], ◌∷◌, length, take}
 use Rattle.std.specs.Prelude.{drop, codes, Option, None, Some}
-use Rattle.std.specs.List.{slice_split}
+use Rattle.std.specs.List.{starts_with}
 use Rattle.std.specs.Str.{bytes_eq}
 use Rattle.core_1401.specs.Address.{addresses}
 use Rattle.devices_1401.specs.Devices.{most_held}
 use Rattle.exchange_1401.specs.Numbers.{number_of}
 use Rattle.room_1401.specs.declared.picture.Window.{Window}
 use Rattle.page_1401.specs.declared.asked.Asked.{Asked}
+use Rattle.page_1401.specs.Pieces.{pieces_of}
 
 -- the number after a name, if the field begins with the name
 unfoldable pub number_behind : List ℕ → List ℕ → Option ℕ
@@ -16,17 +17,12 @@ number_behind name field =
     else (if bytes_eq (take (length name) field) name then number_of (drop (length name) field) else None)
 
 -- it parts the fields of a query
-abbrev pub is_ampersand : ℕ → Bool
-is_ampersand byte = byte == 38
+abbrev pub ampersand : ℕ
+ampersand = 38
 
 -- the fields of a query
 abbrev pub fields_of : List ℕ → List (List ℕ)
-fields_of query = slice_split is_ampersand query
-
--- the same, if there is more of it
-abbrev pub fields_in : Option (List ℕ) → List (List ℕ)
-fields_in None = []
-fields_in (Some query) = fields_of query
+fields_of query = pieces_of ampersand query
 
 -- the window at an address of core and a line of the paper, which has no more than 500
 abbrev pub window_of : Option ℕ → Option ℕ → Option Window
@@ -62,7 +58,20 @@ asked_by_fields (core ∷ paper ∷ after ∷ more ∷ fields) = None
 unfoldable pub asked_by : List ℕ → Option Asked
 asked_by query = asked_by_fields (fields_of query)
 
--- the same, if there is a query
-abbrev pub asked_in : Option (List ℕ) → Option Asked
-asked_in None = None
-asked_in (Some query) = asked_by query
+-- what comes after a name, if the field begins with the name
+abbrev pub text_behind : List ℕ → List ℕ → Option (List ℕ)
+text_behind name field = if starts_with (λ a b. a == b) field name then Some (drop (length name) field) else None
+
+-- the room that a query names in its first field, if it does
+abbrev pub room_in : List (List ℕ) → Option (List ℕ)
+room_in [] = None
+room_in (field ∷ fields) = text_behind (codes "room=") field
+
+-- the picture that the fields ask for: those after the room, if one is named
+abbrev pub asked_with : Option (List ℕ) → List (List ℕ) → Option Asked
+asked_with None fields = asked_by_fields fields
+asked_with (Some room) [] = None
+asked_with (Some room) (field ∷ fields) = asked_by_fields fields
+
+abbrev pub asked_in : List (List ℕ) → Option Asked
+asked_in fields = asked_with (room_in fields) fields

@@ -1,5 +1,9 @@
 pub mod Asked
+pub mod Elsewhere
+pub mod ManyLines
 pub mod PictureLines
+pub mod Pieces
 pub mod SeatPage
 pub mod Showing
 pub mod Taking
+pub mod TakenPage

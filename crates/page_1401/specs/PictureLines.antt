@@ -19,6 +19,10 @@ use Rattle.notation_1401.specs.Characters.{graphics_of, trimmed}
 abbrev pub line_feed : List ℕ
 line_feed = codes "\n"
 
+-- the name of the room
+unfoldable pub room_line : List ℕ → List ℕ
+room_line name = codes "ROOM " ++ name ++ line_feed
+
 -- the number of the seat, how many seats there are, and how many commands this one made
 unfoldable pub seat_line : ℕ → ℕ → ℕ → List ℕ
 seat_line number seats made =

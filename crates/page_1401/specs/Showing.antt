@@ -1,6 +1,8 @@
 -- A picture of the machine, as a request asks for one (own).
-use Rattle.std.specs.Prelude.{◌≡◌, ℕ, ◌+◌, ◌<◌, ◌≤◌, ◌==◌, Bool, true, false, [], length, Option, None, Some}
+use Rattle.std.specs.Prelude.{◌≡◌, ℕ, ◌+◌, ◌<◌, ◌≤◌, ◌==◌, Bool, true, false, List, [], ◌++◌, length}
+use Rattle.std.specs.Prelude.{Option, None, Some, if◌then◌else◌}
 use mathlib.Core.List.{IsPrefix}
+use Rattle.std.specs.Str.{bytes_eq}
 use Rattle.http_server.specs.declared.response.Response.{Response}
 use Rattle.http_server.specs.Response.{IsResponse}
 use Rattle.room_1401.specs.Picture.{picture_after, window_cells}
@@ -8,13 +10,24 @@ use Rattle.room_1401.specs.Seen.{SeatView}
 use Rattle.page_1401.specs.declared.asked.Asked.{Asked}
 use Rattle.page_1401.specs.declared.showing.Sight.{Sight}
 use Rattle.page_1401.specs.declared.showing.Sight.TheVariants.{Text, Same, NotInCore, Gone, NoMemory}
-use Rattle.page_1401.specs.PictureLines.{picture_text}
+use Rattle.page_1401.specs.Asked.{asked_in, room_in}
+use Rattle.page_1401.specs.PictureLines.{picture_text, room_line}
 use Rattle.exchange_1401.specs.Responses.{IsRefused, IsText, text_fields}
 
 -- whether the picture that a page has is after this number of commands
 abbrev pub has_seen : Option ℕ → ℕ → Bool
 has_seen None count = false
 has_seen (Some after) count = after == count
+
+-- what the text begins with: the name of the room, if the page has named one
+abbrev pub heading : Option (List ℕ) → List ℕ → List ℕ
+heading None name = []
+heading (Some room) name = room_line name
+
+-- a picture of another room is none that the page has
+abbrev pub asked_here : Option (List ℕ) → List ℕ → Asked → Asked
+asked_here None name asked = asked
+asked_here (Some room) name asked = if bytes_eq room name then asked else record asked { after = None }
 
 -- The window is in core storage; the seat made nothing, and has seen no less.
 pub record HasLooked (size : ℕ) (asked : Asked) (before after : SeatView) : Type 0 where
@@ -26,15 +39,15 @@ pub record HasLooked (size : ℕ) (asked : Asked) (before after : SeatView) : Ty
 -- what looking came to: the text of the picture after the commands that the seat has then seen, if the page hasn't the
 -- picture after as many commands; that it has it; that the window isn't in core; that nothing is published any more; or
 -- that memory was refused for the text
-abbrev pub Sees : ℕ → ℕ → Asked → SeatView → Sight → SeatView → Type 0
-Sees size seats asked before (Text text) after =
+abbrev pub Sees : ℕ → ℕ → List ℕ → Asked → SeatView → Sight → SeatView → Type 0
+Sees size seats front asked before (Text text) after =
     HasLooked size asked before after × (has_seen asked.after (length after.list) ≡ false)
-    × (text.items ≡ picture_text before.number seats before.made (picture_after size after.list asked.window))
-Sees size seats asked before Same after =
+    × (text.items ≡ front ++ picture_text before.number seats before.made (picture_after size after.list asked.window))
+Sees size seats front asked before Same after =
     HasLooked size asked before after × (has_seen asked.after (length after.list) ≡ true)
-Sees size seats asked before NotInCore after = (size < asked.window.core + window_cells) × (after ≡ before)
-Sees size seats asked before Gone after = (asked.window.core + window_cells ≤ size) × (after ≡ before)
-Sees size seats asked before NoMemory after =
+Sees size seats front asked before NotInCore after = (size < asked.window.core + window_cells) × (after ≡ before)
+Sees size seats front asked before Gone after = (asked.window.core + window_cells ≤ size) × (after ≡ before)
+Sees size seats front asked before NoMemory after =
     HasLooked size asked before after × (has_seen asked.after (length after.list) ≡ false)
 
 -- what is answered then
@@ -46,7 +59,13 @@ IsSightTold Gone response = IsResponse 410 text_fields [] response
 IsSightTold NoMemory response = IsResponse 507 text_fields [] response
 
 -- a request for a picture is answered by what looking came to; a query that asks for none is refused
-abbrev pub ShowsPicture : ℕ → ℕ → Option Asked → SeatView → Response → SeatView → Type 0
-ShowsPicture size seats None before response after = IsRefused 400 response × (after ≡ before)
-ShowsPicture size seats (Some asked) before response after =
-    (sight : Sight) × Sees size seats asked before sight after × IsSightTold sight response
+abbrev pub ShowsAsked : ℕ → ℕ → List ℕ → Option (List ℕ) → Option Asked → SeatView → Response → SeatView → Type 0
+ShowsAsked size seats name room None before response after = IsRefused 400 response × (after ≡ before)
+ShowsAsked size seats name room (Some asked) before response after =
+    (sight : Sight) × Sees size seats (heading room name) (asked_here room name asked) before sight after
+    × IsSightTold sight response
+
+-- the same by the fields of its query; the room has this name
+abbrev pub ShowsPicture : ℕ → ℕ → List ℕ → List (List ℕ) → SeatView → Response → SeatView → Type 0
+ShowsPicture size seats name fields before response after =
+    ShowsAsked size seats name (room_in fields) (asked_in fields) before response after

@@ -12,7 +12,7 @@ use Rattle.text_1401.specs.ConsoleLine.{said_by}
 use Rattle.console_1401.specs.declared.attending.Unanswered.{Unanswered}
 use Rattle.console_1401.specs.declared.attending.Unanswered.TheVariants.{Memory, Unkept}
 use Rattle.console_1401.specs.SeatTurns.{AnswersAtSeat, IsUnanswered}
-use Rattle.exchange_1401.specs.Fields.{count_in, is_next}
+use Rattle.exchange_1401.specs.Fields.{count_in, is_for_room, is_next}
 use Rattle.exchange_1401.specs.Responses.{IsRefused, IsText, text_fields}
 use Rattle.exchange_1401.specs.Sites.{is_from_site, SiteView}
 
@@ -46,12 +46,15 @@ pub record AnswersLine (size : ℕ) (lost : List SeatedCommand → Type 0) (befo
   pub number_is : after.number ≡ before.number
   pub grows : IsPrefix before.list after.list
 
--- a line has to come from the seat's own page, and to go on from what the seat made; else nothing is carried out
-abbrev pub TakesLine : ℕ → (List SeatedCommand → Type 0) → SiteView → Parts → List ℕ → SeatView → Response → SeatView
+-- a line has to come from the seat's own page, to be for this room if it names one, and to go on from what the seat
+-- made; else nothing is carried out
+abbrev pub TakesLine : ℕ → (List SeatedCommand → Type 0) → SiteView → List ℕ → Parts → List ℕ → SeatView → Response → SeatView
     → Type 0
-TakesLine size lost site head line before response after =
+TakesLine size lost site name head line before response after =
     MatchBool (is_from_site head site)
+    (MatchBool (is_for_room head name)
     (MatchBool (is_next (count_in head) before.made)
     (AnswersLine size lost before line response after)
+    (IsRefused 409 response × (after ≡ before)))
     (IsRefused 409 response × (after ≡ before)))
     (IsRefused 403 response × (after ≡ before))

@@ -1,9 +1,9 @@
 //! Which picture a query asks for.
-ghost use Rattle.std.specs.Prelude.{◌≡◌, ◌≤◌, ◌∷◌, length, option_copied};
-ghost use Rattle.std.specs.List.{position_or_len};
-ghost use Rattle.page_1401.specs.Asked.{asked_after, asked_at, asked_by, fields_in, fields_of, is_ampersand};
-ghost use Rattle.page_1401.specs.Asked.{number_behind, window_by, window_of};
+ghost use Rattle.std.specs.Prelude.{◌≡◌, option_copied};
+ghost use Rattle.page_1401.specs.Asked.{asked_after, asked_at, asked_by, asked_in, fields_of, number_behind, room_in};
+ghost use Rattle.page_1401.specs.Asked.{text_behind, window_by, window_of};
 
+use crate::pieces::cut_piece;
 use core_1401::ADDRESSES;
 use devices_1401::MOST_HELD;
 use exchange_1401::number;
@@ -28,26 +28,6 @@ fn number_behind(name: &[u8], field: &[u8]) -> Option<u32>
     }
     let (front, value) = field.split_at(name.len());
     if front == name { number(value) } else { None }
-}
-
-/// How many bytes the first field of a query has.
-fn first_len(query: &[u8]) -> usize
-    ensures value { result ≡ position_or_len is_ampersand query.now }
-    ensures bound { result ≤ length query.now }
-{
-    query.iter().take_while(|byte| **byte != b'&').count()
-}
-
-/// The first field of a query, and what stands after its ampersand, if it has one.
-#[tactic(auto, using(crate::proofs::AskedLemmas::last_field))]
-fn cut_field(query: &[u8]) -> (&[u8], Option<&[u8]>)
-    ensures { fields_of query.now ≡ result.0.now ∷ fields_in (option_copied result.1) }
-{
-    let len = first_len(query);
-    if len == query.len() {
-        return (query, None);
-    }
-    (&query[..len], Some(&query[len + 1..]))
 }
 
 /// The window at an address of core and a line of the paper.
@@ -102,14 +82,41 @@ fn asked_after(window: Option<Window>, after: Option<u32>) -> Option<Asked>
 pub fn asked_by(query: &[u8]) -> Option<Asked>
     ensures { result ≡ asked_by query.now }
 {
-    let (core, rest) = cut_field(query);
-    let (paper, rest) = cut_field(rest?);
+    let (core, rest) = cut_piece(b'&', query);
+    let (paper, rest) = cut_piece(b'&', rest?);
     let window = window_by(core, paper);
     let Some(rest) = rest else {
         return asked_at(window);
     };
-    match cut_field(rest) {
+    match cut_piece(b'&', rest) {
         (after, None) => asked_after(window, number_behind(b"after=", after)),
         (_, Some(_)) => None,
+    }
+}
+
+/// What comes after a name, if the field begins with the name.
+fn text_behind<'a>(name: &[u8], field: &'a [u8]) -> Option<&'a [u8]>
+    ensures { option_copied result ≡ text_behind name.now field.now }
+{
+    if field.starts_with(name) {
+        Some(&field[name.len()..])
+    } else {
+        None
+    }
+}
+
+/// The room that a query names first, `room=` and its name, if it does; and the picture that the rest asks for.
+#[tactic(auto, unfolding(crate::specs::Asked::asked_by))]
+pub(crate) fn asked_in(query: &[u8]) -> (Option<&[u8]>, Option<Asked>)
+    ensures room { option_copied result.0 ≡ room_in (fields_of query.now) }
+    ensures asked { result.1 ≡ asked_in (fields_of query.now) }
+{
+    let (first, rest) = cut_piece(b'&', query);
+    let Some(room) = text_behind(b"room=", first) else {
+        return (None, asked_by(query));
+    };
+    match rest {
+        Some(rest) => (Some(room), asked_by(rest)),
+        None => (Some(room), None),
     }
 }

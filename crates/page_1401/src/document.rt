@@ -1,6 +1,10 @@
 //! The page itself and its policy. Written by page/embed from page/: change the files there, and run it.
+ghost use Rattle.std.specs.Prelude.{IsTrue};
+ghost use Rattle.http_header.specs.FieldValue.{is_visible_text};
 
-/// The page: HTML with one style and one script, and nothing from elsewhere.
+use exchange_1401::Document;
+
+/// The first part of the page: HTML with one style and one script, and nothing from elsewhere.
 pub const PAGE: &[u8] = br##"<!doctype html>
 <html lang="en">
 <head>
@@ -43,6 +47,7 @@ header .what span{display:block;}
 .seats a{font:700 13px var(--mono);width:30px;height:30px;border-radius:50%;display:grid;
 place-items:center;background:var(--off);color:#fff;text-decoration:none;}
 .seats a:hover{background:var(--blue);}
+.seats a.taken{border:2px dashed var(--lamp);}
 .seats a[aria-current]{background:var(--lamp);color:#2b1d00;}
 header .after{font:13px var(--mono);display:flex;gap:8px;align-items:center;min-width:8em;}
 .after i{width:11px;height:11px;border-radius:50%;background:#64d08a;}
@@ -51,6 +56,7 @@ header button,header select{background:var(--panel);border:1px solid var(--faint
 padding:4px 10px;color:var(--ivory);font-size:13px;}
 header button[aria-pressed=true]{background:var(--lamp);color:#2b1d00;}
 header button:hover{background:var(--panel-light);color:var(--ivory);}
+.notice{background:var(--ink);color:#fff;font-weight:700;padding:9px 14px;}
 .banner{background:var(--red);color:#fff;font-weight:700;padding:9px 14px;}
 main{padding:8px 10px;max-width:2200px;margin:auto;}
 .stage{display:grid;gap:8px 10px;grid-template:"stand printer" auto "console printer" minmax(210px, 1fr)
@@ -358,6 +364,8 @@ background-color:#fff;}
 <select id="language" data-label="languageLabel"></select>
 </header>
 <div class="banner" id="banner" role="alert" hidden></div>
+<div class="notice" id="notice" role="status" hidden><span id="notice-words"></span><span id="notice-left"
+aria-hidden="true"></span></div>
 <noscript><p class="banner">This page needs JavaScript, which it has within itself.</p></noscript>
 <main>
 <div class="stage">
@@ -449,7 +457,8 @@ data-label="startLabel">
 </div>
 </section>
 <section class="console" aria-labelledby="console-title">
-<div class="title"><h2 id="console-title" data-text="console"></h2><small id="others"></small></div>
+<div class="title"><h2 id="console-title" data-text="console"></h2><small id="others"></small>
+<button type="button" class="small-key" id="hold-key" data-title="holdTitle" hidden></button></div>
 <div class="log" id="log" role="log" aria-live="off" tabindex="0" data-label="logLabel"></div>
 <form id="line-form">
 <input id="line" maxlength="200" autocomplete="off" autocapitalize="characters" spellcheck="false"
@@ -554,6 +563,7 @@ documentTitle:'IBM 1401, seat {seat}',
 skip:'To the deck and the keys',
 headline:'Data processing system',subline:'Shared machine room',
 seatsLabel:'The seats of this room',seats:'seats',seat:'seat {n}',thisSeat:'seat {n}, this one',
+takenSeat:'seat {n}, taken',
 after:{one:'1 command',many:'{n} commands'},afterTitle:'how many commands the machine was given, by all seats',
 answers:'The machine answers.',
 aboutKey:'What am I looking at?',soundKey:'Sound',helpKey:'Keys',closeKey:'Close',yesKey:'Yes',noKey:'No',
@@ -572,7 +582,8 @@ pace:'pace of RUN',
 paces:['10 steps a second','100 a second','1,000 a second','4,000 a second','1,000,000 a second',
 'the pace of 1960'],
 running:'running: {steps} steps',
-waits:{READER:'waiting for cards',FORMS:'waiting for the paper',STACKER:'waiting for the stacker'},
+waits:{READER:'The run waits for the next cards.',FORMS:'The run waits: tear the paper off.',
+STACKER:'The run waits: take the punched cards.'},
 core:'Core storage',tabsLabel:'which 600 places are shown',
 findLabel:'address',findKey:'Show',follow:'follow I',
 findWrong:'Core storage has the places 0000 to {last}.',
@@ -644,6 +655,15 @@ console:'Console',logLabel:'lines and replies',lineLabel:'a line of the console'
 sendKey:'SEND',linesTitle:'The lines, and what they do (or type HELP)',
 others:{one:'others gave 1 command since you came',many:'others gave {n} commands since you came'},
 othersNow:'Another seat is at work: its keys act on this machine too.',
+othersRun:'Another seat runs a program: LOAD, RUN, STEP and START AT would act in the middle of it.',
+othersRunning:'another seat runs a program',
+seatNow:'Seat {seat} is at work ({line}): its keys act on this machine too.',
+seatRun:'Seat {seat} runs a program: LOAD, RUN, STEP and START AT would act in the middle of it.',
+seatRunning:'seat {seat} runs a program',seatLast:'; the last command is of seat {seat}: {line}',
+holdKey:'Hold the machine',releaseHold:'Let others go on',
+holdTitle:'for a minute no other page gives the machine lines; consoles still do',
+holder:'You hold the machine: the keys of the other pages are off.',
+keptOff:'Seat {seat} holds the machine, so the keys are off here.',secondsLeft:'({n} s)',
 fedInLog:{one:'(1 card fed)',many:'({n} cards fed)'},tornInLog:{one:'(1 line taken)',
 many:'({n} lines taken)'},
 cardsInLog:{one:'(1 card taken)',many:'({n} cards taken)'},
@@ -654,6 +674,8 @@ closed:'The room is closed: the machine has been put away. This page tries again
 taken503:'Somebody sits at this seat with a console. This page goes on when that operator has left.',
 busy:'Too many requests wait at this page. It tries again.',
 unkept:'The journal\'s file can\'t be written, so the machine takes no more commands. Please call the staff.',
+renewal:{one:'This machine is put away in 1 second, and a new one follows.',
+many:'This machine is put away in {n} seconds, and a new one follows.'},
 full:'The journal is full, so the machine takes no more commands. Please call the staff.',
 nearlyFull:'The journal has {n} of its 100,000 entries. Please call the staff.',
 refusedStatus:'The server refused what this page asked for ({status}).',
@@ -666,6 +688,7 @@ broken:'Not sent: it was meant for the machine before the connection broke.',
 + 'Look, and send it again.',
 403:'Not carried out: the server doesn\'t take lines from this page.',
 410:'Not carried out: the room is closed.',
+423:'Not carried out: seat {seat} holds the machine for {left} more seconds.',
 503:'Not carried out: a console sits at this seat.',
 busy:'Not carried out: too many requests wait at this page.',
 507:'Carried out, but there was no memory for its reply.',
@@ -683,15 +706,17 @@ welcome:'Choose a program and feed it, press LOAD, then RUN.',
 welcomeCards:{one:'There is 1 card in the hopper. LOAD reads it.',
 many:'There are {n} cards in the hopper. LOAD reads the first one.'},
 welcomeProgram:'A program is in core storage. RUN carries it out.',
+welcomePrepared:'The staff has put a program into core storage. START AT its address, then RUN.',
 load:'The first card was read into 001 to 080. RUN carries it out.',
 start:'The I register is set. RUN begins there.',
 step:'One instruction was carried out.',
 limit:{one:'1 instruction was carried out, as asked. RUN goes on.',
 many:'{n} instructions were carried out, as asked. RUN goes on.'},
 stopped:{one:'Stopped by you after 1 step. RUN goes on.',many:'Stopped by you after {n} steps. RUN goes on.'},
-pause:'Paused after {slices} parts, {steps} steps, since each part is an entry of the journal. RUN goes on.',
+pause:'Paused after {steps} steps, since the journal is nearly full. Please call the staff.',
 afterEnd:'The program has ended. Feed another one and press LOAD. (Press again to go on after its halt.)',
 newRoom:'The staff has started another machine. What you did before isn\'t in it.',
+renewing:'A new machine is asked for ..',
 clearing:'The machine is being cleared ..',clear:'The machine is clear: no card, no paper, nothing in core.',
 notClear:'The machine couldn\'t be cleared, since somebody else is at work. Try again.',
 },
@@ -759,6 +784,8 @@ guide:{
 off:'The guide leads you to a printed line with your name, in about two minutes.',
 left:'Somebody has left cards, paper or a program in the machine. Press "Start afresh" to clear it; or go on '
 + 'with it.',
+prepared:'The staff has prepared this machine: it was begun with a program or with cards. Press LOAD if there are '
++ 'cards, then RUN. "Start afresh" would clear it.',
 aside:'The guide has stepped aside. It begins again when you like.',
 done:'Your name is on the paper. Save it, print the card to take home, or choose another program above.',
 attract:'Nobody is here, so the machine runs by itself. Touch the screen or a key to take over.',
@@ -829,6 +856,7 @@ documentTitle:'IBM 1401, Platz {seat}',
 skip:'Zum Stapel und zu den Tasten',
 headline:'Datenverarbeitungssystem',subline:'Gemeinsamer Maschinenraum',
 seatsLabel:'Die Pl\xe4tze dieses Raums',seats:'Pl\xe4tze',seat:'Platz {n}',thisSeat:'Platz {n}, dieser hier',
+takenSeat:'Platz {n}, besetzt',
 after:{one:'1 Befehl',many:'{n} Befehle'},afterTitle:'wie viele Befehle die Maschine von allen Pl\xe4tzen bekam',
 answers:'Die Maschine antwortet.',
 aboutKey:'Was sehe ich hier?',soundKey:'Ton',helpKey:'Tasten',closeKey:'Schlie\xdfen',yesKey:'Ja',
@@ -848,7 +876,8 @@ pace:'Tempo von RUN',
 paces:['10 Schritte je Sekunde','100 je Sekunde','1.000 je Sekunde','4.000 je Sekunde','1.000.000 je Sekunde',
 'das Tempo von 1960'],
 running:'l\xe4uft: {steps} Schritte',
-waits:{READER:'wartet auf Karten',FORMS:'wartet auf das Papier',STACKER:'wartet auf die Ablage'},
+waits:{READER:'Der Lauf wartet auf die n\xe4chsten Karten.',FORMS:'Der Lauf wartet: Papier abrei\xdfen.',
+STACKER:'Der Lauf wartet: gestanzte Karten nehmen.'},
 core:'Kernspeicher',tabsLabel:'welche 600 Stellen gezeigt werden',
 findLabel:'Adresse',findKey:'Zeigen',follow:'I folgen',
 findWrong:'Der Kernspeicher hat die Stellen 0000 bis {last}.',
@@ -926,6 +955,15 @@ lineHint:'EXAMINE 0500 11',
 sendKey:'SENDEN',linesTitle:'Die Zeilen, und was sie tun (oder HELP)',
 others:{one:'andere gaben 1 Befehl, seit Sie da sind',many:'andere gaben {n} Befehle, seit Sie da sind'},
 othersNow:'Ein anderer Platz arbeitet: seine Tasten wirken auch auf diese Maschine.',
+othersRun:'Ein anderer Platz l\xe4sst ein Programm laufen: LOAD, RUN, STEP und START AT w\xfcrden mitten darin wirken.',
+othersRunning:'ein anderer Platz l\xe4sst ein Programm laufen',
+seatNow:'Platz {seat} arbeitet ({line}): seine Tasten wirken auch auf diese Maschine.',
+seatRun:'Platz {seat} l\xe4sst ein Programm laufen: LOAD, RUN, STEP und START AT w\xfcrden mitten darin wirken.',
+seatRunning:'Platz {seat} l\xe4sst ein Programm laufen',seatLast:'; der letzte Befehl ist von Platz {seat}: {line}',
+holdKey:'Maschine halten',releaseHold:'Andere weitermachen lassen',
+holdTitle:'eine Minute lang gibt keine andere Seite der Maschine Zeilen; Konsolen schon',
+holder:'Sie halten die Maschine: die Tasten der anderen Seiten sind aus.',
+keptOff:'Platz {seat} h\xe4lt die Maschine, darum sind die Tasten hier aus.',secondsLeft:'({n} s)',
 fedInLog:{one:'(1 Karte eingelegt)',many:'({n} Karten eingelegt)'},
 tornInLog:{one:'(1 Zeile genommen)',many:'({n} Zeilen genommen)'},
 cardsInLog:{one:'(1 Karte genommen)',many:'({n} Karten genommen)'},
@@ -937,6 +975,8 @@ taken503:'An diesem Platz sitzt jemand mit einer Konsole. Diese Seite geht weite
 busy:'Zu viele Anfragen warten bei dieser Seite. Sie versucht es weiter.',
 unkept:'Die Datei des Journals l\xe4sst sich nicht schreiben; die Maschine nimmt keine Befehle an. Bitte das '
 + 'Personal rufen.',
+renewal:{one:'Diese Maschine wird in 1 Sekunde wegger\xe4umt, und eine neue folgt.',
+many:'Diese Maschine wird in {n} Sekunden wegger\xe4umt, und eine neue folgt.'},
 full:'Das Journal ist voll; die Maschine nimmt keine Befehle mehr an. Bitte das Personal rufen.',
 nearlyFull:'Das Journal hat {n} seiner 100.000 Eintr\xe4ge. Bitte das Personal rufen.',
 refusedStatus:'Der Server hat abgelehnt, was diese Seite wollte ({status}).',
@@ -949,6 +989,7 @@ broken:'Nicht gesendet: es war f\xfcr die Maschine vor dem Abbruch der Verbindun
 + 'Sehen Sie nach, und senden Sie es noch einmal.',
 403:'Nicht ausgef\xfchrt: der Server nimmt keine Zeilen von dieser Seite.',
 410:'Nicht ausgef\xfchrt: der Raum ist geschlossen.',
+423:'Nicht ausgef\xfchrt: Platz {seat} h\xe4lt die Maschine noch {left} Sekunden lang.',
 503:'Nicht ausgef\xfchrt: an diesem Platz sitzt eine Konsole.',
 busy:'Nicht ausgef\xfchrt: zu viele Anfragen warten bei dieser Seite.',
 507:'Ausgef\xfchrt, aber f\xfcr die Antwort war kein Speicher da.',
@@ -967,6 +1008,7 @@ welcome:'W\xe4hlen Sie ein Programm und legen Sie es ein; dann LOAD, dann RUN.',
 welcomeCards:{one:'Im Magazin liegt 1 Karte. LOAD liest sie.',
 many:'Im Magazin liegen {n} Karten. LOAD liest die erste.'},
 welcomeProgram:'Ein Programm ist im Kernspeicher. RUN f\xfchrt es aus.',
+welcomePrepared:'Das Museum hat ein Programm in den Kernspeicher gelegt. START AT seine Adresse, dann RUN.',
 load:'Die erste Karte wurde nach 001 bis 080 gelesen. RUN f\xfchrt sie aus.',
 start:'Das I-Register ist gesetzt. RUN beginnt dort.',
 step:'Ein Befehl wurde ausgef\xfchrt.',
@@ -974,11 +1016,11 @@ limit:{one:'1 Befehl wurde ausgef\xfchrt, wie verlangt. RUN geht weiter.',
 many:'{n} Befehle wurden ausgef\xfchrt, wie verlangt. RUN geht weiter.'},
 stopped:{one:'Von Ihnen angehalten nach 1 Schritt. RUN geht weiter.',
 many:'Von Ihnen angehalten nach {n} Schritten. RUN geht weiter.'},
-pause:'Pause nach {slices} Teilen, {steps} Schritten, denn jeder Teil ist ein Eintrag im Journal. RUN geht '
-+ 'weiter.',
+pause:'Pause nach {steps} Schritten, denn das Journal ist fast voll. Bitte das Personal rufen.',
 afterEnd:'Das Programm ist zu Ende. Legen Sie ein anderes ein und dr\xfccken Sie LOAD. (Noch einmal: weiter '
 + 'nach dem Halt.)',
 newRoom:'Das Personal hat eine andere Maschine gestartet. Was Sie vorher taten, ist nicht darin.',
+renewing:'Eine neue Maschine wird verlangt ..',
 clearing:'Die Maschine wird geleert ..',clear:'Die Maschine ist leer: keine Karte, kein Papier, nichts im '
 + 'Speicher.',
 notClear:'Die Maschine lie\xdf sich nicht leeren, weil jemand anders arbeitet. Versuchen Sie es noch einmal.',
@@ -995,7 +1037,10 @@ LENGTH:'Der Befehl bei I hat eine L\xe4nge, die seine Operation nicht hat. Fehlt
 ADDRESS:'Der Befehl bei I braucht eine Stelle, die es nicht gibt, oder ein Feld ohne Ende.',
 OVERLAP:'Die Felder des Befehls bei I teilen sich Stellen.',
 CARRIAGE:'Ein Sprung zu einem Kanal ohne Loch im Vorschubstreifen: er hat 1, 9 und 12.',
-DCHAR:'Das letzte Zeichen des Befehls bei I verlangt nichts, was er kann.',
+DCHAR:'Das letzte Zeichen des Befehls bei I verlangt nichts, was er kann.',"##;
+
+/// The rest of the page.
+pub const REST: &[u8] = br##"
 },
 replies:{
 'REFUSED 1':'Diese Stelle gibt es nicht.',
@@ -1048,6 +1093,8 @@ guide:{
 off:'Die F\xfchrung bringt Sie in etwa zwei Minuten zu einer gedruckten Zeile mit Ihrem Namen.',
 left:'Jemand hat Karten, Papier oder ein Programm in der Maschine gelassen. "Von vorn" leert sie; '
 + 'oder machen Sie damit weiter.',
+prepared:'Das Museum hat diese Maschine vorbereitet: sie begann mit einem Programm oder mit Karten. Dr\xfccken Sie '
++ 'LOAD, wenn Karten da sind, dann RUN. "Von vorn" w\xfcrde sie leeren.',
 aside:'Die F\xfchrung ist zur Seite getreten. Sie beginnt wieder, wenn Sie wollen.',
 done:'Ihr Name ist auf dem Papier. Sichern Sie es, drucken Sie die Karte, oder w\xe4hlen Sie ein anderes Programm.',
 attract:'Niemand ist hier, darum l\xe4uft die Maschine allein. Ein Druck auf den Bildschirm oder eine Taste '
@@ -1132,8 +1179,13 @@ const OWN_STEPS=12;
 const PACES=[1,10,100,400,100000,OWN_PACE];
 const FASTEST=4;
 const SLICE_MS=100;
-const MOST_SLICES=600;
+const CHUNK=100;
+const GROW_AFTER_MS=60000;
+const GROW_MS=3000;
+const MOST_GROWN=60;
+const MOST_STEPS=1000000;
 const POLL_MS=250;
+const WAIT_MS=50;
 const HIDDEN_POLL_MS=1000;
 const RETRY_MS=1000;
 function rowsOf(graphic){
@@ -1265,12 +1317,12 @@ values[name]=name==='SWITCHES'?value:Number(value);
 return values;
 }
 function pictureOf(text){
-const lines=text.split('\n');
+const[head,...lines]=text.split('\n'),[room]=partsOf(head,/^ROOM (\w+)$/);
 const[seat,seats,made]=partsOf(lines[0],/^SEAT (\d+) OF (\d+) MADE (\d+)$/).map(Number);
 const after=Number(partsOf(lines[1],/^AFTER (\d+)$/)[0]);
 const[from,size]=partsOf(lines[7],/^CORE (\d+) OF (\d+)$/).map(Number);
 const picture={
-seat,seats,made,after,from,size,cells:[],lines:[],registers:registersOf(lines[2]),
+room,seat,seats,made,after,from,size,cells:[],lines:[],registers:registersOf(lines[2]),
 next:afterWord(lines[3],'NEXT'),read:afterWord(lines[4],'READ')||'',
 hopper:afterWord(lines[5],'HOPPER'),punched:afterWord(lines[6],'PUNCHED'),
 };
@@ -1295,11 +1347,13 @@ status:0,
 breaks:0,
 unkept:false,full:false,
 since:null,
-others:{count:0,at:-Infinity},
+others:{count:0,at:-Infinity,began:-Infinity,gap:0,last:null},
 changed:0,
 ended:null,
 };
-const OTHERS_MS=6000;
+const OTHERS_MS=8000;
+const PAUSE_MS=800;
+const LONGEST_PART_MS=7000;
 const torn=[];
 const taken=[];
 class Refused extends Error{
@@ -1318,7 +1372,8 @@ queue=result.catch(()=>{});
 return result;
 }
 async function askForPicture(kept,after){
-const part=`core=${pad(view.core, 4)}&paper=${Math.max(0, kept.length - 1)}`;
+const room=view.picture?view.picture.room:'';
+const part=`room=${room}&core=${pad(view.core, 4)}&paper=${Math.max(0, kept.length - 1)}`;
 const query=after===null?part:`${part}&after=${after}`;
 const response=await fetch(`/picture?${query}`,{cache:'no-store',signal:AbortSignal.timeout(10*RETRY_MS)});
 const text=await response.text();
@@ -1333,7 +1388,7 @@ const goesOn=kept.length===picture.first + 1&&picture.lines.length>0
 return goesOn?[...kept.slice(0,picture.first),...picture.lines]:null;
 }
 async function takeIn(picture){
-const isNewRoom=view.picture&&(picture.after<view.picture.after||picture.made<view.picture.made);
+const isNewRoom=view.picture !==null&&picture.room !==view.picture.room;
 let lines=joined(isNewRoom?[]:view.paper,picture);
 for(let turns=0;turns<2*MOST_CARDS / FORM_LINES;turns++){
 if(lines !==null&&lines.length===picture.registers.PAPER)break;
@@ -1351,16 +1406,31 @@ draw();
 function enterRoom(){
 Object.assign(view,{full:false,unkept:false,ended:null,breaks:view.breaks + 1});
 view.others.count=0;
+forgetRenewal();
+forgetHold();
 note('words',TEXTS.said.newRoom);
 tell(TEXTS.said.newRoom);
 }
 function noteOthers({after,made}){
 const count=after - view.since.after -(made - view.since.made),now=performance.now();
-if(count>view.others.count)view.others.at=now;
+if(count>view.others.count){
+const gap=now - view.others.at;
+if(gap>PAUSE_MS)view.others.began=now;
+Object.assign(view.others,{at:now,gap:gap>LONGEST_PART_MS?0:gap});
+}
 view.others.count=count;
 if(!view.picture||after !==view.picture.after)view.changed=now;
 }
 const othersAtWork=()=>performance.now()- view.others.at<OTHERS_MS;
+function lastOfOthers(){
+const{last}=view.others;
+return last&&view.picture&&last.seat !==view.picture.seat?last:null;
+}
+function othersRun(){
+const{at,began,gap}=view.others,last=lastOfOthers(),since=performance.now()- at;
+if(last&&/^RUN (?!1$)/.test(last.line))return since<PAUSE_MS + 2*gap;
+return since<PAUSE_MS&&at - began>2*PAUSE_MS;
+}
 async function look(){
 const shown=view.picture;
 const isCurrent=shown&&view.link==='fine'&&view.made !==null&&shown.from===view.core;
@@ -1396,39 +1466,56 @@ function madeAfter(line,reply,count){
 if(!COMMANDS.test(line))return null;
 return RECORDED.test(reply)?count + 1:count;
 }
-async function send(line,breaks=view.breaks){
+async function post(path,body,breaks){
 if(breaks !==view.breaks)return{failed:TEXTS.outcomes.broken};
 if(view.made===null&&!(await look()))return{failed:bannerText()};
-const count=view.made;
+const count=view.made,{room}=view.picture;
 view.made=null;
 let response,text;
 try{
-const headers={'Content-Type':'text/plain','X-1401-Line':String(count)};
-response=await fetch('/line',{method:'POST',body:line,cache:'no-store',headers});
+const headers={'Content-Type':'text/plain','X-1401-Line':String(count),'X-1401-Room':room};
+response=await fetch(path,{method:'POST',body,cache:'no-store',headers});
 text=await response.text();
 }catch{
-return lostLine(count);
+return lostLine(count,room);
 }
-if(response.status !==200)return refusedLine(statusOf(response));
+if(response.status===423)takeHold(text);
+return response.status===200?{text,count}:refusedLine(statusOf(response));
+}
+async function send(line,breaks=view.breaks){
+const{failed,text,count}=await post('/line',line,breaks);
+if(failed)return{failed};
 const reply=text.replace(/\n$/,'');
 view.made=madeAfter(line,reply,count);
+noteFault(reply);
+return{reply};
+}
+async function sendAll(lines,breaks){
+const{failed,text,count}=await post('/lines',lines.join('\n'),breaks);
+if(failed)return{failed,replies:[]};
+const replies=text.split('\n').slice(0,-1);
+view.made=count + replies.filter(reply=>RECORDED.test(reply)).length;
+noteFault(replies[replies.length - 1]);
+return{replies};
+}
+function noteFault(reply){
 if(reply==='FAULT 2 JOURNAL FULL')view.full=true;
 if(reply==='FAULT 4 UNKEPT')view.unkept=true;
 drawBanner();
-return{reply};
 }
 function refusedLine(status){
 if(status===500)view.unkept=true;
 if(LINK_OF_STATUS[status]&&status !==507)setLink(LINK_OF_STATUS[status]);
 drawBanner();
-return{failed:filled(TEXTS.outcomes[status]||TEXTS.outcomes.other,{status})};
+const{seat,left}=hold;
+return{failed:filled(TEXTS.outcomes[status]||TEXTS.outcomes.other,{status,seat,left})};
 }
-async function lostLine(count){
+async function lostLine(count,room){
 note('bad',TEXTS.lostAsking);
 setLink('lost');
 while(!(await look()))await delay(RETRY_MS);
 const since=view.made - count;
-if(since<0)return{failed:TEXTS.lostNewRoom};
+if(view.picture.room !==room)return{failed:TEXTS.lostNewRoom};
 if(since===0)return{failed:TEXTS.lostNotDone};
 return{failed:since===1?TEXTS.lostDone:filled(TEXTS.lostUnclear,{n:since})};
 }
@@ -1482,7 +1569,8 @@ const{picture}=view;
 if(!picture)return TEXTS.said.welcome;
 const{HOPPER}=picture.registers;
 if(HOPPER>0)return counted(TEXTS.said.welcomeCards,HOPPER);
-return picture.next===null?TEXTS.said.welcome:TEXTS.said.welcomeProgram;
+if(picture.next !==null)return TEXTS.said.welcomeProgram;
+return hold.isPrepared&&!isClear(picture)?TEXTS.said.welcomePrepared:TEXTS.said.welcome;
 }
 function moveCard(){
 const card=byId('moving-card');
@@ -1509,7 +1597,7 @@ else if(to.HOPPER<from.HOPPER)sound('read');
 }
 let run=null;
 function mayCommand(){
-return view.link==='fine'&&!view.unkept&&!view.full;
+return view.link==='fine'&&!view.unkept&&!view.full&&!isKeptOff();
 }
 function warnsOfEnd(){
 const{picture,ended}=view;
@@ -1548,11 +1636,16 @@ view.ended=null;
 tellOutcome(await say(`START ${byId('start-at').value.trim()}`),TEXTS.said.start);
 }
 function pressStop(){
-if(run)run.stop=true;
+stopRun();
+}
+function stopRun(){
+if(!run)return;
+run.stop=true;
+run.wake();
 }
 async function pressRun(){
 if(run||!mayCommand()||warnsOfEnd())return;
-run={stop:false,slices:0,steps:0,waits:''};
+run={stop:false,slices:0,steps:0,waits:'',began:performance.now(),grown:1,wake:()=>{}};
 view.ended=null;
 drawKeys();
 happened('run');
@@ -1567,7 +1660,7 @@ await inTurn(look);
 drawPanel();
 }
 function tellRun(ended,outcome,stop){
-const counts={steps:withCommas(ended.steps),slices:ended.slices};
+const counts={steps:withCommas(ended.steps)};
 if(!stop||stop.name !=='LIMIT')return tellOutcome(outcome,'');
 tell(ended.stop?counted(TEXTS.said.stopped,ended.steps,counts):filled(TEXTS.said.pause,counts));
 }
@@ -1575,21 +1668,34 @@ async function runParts(){
 for(;;){
 const outcome=await runPart(),stop=stopOf(outcome.reply);
 if(!stop||run.stop)return outcome;
-if(await waitsFor(stop.name))continue;
-if(stop.name !=='LIMIT'||run.slices>=MOST_SLICES||run.stop)return outcome;
+const hasWaited=await waitsFor(stop.name);
+if(hasWaited&&!run.stop)continue;
+if(stop.name !=='LIMIT'||view.picture.after>=JOURNAL_NEARLY||run.stop)return outcome;
 }
 }
 async function runPart(){
-const pace=PACES[byId('pace').selectedIndex],line=`RUN ${pace === OWN_PACE ? OWN_STEPS : pace}`;
+const pace=PACES[byId('pace').selectedIndex];
+run.grown=grownBy(performance.now()- Math.max(run.began,attract.pressed));
+const steps=Math.min(MOST_STEPS,run.grown*(pace===OWN_PACE?OWN_STEPS:pace)),line=`RUN ${steps}`;
 if(run.slices===0)note('you',line);
 const began=performance.now(),before=view.picture,{breaks}=view;
 const outcome=await inTurn(()=>send(line,breaks)),stop=stopOf(outcome.reply);
 run.slices++;
 run.steps +=stop?stop.steps:0;
 drawRun();
-const wanted=pace===OWN_PACE&&stop?await ownTime(before,stop.steps):SLICE_MS;
-if(stop&&stop.name==='LIMIT')await delay(Math.max(0,wanted -(performance.now()- began)));
+const wanted=pace===OWN_PACE&&stop?await ownTime(before,stop.steps):SLICE_MS*run.grown;
+const rest=attract.pressed>began?SLICE_MS:wanted + began - performance.now();
+if(stop&&stop.name==='LIMIT')await napInRun(rest);
 return outcome;
+}
+function grownBy(idle){
+return Math.min(MOST_GROWN,Math.max(1,1 + Math.floor((idle - GROW_AFTER_MS)/ GROW_MS)));
+}
+function napInRun(ms){
+return run.stop?null:new Promise(done=>{
+run.wake=done;
+setTimeout(done,Math.max(0,ms));
+});
 }
 async function ownTime(before,steps){
 await inTurn(look);
@@ -1598,16 +1704,22 @@ const more=(name,by)=>Math.max(0,by*(registers[name]- before.registers[name]));
 return Math.max(SLICE_MS,steps*.2 + 75*more('HOPPER',-1)+ 240*more('STACKER',1)+ 100*more('PAPER',1));
 }
 async function waitsFor(stop){
-const waiting={READER:()=>feed !==null&&view.picture.registers.HOPPER===0,
-FORMS:()=>taking !==null,STACKER:()=>taking !==null}[stop];
-if(!waiting||!(stop==='READER'?feed:taking))return false;
+const waiting={
+READER:()=>feed !==null&&view.picture.registers.HOPPER===0,
+FORMS:()=>taking !==null||view.paper.length>=MOST_CARDS,
+STACKER:()=>taking !==null||view.picture.registers.STACKER>=MOST_CARDS,
+}[stop];
+await inTurn(look);
+if(!waiting||!mayCommand()||stop==='READER'&&!feed)return false;
 run.waits=stop;
-while(!run.stop&&waiting()){
+tell(TEXTS.waits[stop]);
+while(!run.stop&&mayCommand()&&waiting()){
 drawRun();
-await delay(POLL_MS);
+await delay(WAIT_MS);
 await inTurn(look);
 }
 run.waits='';
+tell('');
 return true;
 }
 const COMMAND_KEYS=['load-key','run-key','step-key','start-key','feed-key','pick-key','card-key',
@@ -1622,9 +1734,12 @@ setOff(byId('tear-key'),!may||taking !==null||PAPER===0);
 for(const id of['card-key','all-cards-key'])setOff(byId(id),!may||taking !==null||STACKER===0);
 drawRun();
 }
+function runWords(){
+if(!run)return othersRun()?othersWords('Running'):'';
+return run.waits?TEXTS.waits[run.waits]:filled(TEXTS.running,{steps:withCommas(run.steps)});
+}
 function drawRun(){
-const words=!run?'':run.waits?TEXTS.waits[run.waits]:filled(TEXTS.running,{steps:withCommas(run.steps)});
-setText(byId('running'),words);
+setText(byId('running'),runWords());
 }
 let feed=null;
 function plain(text){
@@ -1697,19 +1812,21 @@ while(!why&&feed.fed<feed.all){
 drawFeed();
 if(feed.stop)why=TEXTS.stoppedByYou;
 else if(feed.waits)await waitForRoom();
-else why=await feedCard(cards[feed.fed],breaks);
+else why=await feedSome(cards.slice(feed.fed,feed.fed + CHUNK),breaks);
 }
 return why;
 }
 const feedLine=card=>card===''?'FEED':`FEED ${card}`;
-async function feedCard(card,breaks){
-const outcome=await inTurn(()=>send(feedLine(card),breaks));
-feed.waits=outcome.reply==='REFUSED 2 HOPPER';
-if(outcome.reply==='OK')feed.fed++;
-return outcome.reply==='OK'||feed.waits?'':outcome.failed||wordsOf(outcome.reply)||outcome.reply;
+async function feedSome(cards,breaks){
+const{failed,replies}=await inTurn(()=>sendAll(cards.map(feedLine),breaks));
+if(failed)return failed;
+const reply=replies[replies.length - 1];
+feed.fed +=replies.filter(each=>each==='OK').length;
+feed.waits=reply==='REFUSED 2 HOPPER';
+return reply==='OK'||feed.waits?'':wordsOf(reply)||reply;
 }
 async function waitForRoom(){
-await delay(POLL_MS);
+await delay(WAIT_MS);
 await inTurn(look);
 feed.waits=view.picture.registers.HOPPER>=MOST_CARDS;
 }
@@ -1746,21 +1863,19 @@ async function takeMany(line,begins,all,each,drawn){
 const{breaks}=view;
 taking={stop:false};
 drawKeys();
-byId('take-stop').hidden=all<10;
-let n=0,outcome={},shown=0;
-while(n<all&&!taking.stop){
-outcome=await inTurn(()=>send(line,breaks));
-if(!outcome.reply||!outcome.reply.startsWith(begins))break;
-each(outcome.reply);
-n++;
-if(performance.now()- shown<SLICE_MS)continue;
-shown=performance.now();
+byId('take-stop').hidden=all<=CHUNK;
+let n=0,outcome={replies:[]},isRefused=false;
+while(n<all&&!isRefused&&!taking.stop){
+outcome=await inTurn(()=>sendAll(Array(Math.min(CHUNK,all - n)).fill(line),breaks));
+const found=outcome.replies.filter(reply=>reply.startsWith(begins));
+found.forEach(each);
+n +=found.length;
+isRefused=found.length===0||found.length<outcome.replies.length;
 drawn(n);
 }
-const wasFailed=n<all&&!taking.stop;
 taking=null;
 endTaking();
-if(wasFailed)noteOutcome(outcome);
+if(isRefused)noteOutcome(outcome.failed?outcome:{reply:outcome.replies[outcome.replies.length - 1]});
 return n;
 }
 function endTaking(){
@@ -1842,6 +1957,113 @@ return new Promise(done=>{
 dialog.addEventListener('close',()=>done(dialog.returnValue==='yes'),{once:true});
 });
 }
+const RENEWAL_MS=5000;
+const renewal={mode:'',seconds:null,asked:-Infinity};
+async function askRenewal(method){
+const headers=method==='POST'?{'X-1401-Room':view.picture.room}:{};
+const response=await fetch('/renewal',{method,headers,cache:'no-store'});
+const found=/^RENEWAL (?:(OFF|ON)|IN (\d+))\n$/.exec(await response.text());
+if(response.status !==200||!found)return;
+renewal.mode=found[1]||'ON';
+renewal.seconds=found[2]===undefined?null:Number(found[2]);
+drawNotice();
+}
+async function lookForRenewal(){
+const now=performance.now();
+if(view.link !=='fine'||renewal.mode==='OFF'||now - renewal.asked<RENEWAL_MS)return;
+renewal.asked=now;
+try{
+await askRenewal('GET');
+}catch{
+renewal.mode='';
+}
+}
+async function renewRoom(){
+const{room}=view.picture;
+tell(TEXTS.said.renewing);
+try{
+await askRenewal('POST');
+}catch{
+setLink('lost');
+}
+for(let looks=0;looks<2*RENEWAL_MS / POLL_MS&&view.picture.room===room;looks++){
+await delay(POLL_MS);
+await inTurn(look);
+}
+}
+function forgetRenewal(){
+Object.assign(renewal,{seconds:null,asked:-Infinity});
+drawNotice();
+}
+const HOLD_MS=1000;
+const hold={asked:-Infinity,seat:0,left:0,until:0,isPrepared:false};
+const HOLD_FORM=/^HOLD (?:FREE|(\d+) FOR (\d+))\nLAST (?:NONE|(\d+) (.+))\nTAKEN([ \d]*)\nBEGAN (PLAIN|PREPARED)\n$/;
+const isHeld=()=>hold.seat !==0&&performance.now()<hold.until;
+const isHolder=()=>isHeld()&&view.picture !==null&&view.picture.seat===hold.seat;
+const isKeptOff=()=>isHeld()&&!isHolder();
+function takeHold(text){
+const found=HOLD_FORM.exec(text);
+if(!found)return;
+const[,seat,left,last,line,taken,began]=found;
+Object.assign(hold,{seat:Number(seat||0),left:Number(left||0),isPrepared:began==='PREPARED'});
+hold.until=performance.now()+ 1000*hold.left;
+view.others.last=last?{seat:Number(last),line}:null;
+drawTakenSeats(taken.split(' '));
+drawHold();
+}
+function drawTakenSeats(taken){
+for(const link of byId('seats').querySelectorAll('a:not([aria-current])')){
+const n=link.textContent,isTaken=taken.includes(n);
+link.classList.toggle('taken',isTaken);
+setAttribute(link,'aria-label',filled(isTaken?TEXTS.takenSeat:TEXTS.seat,{n}));
+}
+}
+function forgetHold(){
+Object.assign(hold,{asked:-Infinity,seat:0,left:0,until:0});
+view.others.last=null;
+drawHold();
+}
+async function askForHold(path,method){
+const headers=method==='POST'?{'X-1401-Room':view.picture.room}:{};
+const response=await fetch(path,{method,headers,cache:'no-store'});
+const text=await response.text();
+if(response.status===200||response.status===423)takeHold(text);
+}
+async function lookForHold(){
+const now=performance.now();
+if(view.link !=='fine'||now - hold.asked<(view.picture.seats===1?Infinity:HOLD_MS))return;
+hold.asked=now;
+try{
+await askForHold('/hold','GET');
+}catch{
+hold.seat=0;
+}
+}
+async function pressHold(){
+try{
+await askForHold(isHolder()?'/release':'/hold','POST');
+}catch{
+setLink('lost');
+}
+}
+function holdWords(){
+if(!isHeld())return '';
+return isHolder()?TEXTS.holder:filled(TEXTS.keptOff,{seat:hold.seat});
+}
+function drawHold(){
+const isOne=!view.picture||view.picture.seats===1;
+byId('hold-key').hidden=isOne;
+setText(byId('hold-key'),isHolder()?TEXTS.releaseHold:TEXTS.holdKey);
+setOff(byId('hold-key'),view.link !=='fine'||isKeptOff());
+drawNotice();
+drawKeys();
+}
+function drawNotice(){
+const{seconds}=renewal,words=seconds===null?holdWords():counted(TEXTS.renewal,seconds);
+setText(byId('notice-words'),words);
+setText(byId('notice-left'),seconds===null&&words?` ${filled(TEXTS.secondsLeft, {n: hold.left})}`:'');
+byId('notice').hidden=words==='';
+}
 const CLEARED_AT_ONCE=4000;
 function addressOf(place){
 const digits=pad(place % 1000,3),thousands=Math.floor(place / 1000);
@@ -1865,15 +2087,15 @@ async function pressAfresh(){
 if(!mayCommand()||taking||feed)return;
 const question=othersAtWork()?TEXTS.afreshOthers:TEXTS.afreshAsk;
 if(!(await confirmed(question)))return;
-if(run)run.stop=true;
+stopRun();
 while(run)await delay(SLICE_MS);
-await startAfresh();
+await startAfresh(renewal.mode==='ON'?renewRoom:clearMachine);
 guide.begin();
 }
-async function startAfresh(){
+async function startAfresh(clear=clearMachine){
 note('words',TEXTS.said.clearing);
 tell(TEXTS.said.clearing);
-const isDone=await clearMachine();
+const isDone=(await clear())!==false&&isClear(view.picture);
 torn.length=taken.length=0;
 drawTaken();
 tellDeck('');
@@ -1884,6 +2106,15 @@ byId('name').value=byId('keyed').value='';
 drawKeyed();
 tell(isDone?TEXTS.said.clear:TEXTS.said.notClear);
 }
+async function sendInTurn(lines,wanted){
+const{breaks}=view;
+for(let sent=0;sent<lines.length;){
+const{replies}=await inTurn(()=>sendAll(lines.slice(sent),breaks));
+if(replies.length===0||!replies.every(reply=>wanted.test(reply)))return false;
+sent +=replies.length;
+}
+return true;
+}
 async function clearMachine(){
 const{HOPPER,PAPER,STACKER,SWITCHES}=view.picture.registers,{size}=view.picture;
 const lines=[...SWITCHES.replace(/-/g,'')].map(name=>`SWITCH ${name} OFF`);
@@ -1891,11 +2122,7 @@ const drawn=()=>{};
 if(HOPPER)await takeMany('LOAD','OK',HOPPER,drawn,drawn);
 if(PAPER)await takeMany('LINE','LINE ',PAPER,drawn,drawn);
 if(STACKER)await takeMany('CARD','CARD ',STACKER,drawn,drawn);
-const{breaks}=view;
-for(const line of[...lines,...clearingLines(size)]){
-const outcome=await inTurn(()=>send(line,breaks));
-if(!/^(OK|STOP 01)/.test(outcome.reply||''))return false;
-}
+if(!(await sendInTurn([...lines,...clearingLines(size)],/^(OK|STOP 01)/)))return false;
 view.core=0;
 await inTurn(look);
 return true;
@@ -1911,8 +2138,8 @@ const MOST_DETOURS=3;
 const guide={
 at:0,state:'off',detours:0,since:0,
 begin(){
-const isLeft=view.picture !==null&&!isClear(view.picture);
-Object.assign(this,{at:0,detours:0,since:performance.now(),state:isLeft?'left':'on'});
+const isLeft=view.picture !==null&&!isClear(view.picture),left=hold.isPrepared?'prepared':'left';
+Object.assign(this,{at:0,detours:0,since:performance.now(),state:isLeft?left:'on'});
 byId('program').value='hello';
 drawProgram();
 this.draw();
@@ -1930,6 +2157,8 @@ if(this.at===GUIDE_STEPS.length)this.state='done';
 this.draw();
 },
 look(){
+const isLeft=run !==null&&!attract.on&&performance.now()- attract.touched>IDLE.attractMs;
+if(isLeft&&this.state !=='left'&&this.state !=='prepared')this.begin();
 const isLate=performance.now()- this.since>GUIDE_WAITS_MS;
 if((this.state==='on'&&this.at>0||this.state==='left')&&isLate&&!run){
 this.state='aside';
@@ -1988,12 +2217,13 @@ print();
 document.body.classList.remove('prints-card');
 }
 const IDLE={attractMs:180000,pauseMs:90000,seatMs:20000,mostAfter:JOURNAL_ENTRIES / 2};
-const attract={on:false,stop:false,touched:performance.now(),ended:-Infinity};
+const attract={on:false,stop:false,touched:performance.now(),pressed:performance.now(),ended:-Infinity};
 function touch(event){
-attract.touched=performance.now();
+attract.touched=attract.pressed=performance.now();
+if(run)run.wake();
 if(!attract.on||event.isTrusted===false)return;
 attract.stop=true;
-if(run)run.stop=true;
+stopRun();
 if(event.key==='Tab')return;
 event.preventDefault();
 event.stopPropagation();
@@ -2003,7 +2233,7 @@ attract.touched=performance.now();
 }
 function isIdle(){
 const now=performance.now(),{picture}=view;
-if(!picture||!mayCommand()||run||feed||taking||document.hidden)return false;
+if(!picture||hold.isPrepared||!mayCommand()||run||feed||taking||document.hidden)return false;
 if(document.querySelector('dialog[open]')||picture.after>IDLE.mostAfter)return false;
 const wanted=IDLE.attractMs + picture.seat*IDLE.seatMs;
 return now - attract.touched>wanted&&now - view.changed>wanted - IDLE.attractMs + IDLE.pauseMs
@@ -2115,11 +2345,20 @@ link.setAttribute('aria-label',filled(n===seat?TEXTS.thisSeat:TEXTS.seat,{n}));
 if(n===seat)link.setAttribute('aria-current','page');
 }
 }
+function othersWords(what){
+const last=lastOfOthers();
+return last?filled(TEXTS[`seat${what}`],last):TEXTS[`others${what}`];
+}
 function drawOthers(){
 const{count}=view.others;
-const words=othersAtWork()?TEXTS.othersNow:count>0?counted(TEXTS.others,count):'';
-setText(byId('others'),words);
+const now=othersWords(othersRun()?'Run':'Now'),before=count>0?counted(TEXTS.others,count):'';
+setText(byId('others'),othersAtWork()?now:before +(before&&lastOfOthers()?othersWords('Last'):''));
 byId('others').classList.toggle('wrong',othersAtWork());
+for(const id of['load-key','step-key','start-key','run-key']){
+const why=isKeptOff()?holdWords():othersRun()?othersWords('Run'):'';
+setAttribute(byId(id),'title',why||TEXTS[byId(id).dataset.title]);
+}
+drawRun();
 }
 function drawPanel(){
 const registers=view.picture.registers;
@@ -2670,7 +2909,7 @@ const clicks={
 'load-key':pressLoad,'run-key':pressRun,'stop-key':pressStop,'step-key':pressStep,
 'pick-key':()=>byId('file').click(),'card-key':takeCard,'deck-key':()=>feedText(byId('deck').value),
 'feed-key':feedChosen,'all-cards-key':takeAllCards,'afresh-key':pressAfresh,'guide-key':()=>guide.press(),
-'view-key':pressView,'sound-key':pressSound,'card-print-key':printCard,
+'view-key':pressView,'hold-key':pressHold,'sound-key':pressSound,'card-print-key':printCard,
 'about-key':()=>byId('about').showModal(),'about-close':()=>byId('about').close(),
 'feed-again-key':()=>feedDeck([...taken]),
 'save-cards-key':()=>saveFile('taken.cards',`${taken.join('\n')}\n`),
@@ -2751,6 +2990,8 @@ for(;;){
 if(!taking&&!(feed&&!feed.waits))await inTurn(look);
 if(view.picture)drawOthers();
 guide.look();
+lookForRenewal();
+lookForHold();
 attractIfIdle();
 await delay(view.link !=='fine'?RETRY_MS:document.hidden?HIDDEN_POLL_MS:POLL_MS);
 }
@@ -2759,6 +3000,7 @@ async function begin(){
 tell(TEXTS.said.welcome);
 note('words',TEXTS.said.firstNote);
 while(!(await inTurn(look)))await delay(RETRY_MS);
+await lookForHold();
 tell(welcomeWords());
 guide.begin();
 poll();
@@ -2788,10 +3030,21 @@ begin();
 /// The `content-security-policy` of the page: its own script and style by their SHA-256, exchanges with its own server,
 /// and nothing else.
 pub const POLICY: &str = "default-src 'none'; \
-    script-src 'sha256-kT/GMXqryuXcaaJ4uBgLlN6pqe4QCwYkVziZU1gdOMs='; \
-    style-src 'sha256-5rwYPnFzPlEyhvXKQgbEUChyhVj+FnRxO6BDqFFDxlQ='; \
+    script-src 'sha256-66TqujHYD7+fItc8oohqwmUS31ZiOt7+ogEJckvrIaQ='; \
+    style-src 'sha256-59aFZCQciM0a7kK5TsM8yNoux63Ji81fTk2rUPrgvQE='; \
     img-src data:; \
     connect-src 'self'; \
     form-action 'none'; \
     base-uri 'none'; \
     frame-ancestors 'none'";
+
+/// The page and its policy.
+pub fn document() -> Document
+    ensures { IsTrue (is_visible_text result.policy.now) }
+{
+    Document {
+        first: PAGE,
+        rest: REST,
+        policy: POLICY,
+    }
+}

@@ -4,7 +4,7 @@ ghost use Rattle.notation_1401.specs.Digits.{digits_in};
 ghost use Rattle.room_1401.specs.Picture.{window_cells};
 ghost use Rattle.page_1401.specs.PictureLines.{answer_line, card_line, core_line, count_line, line_feed, lines_text};
 ghost use Rattle.page_1401.specs.PictureLines.{next_line, paper_line, picture_text, row_text, rows, rows_text};
-ghost use Rattle.page_1401.specs.PictureLines.{seat_line};
+ghost use Rattle.page_1401.specs.PictureLines.{room_line, seat_line};
 
 use bcd_1401::Cell;
 use command_1401::Answer;
@@ -26,6 +26,16 @@ fn put_number(text: &mut Vec<u8>, words: &[u8], width: u8, number: u64) -> Resul
 {
     text.extend_from_slice(words)?;
     put_digits(text, width, number)
+}
+
+/// Adds the line that names the room.
+#[tactic(auto, unfolding(crate::specs::PictureLines::room_line))]
+pub(crate) fn put_room(text: &mut Vec<u8>, name: &[u8]) -> Result<(), AllocError>
+    ensures { OnOk result (text.new.items ≡ text.old.items ++ room_line name.now) }
+{
+    text.extend_from_slice(b"ROOM ")?;
+    text.extend_from_slice(name)?;
+    text.extend_from_slice(b"\n")
 }
 
 /// Adds the line that says which seat this is.

@@ -1,11 +1,15 @@
 //! The page of a seat: a service of HTTP over the seat.
-ghost use Rattle.std.specs.Prelude.{◌≡◌, IsTrue};
+ghost use Rattle.std.specs.Prelude.{◌≡◌, ◌++◌, IsTrue};
 ghost use Rattle.http_header.specs.FieldValue.{is_visible_text};
 
+use crate::elsewhere::tell_address;
+use crate::many_lines::take_lines;
 use crate::showing::show_picture;
 use crate::taking::take_line;
 use bytes::Bytes;
-use exchange_1401::{Route, Site, is_ambiguous, is_for_site, put_page, refuse, route_of};
+use exchange_1401::{
+    Document, MOST_LINE_BYTES, Route, Site, is_ambiguous, is_for_site, put_page, refuse, route_of,
+};
 use http::{Request, StatusCode};
 use http_server::{Response, Service};
 use room_1401::{Keeper, RoomId, Seat, SharedRoom};
@@ -14,7 +18,7 @@ use std::marker::Model;
 use std::sync::Wait;
 
 /// The page of a seat, at a port of the loopback, and perhaps at an origin outside. Contracts see how many seats there
-/// are, the port, that origin, the page with what its browser may do with it, and what the seat knows.
+/// are, the port, that origin, the room's name, the page with what its browser may do with it, and what the seat knows.
 #[derive(Drop)]
 pub struct SeatPage<'a, J: RoomId, R: Wait + Drop, P: Keeper + Drop, W: Wait> {
     alloc: Global,
@@ -23,12 +27,12 @@ pub struct SeatPage<'a, J: RoomId, R: Wait + Drop, P: Keeper + Drop, W: Wait> {
     seat: Seat<J>,
     seats: u8,
     site: &'a Site,
-    page: &'static [u8],
-    policy: &'static str,
+    name: &'a [u8],
+    document: Document,
 }
 
 impl<'a, J: RoomId, R: Wait + Drop, P: Keeper + Drop, W: Wait> Model for SeatPage<'a, J, R, P, W> {
-    ghost use Rattle.std.specs.Prelude.{IsTrue};
+    ghost use Rattle.std.specs.Prelude.{◌++◌, IsTrue};
     ghost use Rattle.http_header.specs.FieldValue.{is_visible_text};
     ghost use Rattle.page_1401.specs.SeatPage.{PageView};
 
@@ -38,16 +42,18 @@ impl<'a, J: RoomId, R: Wait + Drop, P: Keeper + Drop, W: Wait> Model for SeatPag
       seats = s.seats;
       port = s.site.now.port;
       outside = s.site.now.outside;
-      page = s.page.now;
-      policy = s.policy.now;
+      name = s.name.now;
+      page = s.document.first.now ++ s.document.rest.now;
+      policy = s.document.policy.now;
       seat = s.seat;
     } };
 
-    ghost invariant = { λ s. IsTrue (is_visible_text s.policy.now) };
+    ghost invariant = { λ s. IsTrue (is_visible_text s.document.policy.now) };
 }
 
 impl<'a, J: RoomId, R: Wait + Drop, P: Keeper + Drop, W: Wait> SeatPage<'a, J, R, P, W> {
-    /// The page of one of the room's `seats` seats, which is served where this site is, and at no other name.
+    /// The page of one of the `seats` seats of the room of this name, which is served where this site is, and nowhere
+    /// else.
     pub fn new(
         alloc: Global,
         wait: &'a W,
@@ -55,16 +61,17 @@ impl<'a, J: RoomId, R: Wait + Drop, P: Keeper + Drop, W: Wait> SeatPage<'a, J, R
         seat: Seat<J>,
         seats: u8,
         site: &'a Site,
-        page: &'static [u8],
-        policy: &'static str,
+        name: &'a [u8],
+        document: &Document,
     ) -> SeatPage<'a, J, R, P, W>
-        requires { IsTrue (is_visible_text policy.now) }
+        requires { IsTrue (is_visible_text document.now.policy.now) }
         ensures { result ≡ record {
           seats = seats;
           port = site.now.port;
           outside = site.now.outside;
-          page = page.now;
-          policy = policy.now;
+          name = name.now;
+          page = document.now.first.now ++ document.now.rest.now;
+          policy = document.now.policy.now;
           seat = seat;
         } }
     {
@@ -75,8 +82,8 @@ impl<'a, J: RoomId, R: Wait + Drop, P: Keeper + Drop, W: Wait> SeatPage<'a, J, R
             seat,
             seats,
             site,
-            page,
-            policy,
+            name,
+            document: *document,
         }
     }
 
@@ -91,8 +98,8 @@ impl<'a, J: RoomId, R: Wait + Drop, P: Keeper + Drop, W: Wait> SeatPage<'a, J, R
             seat,
             seats: _,
             site: _,
-            page: _,
-            policy: _,
+            name: _,
+            document: _,
         } = self;
         seat
     }
@@ -110,28 +117,45 @@ impl<J: RoomId, R: Wait + Drop, P: Keeper + Drop, W: Wait> Service for SeatPage<
         response: &mut Response,
     ) -> Result<(), AllocError> {
         if !is_for_site(request, self.site) {
-            return refuse(response, StatusCode::FORBIDDEN);
+            return tell_address(self.alloc, self.site, response);
         }
         if is_ambiguous(request) {
             return refuse(response, StatusCode::BAD_REQUEST);
         }
         match route_of(request.method().as_str(), request.uri().path()) {
-            Route::Page => put_page(response, self.page, self.policy),
+            Route::Page => put_page(response, &self.document),
             Route::Picture => {
                 show_picture(
                     self.alloc,
                     &mut self.seat,
                     self.seats,
+                    self.name,
                     request.uri().query(),
                     response,
                 )
             }
-            Route::Line => take_line(
+            Route::Line => {
+                if request.body().len() > MOST_LINE_BYTES {
+                    return refuse(response, StatusCode::PAYLOAD_TOO_LARGE);
+                }
+                take_line(
+                    self.alloc,
+                    self.wait,
+                    self.room,
+                    &mut self.seat,
+                    self.site,
+                    self.name,
+                    request,
+                    response,
+                )
+            }
+            Route::Lines => take_lines(
                 self.alloc,
                 self.wait,
                 self.room,
                 &mut self.seat,
                 self.site,
+                self.name,
                 request,
                 response,
             ),

@@ -1,16 +1,19 @@
 //! A picture of the machine, as a request asks for one.
-ghost use Rattle.std.specs.Prelude.{◌≡◌, [], OnOk, OnErr, option_copied};
+ghost use Rattle.std.specs.Prelude.{◌≡◌, ◌++◌, [], IfOk, OnOk, OnErr, option_copied};
 ghost use Rattle.http_server.specs.Response.{IsBlank, IsResponse};
-ghost use Rattle.page_1401.specs.Asked.{asked_in};
 ghost use Rattle.exchange_1401.specs.Responses.{text_fields};
-ghost use Rattle.page_1401.specs.Showing.{IsSightTold, Sees, ShowsPicture, has_seen};
+ghost use Rattle.page_1401.specs.Asked.{ampersand};
+ghost use Rattle.page_1401.specs.PictureLines.{picture_text};
+ghost use Rattle.page_1401.specs.Pieces.{pieces_in};
+ghost use Rattle.page_1401.specs.Showing.{IsSightTold, Sees, ShowsAsked, ShowsPicture, asked_here};
+ghost use Rattle.page_1401.specs.Showing.{has_seen, heading};
 
-use crate::asked::{Asked, asked_by};
-use crate::picture_lines::picture_text;
+use crate::asked::{Asked, asked_in};
+use crate::picture_lines::{picture_text, put_room};
 use exchange_1401::{begin_text, end_with, end_without, refuse};
 use http::StatusCode;
 use http_server::Response;
-use room_1401::{GlanceFault, RoomId, Seat};
+use room_1401::{GlanceFault, Picture, RoomId, Seat};
 use std::alloc::{AllocError, Global};
 
 /// What looking at the machine came to.
@@ -38,16 +41,80 @@ fn has_seen(after: Option<u32>, count: u64) -> bool
     }
 }
 
-/// Takes a picture at a seat.
-fn look<J: RoomId>(alloc: Global, seat: &mut Seat<J>, seats: u8, asked: Asked) -> Sight
-    ensures { Sees J.size seats asked seat.old result seat.new }
+/// What a page asks for in the room of this name: a picture of another room is none that it has.
+fn asked_here(room: Option<&[u8]>, name: &[u8], asked: Asked) -> Asked
+    ensures { result ≡ asked_here (option_copied room.entry) name.now asked }
+{
+    match room {
+        Some(room) => {
+            if room == name {
+                asked
+            } else {
+                Asked {
+                    window: asked.window,
+                    after: None,
+                }
+            }
+        }
+        None => asked,
+    }
+}
+
+/// Adds the name of the room, if the page has named one.
+fn put_heading(text: &mut Vec<u8>, room: Option<&[u8]>, name: &[u8]) -> Result<(), AllocError>
+    ensures { OnOk result (text.new.items ≡ text.old.items ++ heading (option_copied room.entry) name.now) }
+{
+    match room {
+        Some(_) => put_room(text, name),
+        None => Ok(()),
+    }
+}
+
+/// The text of a picture, after the name of the room, if the page has named one.
+fn text_of(
+    alloc: Global,
+    room: Option<&[u8]>,
+    name: &[u8],
+    number: u8,
+    seats: u8,
+    made: u64,
+    picture: &Picture,
+) -> Result<Vec<u8>, AllocError>
+    ensures { IfOk result (λ text.
+        text.items ≡ heading (option_copied room.entry) name.now ++ picture_text number seats made picture.now) }
+{
+    let shown = picture_text(alloc, number, seats, made, picture)?;
+    let mut text = Vec::new(alloc);
+    put_heading(&mut text, room, name)?;
+    text.extend_from_slice(shown.as_slice())?;
+    Ok(text)
+}
+
+/// Takes a picture at a seat, with the name of the room, if the page has named one.
+fn look<J: RoomId>(
+    alloc: Global,
+    seat: &mut Seat<J>,
+    seats: u8,
+    room: Option<&[u8]>,
+    name: &[u8],
+    asked: Asked,
+) -> Sight
+    ensures { Sees J.size seats (heading (option_copied room.entry) name.now) asked seat.old result seat.new }
 {
     match seat.picture(asked.window) {
         Ok(picture) => {
             if has_seen(asked.after, picture.after) {
                 return Sight::Same;
             }
-            match picture_text(alloc, seat.number(), seats, seat.made(), &picture) {
+            match text_of(
+                alloc,
+                room,
+                name,
+                seat.number(),
+                seats,
+                seat.made(),
+                &picture,
+            ) {
                 Ok(text) => Sight::Text(text),
                 Err(_) => Sight::NoMemory,
             }
@@ -71,28 +138,56 @@ fn tell_sight(response: &mut Response, sight: &Sight)
     }
 }
 
-/// Answers a request for a picture at a seat, which is one of this many.
-pub(crate) fn show_picture<J: RoomId>(
+/// Answers a request for a picture in the room of this name: by what looking comes to, unless it asks for none.
+fn show_asked<J: RoomId>(
     alloc: Global,
     seat: &mut Seat<J>,
     seats: u8,
-    query: Option<&str>,
+    name: &[u8],
+    room: Option<&[u8]>,
+    asked: Option<Asked>,
     response: &mut Response,
 ) -> Result<(), AllocError>
     requires { IsBlank response.old }
-    ensures ok { OnOk result (ShowsPicture J.size seats (asked_in (option_copied query.entry))
+    ensures ok { OnOk result (ShowsAsked J.size seats name.now (option_copied room.entry) asked
         seat.old response.new seat.new) }
     ensures err { OnErr result (seat.new ≡ seat.old) }
 {
-    let asked = match query {
-        Some(query) => asked_by(query.as_bytes()),
-        None => None,
-    };
     let Some(asked) = asked else {
         return refuse(response, StatusCode::BAD_REQUEST);
     };
     begin_text(response)?;
-    let sight = look(alloc, seat, seats, asked);
+    let sight = look(
+        alloc,
+        seat,
+        seats,
+        room,
+        name,
+        asked_here(room, name, asked),
+    );
     tell_sight(response, &sight);
     Ok(())
+}
+
+/// Answers a request for a picture at a seat, which is one of this many of the room of this name.
+pub(crate) fn show_picture<J: RoomId>(
+    alloc: Global,
+    seat: &mut Seat<J>,
+    seats: u8,
+    name: &[u8],
+    query: Option<&str>,
+    response: &mut Response,
+) -> Result<(), AllocError>
+    requires { IsBlank response.old }
+    ensures ok { OnOk result (ShowsPicture J.size seats name.now (pieces_in ampersand (option_copied query.entry))
+        seat.old response.new seat.new) }
+    ensures err { OnErr result (seat.new ≡ seat.old) }
+{
+    match query {
+        Some(query) => {
+            let (room, asked) = asked_in(query.as_bytes());
+            show_asked(alloc, seat, seats, name, room, asked, response)
+        }
+        None => show_asked(alloc, seat, seats, name, None, None, response),
+    }
 }

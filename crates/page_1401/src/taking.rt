@@ -7,15 +7,17 @@ ghost use Rattle.page_1401.specs.Taking.{AnswersLine, HasLost, IsUnansweredBy, T
 
 use bytes::Bytes;
 use console_1401::{Unanswered, answer_line};
-use exchange_1401::{Site, begin_text, end_with, end_without, is_from_site, is_next, refuse};
+use exchange_1401::{
+    Site, begin_text, end_with, end_without, is_for_room, is_from_site, is_next, refuse,
+};
 use http::{Request, StatusCode};
 use http_server::Response;
 use room_1401::{Keeper, RoomId, Seat, SharedRoom};
 use std::alloc::{AllocError, Global};
 use std::sync::Wait;
 
-/// Fills in what came of a line.
-fn tell_outcome(response: &mut Response, outcome: &Result<Vec<u8>, Unanswered>)
+/// Fills in what came of a line, or of several.
+pub(crate) fn tell_outcome(response: &mut Response, outcome: &Result<Vec<u8>, Unanswered>)
     requires { IsResponse 200 text_fields [] response.old }
     ensures ok { IfOk outcome.now (λ reply. IsText reply.items response.new) }
     ensures err { IfErr outcome.now (λ why. IsUnansweredBy why response.new) }
@@ -45,24 +47,28 @@ fn answer_at<J: RoomId, R: Wait + Drop, P: Keeper + Drop, W: Wait>(
     tell_outcome(response, &outcome);
 }
 
-/// Answers a request that brings a line to a seat: it has to come from the seat's own page, and to go on from what the
-/// seat made.
+/// Answers a request that brings a line to a seat: it has to come from the seat's own page, to be for the room of this
+/// name if it names one, and to go on from what the seat made.
 pub(crate) fn take_line<J: RoomId, R: Wait + Drop, P: Keeper + Drop, W: Wait>(
     alloc: Global,
     wait: &W,
     room: &SharedRoom<J, R, P>,
     seat: &mut Seat<J>,
     site: &Site,
+    name: &[u8],
     request: &Request<Bytes>,
     response: &mut Response,
 ) -> Result<(), AllocError>
     requires { IsBlank response.old }
     ensures ok { OnOk result (TakesLine J.size (HasLost P.has_failed P.kept P.first P.form J.size)
-        site.now (head_of request.now) (body_of request.now) seat.old response.new seat.new) }
+        site.now name.now (head_of request.now) (body_of request.now) seat.old response.new seat.new) }
     ensures err { OnErr result (seat.new ≡ seat.old) }
 {
     if !is_from_site(request, site) {
         return refuse(response, StatusCode::FORBIDDEN);
+    }
+    if !is_for_room(request, name) {
+        return refuse(response, StatusCode::CONFLICT);
     }
     if !is_next(request, seat.made()) {
         return refuse(response, StatusCode::CONFLICT);

@@ -12,15 +12,15 @@ use image_1401::{Image, Segments};
 use placing_1401::{Placing, address_or_zero};
 use source_1401::{Addressing, Statement};
 use std::alloc::Global;
-use symbols_1401::{AsmFault, KeptLine};
+use symbols_1401::{AsmFault, Lines};
 
 /// Where the first END lets the program begin.
-fn entry(all: &Placing<'_>, lines: &[KeptLine]) -> Result<i64, AsmFault>
+fn entry(all: &Placing<'_>, lines: &Lines<'_>) -> Result<i64, AsmFault>
     ensures value { IfOk result (λ value. value ≡ entry_in (places_of all.now) lines.now) }
     ensures err { IfErr result IsMemory }
 {
-    for line in lines {
-        let Some(Statement { body, .. }) = line.line().statement else {
+    for i in 0..lines.len() {
+        let Some(Statement { body, .. }) = lines.line(i).statement else {
             continue;
         };
         match body.describe().addressing {
@@ -43,7 +43,7 @@ fn entry(all: &Placing<'_>, lines: &[KeptLine]) -> Result<i64, AsmFault>
 pub fn make_image(
     alloc: Global,
     all: &Placing<'_>,
-    lines: &[KeptLine],
+    lines: &Lines<'_>,
     size: u16,
 ) -> Result<Image, AsmFault>
     requires few { length lines.now < 2 ^ 32 }

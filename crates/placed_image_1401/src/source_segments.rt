@@ -11,10 +11,10 @@ ghost use Rattle.placing_1401.specs.Values.{first_outside_from};
 ghost use Rattle.placing_1401.specs.View.{places_of};
 
 use image_1401::Segment;
-use placing_1401::{Builder, Placing, lines_behind};
+use placing_1401::{Builder, Placing};
 use source_1401::{Description, Statement};
 use std::alloc::Global;
-use symbols_1401::{AsmFault, AsmKind, KeptLine};
+use symbols_1401::{AsmFault, AsmKind, Lines};
 
 /// The segments of the lines so far.
 #[derive(Drop)]
@@ -33,7 +33,7 @@ impl<'a> SegmentsSoFar<'a> {
         all: &Placing<'a>,
         statement: &Statement,
         row: &Description,
-        behind: &[KeptLine],
+        behind: &Lines<'_>,
     ) -> Result<(), AsmFault>
         requires { row.now ≡ describe statement.now.body }
         ensures built { OnOk result ((rest : List (ℕ × ACell)) → built self.new.builder rest
@@ -56,7 +56,7 @@ impl<'a> SegmentsSoFar<'a> {
         alloc: Global,
         all: &Placing<'a>,
         size: u16,
-        lines: &[KeptLine],
+        lines: &Lines<'_>,
     ) -> Result<(), AsmFault>
         requires few { length lines.now < 2 ^ 32 }
         ensures inside { OnOk result
@@ -66,8 +66,8 @@ impl<'a> SegmentsSoFar<'a> {
         ensures err { IfErr result (λ fault. IsMemory fault
             ⊎ (first_outside_from size (places_of all.now) 1 (places_of self.old.so_far) lines.now ≡ Some fault)) }
     {
-        for (i, line) in lines.iter().enumerate() {
-            let Some(statement) = &line.line().statement else {
+        for i in 0..lines.len() {
+            let Some(statement) = &lines.line(i).statement else {
                 continue;
             };
             let row = statement.body.describe();
@@ -77,7 +77,7 @@ impl<'a> SegmentsSoFar<'a> {
                     kind: AsmKind::OutOfCore,
                 });
             }
-            self.put_row(alloc, all, statement, &row, lines_behind(lines, i))?;
+            self.put_row(alloc, all, statement, &row, &lines.behind(i))?;
         }
         Ok(())
     }
@@ -92,7 +92,7 @@ pub(crate) fn make_segments(
     alloc: Global,
     all: &Placing<'_>,
     size: u16,
-    lines: &[KeptLine],
+    lines: &Lines<'_>,
 ) -> Result<Vec<Segment>, AsmFault>
     requires few { length lines.now < 2 ^ 32 }
     ensures inside { OnOk result

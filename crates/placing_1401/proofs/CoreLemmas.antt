@@ -17,6 +17,7 @@ use Rattle.core_1401.specs.Storage.{is_core_size, blank}
 use Rattle.image_1401.specs.Image.{is_inside, IsInCore}
 use Rattle.source_1401.specs.Description.{describe}
 use Rattle.source_1401.specs.Operands.{count_of}
+use Rattle.source_1401.specs.declared.address.Address.{Address}
 use Rattle.source_1401.specs.declared.constant.Constant.{Constant}
 use Rattle.source_1401.specs.declared.constant.Constant.TheVariants as constants
 use Rattle.source_1401.specs.declared.mnemonic.Instruction.{Instruction}
@@ -24,6 +25,7 @@ use Rattle.source_1401.specs.declared.operands.Operand.TheVariants as operands
 use Rattle.source_1401.specs.declared.operands.OperandField.{OperandField}
 use Rattle.source_1401.specs.declared.operands.OperandField.TheVariants as fields
 use Rattle.source_1401.specs.declared.operands.Operands.{Operands}
+use Rattle.source_1401.specs.declared.operands.Unit.{Unit as AUnit}
 use Rattle.source_1401.specs.declared.statement.AddressConstant.{AddressConstant}
 use Rattle.source_1401.specs.declared.statement.Areas.{Areas}
 use Rattle.source_1401.specs.declared.statement.Chain.{Chain}
@@ -44,11 +46,12 @@ use Rattle.placing_1401.specs.Cells.{address_or_zero, plain, marked, with_word_m
 use Rattle.placing_1401.specs.Cells.{constant_codes, constant_cells, literal_codes, literal_cells, with_mark_at}
 use Rattle.placing_1401.specs.Cells.{with_field, area_cells, chain_cells, instruction_cells, signed_codes, field_cells}
 use Rattle.placing_1401.specs.Cells.{address_constant_cells, group_mark, record_mark, repeated, areas_cells, contents_cells}
+use Rattle.placing_1401.specs.Cells.{unit_or_address_codes}
 use Rattle.placing_1401.specs.Cells.{row_cells, body_cells, statement_cells, numbered, cells_from, fields_behind}
 use Rattle.placing_1401.specs.Characters.{char_of, char_with, characters_of, codes_in}
 use Rattle.placing_1401.specs.Literals.{key_length}
 use Rattle.placing_1401.specs.Placement.{Placement, unplaced, instruction_length, constant_length, area_stride}
-use Rattle.placing_1401.specs.Placement.{areas_length}
+use Rattle.placing_1401.specs.Placement.{address_unit, areas_length, symbols_of}
 use Rattle.placing_1401.specs.Placement.{chain_length, contents_length, entry_value, pending, behind_literals}
 use Rattle.placing_1401.specs.Placement.{own_value, start_by, start_of, placed_after, placed}
 use Rattle.placing_1401.specs.PlacementLaws.{total}
@@ -102,12 +105,18 @@ placed_below size next n cells small inside few =
         (not-false (are_in_core size next (next +ℤ pos n)) core) in
         omega (arith, whole, few)
 
+address_few : (all : Placement) (here : ℤ) (unit : Option AUnit) (address : Address)
+    → length (unit_or_address_codes all here unit address) ≤ 3 * 1
+address_few all here None address = omega arith
+address_few all here (Some unit) address = omega arith
+
 -- how many cells an operand has
 operand_length : (all : Placement) (here : ℤ) (field : OperandField)
     → length (operand_codes all here field) ≤ 3 * count_of field
 operand_length all here fields.Absent = omega arith
 operand_length all here fields.Malformed = omega arith
-operand_length all here (fields.Operand (operands.Address address)) = omega arith
+operand_length all here (fields.Operand (operands.Address address)) =
+    address_few all here (address_unit (symbols_of all) address) address
 operand_length all here (fields.Operand (operands.Literal literal)) = omega arith
 operand_length all here (fields.Operand (operands.Unit unit)) = omega arith
 
@@ -279,40 +288,43 @@ pub neither : (x y : Bool) → (x || y) ≡ false → (x ≡ false) × (y ≡ fa
 neither true y h = absurd (true≢false h)
 neither false y h = (refl, h)
 
-contents_below : (size : ℕ) (all this : Placement) (made : Contents) (lines : List Line) → size ≤ 16000
-    → places_outside size this.next (contents_length made) ≡ false
-    → are_below size (numbered (address_or_zero this.next) (contents_cells all this made lines)) ≡ true
-contents_below size all this contents.Nothing lines small inside = refl
-contents_below size all this (contents.Instruction instruction of) lines small inside =
+contents_below : (size : ℕ) (all this : Placement) (at : ℤ) (made : Contents) (lines : List Line) → size ≤ 16000
+    → places_outside size at (contents_length made) ≡ false
+    → are_below size (numbered (address_or_zero at) (contents_cells all this made lines)) ≡ true
+contents_below size all this at contents.Nothing lines small inside = refl
+contents_below size all this at (contents.Instruction instruction of) lines small inside =
     let last = last_place this.next (instruction_length of) in
-    placed_below size this.next (instruction_length of) (instruction_cells all last instruction of) small inside
+    placed_below size at (instruction_length of) (instruction_cells all last instruction of) small inside
     (instruction_few all last instruction of)
-contents_below size all this (contents.MarkedConstant constant) lines small inside =
-    placed_below size this.next (constant_length constant) (constant_cells true constant) small inside
+contents_below size all this at (contents.MarkedConstant constant) lines small inside =
+    placed_below size at (constant_length constant) (constant_cells true constant) small inside
     (constant_few true constant)
-contents_below size all this (contents.Constant constant) lines small inside =
-    placed_below size this.next (constant_length constant) (constant_cells false constant) small inside
+contents_below size all this at (contents.Constant constant) lines small inside =
+    placed_below size at (constant_length constant) (constant_cells false constant) small inside
     (constant_few false constant)
-contents_below size all this (contents.Space places) lines small inside = refl
-contents_below size all this (contents.Areas made) lines small inside =
-    placed_below size this.next (areas_length made) (areas_cells made lines) small inside (areas_few made lines)
-contents_below size all this (contents.Chain chain) lines small inside =
-    placed_below size this.next (chain_length chain) (chain_cells chain) small inside (chain_few chain)
-contents_below size all this (contents.AddressConstant constant) lines small inside =
+contents_below size all this at (contents.Space places) lines small inside = refl
+contents_below size all this at (contents.Areas made) lines small inside =
+    placed_below size at (areas_length made) (areas_cells made lines) small inside (areas_few made lines)
+contents_below size all this at (contents.Chain chain) lines small inside =
+    placed_below size at (chain_length chain) (chain_cells chain) small inside (chain_few chain)
+contents_below size all this at (contents.AddressConstant constant) lines small inside =
     let last = last_place this.next 3 in
-    placed_below size this.next 3 (address_constant_cells all last constant) small inside
+    placed_below size at 3 (address_constant_cells all last constant) small inside
     (address_constant_few all last constant)
 
 row_below : (size : ℕ) (all this : Placement) (row : Description) (step : Next) (lines : List Line) → size ≤ 16000
-    → places_outside size this.next (contents_length row.contents) ≡ false → next_outside size this row step ≡ false
+    → places_outside size (start_by this row step) (contents_length row.contents) ≡ false
+    → next_outside size this row step ≡ false
     → are_below size (numbered (address_or_zero (start_by this row step)) (row_cells all this row step lines)) ≡ true
 row_below size all this row next.Behind lines small places literals =
-    contents_below size all this row.contents lines small places
+    contents_below size all this this.next row.contents lines small places
 row_below size all this row next.Literals lines small places literals =
     literals_below size all this.next (pending this) small literals
 row_below size all this row next.Value lines small places literals = refl
 row_below size all this row next.LiteralsAtValue lines small places literals =
     literals_below size all (own_value this row.addressing) (pending this) small literals
+row_below size all this row next.Elsewhere lines small places literals =
+    contents_below size all this (own_value this row.addressing) row.contents lines small places
 
 body_below : (size : ℕ) (all this : Placement) (body : Body) (lines : List Line) → size ≤ 16000
     → body_outside size all this body ≡ false
@@ -321,7 +333,7 @@ body_below : (size : ℕ) (all this : Placement) (body : Body) (lines : List Lin
     ≡ true
 body_below size all this body lines small inside =
     let row = describe body in
-    let places = places_outside size this.next (contents_length row.contents) in
+    let places = places_outside size (start_by this row row.next) (contents_length row.contents) in
     let literals = next_outside size this row row.next in
     let parts = neither places literals
     (neither (places || literals) (addresses_outside size all this row row.addressing) inside).0 in
@@ -425,7 +437,7 @@ body_entry : (size : ℕ) (all this : Placement) (body : Body) (behind : ℤ) �
     → body_outside size all this body ≡ false → address_or_zero behind < size → address_or_zero (entry_by all body behind) < size
 body_entry size all this body behind bounds h low =
     let row = describe body in
-    let places = places_outside size this.next (contents_length row.contents) in
+    let places = places_outside size (start_by this row row.next) (contents_length row.contents) in
     let addresses = addresses_outside size all this row row.addressing in
     row_entry size all this row row.addressing behind bounds
     (neither (places || next_outside size this row row.next) addresses h).1 low

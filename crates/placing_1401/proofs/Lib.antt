@@ -1,9 +1,8 @@
 pub mod CellsLemmas
 pub mod CharactersLemmas
 pub mod CoreLemmas
-pub mod FillingLemmas
-mod FittedExamples
 pub mod LawLemmas
+mod PlacementExamples
 pub mod PlacementLawLemmas
 pub mod PlacingLemmas
 pub mod StandingLemmas

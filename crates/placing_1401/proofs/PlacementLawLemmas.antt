@@ -28,7 +28,7 @@ use Rattle.symbols_1401.specs.Symbols.{sites_of}
 use Rattle.placing_1401.specs.Literals.{key_of, same_key}
 use Rattle.placing_1401.specs.Placement.{Placement, nothing_placed, pending, with_literal, with_operand, with_uses}
 use Rattle.placing_1401.specs.Placement.{with_areas, next_moved, behind_row, behind_body, with_label, label_value}
-use Rattle.placing_1401.specs.Placement.{placed_after, placed, placed_among, symbols_of, value_so_far}
+use Rattle.placing_1401.specs.Placement.{origin_value, placed_after, placed, placed_among}
 use Rattle.placing_1401.specs.PlacementLaws.{row_length, body_length, length_with, lengths_from, origin_by, origin_in}
 use Rattle.placing_1401.specs.PlacementLaws.{origin_with, AreNoOrigins, literal_in, uses_by, uses_in, uses_with, uses}
 use Rattle.placing_1401.specs.PlacementLaws.{total, with_use, IsPlacedInTurn}
@@ -83,6 +83,7 @@ next_moved_next this row next.Behind none = refl
 next_moved_next this row next.Literals none = behind_total this.next (pending this)
 next_moved_next this row next.Value none = cc
 next_moved_next this row next.LiteralsAtValue none = cc
+next_moved_next this row next.Elsewhere none = sym (+ℤ_idr this.next)
 
 body_next : (this : Placement) (body : Body) → origin_in body ≡ None
     → (behind_body this body).next ≡ this.next +ℤ pos (body_length this body)
@@ -132,31 +133,32 @@ fold_append this (line ∷ before) behind = fold_append (placed_after this line)
 
 origin_next : (this : Placement) (line : Line) (of : Operands) → origin_with line.statement ≡ Some of
     → (placed_after this line).next
-    ≡ value_so_far (symbols_of this) this.next of.a +ℤ pos (length_with this line.statement)
+    ≡ origin_value this this next.Value of.a +ℤ pos (length_with this line.statement)
 origin_next this line of is = by line.statement is
   where
     moved_to : (row : Description) (step : Next) → origin_by step row.addressing ≡ Some of
         → (next_moved this row step).next
-        ≡ value_so_far (symbols_of this) this.next of.a +ℤ pos (row_length this row step)
+        ≡ origin_value this this next.Value of.a +ℤ pos (row_length this row step)
     moved_to row next.Behind h = cc
     moved_to row next.Literals h = cc
     moved_to row next.Value h =
         let same : operands_in row.addressing ≡ of = cc in
-        ap (λ (given : Operands). value_so_far (symbols_of this) this.next given.a) same
-        ∙ sym (+ℤ_idr (value_so_far (symbols_of this) this.next of.a))
+        ap (λ (given : Operands). origin_value this this next.Value given.a) same
+        ∙ sym (+ℤ_idr (origin_value this this next.Value of.a))
     moved_to row next.LiteralsAtValue h =
         let same : operands_in row.addressing ≡ of = cc in
-        behind_total (value_so_far (symbols_of this) this.next (operands_in row.addressing).a) (pending this)
-        ∙ ap (λ (given : Operands). value_so_far (symbols_of this) this.next given.a +ℤ pos (total (pending this))) same
+        behind_total (origin_value this this next.Value (operands_in row.addressing).a) (pending this)
+        ∙ ap (λ (given : Operands). origin_value this this next.Value given.a +ℤ pos (total (pending this))) same
+    moved_to row next.Elsewhere h = cc
 
     body : (given : Body) → origin_in given ≡ Some of
         → (behind_body this given).next
-        ≡ value_so_far (symbols_of this) this.next of.a +ℤ pos (body_length this given)
+        ≡ origin_value this this next.Value of.a +ℤ pos (body_length this given)
     body given h = row_next this (describe given) ∙ moved_to (describe given) (describe given).next h
 
     by : (statement : Option Statement) → origin_with statement ≡ Some of
         → (placed_after this (record { bytes = line.bytes; statement = statement })).next
-        ≡ value_so_far (symbols_of this) this.next of.a +ℤ pos (length_with this statement)
+        ≡ origin_value this this next.Value of.a +ℤ pos (length_with this statement)
     by None h = cc
     by (Some statement) h =
         label_next (behind_body this statement.body) (well_formed statement.label) (label_value this statement.body)
@@ -202,6 +204,7 @@ next_moved_literals this row next.Behind = refl
 next_moved_literals this row next.Literals = refl
 next_moved_literals this row next.Value = refl
 next_moved_literals this row next.LiteralsAtValue = refl
+next_moved_literals this row next.Elsewhere = refl
 
 uses_use : (this : Placement) (asked : Addressing)
     → (with_uses this asked).literals ≡ fold with_use this.literals (uses_by asked)
@@ -283,6 +286,7 @@ next_moved_spelled this row next.Behind so_far = so_far
 next_moved_spelled this row next.Literals so_far = so_far
 next_moved_spelled this row next.Value so_far = so_far
 next_moved_spelled this row next.LiteralsAtValue so_far = so_far
+next_moved_spelled this row next.Elsewhere so_far = so_far
 
 uses_spelled : (this : Placement) (asked : Addressing) → IsSpelled this → IsSpelled (with_uses this asked)
 uses_spelled this addressing.Nothing so_far = so_far

@@ -112,6 +112,7 @@ next_moved_grown this row next.LiteralsAtValue = record {
   literals = λ i v h. h;
   addresses = more_at this.addresses (units_from (own_value this row.addressing) (pending this));
 }
+next_moved_grown this row next.Elsewhere = unchanged this
 
 uses_grown : (this : Placement) (asked : Addressing) → Grown this (with_uses this asked)
 uses_grown this addressing.Nothing = unchanged this
@@ -213,6 +214,7 @@ line_units this line places = by line.statement places
     next_moved_units row next.Literals h = refl
     next_moved_units row next.Value h = cc
     next_moved_units row next.LiteralsAtValue h = refl
+    next_moved_units row next.Elsewhere h = cc
 
     body : (given : Body) → places_in given ≡ true
         → (behind_body this given).addresses

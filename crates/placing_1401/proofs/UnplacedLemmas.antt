@@ -65,6 +65,7 @@ next_moved_chains this row next.Behind = refl
 next_moved_chains this row next.Literals = refl
 next_moved_chains this row next.Value = refl
 next_moved_chains this row next.LiteralsAtValue = refl
+next_moved_chains this row next.Elsewhere = refl
 
 row_chains : (this : Placement) (row : Description) → (behind_row this row).chains ≡ this.chains
 row_chains this row =

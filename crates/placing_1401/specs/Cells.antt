@@ -19,6 +19,7 @@ use Rattle.source_1401.specs.declared.operands.Operand.TheVariants as operands
 use Rattle.source_1401.specs.declared.operands.OperandField.{OperandField}
 use Rattle.source_1401.specs.declared.operands.OperandField.TheVariants as fields
 use Rattle.source_1401.specs.declared.operands.Operands.{Operands}
+use Rattle.source_1401.specs.declared.operands.Unit.{Unit as AUnit}
 use Rattle.source_1401.specs.declared.statement.AddressConstant.{AddressConstant}
 use Rattle.source_1401.specs.declared.statement.Areas.{Areas}
 use Rattle.source_1401.specs.declared.statement.Chain.{Chain}
@@ -36,7 +37,7 @@ use Rattle.source_1401.specs.declared.statement.Line.{Line}
 use Rattle.placing_1401.specs.Characters.{char_of, characters_of, codes_in}
 use Rattle.placing_1401.specs.Literals.{key_of, same_key}
 use Rattle.placing_1401.specs.Placement.{Placement, symbols_of, pending, instruction_length, chain_length}
-use Rattle.placing_1401.specs.Placement.{address_index, start_of, placed_after}
+use Rattle.placing_1401.specs.Placement.{address_index, address_unit, start_of, placed_after}
 use Rattle.placing_1401.specs.Values.{address_value, last_place}
 use Rattle.placing_1401.specs.declared.literals.LiteralKey.{LiteralKey}
 use Rattle.placing_1401.specs.declared.literals.LiteralKey.TheVariants as keys
@@ -102,10 +103,16 @@ abbrev pub unit_codes : List ℕ → List ℕ
 unit_codes graphics =
     char_of (slice_index graphics 0) ∷ char_of (slice_index graphics 1) ∷ char_of (slice_index graphics 2) ∷ []
 
+-- the unit that an address names, or the address
+abbrev pub unit_or_address_codes : Placement → ℤ → Option AUnit → Address → List ℕ
+unit_or_address_codes all here None address = address_codes all here address
+unit_or_address_codes all here (Some unit) address = unit_codes unit.graphics
+
 abbrev pub operand_codes : Placement → ℤ → OperandField → List ℕ
 operand_codes all here fields.Absent = []
 operand_codes all here fields.Malformed = []
-operand_codes all here (fields.Operand (operands.Address address)) = address_codes all here address
+operand_codes all here (fields.Operand (operands.Address address)) =
+    unit_or_address_codes all here (address_unit (symbols_of all) address) address
 operand_codes all here (fields.Operand (operands.Literal literal)) =
     spelling_of (address_or_zero (literal_value all (key_of literal)))
 operand_codes all here (fields.Operand (operands.Unit unit)) = unit_codes unit.graphics
@@ -228,6 +235,7 @@ row_cells all this row next.Behind lines = contents_cells all this row.contents 
 row_cells all this row next.Literals lines = flat_map (literal_cells all) (pending this)
 row_cells all this row next.Value lines = []
 row_cells all this row next.LiteralsAtValue lines = flat_map (literal_cells all) (pending this)
+row_cells all this row next.Elsewhere lines = contents_cells all this row.contents lines
 
 -- the cells that a body places, with these lines after it
 abbrev pub body_cells : Placement → Placement → Body → List Line → List Cell

@@ -28,12 +28,15 @@ addresses_of lines = addresses_from (unplaced (placed lines)) lines
 abbrev pub filled_of : ℕ → List Cell → FilledPlaces
 filled_of first cells = record { first = first; count = length cells }
 
+-- the places that a line fills, with these lines after it
+abbrev pub filled_by : Placement → Placement → Line → List Line → FilledPlaces
+filled_by all this line lines =
+    filled_of (address_or_zero (start_of this line.statement)) (statement_cells all this line.statement lines)
+
 -- the places that each line fills
 abbrev pub filled_from : Placement → Placement → List Line → List FilledPlaces
 filled_from all this [] = []
-filled_from all this (line ∷ lines) =
-    filled_of (address_or_zero (start_of this line.statement)) (statement_cells all this line.statement lines)
-    ∷ filled_from all (placed_after this line) lines
+filled_from all this (line ∷ lines) = filled_by all this line lines ∷ filled_from all (placed_after this line) lines
 
 abbrev pub filled_places : List Line → List FilledPlaces
 filled_places lines = filled_from (placed lines) (unplaced (placed lines)) lines

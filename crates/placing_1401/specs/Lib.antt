@@ -2,7 +2,6 @@ pub mod Built
 pub mod Cells
 pub mod Characters
 pub mod Filling
-pub mod Fitted
 pub mod Laws
 pub mod Literals
 pub mod PlacedImage

@@ -1,6 +1,7 @@
 -- Where statements and literals are placed (Autocoder, "Assembler Control", "Literals"; the first place own).
-use Rattle.std.specs.Prelude.{ℕ, ◌+◌, ◌*◌, ◌/◌, if◌then◌else◌, List, [], ◌∷◌, ◌++◌, length, fold, drop, ℤ, pos, negsuc}
-use Rattle.std.specs.Prelude.{◌+ℤ◌, int_le, nat_abs, unwrap_or, Option, Some, None}
+use Rattle.std.specs.Prelude.{ℕ, ◌+◌, ◌*◌, ◌/◌, Bool, ◌&&◌, if◌then◌else◌, List, [], ◌∷◌, ◌++◌, length, fold, drop, ℤ, pos, negsuc}
+use Rattle.std.specs.Prelude.{◌+ℤ◌, int_le, int_lt, nat_abs, unwrap_or, Option, Some, None, is_none}
+use Rattle.std.specs.Ordering.{int_eq}
 use Rattle.std.specs.Option.{option_map_or}
 use Rattle.std.specs.List.{list_any}
 use Rattle.std.specs.Map.{lookup}
@@ -18,6 +19,7 @@ use Rattle.source_1401.specs.declared.operands.Operand.TheVariants as operands
 use Rattle.source_1401.specs.declared.operands.OperandField.{OperandField}
 use Rattle.source_1401.specs.declared.operands.OperandField.TheVariants as fields
 use Rattle.source_1401.specs.declared.operands.Operands.{Operands}
+use Rattle.source_1401.specs.declared.operands.Unit.{Unit as AUnit}
 use Rattle.source_1401.specs.declared.statement.Areas.{Areas}
 use Rattle.source_1401.specs.declared.statement.Chain.{Chain}
 use Rattle.source_1401.specs.declared.description.Addressing.{Addressing}
@@ -43,13 +45,14 @@ use Rattle.placing_1401.specs.declared.literals.LiteralKey.{LiteralKey}
 use Rattle.placing_1401.specs.declared.literals.LiteralKey.TheVariants as keys
 use Rattle.placing_1401.specs.declared.symbol_values.SymbolValue.{SymbolValue}
 
--- what is placed so far: the chains of EQUs of all lines, the next place, the first place of the last areas, the place
--- that the labels of their fields are counted from and the index of these, the place of the first instruction, the next
--- place as it was before END, the labels' values, the literals in order of first use with what each was first written
--- as, and the units places of those that are placed
+-- what is placed so far: the chains of EQUs of all lines, the next place, the place after the highest that is taken, the
+-- first place of the last areas, the place that the labels of their fields are counted from and the index of these, the
+-- place of the first instruction, the next place as it was before END, the labels' values, the literals in order of first
+-- use with what each was first written as, and the units places of those that are placed
 pub record Placement : Type 0 where
   pub chains : Chains
   pub next : ℤ
+  pub highest : Option ℤ
   pub areas : ℤ
   pub fields_from : ℤ
   pub fields_index : ℕ
@@ -70,6 +73,7 @@ nothing_placed chains =
     record {
       chains = chains;
       next = usual_place;
+      highest = None;
       areas = usual_place;
       fields_from = usual_place;
       fields_index = 0;
@@ -127,7 +131,11 @@ next_hundred at = if int_le (pos 0) at then pos (nat_abs (at +ℤ pos 99) / 100 
 
 -- what a symbol is that no label has
 abbrev pub no_symbol : SymbolValue
-no_symbol = record { value = pos 0; index = 0 }
+no_symbol = record { value = pos 0; index = 0; unit = None }
+
+-- the value of a symbol that names a unit: no adjustment makes a place of it
+abbrev pub no_place : ℤ
+no_place = negsuc 99999
 
 -- a symbol by these values of labels
 abbrev pub symbol_by : List (Label × SymbolValue) → Label → SymbolValue
@@ -137,7 +145,7 @@ symbol_by values label = unwrap_or (lookup (same_label label) values) no_symbol
 abbrev pub symbol_behind : List (Label × SymbolValue) → Link → SymbolValue
 symbol_behind values link =
     let last = symbol_by values link.to in
-    record { value = last.value +ℤ link.added; index = unwrap_or link.index last.index }
+    record { value = last.value +ℤ link.added; index = unwrap_or link.index last.index; unit = None }
 
 -- what symbols stand for
 abbrev pub SymbolValues : Type 0
@@ -177,6 +185,22 @@ base_index symbols bases.NextHundred = 0
 abbrev pub address_index : SymbolValues → Address → ℕ
 address_index symbols address = unwrap_or address.index (base_index symbols address.base)
 
+-- a base alone, without an adjustment and an index
+abbrev pub is_alone : Address → Bool
+is_alone address = int_eq address.adjustment (pos 0) && is_none address.index
+
+-- the unit that a base names, if it is a symbol alone
+abbrev pub base_unit : SymbolValues → Bool → Base → Option AUnit
+base_unit symbols alone (bases.Number number) = None
+base_unit symbols alone (bases.Symbol label) = if alone then (symbols label).unit else None
+base_unit symbols alone bases.Here = None
+base_unit symbols alone (bases.Register number) = None
+base_unit symbols alone bases.NextHundred = None
+
+-- the unit that an address names
+abbrev pub address_unit : SymbolValues → Address → Option AUnit
+address_unit symbols address = base_unit symbols (is_alone address) address.base
+
 -- the index of an operand by what symbols stand for
 abbrev pub index_so_far : SymbolValues → OperandField → ℕ
 index_so_far symbols fields.Absent = 0
@@ -191,6 +215,19 @@ asterisk_place place next.Behind = place +ℤ negsuc 0
 asterisk_place place next.Literals = place +ℤ negsuc 0
 asterisk_place place next.Value = place
 asterisk_place place next.LiteralsAtValue = place
+asterisk_place place next.Elsewhere = place
+
+-- the place after the highest that is taken, or the next one while none is
+abbrev pub after_highest : Placement → ℤ
+after_highest this = unwrap_or this.highest this.next
+
+-- the value of an origin by the labels of what is placed by others; without an operand it is the place after the highest
+-- that is taken
+abbrev pub origin_value : Placement → Placement → Next → OperandField → ℤ
+origin_value by this step fields.Absent = after_highest this
+origin_value by this step fields.Malformed = pos 0
+origin_value by this step (fields.Operand operand) =
+    value_so_far (symbols_of by) (asterisk_place this.next step) (fields.Operand operand)
 
 -- where a program begins: the value of END, or without an operand the place of its first instruction
 abbrev pub entry_value : Placement → OperandField → ℤ
@@ -216,6 +253,19 @@ units_from from [] = []
 units_from from (literal ∷ literals) =
     (behind_literal from literal +ℤ negsuc 0) ∷ units_from (behind_literal from literal) literals
 
+-- the higher of a place that there may be and another
+abbrev pub higher : Option ℤ → ℤ → ℤ
+higher None behind = behind
+higher (Some highest) behind = if int_lt highest behind then behind else highest
+
+-- the place after the highest that is taken, once all from a first place up to the one before another are
+abbrev pub highest_with : Option ℤ → ℤ → ℤ → Option ℤ
+highest_with highest first behind = if int_lt first behind then Some (higher highest behind) else highest
+
+-- the places up to the one before this are taken, and it is next
+abbrev pub taken_up_to : Placement → ℤ → Placement
+taken_up_to this behind = record this { next = behind; highest = highest_with this.highest this.next behind }
+
 -- a literal that is used: a new one goes last
 abbrev pub with_literal : Placement → Literal → Placement
 with_literal this literal =
@@ -238,7 +288,7 @@ abbrev pub with_area : List (Label × SymbolValue) → ℤ → LiteralKey → Li
 with_area values units (keys.Characters characters) = values
 with_area values units (keys.Address literal) = values
 with_area values units (keys.Area literal) =
-    insert_entry same_label values literal.label (record { value = units; index = 0 })
+    insert_entry same_label values literal.label (record { value = units; index = 0; unit = None })
 
 -- the values of labels with those of the literals that begin at a place
 abbrev pub with_area_labels : List (Label × SymbolValue) → ℤ → List LiteralKey → List (Label × SymbolValue)
@@ -250,8 +300,7 @@ with_area_labels values from (literal ∷ literals) =
 -- EX, END and LTORG place the literals that are used and not placed
 abbrev pub with_pending : Placement → Placement
 with_pending this =
-    record this {
-      next = behind_literals this.next (pending this);
+    record (taken_up_to this (behind_literals this.next (pending this))) {
       values = with_area_labels this.values this.next (pending this);
       addresses =
           this.addresses ++ units_from this.next (pending this);
@@ -287,23 +336,26 @@ with_areas this first (areas.Makes made) =
     record this { areas = first; fields_from = counted_from first made; fields_index = index_of_fields made }
 with_areas this first (areas.Divides span) = this
 
--- the value of ORG and of LTORG, by the values so far
+-- the value of ORG and of LTORG, by the values so far, and the first place of a constant that isn't at the next one
 abbrev pub own_value : Placement → Addressing → ℤ
-own_value this asked = value_so_far (symbols_of this) (asterisk_place this.next next.Value) (operands_in asked).a
+own_value this asked = origin_value this this next.Value (operands_in asked).a
 
 -- what becomes of the next place
 abbrev pub next_moved : Placement → Description → Next → Placement
-next_moved this row next.Behind = with_next this (this.next +ℤ pos (contents_length row.contents))
+next_moved this row next.Behind = taken_up_to this (this.next +ℤ pos (contents_length row.contents))
 next_moved this row next.Literals = with_pending this
 next_moved this row next.Value = with_next this (own_value this row.addressing)
 next_moved this row next.LiteralsAtValue = with_pending (with_next this (own_value this row.addressing))
+next_moved this row next.Elsewhere = this
 
--- where a statement places its cells: from the next place on, but those of LTORG from its value on
+-- where a statement places its cells: from the next place on, but those of LTORG, and of a constant elsewhere, from its
+-- value on
 abbrev pub start_by : Placement → Description → Next → ℤ
 start_by this row next.Behind = this.next
 start_by this row next.Literals = this.next
 start_by this row next.Value = this.next
 start_by this row next.LiteralsAtValue = own_value this row.addressing
+start_by this row next.Elsewhere = own_value this row.addressing
 
 abbrev pub start_of : Placement → Option Statement → ℤ
 start_of this None = this.next
@@ -350,8 +402,7 @@ behind_body this body = behind_row this (describe body)
 abbrev pub asked_value : Placement → Placement → Next → Addressing → ℤ
 asked_value by this step addressing.Nothing = pos 0
 asked_value by this step (addressing.Addresses of) = value_so_far (symbols_of by) (asterisk_place this.next step) of.a
-asked_value by this step (addressing.EarlierValue of) =
-    value_so_far (symbols_of by) (asterisk_place this.next step) of.a
+asked_value by this step (addressing.EarlierValue of) = origin_value by this step of.a
 asked_value by this step (addressing.Equal of) = value_so_far (symbols_of by) (asterisk_place this.next step) of.a
 asked_value by this step (addressing.Value of) = value_so_far (symbols_of by) (asterisk_place this.next step) of.a
 asked_value by this step (addressing.Entry of) = entry_value by of.a
@@ -372,12 +423,33 @@ point_index this row (point.InArea place) = 0
 point_index this row (point.Counted place) = this.fields_index
 point_index this row point.Value = index_so_far (symbols_of this) (operands_in row.addressing).a
 
+-- the unit that EQU gives its label
+abbrev pub operand_unit : OperandField → Option AUnit
+operand_unit fields.Absent = None
+operand_unit fields.Malformed = None
+operand_unit (fields.Operand (operands.Address address)) = None
+operand_unit (fields.Operand (operands.Literal literal)) = None
+operand_unit (fields.Operand (operands.Unit unit)) = Some unit
+
+abbrev pub label_unit : Addressing → Option AUnit
+label_unit addressing.Nothing = None
+label_unit (addressing.Addresses of) = None
+label_unit (addressing.EarlierValue of) = None
+label_unit (addressing.Equal of) = operand_unit of.a
+label_unit (addressing.Value of) = None
+label_unit (addressing.Entry of) = None
+
+-- the name of a unit, or a symbol with this value and index
+abbrev pub unit_or_value : Option AUnit → ℤ → ℕ → SymbolValue
+unit_or_value None value index = record { value = value; index = index; unit = None }
+unit_or_value (Some unit) value index = record { value = no_place; index = 0; unit = Some unit }
+
 -- the value of a label: the units place of a constant, the last place of DS, the last place of a field in the first
--- area, the value of EQU, and else the first place; and its index
+-- area, the value of EQU, and else the first place; its index, and the unit that it names
 abbrev pub label_value : Placement → Body → SymbolValue
 label_value this body =
     let row = describe body in
-    record { value = point_value this this row row.names; index = point_index this row row.names }
+    unit_or_value (label_unit row.addressing) (point_value this this row row.names) (point_index this row row.names)
 
 abbrev pub with_label : Placement → Option Label → SymbolValue → Placement
 with_label this None value = this

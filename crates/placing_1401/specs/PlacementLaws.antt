@@ -18,7 +18,7 @@ use Rattle.source_1401.specs.declared.statement.Statement.{Statement}
 use Rattle.source_1401.specs.declared.statement.Line.{Line}
 use Rattle.placing_1401.specs.Cells.{literal_value}
 use Rattle.placing_1401.specs.Literals.{key_of, same_key, key_length}
-use Rattle.placing_1401.specs.Placement.{Placement, symbols_of, pending, contents_length, value_so_far, start_of}
+use Rattle.placing_1401.specs.Placement.{Placement, pending, contents_length, origin_value, start_of}
 use Rattle.placing_1401.specs.Placement.{placed_after, placed, placed_among}
 use Rattle.placing_1401.specs.declared.literals.LiteralKey.{LiteralKey}
 
@@ -27,12 +27,13 @@ abbrev pub total : List LiteralKey → ℕ
 total [] = 0
 total (literal ∷ literals) = key_length literal + total literals
 
--- how many places a body takes: EX, END and LTORG those of the literals that they place
+-- how many places from the next one on a body takes: EX, END and LTORG those of the literals that they place
 abbrev pub row_length : Placement → Description → Next → ℕ
 row_length this row next.Behind = contents_length row.contents
 row_length this row next.Literals = total (pending this)
 row_length this row next.Value = 0
 row_length this row next.LiteralsAtValue = total (pending this)
+row_length this row next.Elsewhere = 0
 
 abbrev pub body_length : Placement → Body → ℕ
 body_length this body = row_length this (describe body) (describe body).next
@@ -52,6 +53,7 @@ origin_by next.Behind asked = None
 origin_by next.Literals asked = None
 origin_by next.Value asked = Some (operands_in asked)
 origin_by next.LiteralsAtValue asked = Some (operands_in asked)
+origin_by next.Elsewhere asked = None
 
 abbrev pub origin_in : Body → Option Operands
 origin_in body = origin_by (describe body).next (describe body).addressing
@@ -71,6 +73,7 @@ places_by next.Behind = false
 places_by next.Literals = true
 places_by next.Value = false
 places_by next.LiteralsAtValue = true
+places_by next.Elsewhere = false
 
 abbrev pub places_in : Body → Bool
 places_in body = places_by (describe body).next
@@ -117,12 +120,12 @@ pub record IsPlacedInTurn (lines : List Line) : Type 0 where
   pub since : (before since rest : List Line) → lines ≡ before ++ since ++ rest → AreNoOrigins since
       → (placed_among lines (before ++ since)).next
       ≡ (placed_among lines before).next +ℤ pos (lengths_from (placed_among lines before) since)
-  -- After an origin it is the value of its operand, in which an asterisk is the place before it, and the length of the
-  -- literals that it places.
+  -- After an origin it is the value of its operand, in which an asterisk is the place before it, or without one the place
+  -- after the highest that was taken; and the length of the literals that it places.
   pub origin : (before : List Line) (line : Line) (rest : List Line) (of : Operands) → lines ≡ before ++ line ∷ rest
       → origin_with line.statement ≡ Some of
       → (placed_among lines (before ++ line ∷ [])).next
-      ≡ value_so_far (symbols_of (placed_among lines before)) (placed_among lines before).next of.a
+      ≡ origin_value (placed_among lines before) (placed_among lines before) next.Value of.a
       +ℤ pos (length_with (placed_among lines before) line.statement)
   -- The literals are those that are used, each once, in the order of their first use,
   pub literals : (placed lines).literals ≡ fold with_use [] (uses lines)

@@ -1,7 +1,8 @@
 -- The values of addresses once all is placed, and what isn't in core (Autocoder, "Operand"; what is looked at own).
 use Rattle.std.specs.Prelude.{ℕ, ◌+◌, Bool, false, not, ◌&&◌, ◌||◌, nat_lt, if◌then◌else◌, List, [], ◌∷◌, length, ℤ}
-use Rattle.std.specs.Prelude.{pos, negsuc, ◌+ℤ◌, int_le, int_lt, Option, Some, None}
+use Rattle.std.specs.Prelude.{pos, negsuc, ◌+ℤ◌, int_le, int_lt, Option, Some, None, is_some}
 use Rattle.std.specs.Option.{option_map_or}
+use Rattle.machine_operations.specs.Operation.{is_fitted}
 use Rattle.source_1401.specs.Description.{describe}
 use Rattle.source_1401.specs.declared.address.Address.{Address}
 use Rattle.source_1401.specs.declared.literal.Literal.{Literal}
@@ -11,6 +12,8 @@ use Rattle.source_1401.specs.declared.operands.OperandField.{OperandField}
 use Rattle.source_1401.specs.declared.operands.OperandField.TheVariants as fields
 use Rattle.source_1401.specs.declared.description.Addressing.{Addressing}
 use Rattle.source_1401.specs.declared.description.Addressing.TheVariants as addressing
+use Rattle.source_1401.specs.declared.description.Contents.{Contents}
+use Rattle.source_1401.specs.declared.description.Contents.TheVariants as contents
 use Rattle.source_1401.specs.declared.description.Description.{Description}
 use Rattle.source_1401.specs.declared.description.Next.{Next}
 use Rattle.source_1401.specs.declared.description.Next.TheVariants as next
@@ -20,7 +23,8 @@ use Rattle.source_1401.specs.declared.statement.Line.{Line}
 use Rattle.symbols_1401.specs.declared.fault.AsmKind.TheVariants as kinds
 use Rattle.symbols_1401.specs.declared.fault.AsmFault.{AsmFault}
 use Rattle.placing_1401.specs.Placement.{Placement, symbols_of, contents_length, pending, behind_literals, start_by}
-use Rattle.placing_1401.specs.Placement.{base_value, asked_value, entry_value, placed_after, unplaced, placed}
+use Rattle.placing_1401.specs.Placement.{instruction_length}
+use Rattle.placing_1401.specs.Placement.{address_unit, base_value, asked_value, entry_value, placed_after, unplaced, placed}
 use Rattle.placing_1401.specs.declared.literals.LiteralKey.{LiteralKey}
 
 -- the value of an address before indexing, with this place for an asterisk
@@ -50,14 +54,26 @@ literal_outside size all (literals.Address literal) = not (is_in_core size (addr
 literal_outside size all (literals.Area literal) = false
 
 -- an address whose value isn't in core, as an operand or as a literal; the places of a literal are looked at where it
--- is placed, and a unit is no address
-abbrev pub operand_outside : ℕ → Placement → ℤ → OperandField → Bool
-operand_outside size all here fields.Absent = false
-operand_outside size all here fields.Malformed = false
-operand_outside size all here (fields.Operand (operands.Address address)) =
+-- is placed, and a unit is no address, nor is a symbol that names one where it may
+abbrev pub operand_outside : ℕ → Placement → Bool → ℤ → OperandField → Bool
+operand_outside size all is_unit here fields.Absent = false
+operand_outside size all is_unit here fields.Malformed = false
+operand_outside size all is_unit here (fields.Operand (operands.Address address)) =
     not (is_in_core size (address_value all here address))
-operand_outside size all here (fields.Operand (operands.Literal literal)) = literal_outside size all literal
-operand_outside size all here (fields.Operand (operands.Unit unit)) = false
+    && not (is_unit && is_some (address_unit (symbols_of all) address))
+operand_outside size all is_unit here (fields.Operand (operands.Literal literal)) = literal_outside size all literal
+operand_outside size all is_unit here (fields.Operand (operands.Unit unit)) = false
+
+-- the first address may name a unit in an instruction that the machine hasn't got, as each with a unit is
+abbrev pub may_name_unit : Contents → Bool
+may_name_unit contents.Nothing = false
+may_name_unit (contents.Instruction instruction of) = not (is_fitted instruction.operation (instruction_length of))
+may_name_unit (contents.MarkedConstant constant) = false
+may_name_unit (contents.Constant constant) = false
+may_name_unit (contents.Space places) = false
+may_name_unit (contents.Areas made) = false
+may_name_unit (contents.Chain chain) = false
+may_name_unit (contents.AddressConstant constant) = false
 
 -- literals that are placed from here on and aren't in core
 abbrev pub literals_outside : ℕ → ℤ → List LiteralKey → Bool
@@ -71,6 +87,7 @@ next_outside size this row next.Literals = literals_outside size (start_by this 
 next_outside size this row next.Value = false
 next_outside size this row next.LiteralsAtValue =
     literals_outside size (start_by this row next.LiteralsAtValue) (pending this)
+next_outside size this row next.Elsewhere = false
 
 -- a value that isn't in core; the next place may be the one after the last
 abbrev pub value_outside : ℕ → ℤ → Next → Bool
@@ -78,13 +95,14 @@ value_outside size value next.Behind = not (is_in_core size value)
 value_outside size value next.Literals = not (is_in_core size value)
 value_outside size value next.Value = not (are_in_core size value value)
 value_outside size value next.LiteralsAtValue = not (are_in_core size value value)
+value_outside size value next.Elsewhere = not (is_in_core size value)
 
 -- an address or a value that isn't in core
 abbrev pub addresses_outside : ℕ → Placement → Placement → Description → Addressing → Bool
 addresses_outside size all this row addressing.Nothing = false
 addresses_outside size all this row (addressing.Addresses of) =
     let last = last_place this.next (contents_length row.contents) in
-    operand_outside size all last of.a || operand_outside size all last of.b
+    operand_outside size all (may_name_unit row.contents) last of.a || operand_outside size all false last of.b
 addresses_outside size all this row (addressing.EarlierValue of) =
     value_outside size (asked_value this this row.next (addressing.EarlierValue of)) row.next
 addresses_outside size all this row (addressing.Equal of) =
@@ -96,7 +114,8 @@ addresses_outside size all this row (addressing.Entry of) = not (is_in_core size
 -- a place of a statement that isn't in core, a literal that it places, or a value
 abbrev pub row_outside : ℕ → Placement → Placement → Description → Bool
 row_outside size all this row =
-    places_outside size this.next (contents_length row.contents) || next_outside size this row row.next
+    places_outside size (start_by this row row.next) (contents_length row.contents)
+    || next_outside size this row row.next
     || addresses_outside size all this row row.addressing
 
 abbrev pub body_outside : ℕ → Placement → Placement → Body → Bool

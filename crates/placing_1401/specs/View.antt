@@ -8,6 +8,7 @@ places_of this =
     record {
       chains = chains_view this.chains.now;
       next = this.next;
+      highest = this.highest;
       areas = this.areas;
       fields_from = this.fields_from;
       fields_index = this.fields_index;

@@ -10,7 +10,8 @@ ghost use Rattle.placing_1401.specs.Cells.{literal_cells, fields_behind, with_ma
 ghost use Rattle.placing_1401.specs.Cells.{areas_cells, unit_codes, chain_cells, contents_cells, row_cells};
 ghost use Rattle.placing_1401.specs.Cells.{signed_place, signed_address, field_cells, address_constant_cells};
 ghost use Rattle.placing_1401.specs.Cells.{group_mark, record_mark};
-ghost use Rattle.placing_1401.specs.Placement.{start_by};
+ghost use Rattle.placing_1401.specs.Cells.{unit_or_address_codes};
+ghost use Rattle.placing_1401.specs.Placement.{address_unit, start_by, symbols_of};
 ghost use Rattle.placing_1401.specs.View.{places_of};
 
 use crate::characters::{Characters, char_of, char_with};
@@ -24,7 +25,7 @@ use source_1401::{
     Next, Operand, OperandField, Operands, Span, Unit,
 };
 use std::alloc::Global;
-use symbols_1401::{AsmFault, KeptLine};
+use symbols_1401::{AsmFault, Lines};
 
 /// The place that a value is the address of; 0 if it is none.
 pub fn address_or_zero(value: i64) -> u16
@@ -122,6 +123,21 @@ impl Placing<'_> {
         self.addresses.get(i).copied().unwrap_or(0)
     }
 
+    /// Puts an address of an instruction, or the unit that it names.
+    fn put_address(&self, here: i64, address: Address, out: &mut Vec<Cell>) -> Result<(), AsmFault>
+        ensures ok { OnOk result (out.new.items ≡ out.old.items
+            ++ map plain (unit_or_address_codes (places_of self.now) here
+            (address_unit (symbols_of (places_of self.now)) address) address)) }
+        ensures err { IfErr result IsMemory }
+    {
+        if let Some(unit) = self.address_unit(address) {
+            return put_chars(out, &unit_chars(unit));
+        }
+        let value = self.address_value(here, address)?;
+        let index = self.address_index(address);
+        put_chars(out, &address_chars(address_or_zero(value), index))
+    }
+
     /// Puts an operand.
     fn put_operand(
         &self,
@@ -134,11 +150,9 @@ impl Placing<'_> {
         ensures err { IfErr result IsMemory }
     {
         match field {
-            OperandField::Operand(Operand::Address(address)) => {
-                let value = self.address_value(here, address)?;
-                let index = self.address_index(address);
-                put_chars(out, &address_chars(address_or_zero(value), index))
-            },
+            OperandField::Operand(Operand::Address(address)) => self.put_address(
+                here, address, out,
+            ),
             OperandField::Operand(Operand::Literal(literal)) => {
                 let value = self.literal_value(LiteralKey::from_literal(literal));
                 put_chars(out, &encode(address_or_zero(value)))
@@ -164,7 +178,7 @@ impl Placing<'_> {
     }
 
     /// The address of the next place; 0 if it is none.
-    pub(crate) fn address(&self) -> u16
+    pub fn address(&self) -> u16
         ensures { result ≡ address_or_zero (places_of self.now).next }
     {
         address_or_zero(self.next)
@@ -349,11 +363,12 @@ fn mark_field(area: &mut [Cell], span: Span)
 }
 
 /// Sets the word marks of the fields directly after areas, comments and headings aside.
-fn mark_fields(area: &mut [Cell], lines: &[KeptLine])
+fn mark_fields(area: &mut [Cell], lines: &Lines<'_>)
     ensures { area.new ≡ fold with_field area.old (fields_behind lines.now) }
 {
-    for line in lines {
-        let Some(statement) = &line.line().statement else {
+    for i in 0..lines.len() {
+        let line = lines.line(i);
+        let Some(statement) = &line.statement else {
             continue;
         };
         match statement.body.describe().areas {
@@ -396,7 +411,7 @@ fn put_record_mark(is_asked: bool, out: &mut Vec<Cell>) -> Result<(), AsmFault>
 fn put_areas(
     alloc: Global,
     areas: Option<Areas>,
-    lines: &[KeptLine],
+    lines: &Lines<'_>,
     out: &mut Vec<Cell>,
 ) -> Result<(), AsmFault>
     ensures ok { OnOk result (out.new.items ≡ out.old.items ++ areas_cells areas lines.now) }
@@ -448,7 +463,7 @@ pub fn put_contents(
     all: &Placing<'_>,
     so_far: &Placing<'_>,
     contents: &Contents,
-    lines: &[KeptLine],
+    lines: &Lines<'_>,
     out: &mut Vec<Cell>,
 ) -> Result<(), AsmFault>
     ensures ok { OnOk result (out.new.items
@@ -478,7 +493,7 @@ pub fn put_row(
     all: &Placing<'_>,
     so_far: &Placing<'_>,
     row: &Description,
-    lines: &[KeptLine],
+    lines: &Lines<'_>,
     out: &mut Vec<Cell>,
 ) -> Result<(), AsmFault>
     ensures ok { OnOk result (out.new.items
@@ -486,7 +501,9 @@ pub fn put_row(
     ensures err { IfErr result IsMemory }
 {
     match row.next {
-        Next::Behind => put_contents(alloc, all, so_far, &row.contents, lines, out),
+        Next::Behind | Next::Elsewhere => {
+            put_contents(alloc, all, so_far, &row.contents, lines, out)
+        },
         Next::Literals | Next::LiteralsAtValue => put_literals(all, so_far.pending(), out),
         Next::Value => Ok(()),
     }
@@ -498,7 +515,7 @@ pub(crate) fn cells_of(
     all: &Placing<'_>,
     so_far: &Placing<'_>,
     row: &Description,
-    lines: &[KeptLine],
+    lines: &Lines<'_>,
 ) -> Result<Vec<Cell>, AsmFault>
     ensures ok { IfOk result (λ cells. cells.items
         ≡ row_cells (places_of all.now) (places_of so_far.now) row.now row.now.next lines.now) }

@@ -1,23 +1,17 @@
 //! Core storage as the cells of a source fill it.
-ghost use Rattle.std.specs.Prelude.{◌≡◌, ◌∷◌, ◌++◌, ◌<◌, ◌^◌, [], fold, length, replicate, IfOk, IfErr, OnOk};
-ghost use Rattle.core_1401.specs.Storage.{blank};
-ghost use Rattle.symbols_1401.specs.Chains.{chains_of};
+ghost use Rattle.std.specs.Prelude.{◌≡◌, fold, IfOk, IfErr, OnOk};
 ghost use Rattle.symbols_1401.specs.Fault.{IsMemory};
-ghost use Rattle.symbols_1401.specs.Symbols.{sites_of};
-ghost use Rattle.symbols_1401.specs.View.{chains_view};
 ghost use Rattle.placing_1401.specs.Cells.{address_or_zero, numbered, row_cells, statement_cells, cells_from};
-ghost use Rattle.placing_1401.specs.Filling.{with_cell, addresses_from, addresses_of, filled, filled_of, filled_from};
-ghost use Rattle.placing_1401.specs.Filling.{filled_places};
-ghost use Rattle.placing_1401.specs.Placement.{placed_after, placed, start_by, start_of, unplaced};
+ghost use Rattle.placing_1401.specs.Filling.{with_cell, filled, filled_by};
+ghost use Rattle.placing_1401.specs.Placement.{placed_after, placed, start_by, start_of};
 ghost use Rattle.placing_1401.specs.View.{places_of};
 
 use crate::cells::cells_of;
-use crate::placing::{Placing, place_all};
-use crate::segments::lines_behind;
+use crate::placing::Placing;
 use bcd_1401::Cell;
-use source_1401::{Description, Language};
+use source_1401::{Description, Line};
 use std::alloc::Global;
-use symbols_1401::{AsmFault, Chains, KeptLine, SourceHashing, declared};
+use symbols_1401::{AsmFault, Lines};
 
 /// The places to which the cells of a line go: this many from the first on, whether they are in core or not.
 #[derive(Clone, Copy, Debug, PartialEq, Eq)]
@@ -26,17 +20,6 @@ pub struct FilledPlaces {
     pub first: u16,
     /// How many.
     pub count: usize,
-}
-
-/// Core storage as the cells of a source fill it, and where its lines begin.
-#[derive(Drop)]
-pub struct Filling {
-    /// Core storage.
-    pub storage: Vec<Cell>,
-    /// The address at which each line begins.
-    pub addresses: Vec<u16>,
-    /// The places that each line fills.
-    pub places: Vec<FilledPlaces>,
 }
 
 /// Puts cells into storage from an address on; those that aren't in core are left out.
@@ -55,166 +38,116 @@ fn put_cells(storage: &mut [Cell], address: u16, cells: &[Cell]) -> Result<(), A
 }
 
 /// Puts the cells of a statement with this row into storage, with these lines after it; those that aren't in core are
-/// left out. Returns their places.
+/// left out.
 fn put_statement(
     alloc: Global,
     all: &Placing<'_>,
     so_far: &Placing<'_>,
     row: &Description,
-    behind: &[KeptLine],
+    behind: &Lines<'_>,
     storage: &mut [Cell],
-) -> Result<FilledPlaces, AsmFault>
+) -> Result<(), AsmFault>
     ensures ok { OnOk result (storage.new ≡ fold with_cell storage.old
         (numbered (address_or_zero (start_by (places_of so_far.now) row.now row.now.next))
         (row_cells (places_of all.now) (places_of so_far.now) row.now row.now.next behind.now))) }
-    ensures places { IfOk result (λ places. places
-        ≡ filled_of (address_or_zero (start_by (places_of so_far.now) row.now row.now.next))
-        (row_cells (places_of all.now) (places_of so_far.now) row.now row.now.next behind.now)) }
     ensures err { IfErr result IsMemory }
 {
     let first = so_far.start_address(row)?;
     let cells = cells_of(alloc, all, so_far, row, behind)?;
-    let count = cells.len();
-    put_cells(storage, first, &cells)?;
-    Ok(FilledPlaces { first, count })
+    put_cells(storage, first, &cells)
 }
 
-impl Filling {
-    /// Puts the cells of a line, with these lines after it, and goes on in what is placed so far.
-    fn put_line(
-        &mut self,
+impl FilledPlaces {
+    /// The places that a line here fills, with these lines after it.
+    ///
+    /// # Errors
+    ///
+    /// `Memory` if there is no room for its cells.
+    pub fn of_line(
         alloc: Global,
         all: &Placing<'_>,
-        so_far: &mut Placing<'_>,
-        line: &KeptLine,
-        behind: &[KeptLine],
-    ) -> Result<(), AsmFault>
-        ensures storage { OnOk result (self.new.storage.items ≡ fold with_cell self.old.storage.items
-            (numbered (address_or_zero (start_of (places_of so_far.old) line.now.statement))
-            (statement_cells (places_of all.now) (places_of so_far.old) line.now.statement behind.now))) }
-        ensures addresses { OnOk result (self.new.addresses.items
-            ≡ self.old.addresses.items ++ address_or_zero (places_of so_far.old).next ∷ []) }
-        ensures places { OnOk result (self.new.places.items ≡ self.old.places.items
-            ++ filled_of (address_or_zero (start_of (places_of so_far.old) line.now.statement))
-            (statement_cells (places_of all.now) (places_of so_far.old) line.now.statement behind.now) ∷ []) }
-        ensures placed { OnOk result (places_of so_far.new ≡ placed_after (places_of so_far.old) line.now) }
+        so_far: &Placing<'_>,
+        line: &Line,
+        behind: &Lines<'_>,
+    ) -> Result<FilledPlaces, AsmFault>
+        ensures ok { IfOk result (λ places. places
+            ≡ filled_by (places_of all.now) (places_of so_far.now) line.now behind.now) }
         ensures err { IfErr result IsMemory }
     {
-        let first = so_far.address();
-        self.addresses.push(first)?;
-        let Some(statement) = &line.line().statement else {
-            self.places.push(FilledPlaces { first, count: 0 })?;
-            return Ok(());
+        let Some(statement) = &line.statement else {
+            return Ok(FilledPlaces {
+                first: so_far.address(),
+                count: 0,
+            });
         };
         let row = statement.body.describe();
-        let places = put_statement(alloc, all, so_far, &row, behind, &mut self.storage)?;
-        self.places.push(places)?;
-        so_far.place_row(statement, &row)
-    }
-
-    /// Puts the cells of lines, and goes on in what is placed so far.
-    fn put_lines(
-        &mut self,
-        alloc: Global,
-        all: &Placing<'_>,
-        so_far: &mut Placing<'_>,
-        lines: &[KeptLine],
-    ) -> Result<(), AsmFault>
-        ensures storage { OnOk result (self.new.storage.items ≡ fold with_cell self.old.storage.items
-            (cells_from (places_of all.now) (places_of so_far.old) lines.now)) }
-        ensures addresses { OnOk result (self.new.addresses.items
-            ≡ self.old.addresses.items ++ addresses_from (places_of so_far.old) lines.now) }
-        ensures places { OnOk result (self.new.places.items
-            ≡ self.old.places.items ++ filled_from (places_of all.now) (places_of so_far.old) lines.now) }
-        ensures err { IfErr result IsMemory }
-    {
-        for (i, line) in lines.iter().enumerate() {
-            self.put_line(alloc, all, so_far, line, lines_behind(lines, i))?;
-        }
-        Ok(())
-    }
-
-    /// Puts the cells of all lines, of which nothing is placed so far.
-    fn put_all(
-        &mut self,
-        alloc: Global,
-        all: &Placing<'_>,
-        lines: &[KeptLine],
-    ) -> Result<(), AsmFault>
-        ensures storage { OnOk result (self.new.storage.items ≡ fold with_cell self.old.storage.items
-            (cells_from (places_of all.now) (unplaced (places_of all.now)) lines.now)) }
-        ensures addresses { OnOk result (self.new.addresses.items
-            ≡ self.old.addresses.items ++ addresses_from (unplaced (places_of all.now)) lines.now) }
-        ensures places { OnOk result (self.new.places.items
-            ≡ self.old.places.items ++ filled_from (places_of all.now) (unplaced (places_of all.now)) lines.now) }
-        ensures err { IfErr result IsMemory }
-    {
-        let mut so_far = Placing::new(alloc, all.hashing, all.chains);
-        self.put_lines(alloc, all, &mut so_far, lines)
+        let first = so_far.start_address(&row)?;
+        let cells = cells_of(alloc, all, so_far, &row, behind)?;
+        Ok(FilledPlaces {
+            first,
+            count: cells.len(),
+        })
     }
 }
 
-/// Core storage of this size as the cells of lines fill it, once all is placed, where they begin, and what they fill.
-fn fill_placed(
+/// Puts the cells of a line, with these lines after it, and goes on in what is placed so far.
+fn put_line(
     alloc: Global,
     all: &Placing<'_>,
-    size: u16,
-    lines: &[KeptLine],
-) -> Result<Filling, AsmFault>
-    ensures storage { IfOk result (λ filling. filling.storage.items ≡ fold with_cell (replicate size blank)
-        (cells_from (places_of all.now) (unplaced (places_of all.now)) lines.now)) }
-    ensures addresses { IfOk result (λ filling. filling.addresses.items
-        ≡ addresses_from (unplaced (places_of all.now)) lines.now) }
-    ensures places { IfOk result (λ filling. filling.places.items
-        ≡ filled_from (places_of all.now) (unplaced (places_of all.now)) lines.now) }
+    so_far: &mut Placing<'_>,
+    line: &Line,
+    behind: &Lines<'_>,
+    storage: &mut [Cell],
+) -> Result<(), AsmFault>
+    ensures storage { OnOk result (storage.new ≡ fold with_cell storage.old
+        (numbered (address_or_zero (start_of (places_of so_far.old) line.now.statement))
+        (statement_cells (places_of all.now) (places_of so_far.old) line.now.statement behind.now))) }
+    ensures placed { OnOk result (places_of so_far.new ≡ placed_after (places_of so_far.old) line.now) }
     ensures err { IfErr result IsMemory }
 {
-    let mut filling = Filling {
-        storage: vec![in alloc; Cell::BLANK; usize::from(size)]?,
-        addresses: Vec::new(alloc),
-        places: Vec::new(alloc),
+    let Some(statement) = &line.statement else {
+        return Ok(());
     };
-    filling.put_all(alloc, all, lines)?;
-    Ok(filling)
+    let row = statement.body.describe();
+    put_statement(alloc, all, so_far, &row, behind, storage)?;
+    so_far.place_row(statement, &row)
 }
 
-/// Core storage of this size as the cells of lines fill it, whose chains of EQUs these are, and where they begin.
-fn fill_by(
+/// Puts the cells of lines, and goes on in what is placed so far.
+fn put_lines(
     alloc: Global,
-    hashing: SourceHashing,
-    chains: &Chains,
-    size: u16,
-    lines: &[KeptLine],
-) -> Result<Filling, AsmFault>
-    requires { chains_view chains.now ≡ chains_of (sites_of lines.now) lines.now }
-    ensures storage { IfOk result (λ filling. filling.storage.items ≡ filled size lines.now) }
-    ensures addresses { IfOk result (λ filling. filling.addresses.items ≡ addresses_of lines.now) }
-    ensures places { IfOk result (λ filling. filling.places.items ≡ filled_places lines.now) }
+    all: &Placing<'_>,
+    so_far: &mut Placing<'_>,
+    lines: &Lines<'_>,
+    storage: &mut [Cell],
+) -> Result<(), AsmFault>
+    ensures storage { OnOk result (storage.new ≡ fold with_cell storage.old
+        (cells_from (places_of all.now) (places_of so_far.old) lines.now)) }
     ensures err { IfErr result IsMemory }
 {
-    let all = place_all(alloc, hashing, chains, lines)?;
-    fill_placed(alloc, &all, size, lines)
+    for i in 0..lines.len() {
+        put_line(alloc, all, so_far, lines.line(i), &lines.behind(i), storage)?;
+    }
+    Ok(())
 }
 
-/// Core storage of this size as the cells of lines fill it, and where they begin.
+/// Core storage of this size as the cells of lines fill it, once all is placed.
 ///
 /// # Errors
 ///
 /// `Memory` if there is no room.
-#[tactic(auto, using(crate::proofs::FillingLemmas::as_many_addresses))]
 pub fn fill(
     alloc: Global,
-    hashing: SourceHashing,
+    all: &Placing<'_>,
     size: u16,
-    lines: &[KeptLine],
-) -> Result<Filling, AsmFault>
-    requires { length lines.now < 2 ^ 32 }
-    ensures storage { IfOk result (λ filling. filling.storage.items ≡ filled size lines.now) }
-    ensures addresses { IfOk result (λ filling. filling.addresses.items ≡ addresses_of lines.now) }
-    ensures as_many { IfOk result (λ filling. length filling.addresses.items ≡ length lines.now) }
-    ensures places { IfOk result (λ filling. filling.places.items ≡ filled_places lines.now) }
+    lines: &Lines<'_>,
+) -> Result<Vec<Cell>, AsmFault>
+    requires { places_of all.now ≡ placed lines.now }
+    ensures storage { IfOk result (λ storage. storage.items ≡ filled size lines.now) }
     ensures err { IfErr result IsMemory }
 {
-    let symbols = declared(alloc, hashing, Language::Ibm, lines)?;
-    fill_by(alloc, hashing, &symbols.chains, size, lines)
+    let mut storage = vec![in alloc; Cell::BLANK; usize::from(size)]?;
+    let mut so_far = Placing::new(alloc, all.hashing, all.chains);
+    put_lines(alloc, all, &mut so_far, lines, &mut storage)?;
+    Ok(storage)
 }

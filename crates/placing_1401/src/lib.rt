@@ -14,7 +14,6 @@
 
 pub mod characters; // the characters of constants
 pub mod lengths; // how many places what a statement says takes
-pub mod fitted; // which instructions the machine carries out, by their lengths
 pub mod literals; // what makes two literals one
 pub mod symbol_values; // what symbols and operands stand for, by what is placed so far
 pub mod placing; // where statements and literals are placed
@@ -25,10 +24,10 @@ pub mod filling; // core storage as the cells of lines fill it
 
 pub use cells::{address_or_zero, put_contents, put_literal};
 pub use characters::Characters;
-pub use filling::{FilledPlaces, Filling, fill};
-pub use fitted::is_fitted;
+pub use filling::{FilledPlaces, fill};
 pub use lengths::{chain_length, contents_length, instruction_length};
 pub use literals::LiteralKey;
 pub use placing::{Placing, place_all};
-pub use segments::{Builder, lines_behind};
+pub use segments::Builder;
 pub use symbol_values::{SymbolValue, Values};
+pub use values::may_name_unit;

@@ -11,6 +11,7 @@ ghost use Rattle.placing_1401.specs.Placement.{pending, behind_literals, units_f
 ghost use Rattle.placing_1401.specs.Placement.{contents_length, value_so_far, index_so_far, asked_value, first_of_two};
 ghost use Rattle.placing_1401.specs.Placement.{end_of_two, counted_from, index_of_fields, with_areas, own_value};
 ghost use Rattle.placing_1401.specs.Placement.{start_by, with_ends, point_value, point_index, label_value, next_moved};
+ghost use Rattle.placing_1401.specs.Placement.{highest_with, taken_up_to, label_unit};
 ghost use Rattle.placing_1401.specs.Placement.{gone_on, behind_row, with_label, placed_after, after_statement, placed};
 ghost use Rattle.placing_1401.specs.Values.{last_place};
 ghost use Rattle.placing_1401.specs.View.{places_of};
@@ -20,11 +21,11 @@ use crate::literals::LiteralKey;
 use crate::symbol_values::{SymbolValue, Values};
 use indexmap::{IndexMap, IndexSet};
 use source_1401::{
-    Addressing, AreaRole, Areas, Body, Contents, Description, Label, LabelField, Literal, Next,
-    Operand, OperandField, Point, Statement,
+    Addressing, AreaRole, Areas, Body, Contents, Description, Label, LabelField, Line, Literal,
+    Next, Operand, OperandField, Point, Statement, Unit,
 };
 use std::alloc::Global;
-use symbols_1401::{AsmFault, Chains, KeptLine, SourceHashing, checked_sum};
+use symbols_1401::{AsmFault, Chains, Lines, SourceHashing, checked_sum};
 
 /// Where a program is placed without ORG.
 pub(crate) const USUAL_PLACE: i64 = 333;
@@ -36,6 +37,8 @@ pub struct Placing<'a> {
     pub chains: &'a Chains,
     /// The next place.
     pub next: i64,
+    /// The place after the highest that is taken, if one is.
+    pub highest: Option<i64>,
     /// The first place of the last areas.
     pub areas: i64,
     /// The place that the labels of their fields are counted from.
@@ -108,6 +111,38 @@ fn index_of_fields(areas: Option<Areas>) -> u8
     }
 }
 
+/// The unit that EQU gives its label, if it gives it one.
+fn label_unit(addressing: &Addressing) -> Option<Unit>
+    ensures { result ≡ label_unit addressing.now }
+{
+    match addressing {
+        Addressing::Equal(operands) => match operands.a {
+            OperandField::Operand(Operand::Unit(unit)) => Some(unit),
+            OperandField::Operand(Operand::Address(_) | Operand::Literal(_))
+            | OperandField::Absent
+            | OperandField::Malformed => None,
+        },
+        Addressing::Nothing
+        | Addressing::Addresses(_)
+        | Addressing::EarlierValue(_)
+        | Addressing::Value(_)
+        | Addressing::Entry(_) => None,
+    }
+}
+
+/// The place after the highest that is taken, once all from a first place up to the one before another are.
+fn highest_with(highest: Option<i64>, first: i64, behind: i64) -> Option<i64>
+    ensures { result ≡ highest_with highest first behind }
+{
+    if first >= behind {
+        return highest;
+    }
+    match highest {
+        Some(highest) if highest >= behind => Some(highest),
+        Some(_) | None => Some(behind),
+    }
+}
+
 /// The place after literals that begin at a place.
 pub(crate) fn behind_literals(from: i64, literals: &[LiteralKey]) -> Result<i64, AsmFault>
     ensures value { IfOk result (λ behind. behind ≡ behind_literals from literals.now) }
@@ -130,6 +165,7 @@ fn give_area(values: &mut Values, units: i64, literal: LiteralKey) -> Result<(),
             let value = SymbolValue {
                 value: units,
                 index: 0,
+                unit: None,
             };
             values.insert(area.label, value)?;
         },
@@ -192,6 +228,7 @@ impl<'a> Placing<'a> {
         Placing {
             chains,
             next: USUAL_PLACE,
+            highest: None,
             areas: USUAL_PLACE,
             fields_from: USUAL_PLACE,
             fields_index: 0,
@@ -251,10 +288,10 @@ impl<'a> Placing<'a> {
         ensures value { IfOk result (λ value. value ≡ label_value (places_of self.now) body.now) }
         ensures err { IfErr result IsMemory }
     {
-        Ok(SymbolValue {
-            value: self.point_value(self, row, row.names)?,
-            index: self.point_index(row, row.names),
-        })
+        let value = self.point_value(self, row, row.names)?;
+        let index = self.point_index(row, row.names);
+        let unit = label_unit(&row.addressing);
+        Ok(SymbolValue::of_unit_or_value(unit, value, index))
     }
 
     /// Gives a label its value.
@@ -295,6 +332,14 @@ impl<'a> Placing<'a> {
         }
     }
 
+    /// Takes the places up to the one before this, which is next.
+    fn take_up_to(&mut self, behind: i64)
+        ensures { places_of self.new ≡ taken_up_to (places_of self.old) behind }
+    {
+        self.highest = highest_with(self.highest, self.next, behind);
+        self.next = behind;
+    }
+
     /// Places the literals that are used and not placed.
     fn place_pending(&mut self) -> Result<(), AsmFault>
         ensures ok { OnOk result (places_of self.new ≡ with_pending (places_of self.old)) }
@@ -303,16 +348,17 @@ impl<'a> Placing<'a> {
         let first = self.addresses.len();
         let literals = behind(&self.literals, first);
         give_areas(&mut self.values, self.next, literals)?;
-        self.next = place_literals(self.next, literals, &mut self.addresses)?;
+        let behind = place_literals(self.next, literals, &mut self.addresses)?;
+        self.take_up_to(behind);
         Ok(())
     }
 
-    /// The value of ORG and of LTORG, by the values so far.
+    /// The value of ORG and of LTORG, by the values so far, or the first place of a constant elsewhere.
     fn own_value(&self, addressing: Addressing) -> Result<i64, AsmFault>
         ensures value { IfOk result (λ value. value ≡ own_value (places_of self.now) addressing) }
         ensures err { IfErr result IsMemory }
     {
-        self.value_so_far(self.next, addressing.operands().a)
+        self.origin_value(self, Next::Value, addressing.operands().a)
     }
 
     /// Where a statement of this row places its cells.
@@ -322,7 +368,7 @@ impl<'a> Placing<'a> {
     {
         match row.next {
             Next::Behind | Next::Literals | Next::Value => Ok(self.next),
-            Next::LiteralsAtValue => self.own_value(row.addressing),
+            Next::LiteralsAtValue | Next::Elsewhere => self.own_value(row.addressing),
         }
     }
 
@@ -333,7 +379,8 @@ impl<'a> Placing<'a> {
     {
         match row.next {
             Next::Behind => {
-                self.next = checked_sum(self.next, i64::from(contents_length(&row.contents)))?;
+                let length = i64::from(contents_length(&row.contents));
+                self.take_up_to(checked_sum(self.next, length)?);
             },
             Next::Literals => self.place_pending()?,
             Next::Value => self.next = self.own_value(row.addressing)?,
@@ -341,6 +388,7 @@ impl<'a> Placing<'a> {
                 self.next = self.own_value(row.addressing)?;
                 self.place_pending()?;
             },
+            Next::Elsewhere => {},
         }
         Ok(())
     }
@@ -438,23 +486,23 @@ impl<'a> Placing<'a> {
     }
 
     /// Places a line.
-    pub fn place(&mut self, line: &KeptLine) -> Result<(), AsmFault>
+    pub fn place(&mut self, line: &Line) -> Result<(), AsmFault>
         ensures ok { OnOk result (places_of self.new ≡ placed_after (places_of self.old) line.now) }
         ensures err { IfErr result IsMemory }
     {
-        match &line.line().statement {
+        match &line.statement {
             Some(statement) => self.place_row(statement, &statement.body.describe()),
             None => Ok(()),
         }
     }
 
     /// Places lines.
-    fn place_each(&mut self, lines: &[KeptLine]) -> Result<(), AsmFault>
+    fn place_each(&mut self, lines: &Lines<'_>) -> Result<(), AsmFault>
         ensures ok { OnOk result (places_of self.new ≡ fold placed_after (places_of self.old) lines.now) }
         ensures err { IfErr result IsMemory }
     {
-        for line in lines {
-            self.place(line)?;
+        for i in 0..lines.len() {
+            self.place(lines.line(i))?;
         }
         Ok(())
     }
@@ -469,7 +517,7 @@ pub fn place_all<'a>(
     alloc: Global,
     hashing: SourceHashing,
     chains: &'a Chains,
-    lines: &[KeptLine],
+    lines: &Lines<'_>,
 ) -> Result<Placing<'a>, AsmFault>
     requires { chains_view chains.now ≡ chains_of (sites_of lines.now) lines.now }
     ensures ok { IfOk result (λ placing. places_of placing ≡ placed lines.now) }

@@ -1,5 +1,5 @@
 //! Cells in the order of placing, cut into segments.
-ghost use Rattle.std.specs.Prelude.{◌≡◌, ◌∷◌, ◌++◌, ◌+◌, ◌<◌, ℕ, List, [], length, drop, IfOk, IfErr, OnOk};
+ghost use Rattle.std.specs.Prelude.{◌≡◌, ◌∷◌, ◌++◌, ℕ, List, [], length, IfOk, IfErr, OnOk};
 ghost use Rattle.bcd_1401.specs.declared.cell.Cell.{Cell as ACell};
 ghost use Rattle.symbols_1401.specs.Fault.{IsMemory};
 ghost use Rattle.placing_1401.specs.Cells.{address_or_zero, numbered, row_cells};
@@ -15,7 +15,7 @@ use core_1401::{ADDRESSES, Cells, MOST_CELLS};
 use image_1401::Segment;
 use source_1401::Description;
 use std::alloc::{AllocError, Global};
-use symbols_1401::{AsmFault, KeptLine};
+use symbols_1401::{AsmFault, Lines};
 
 /// The segments so far, and the one that may go on.
 #[derive(Drop)]
@@ -112,7 +112,7 @@ impl Builder {
         all: &Placing<'_>,
         so_far: &Placing<'_>,
         row: &Description,
-        behind: &[KeptLine],
+        behind: &Lines<'_>,
     ) -> Result<(), AsmFault>
         ensures built { OnOk result ((rest : List (ℕ × ACell)) → built self.new rest ≡ built self.old
             (numbered (address_or_zero (start_by (places_of so_far.now) row.now row.now.next))
@@ -131,12 +131,4 @@ impl Builder {
         self.close()?;
         Ok(self.done)
     }
-}
-
-/// The lines after the one with this index.
-pub fn lines_behind(lines: &[KeptLine], i: usize) -> &[KeptLine]
-    requires { i < length lines.now }
-    ensures { result.now ≡ drop (i + 1) lines.now }
-{
-    lines.split_at(i + 1).1
 }

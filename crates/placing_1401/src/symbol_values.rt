@@ -5,12 +5,15 @@ ghost use Rattle.symbols_1401.specs.Chains.{link_of};
 ghost use Rattle.symbols_1401.specs.Fault.{IsMemory};
 ghost use Rattle.placing_1401.specs.Placement.{register_value, next_hundred, symbol_by, symbol_behind, symbols_of};
 ghost use Rattle.placing_1401.specs.Placement.{base_value, value_so_far, base_index, address_index, index_so_far};
-ghost use Rattle.placing_1401.specs.Placement.{asterisk_place, entry_value, asked_value};
+ghost use Rattle.placing_1401.specs.Placement.{asterisk_place, entry_value, asked_value, origin_value, address_unit};
+ghost use Rattle.placing_1401.specs.Placement.{unit_or_value};
 ghost use Rattle.placing_1401.specs.View.{places_of};
 
 use crate::placing::{Placing, USUAL_PLACE};
 use indexmap::IndexMap;
-use source_1401::{Address, Addressing, Base, Description, Label, Next, Operand, OperandField};
+use source_1401::{
+    Address, Addressing, Base, Description, Label, Next, Operand, OperandField, Unit,
+};
 use symbols_1401::{AsmFault, Link, SourceHashing, checked_sum};
 
 /// What a symbol stands for.
@@ -20,11 +23,38 @@ pub struct SymbolValue {
     pub value: i64,
     /// The number of the index register that an operand takes from it, 0 for none.
     pub index: u8,
+    /// The unit that it names in the wider language. Its value is no place then.
+    pub unit: Option<Unit>,
 }
+
+/// The value of a symbol that names a unit.
+const NO_PLACE: i64 = -100_000;
 
 impl SymbolValue {
     /// A symbol that no label has.
-    const NONE: SymbolValue = SymbolValue { value: 0, index: 0 };
+    const NONE: SymbolValue = SymbolValue {
+        value: 0,
+        index: 0,
+        unit: None,
+    };
+
+    /// The name of a unit, or a symbol with this value and index.
+    pub(crate) fn of_unit_or_value(unit: Option<Unit>, value: i64, index: u8) -> SymbolValue
+        ensures { result ≡ unit_or_value unit value index }
+    {
+        match unit {
+            Some(_) => SymbolValue {
+                value: NO_PLACE,
+                index: 0,
+                unit,
+            },
+            None => SymbolValue {
+                value,
+                index,
+                unit: None,
+            },
+        }
+    }
 }
 
 /// The values of labels.
@@ -50,7 +80,7 @@ fn asterisk_place(next: i64, step: Next) -> Result<i64, AsmFault>
 {
     match step {
         Next::Behind | Next::Literals => checked_sum(next, -1),
-        Next::Value | Next::LiteralsAtValue => Ok(next),
+        Next::Value | Next::LiteralsAtValue | Next::Elsewhere => Ok(next),
     }
 }
 
@@ -81,6 +111,7 @@ impl<'a> Placing<'a> {
         Ok(SymbolValue {
             value: checked_sum(last.value, link.added)?,
             index: link.index.unwrap_or(last.index),
+            unit: None,
         })
     }
 
@@ -155,6 +186,29 @@ impl<'a> Placing<'a> {
         }
     }
 
+    /// The unit that a symbol names so far, if it names one.
+    fn symbol_unit(&self, label: Label) -> Option<Unit>
+        ensures { result ≡ (symbols_of (places_of self.now) label).unit }
+    {
+        match self.chains.link_of(label) {
+            Some(_) => None,
+            None => self.symbol_by(label).unit,
+        }
+    }
+
+    /// The unit that an address names so far, if it is a symbol alone.
+    pub fn address_unit(&self, address: Address) -> Option<Unit>
+        ensures { result ≡ address_unit (symbols_of (places_of self.now)) address }
+    {
+        if address.adjustment != 0 || address.index.is_some() {
+            return None;
+        }
+        match address.base {
+            Base::Symbol(label) => self.symbol_unit(label),
+            Base::Number(_) | Base::Here | Base::Register(_) | Base::NextHundred => None,
+        }
+    }
+
     /// The index of an operand by the values so far.
     pub(crate) fn index_so_far(&self, field: OperandField) -> u8
         ensures { result ≡ index_so_far (symbols_of (places_of self.now)) field }
@@ -182,6 +236,24 @@ impl<'a> Placing<'a> {
         }
     }
 
+    /// The value of an origin here, by the labels of what is placed by others.
+    pub(crate) fn origin_value(
+        &self,
+        by: &Placing<'a>,
+        step: Next,
+        field: OperandField,
+    ) -> Result<i64, AsmFault>
+        ensures value { IfOk result
+            (λ value. value ≡ origin_value (places_of by.now) (places_of self.now) step field) }
+        ensures err { IfErr result IsMemory }
+    {
+        match field {
+            OperandField::Absent => Ok(self.highest.unwrap_or(self.next)),
+            OperandField::Malformed => Ok(0),
+            OperandField::Operand(_) => by.value_so_far(asterisk_place(self.next, step)?, field),
+        }
+    }
+
     /// The value that a statement here asks for, by the labels of what is placed by others.
     pub(crate) fn asked_value(&self, by: &Placing<'a>, row: &Description) -> Result<i64, AsmFault>
         ensures value { IfOk result (λ value. value
@@ -191,11 +263,11 @@ impl<'a> Placing<'a> {
         match row.addressing {
             Addressing::Nothing => Ok(0),
             Addressing::Addresses(operands)
-            | Addressing::EarlierValue(operands)
             | Addressing::Equal(operands)
             | Addressing::Value(operands) => {
                 by.value_so_far(asterisk_place(self.next, row.next)?, operands.a)
             },
+            Addressing::EarlierValue(operands) => self.origin_value(by, row.next, operands.a),
             Addressing::Entry(operands) => by.entry_value(operands.a),
         }
     }

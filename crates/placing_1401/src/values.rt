@@ -1,17 +1,18 @@
 //! The values of addresses, and what of a line isn't in core.
-ghost use Rattle.std.specs.Prelude.{◌≡◌, ◌||◌, IfOk, IfErr};
+ghost use Rattle.std.specs.Prelude.{◌≡◌, ◌||◌, false, IfOk, IfErr};
 ghost use Rattle.symbols_1401.specs.Fault.{IsMemory};
 ghost use Rattle.placing_1401.specs.Placement.{asked_value};
 ghost use Rattle.placing_1401.specs.Values.{address_value, is_in_core, are_in_core, literal_outside, operand_outside};
 ghost use Rattle.placing_1401.specs.Values.{places_outside, literals_outside, next_outside, value_outside};
-ghost use Rattle.placing_1401.specs.Values.{addresses_outside, row_outside};
+ghost use Rattle.placing_1401.specs.Values.{may_name_unit, addresses_outside, row_outside};
 ghost use Rattle.placing_1401.specs.View.{places_of};
 
-use crate::lengths::{contents_length, last_place};
+use crate::lengths::{contents_length, instruction_length, last_place};
 use crate::literals::LiteralKey;
 use crate::placing::{Placing, behind_literals};
+use machine_operations::is_fitted;
 use source_1401::{
-    Address, Addressing, Description, Literal, Next, Operand, OperandField, Operands,
+    Address, Addressing, Contents, Description, Literal, Next, Operand, OperandField, Operands,
 };
 use symbols_1401::{AsmFault, checked_sum};
 
@@ -34,7 +35,7 @@ fn is_value_outside(size: u16, value: i64, next: Next) -> bool
     ensures { result ≡ value_outside size value next }
 {
     match next {
-        Next::Behind | Next::Literals => !is_in_core(size, value),
+        Next::Behind | Next::Literals | Next::Elsewhere => !is_in_core(size, value),
         Next::Value | Next::LiteralsAtValue => !are_in_core(size, value, value),
     }
 }
@@ -55,6 +56,25 @@ fn are_literals_outside(size: u16, from: i64, literals: &[LiteralKey]) -> Result
 {
     let behind = behind_literals(from, literals)?;
     Ok(!literals.is_empty() && !are_in_core(size, from, behind))
+}
+
+/// Whether the first address may be a symbol that names a unit: in an instruction that the machine hasn't got, as each
+/// with a unit is.
+pub fn may_name_unit(contents: &Contents) -> bool
+    ensures { result ≡ may_name_unit contents.now }
+{
+    match contents {
+        Contents::Instruction(instruction, operands) => {
+            !is_fitted(instruction.operation, instruction_length(*operands))
+        },
+        Contents::Nothing
+        | Contents::MarkedConstant(_)
+        | Contents::Constant(_)
+        | Contents::Space(_)
+        | Contents::Areas(_)
+        | Contents::Chain(_)
+        | Contents::AddressConstant(_) => false,
+    }
 }
 
 impl<'a> Placing<'a> {
@@ -81,20 +101,23 @@ impl<'a> Placing<'a> {
         }
     }
 
-    /// Whether an operand is an address whose value isn't in core.
+    /// Whether an operand, which may name a unit or may not, is an address whose value isn't in core.
     fn is_operand_outside(
         &self,
         size: u16,
+        is_unit: bool,
         here: i64,
         field: OperandField,
     ) -> Result<bool, AsmFault>
-        ensures value { IfOk result (λ outside. outside ≡ operand_outside size (places_of self.now) here field) }
+        ensures value { IfOk result
+            (λ outside. outside ≡ operand_outside size (places_of self.now) is_unit here field) }
         ensures err { IfErr result IsMemory }
     {
         match field {
             OperandField::Operand(Operand::Address(address)) => {
                 let value = self.address_value(here, address)?;
-                Ok(!is_in_core(size, value))
+                let names_unit = is_unit && self.address_unit(address).is_some();
+                Ok(!is_in_core(size, value) && !names_unit)
             },
             OperandField::Operand(Operand::Literal(literal)) => {
                 self.is_literal_outside(size, literal)
@@ -115,23 +138,26 @@ impl<'a> Placing<'a> {
             Next::Literals | Next::LiteralsAtValue => {
                 are_literals_outside(size, self.start_by(row)?, self.pending())
             },
-            Next::Behind | Next::Value => Ok(false),
+            Next::Behind | Next::Value | Next::Elsewhere => Ok(false),
         }
     }
 
-    /// Whether one of these operands is an address whose value isn't in core.
+    /// Whether one of these operands, of which the first may name a unit or may not, is an address whose value isn't in
+    /// core.
     fn are_operands_outside(
         &self,
         size: u16,
+        is_unit: bool,
         here: i64,
         operands: Operands,
     ) -> Result<bool, AsmFault>
-        ensures value { IfOk result (λ outside. outside ≡ (operand_outside size (places_of self.now) here operands.a
-            || operand_outside size (places_of self.now) here operands.b)) }
+        ensures value { IfOk result (λ outside. outside
+            ≡ (operand_outside size (places_of self.now) is_unit here operands.a
+            || operand_outside size (places_of self.now) false here operands.b)) }
         ensures err { IfErr result IsMemory }
     {
-        let a = self.is_operand_outside(size, here, operands.a)?;
-        let b = self.is_operand_outside(size, here, operands.b)?;
+        let a = self.is_operand_outside(size, is_unit, here, operands.a)?;
+        let b = self.is_operand_outside(size, false, here, operands.b)?;
         Ok(a || b)
     }
 
@@ -165,7 +191,7 @@ impl<'a> Placing<'a> {
             Addressing::Nothing => Ok(false),
             Addressing::Addresses(operands) => {
                 let last = last_place(self.next, contents_length(&row.contents))?;
-                all.are_operands_outside(size, last, operands)
+                all.are_operands_outside(size, may_name_unit(&row.contents), last, operands)
             },
             Addressing::EarlierValue(_) => self.is_asked_outside(size, self, row),
             Addressing::Equal(_) | Addressing::Value(_) => self.is_asked_outside(size, all, row),
@@ -188,7 +214,8 @@ impl<'a> Placing<'a> {
             (λ outside. outside ≡ row_outside size (places_of all.now) (places_of self.now) row.now) }
         ensures err { IfErr result IsMemory }
     {
-        let places = are_places_outside(size, self.next, contents_length(&row.contents))?;
+        let start = self.start_by(row)?;
+        let places = are_places_outside(size, start, contents_length(&row.contents))?;
         let literals = self.is_next_outside(size, row)?;
         let addresses = self.are_addresses_outside(size, all, row)?;
         Ok(places || literals || addresses)

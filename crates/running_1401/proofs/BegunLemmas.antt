@@ -1,5 +1,6 @@
 -- What a run begins with, by what its files were read as.
-use Rattle.std.proofs.Common.{◌≡◌, ℕ, true, false, List, [], ◌++◌, Option, None, Some, Result, Ok, refl, sym, subst}
+use Rattle.std.proofs.Common.{◌≡◌, ℕ, true, false, List, [], ◌++◌, Option, None, Some, Result, Ok, refl, sym, subst, ◌∙◌}
+use Rattle.std.proofs.lemmas.Bool.{and_parts}
 use Rattle.std.proofs.lemmas.List.{append-nil}
 use Rattle.std.specs.Prelude.{unwrap_or}
 use Rattle.calls_1401.specs.declared.call.Start.{Start}
@@ -9,24 +10,65 @@ use Rattle.devices_1401.specs.declared.card.Card.{Card}
 use Rattle.job_1401.specs.DeckText.{deck_of}
 use Rattle.job_1401.specs.declared.deck_text.DeckFault.{DeckFault}
 use Rattle.source_1401.specs.declared.language.Language.{Language}
-use Rattle.running_1401.specs.Program.{IsAssembled, IsImageOf, is_meant_as_image, with_image}
-use Rattle.running_1401.specs.RunJob.{HasFile, HasLoader, HasProgram, IsBegun, IsDeckText}
-use Rattle.running_1401.specs.declared.programs.Program.{Program}
+use Rattle.core_1401.specs.Storage.{is_core_size}
+use Rattle.image_1401.specs.Image.{IsInCore}
+use Rattle.image_1401.specs.Version.{has_size}
+use Rattle.image_1401.specs.declared.version.Version.{Version}
+use Rattle.image_1401.specs.declared.version.Version.TheVariants.{One, Two}
+use Rattle.image_1401.specs.ImageText.{IsTextOf, HasText}
+use Rattle.image_1401.specs.declared.image.Image.{Image}
+use Rattle.running_1401.specs.Program.{IsAssembled, IsImageMachine, is_meant_as_image, with_image}
+use Rattle.running_1401.specs.RunJob.{HasFile, HasLoader, HasProgram, IsBegun, IsDeckText, IsSourceOf}
+use Rattle.autocoder_1401.specs.declared.rows.AssemblyRows.{AssemblyRows}
 
 -- the cards of a text
 pub is_deck_text : (text : List ℕ) (cards : List Card)
     → ◌≡◌ {A = Result (List Card) DeckFault} (deck_of text) (Ok cards) → IsDeckText cards
 is_deck_text text cards is = (text, is)
 
--- the program of a text, and no cards
-pub has_program : (language : Language) (size : Option ℕ) (text : List ℕ) (program : Program) (machine : State)
-    (cards : List Card) → (is_meant_as_image text ≡ true → IsImageOf text (Ok program))
-    → (is_meant_as_image text ≡ false → IsAssembled language (size_for size language text) text (Ok program))
-    → machine ≡ with_image program.image → cards ≡ [] → HasProgram language size machine cards
-has_program language size text program machine cards image source machine_is none = record {
+-- an image of a version has the size of a core storage
+core_size : (version : Version) (size : ℕ) → has_size version size ≡ true → is_core_size size ≡ true
+core_size One size has = (and_parts (is_core_size size) _ has).0
+core_size Two size has = has
+
+-- all of the image of a text is in core
+pub in_core : (text : List ℕ) (image : Image) → IsTextOf text image → IsInCore image
+in_core text image is = record {
+  size = core_size is.version image.size is.has_text.size;
+  segments = is.has_text.segments;
+  start = is.has_text.start;
+}
+
+-- the program of an image's text, and no cards
+pub has_image : (language : Language) (size : Option ℕ) (text : List ℕ) (machine : State) (cards : List Card)
+    → is_meant_as_image text ≡ true → IsImageMachine text machine → cards ≡ []
+    → HasProgram language size machine cards
+has_image language size text machine cards meant is none = record {
   text = text;
-  program = program;
-  program_of = record { image = image; source = source };
+  image = is.0;
+  program_of = record { of_image = λ _. is.1; of_source = λ source. absurd cc };
+  machine_is = is.2;
+  cards_are = none;
+}
+
+-- the image of a source that is assembled
+source_image : (language : Language) (size : Option ℕ) (text : List ℕ) (program : AssemblyRows)
+    → IsAssembled language (size_for size language text) text (Ok program)
+    → IsSourceOf language size text program.image
+source_image language size text program (assembly, stands_for, image, rows) = (assembly, stands_for, image)
+
+-- the program of a source, and no cards
+pub has_source : (language : Language) (size : Option ℕ) (text : List ℕ) (program : AssemblyRows) (machine : State)
+    (cards : List Card) → is_meant_as_image text ≡ false
+    → IsAssembled language (size_for size language text) text (Ok program)
+    → machine ≡ with_image program.image → cards ≡ [] → HasProgram language size machine cards
+has_source language size text program machine cards source is machine_is none = record {
+  text = text;
+  image = program.image;
+  program_of = record {
+    of_image = λ meant. absurd cc;
+    of_source = λ _. source_image language size text program is;
+  };
   machine_is = machine_is;
   cards_are = none;
 }

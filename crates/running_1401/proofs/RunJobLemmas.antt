@@ -1,17 +1,23 @@
 -- What a run of files reports, by what it began with.
 use Rattle.std.proofs.Common.{◌≡◌, ℕ, ◌+◌, ◌<◌, ◌≤◌, Bool, false, List, length, drop, get_or, Option, option_map, ap}
-use Rattle.std.proofs.Common.{OnOk, IfErr, Result, Ok, Err, refl, string_bytes}
+use Rattle.std.proofs.Common.{OnOk, IfErr, Result, Ok, Err, refl, string_bytes, subst, unwrap_or, inl, inr}
 use Rattle.std.proofs.lemmas.List.{drop_all, drop_more}
 use Rattle.std.specs.Prelude.{⊤}
 use Rattle.calls_1401.specs.declared.call.Job.{Job}
 use Rattle.calls_1401.specs.declared.call.Start.{Start}
-use Rattle.cpu_1401.specs.State.{State, with_switch}
+use Rattle.cpu_1401.specs.State.{State, power_on, with_switch}
+use Rattle.deck_1401.specs.Entry.{AtEntry, loaded_deck}
+use Rattle.deck_1401.specs.LoadedCore.{IsLoadedDeck}
+use Rattle.deck_1401.specs.declared.entry.LoadFault.{LoadFault}
+use Rattle.deck_1401.specs.declared.loaded_core.LoadedDeck.{LoadedDeck}
 use Rattle.devices_1401.specs.declared.card.Card.{Card}
+use Rattle.image_1401.specs.Image.{IsInCore}
+use Rattle.image_1401.specs.ImageText.{written_text}
 use Rattle.job_1401.specs.Unattended.{with_deck}
 use Rattle.panel_1401.specs.declared.stop.Stop.TheVariants as stop
-use Rattle.running_1401.specs.RunFile.{InputNames, IsUnread, IsUnwritten, WrittenNames}
+use Rattle.running_1401.specs.RunFile.{InputNames, IsFaultOf, IsUnread, IsUnstored, IsUnwritten, WrittenNames}
 use Rattle.running_1401.specs.RunJob.{HasHalted, IsBegun, IsReportOf, ReportsJob, ReportsStop, report_on, turned}
-use Rattle.running_1401.specs.RunJob.{with_switches}
+use Rattle.running_1401.specs.RunJob.{IsLoadedText, with_switches}
 use Rattle.running_1401.specs.declared.fault.RunFault.{RunFault}
 use Rattle.running_1401.specs.declared.fault.RunFault.TheVariants as fault
 use Rattle.running_1401.specs.declared.job_report.JobReport.{JobReport}
@@ -33,6 +39,7 @@ unwritten_reports names report (fault.File name why) is = tt
 unwritten_reports names report (fault.Unwritten name) is = tt
 unwritten_reports names report (fault.OneFile first second) is = tt
 unwritten_reports names report (fault.Deck name why) is = tt
+unwritten_reports names report (fault.Unloaded why) is = tt
 unwritten_reports names report (fault.Stopped ending) is = absurd is
 unwritten_reports names report (fault.Source why) is = tt
 unwritten_reports names report (fault.Image why) is = tt
@@ -47,10 +54,55 @@ unread_reports job how size names (fault.File name why) is = tt
 unread_reports job how size names (fault.Unwritten name) is = tt
 unread_reports job how size names (fault.OneFile first second) is = tt
 unread_reports job how size names (fault.Deck name why) is = tt
+unread_reports job how size names (fault.Unloaded why) is = tt
 unread_reports job how size names (fault.Stopped ending) is = absurd is
 unread_reports job how size names (fault.Source why) is = tt
 unread_reports job how size names (fault.Image why) is = tt
 unread_reports job how size names fault.Memory is = tt
+
+-- the image of what a deck has loaded is in core
+pub loaded_in_core : (outcome : Result AtEntry LoadFault) (loaded : LoadedDeck) → IsLoadedDeck outcome loaded
+    → IsInCore loaded.image
+loaded_in_core outcome loaded is = is.2.in_core
+
+-- and its text is that of what the cards load
+pub is_loaded_text : (size : Option ℕ) (switches : List Bool) (cards : List Card) (machine : State) (loaded : LoadedDeck)
+    (text : List ℕ) → machine ≡ with_switches switches (power_on (unwrap_or size 4000))
+    → IsLoadedDeck (loaded_deck 1000000 (with_deck cards machine)) loaded → text ≡ written_text loaded.image
+    → IsLoadedText size switches cards text
+is_loaded_text size switches cards machine loaded text same is text_is =
+    let there = subst (λ (s : State). IsLoadedDeck (loaded_deck 1000000 (with_deck cards s)) loaded) same is in
+    (loaded.image, (loaded, refl, there), text_is)
+
+-- nor is an image that isn't stored
+pub unstored_reports : (job : Job) (how : Start) (file : Option (List ℕ)) (why : RunFault) → IsUnstored how file why
+    → ReportsJob job why
+unstored_reports job how file fault.Output is = absurd is
+unstored_reports job how file fault.Size is = absurd is
+unstored_reports job how file (fault.File name why) is = absurd is
+unstored_reports job how file (fault.Unwritten name) is = tt
+unstored_reports job how file (fault.OneFile first second) is = absurd is
+unstored_reports job how file (fault.Deck name why) is = absurd is
+unstored_reports job how file (fault.Unloaded why) is = tt
+unstored_reports job how file (fault.Stopped ending) is = absurd is
+unstored_reports job how file (fault.Source why) is = absurd is
+unstored_reports job how file (fault.Image why) is = absurd is
+unstored_reports job how file fault.Memory is = tt
+
+-- and it is a fault of its job
+pub unstored_fault : (job : Job) (why : RunFault) → IsUnstored job.start (option_map string_bytes job.image) why
+    → IsFaultOf job why
+unstored_fault job fault.Output is = absurd is
+unstored_fault job fault.Size is = absurd is
+unstored_fault job (fault.File name why) is = absurd is
+unstored_fault job (fault.Unwritten name) is = inr (inr (inr (inr (inr is))))
+unstored_fault job (fault.OneFile first second) is = absurd is
+unstored_fault job (fault.Deck name why) is = absurd is
+unstored_fault job (fault.Unloaded why) is = inl is
+unstored_fault job (fault.Stopped ending) is = absurd is
+unstored_fault job (fault.Source why) is = absurd is
+unstored_fault job (fault.Image why) is = absurd is
+unstored_fault job fault.Memory is = inl tt
 
 -- what a job begins with, and its report
 abbrev pub IsBegunFor : Job → State → List Card → Type 0
@@ -72,6 +124,7 @@ job_reports job machine cards (fault.File name why) begun is = tt
 job_reports job machine cards (fault.Unwritten name) begun is = tt
 job_reports job machine cards (fault.OneFile first second) begun is = tt
 job_reports job machine cards (fault.Deck name why) begun is = tt
+job_reports job machine cards (fault.Unloaded why) begun is = tt
 job_reports job machine cards (fault.Stopped ending) begun is =
     record { machine = machine; cards = cards; begun = begun; report_is = is }
 job_reports job machine cards (fault.Source why) begun is = tt

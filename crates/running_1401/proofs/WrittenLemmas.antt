@@ -1,17 +1,21 @@
 -- What was written of lines and cards, part by part.
-use Rattle.std.proofs.Common.{◌≡◌, ℕ, List, [], ◌∷◌, ◌++◌, Option, refl, sym, ◌∙◌, ap, subst, append_assoc}
-use Rattle.std.proofs.lemmas.List.{append-nil}
+use Rattle.std.proofs.Common.{◌≡◌, ℕ, List, [], ◌∷◌, ◌++◌, Option, None, Some, refl, sym, ◌∙◌, ap, subst, append_assoc}
+use Rattle.std.proofs.Common.{map, take, length, ◌≤◌, zero, suc, arith}
+use Rattle.std.proofs.lemmas.List.{append-nil, length-map, map-append, take-map}
 use Rattle.std.proofs.KnownBytes.{Appends-nil, Appends-trans}
 use Rattle.std.proofs.lemmas.List.Concat.{flat_map-append}
-use Rattle.std.specs.Io.KnownBytes.{Appends}
+use Rattle.std.specs.Io.KnownBytes.{Appends, Keeps}
 use Rattle.devices_1401.specs.declared.card.Card.{Card}
 use Rattle.devices_1401.specs.declared.print_line.PrintLine.{PrintLine}
+use Rattle.machine_graphics.specs.Graphics.{ours_of, theirs_of}
+use Rattle.machine_graphics.specs.declared.graphics.Graphics.{Graphics}
+use Rattle.machine_graphics.proofs.GraphicsLemmas.{all_again}
 use Rattle.job_1401.specs.DeckText.{card_text}
 use Rattle.job_1401.specs.declared.paper.Place.{Place}
 use Rattle.job_1401.specs.Paper.{line_text, paper_text, place_after, place_behind}
 use Rattle.job_1401.specs.Unattended.{IsPartOf, Job}
 use Rattle.streams_1401.specs.Sink.{AppendsPart}
-use Rattle.running_1401.specs.RunDeck.{HasWritten, HasWrittenPart, Received, cards_text}
+use Rattle.running_1401.specs.RunDeck.{HasWritten, HasWrittenPart, Received, cards_text, in_graphics}
 
 -- nothing is a part of any text
 pub nothing_yet : (old : Option (List ℕ)) (text : List ℕ) → AppendsPart old old text
@@ -103,3 +107,35 @@ part_written_behind place lines more cards others a b c all part = record {
       part_behind a.punch b.punch c.punch (cards_text cards) (cards_text others) (cards_text (cards ++ others))
       (flat_map-append card_text cards others) all.punch part.punch;
 }
+
+-- of a part of bytes no more are taken than it has
+taken_of : (n count : ℕ) (bytes : List ℕ) → n ≤ length (take count bytes) → take n (take count bytes) ≡ take n bytes
+taken_of zero count bytes few = refl
+taken_of (suc n) zero bytes few = absurd (omega (arith, few))
+taken_of (suc n) (suc count) [] few = refl
+taken_of (suc n) (suc count) (byte ∷ more) few =
+    let fewer : n ≤ length (take count more) = omega (arith, few) in
+    ap (λ (rest : List ℕ). byte ∷ rest) (taken_of n count more fewer)
+
+-- bytes that a sink took in the graphics of a chain
+pub handed_over : (chain : Graphics) (old new : Option (List ℕ)) (bytes part : List ℕ) (n count : ℕ)
+    → part ≡ map (theirs_of chain) (take count bytes) → n ≤ length part → Appends old new (take n part)
+    → Appends (in_graphics chain old) (in_graphics chain new) (take n bytes)
+handed_over chain None new bytes part n count is few all = tt
+handed_over chain (Some xs) None bytes part n count is few all = all
+handed_over chain (Some xs) (Some ys) bytes part n count is few all =
+    let text : List ℕ = take count bytes in
+    let within : n ≤ length text = subst (λ (k : ℕ). n ≤ k) (ap length is ∙ length-map text (theirs_of chain)) few in
+    let back : map (ours_of chain) (take n part) ≡ take n bytes
+    = ap (λ (each : List ℕ). map (ours_of chain) (take n each)) is
+    ∙ sym (take-map (ours_of chain) n (map (theirs_of chain) text)) ∙ ap (take n) (all_again chain text)
+    ∙ taken_of n count bytes within in
+    ap (map (ours_of chain)) all ∙ map-append (ours_of chain) xs (take n part)
+    ∙ ap (λ (more : List ℕ). map (ours_of chain) xs ++ more) back
+
+-- and those that it didn't take
+pub kept_back : (chain : Graphics) (old new : Option (List ℕ)) → Keeps old new
+    → Keeps (in_graphics chain old) (in_graphics chain new)
+kept_back chain None new same = tt
+kept_back chain (Some xs) None same = same
+kept_back chain (Some xs) (Some ys) same = ap (map (ours_of chain)) same

@@ -1,9 +1,12 @@
 -- The program that a run begins with, and the machine that has it (own).
-use Rattle.std.specs.Prelude.{◌≡◌, ◌⊎◌, ℕ, ◌||◌, ◌==◌, Bool, List, [], ◌∷◌, None, Some, Result, Ok, Err, codes}
+use Rattle.std.specs.Prelude.{◌≡◌, ◌⊎◌, ℕ, ◌||◌, ◌==◌, Bool, List, [], ◌∷◌, Result, Ok, Err, codes}
 use Rattle.std.specs.List.{starts_with}
 use Rattle.autocoder_1401.specs.Assembly.{assembly_in}
+use Rattle.listing_1401.specs.Rows.{rows_of}
 use Rattle.symbols_1401.specs.Fault.{IsMemory}
+use Rattle.symbols_1401.specs.Reading.{lines_in}
 use Rattle.autocoder_1401.specs.declared.assembly.Assembly.{Assembly}
+use Rattle.autocoder_1401.specs.declared.rows.AssemblyRows.{AssemblyRows}
 use Rattle.command_1401.specs.CarryOut.{deposited}
 use Rattle.cpu_1401.specs.State.{State, power_on}
 use Rattle.image_1401.specs.declared.fault.ImageFault.{ImageFault}
@@ -13,7 +16,6 @@ use Rattle.image_1401.specs.ImageText.{IsTextOf}
 use Rattle.image_1401.specs.Refusal.{IsRefused}
 use Rattle.symbols_1401.specs.declared.fault.AsmFault.{AsmFault}
 use Rattle.source_1401.specs.declared.language.Language.{Language}
-use Rattle.running_1401.specs.declared.programs.Program.{Program}
 use Rattle.running_1401.specs.declared.fault.RunFault.{RunFault}
 use Rattle.running_1401.specs.declared.fault.RunFault.TheVariants as fault
 
@@ -22,16 +24,12 @@ unfoldable pub is_meant_as_image : List ℕ → Bool
 is_meant_as_image text =
     starts_with (λ a b. a == b) text (codes "IMAGE1 ") || starts_with (λ a b. a == b) text (codes "IMAGE2 ")
 
--- what an image's text is read as: the image, without a listing, or its fault
-abbrev pub IsImageOf : List ℕ → Result Program RunFault → Type 0
-IsImageOf text (Ok program) = IsTextOf text program.image × (program.listing ≡ None)
-IsImageOf text (Err told) = (why : ImageFault) × (told ≡ fault.Image why) × IsRefused text why
-
--- what a source stands for in core storage of this size: the image and the listing, or its fault or want of memory
-abbrev pub IsAssembled : Language → ℕ → List ℕ → Result Program RunFault → Type 0
+-- what a source stands for in core storage of this size: the image, and the rows of the listing that have an address,
+-- or its fault, or that memory was refused
+abbrev pub IsAssembled : Language → ℕ → List ℕ → Result AssemblyRows RunFault → Type 0
 IsAssembled language size source (Ok program) =
     (assembly : Assembly) × (assembly_in language size source ≡ Ok assembly) × (program.image ≡ assembly.image)
-    × (program.listing ≡ Some assembly.listing)
+    × (program.rows ≡ rows_of (lines_in language source))
 IsAssembled language size source (Err told) =
     (why : AsmFault) × (told ≡ fault.Source why) × (IsMemory why ⊎ (assembly_in language size source ≡ Err why))
 
@@ -47,3 +45,16 @@ with_segments s (segment ∷ segments) = with_segments (with_segment s segment) 
 -- a machine of an image's size at power-on that has the image's cells, and begins at its entry
 abbrev pub with_image : Image → State
 with_image image = record (with_segments (power_on image.size) image.segments) { i = image.start }
+
+-- a machine that has the cells of the image of a text
+abbrev pub IsImageMachine : List ℕ → State → Type 0
+IsImageMachine text machine = (image : Image) × IsTextOf text image × (machine ≡ with_image image)
+
+-- why there is none: the text's own fault, or that memory was refused
+abbrev pub IsNoImage : List ℕ → RunFault → Type 0
+IsNoImage text told =
+    ((why : ImageFault) × (told ≡ fault.Image why) × IsRefused text why) ⊎ (told ≡ fault.Memory)
+
+-- why a source is no program: its own fault, or that memory was refused
+abbrev pub IsNoProgram : RunFault → Type 0
+IsNoProgram told = ((why : AsmFault) × (told ≡ fault.Source why)) ⊎ (told ≡ fault.Memory)

@@ -1,6 +1,6 @@
 -- What a program that runs with a deck writes and tells (own).
 use Rattle.std.specs.Prelude.{◌≡◌, ℕ, ◌-◌, ◌^◌, ◌==◌, Bool, false, IsTrue, if◌then◌else◌}
-use Rattle.std.specs.Prelude.{List, [], length, min, Option, None, Some}
+use Rattle.std.specs.Prelude.{List, [], length, map, min, Option, None, Some, option_map}
 use Rattle.std.specs.Io.KnownBytes.{Appends}
 use Rattle.std.specs.List.{flat_map}
 use Rattle.devices_1401.specs.declared.card.Card.{Card}
@@ -9,6 +9,8 @@ use Rattle.panel_1401.specs.declared.stop.Stop.{Stop}
 use Rattle.panel_1401.specs.declared.stop.Stop.TheVariants as stop
 use Rattle.cpu_1401.specs.CardsAndPrinter.{load}
 use Rattle.cpu_1401.specs.State.{State}
+use Rattle.machine_graphics.specs.Graphics.{ours_of}
+use Rattle.machine_graphics.specs.declared.graphics.Graphics.{Graphics}
 use Rattle.job_1401.specs.DeckText.{card_text}
 use Rattle.job_1401.specs.declared.paper.Place.{Place}
 use Rattle.job_1401.specs.Paper.{paper_text, place_behind}
@@ -47,6 +49,10 @@ pub record HasWrittenPart (place : Place) (lines : List PrintLine) (cards : List
     : Type 0 where
   pub paper : AppendsPart old.paper new.paper (paper_text place lines)
   pub punch : AppendsPart old.punch new.punch (cards_text cards)
+
+-- what was received in the graphics of a chain, in this machine's
+abbrev pub in_graphics : Graphics → Option (List ℕ) → Option (List ℕ)
+in_graphics chain received = option_map (λ (text : List ℕ). map (ours_of chain) text) received
 
 -- whether a write to a file has failed, if there is one
 abbrev pub failed_of : {P : Type 0} → (P → Bool) → Option P → Bool

@@ -17,6 +17,7 @@ IsUnreadFile file (fault.File name why) = string_bytes name ≡ file
 IsUnreadFile file (fault.Unwritten name) = ⊥
 IsUnreadFile file (fault.OneFile first second) = ⊥
 IsUnreadFile file (fault.Deck name why) = ⊥
+IsUnreadFile file (fault.Unloaded why) = ⊥
 IsUnreadFile file (fault.Stopped ending) = ⊥
 IsUnreadFile file (fault.Source why) = ⊥
 IsUnreadFile file (fault.Image why) = ⊥
@@ -30,6 +31,7 @@ IsOfFile file (fault.File name why) = string_bytes name ≡ file
 IsOfFile file (fault.Unwritten name) = ⊥
 IsOfFile file (fault.OneFile first second) = ⊥
 IsOfFile file (fault.Deck name why) = string_bytes name ≡ file
+IsOfFile file (fault.Unloaded why) = ⊥
 IsOfFile file (fault.Stopped ending) = ⊥
 IsOfFile file (fault.Source why) = ⊥
 IsOfFile file (fault.Image why) = ⊥
@@ -59,6 +61,7 @@ IsUnread how size names (fault.File name why) = IsInput names (string_bytes name
 IsUnread how size names (fault.Unwritten name) = ⊥
 IsUnread how size names (fault.OneFile first second) = ⊥
 IsUnread how size names (fault.Deck name why) = IsDeck how names (string_bytes name)
+IsUnread how size names (fault.Unloaded why) = how ≡ start.LoadKey
 IsUnread how size names (fault.Stopped ending) = ⊥
 IsUnread how size names (fault.Source why) = how ≡ start.Entry
 IsUnread how size names (fault.Image why) = how ≡ start.Entry
@@ -69,13 +72,15 @@ pub record WrittenNames : Type 0 where
   pub paper : Option (List ℕ)
   pub punch : Option (List ℕ)
   pub trace : Option (List ℕ)
+  pub image : Option (List ℕ)
 
-abbrev pub written_names : Option (List ℕ) → Option (List ℕ) → Option (List ℕ) → WrittenNames
-written_names paper punch trace = record { paper = paper; punch = punch; trace = trace }
+abbrev pub written_names : Option (List ℕ) → Option (List ℕ) → Option (List ℕ) → Option (List ℕ) → WrittenNames
+written_names paper punch trace image = record { paper = paper; punch = punch; trace = trace; image = image }
 
 -- a file that isn't written is one of them
 abbrev pub IsWrittenName : WrittenNames → List ℕ → Type 0
-IsWrittenName names name = (names.paper ≡ Some name) ⊎ ((names.punch ≡ Some name) ⊎ (names.trace ≡ Some name))
+IsWrittenName names name =
+    (names.paper ≡ Some name) ⊎ ((names.punch ≡ Some name) ⊎ ((names.trace ≡ Some name) ⊎ (names.image ≡ Some name)))
 
 -- what isn't written: the file of this name, or standard output if there is no name
 abbrev pub IsUnwrittenFile : Option (List ℕ) → RunFault → Type 0
@@ -85,6 +90,7 @@ IsUnwrittenFile file (fault.File name why) = ⊥
 IsUnwrittenFile file (fault.Unwritten name) = file ≡ Some (string_bytes name)
 IsUnwrittenFile file (fault.OneFile first second) = ⊥
 IsUnwrittenFile file (fault.Deck name why) = ⊥
+IsUnwrittenFile file (fault.Unloaded why) = ⊥
 IsUnwrittenFile file (fault.Stopped ending) = ⊥
 IsUnwrittenFile file (fault.Source why) = ⊥
 IsUnwrittenFile file (fault.Image why) = ⊥
@@ -98,10 +104,25 @@ IsUnwritten names (fault.File name why) = ⊥
 IsUnwritten names (fault.Unwritten name) = IsWrittenName names (string_bytes name)
 IsUnwritten names (fault.OneFile first second) = ⊥
 IsUnwritten names (fault.Deck name why) = ⊥
+IsUnwritten names (fault.Unloaded why) = ⊥
 IsUnwritten names (fault.Stopped ending) = ⊥
 IsUnwritten names (fault.Source why) = ⊥
 IsUnwritten names (fault.Image why) = ⊥
 IsUnwritten names fault.Memory = ⊤
+
+-- why there is no image of what a deck has loaded: it isn't loaded, or the image's file isn't written
+abbrev pub IsUnstored : Start → Option (List ℕ) → RunFault → Type 0
+IsUnstored how file fault.Output = ⊥
+IsUnstored how file fault.Size = ⊥
+IsUnstored how file (fault.File name why) = ⊥
+IsUnstored how file (fault.Unwritten name) = file ≡ Some (string_bytes name)
+IsUnstored how file (fault.OneFile first second) = ⊥
+IsUnstored how file (fault.Deck name why) = ⊥
+IsUnstored how file (fault.Unloaded why) = how ≡ start.LoadKey
+IsUnstored how file (fault.Stopped ending) = ⊥
+IsUnstored how file (fault.Source why) = ⊥
+IsUnstored how file (fault.Image why) = ⊥
+IsUnstored how file fault.Memory = ⊤
 
 -- how a run fails that has begun: what isn't written, or a stop that is no halt
 abbrev pub IsOfRun : WrittenNames → RunFault → Type 0
@@ -111,6 +132,7 @@ IsOfRun names (fault.File name why) = ⊥
 IsOfRun names (fault.Unwritten name) = IsWrittenName names (string_bytes name)
 IsOfRun names (fault.OneFile first second) = ⊥
 IsOfRun names (fault.Deck name why) = ⊥
+IsOfRun names (fault.Unloaded why) = ⊥
 IsOfRun names (fault.Stopped ending) = ending.report.stop ≢ stop.Halt
 IsOfRun names (fault.Source why) = ⊥
 IsOfRun names (fault.Image why) = ⊥
@@ -122,7 +144,7 @@ inputs_of job = input_names (string_bytes job.file) (option_map string_bytes job
 
 abbrev pub written_of : Job → WrittenNames
 written_of job = written_names (option_map string_bytes job.paper) (option_map string_bytes job.punch)
-    (option_map string_bytes job.trace)
+    (option_map string_bytes job.trace) (option_map string_bytes job.image)
 
 -- a file that is read or written
 abbrev pub IsName : InputNames → WrittenNames → List ℕ → Type 0
@@ -137,6 +159,7 @@ IsOneFile inputs outputs (fault.Unwritten name) = ⊥
 IsOneFile inputs outputs (fault.OneFile first second) =
     IsName inputs outputs (string_bytes first) × IsWrittenName outputs (string_bytes second)
 IsOneFile inputs outputs (fault.Deck name why) = ⊥
+IsOneFile inputs outputs (fault.Unloaded why) = ⊥
 IsOneFile inputs outputs (fault.Stopped ending) = ⊥
 IsOneFile inputs outputs (fault.Source why) = ⊥
 IsOneFile inputs outputs (fault.Image why) = ⊥

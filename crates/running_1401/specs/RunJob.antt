@@ -2,34 +2,46 @@
 -- files have.
 use Rattle.std.specs.Prelude.{◌≡◌, ℕ, ◌+◌, ⊤, true, false, Bool, List, [], ◌∷◌, ◌++◌, length, Option, None, Some, Ok}
 use Rattle.std.specs.Prelude.{option_map, string_bytes, unwrap_or}
+use Rattle.autocoder_1401.specs.Assembly.{assembly_in}
+use Rattle.autocoder_1401.specs.declared.assembly.Assembly.{Assembly}
 use Rattle.calls_1401.specs.declared.call.Job.{Job}
 use Rattle.calls_1401.specs.declared.call.Start.{Start}
 use Rattle.calls_1401.specs.declared.call.Start.TheVariants as start
 use Rattle.calls_1401.specs.Sizes.{size_for}
 use Rattle.cpu_1401.specs.State.{State, power_on, with_switch}
+use Rattle.deck_1401.specs.Entry.{loaded_deck}
+use Rattle.deck_1401.specs.LoadedCore.{IsLoadedDeck}
+use Rattle.deck_1401.specs.declared.loaded_core.LoadedDeck.{LoadedDeck}
 use Rattle.devices_1401.specs.declared.card.Card.{Card}
+use Rattle.image_1401.specs.ImageText.{IsTextOf, written_text}
+use Rattle.image_1401.specs.declared.image.Image.{Image}
 use Rattle.job_1401.specs.DeckText.{deck_of}
 use Rattle.job_1401.specs.Unattended.{with_deck}
 use Rattle.panel_1401.specs.declared.stop.Stop.TheVariants as stop
 use Rattle.source_1401.specs.declared.language.Language.{Language}
-use Rattle.running_1401.specs.Program.{IsAssembled, IsImageOf, is_meant_as_image, with_image}
+use Rattle.running_1401.specs.Program.{is_meant_as_image, with_image}
 use Rattle.running_1401.specs.RunDeck.{report_of, started_job}
 use Rattle.running_1401.specs.declared.fault.RunFault.{RunFault}
 use Rattle.running_1401.specs.declared.fault.RunFault.TheVariants as fault
 use Rattle.running_1401.specs.declared.job_report.JobReport.{JobReport}
-use Rattle.running_1401.specs.declared.programs.Program.{Program}
 
--- a program that a text is the image of, or the source
-pub record IsProgramOf (language : Language) (size : Option ℕ) (text : List ℕ) (program : Program) : Type 0 where
-  pub image : is_meant_as_image text ≡ true → IsImageOf text (Ok program)
-  pub source : is_meant_as_image text ≡ false → IsAssembled language (size_for size language text) text (Ok program)
+-- what a source stands for, in core storage of the size that is named or that it asks for
+abbrev pub IsSourceOf : Language → Option ℕ → List ℕ → Image → Type 0
+IsSourceOf language size text image =
+    (assembly : Assembly) × (assembly_in language (size_for size language text) text ≡ Ok assembly)
+    × (image ≡ assembly.image)
+
+-- an image that a text is the text of, or the source
+pub record IsProgramOf (language : Language) (size : Option ℕ) (text : List ℕ) (image : Image) : Type 0 where
+  pub of_image : is_meant_as_image text ≡ true → IsTextOf text image
+  pub of_source : is_meant_as_image text ≡ false → IsSourceOf language size text image
 
 -- a machine with the program of a text, and no cards
 pub record HasProgram (language : Language) (size : Option ℕ) (machine : State) (cards : List Card) : Type 0 where
   pub text : List ℕ
-  pub program : Program
-  pub program_of : IsProgramOf language size text program
-  pub machine_is : machine ≡ with_image program.image
+  pub image : Image
+  pub program_of : IsProgramOf language size text image
+  pub machine_is : machine ≡ with_image image
   pub cards_are : cards ≡ []
 
 -- a machine at power-on, and the cards of a text
@@ -74,6 +86,17 @@ with_switches switches s = turned 0 switches s
 abbrev pub report_on : Start → ℕ → State → JobReport
 report_on how limit s = report_of (length s.devices.hopper) (started_job how limit s)
 
+-- the image of what these cards load on a machine of this size with these switches, at the entry of their program
+abbrev pub IsLoadedImage : Option ℕ → List Bool → List Card → Image → Type 0
+IsLoadedImage size switches cards image =
+    (loaded : LoadedDeck) × (image ≡ loaded.image)
+    × IsLoadedDeck (loaded_deck 1000000 (with_deck cards (with_switches switches (power_on (unwrap_or size 4000))))) loaded
+
+-- the text of such an image
+abbrev pub IsLoadedText : Option ℕ → List Bool → List Card → List ℕ → Type 0
+IsLoadedText size switches cards text =
+    (image : Image) × IsLoadedImage size switches cards image × (text ≡ written_text image)
+
 -- the report of a job: its files are read, its switches set, and it is started and goes on to its limit at most
 pub record IsReportOf (job : Job) (report : JobReport) : Type 0 where
   pub machine : State
@@ -93,6 +116,7 @@ ReportsStop report (fault.File name why) = ⊤
 ReportsStop report (fault.Unwritten name) = ⊤
 ReportsStop report (fault.OneFile first second) = ⊤
 ReportsStop report (fault.Deck name why) = ⊤
+ReportsStop report (fault.Unloaded why) = ⊤
 ReportsStop report (fault.Stopped ending) = ending.report ≡ report
 ReportsStop report (fault.Source why) = ⊤
 ReportsStop report (fault.Image why) = ⊤
@@ -106,6 +130,7 @@ ReportsJob job (fault.File name why) = ⊤
 ReportsJob job (fault.Unwritten name) = ⊤
 ReportsJob job (fault.OneFile first second) = ⊤
 ReportsJob job (fault.Deck name why) = ⊤
+ReportsJob job (fault.Unloaded why) = ⊤
 ReportsJob job (fault.Stopped ending) = IsReportOf job ending.report
 ReportsJob job (fault.Source why) = ⊤
 ReportsJob job (fault.Image why) = ⊤

@@ -2,9 +2,8 @@
 ghost use Rattle.std.specs.Prelude.{◌≡◌, IfSome};
 ghost use Rattle.stop_reasons_1401.specs.Reason.{stop_named};
 
-use crate::instruction_text::instruction_text;
 use crate::job_report::JobReport;
-use autocoder_1401::Listing;
+use crate::stopped_at::{SourceRows, instruction_text};
 use bcd_1401::Cell;
 use core_1401::Core;
 use cpu_1401::{Machine, Stop};
@@ -68,18 +67,18 @@ fn lacks_switch(report: JobReport, machine: &Machine) -> bool {
 }
 
 impl Ending {
-    /// How a job ended that left the machine so. The listing is that of the program's source, if it had one.
+    /// How a job ended that left the machine so. The source is the program's, if it had one.
     pub fn of(
         alloc: Global,
         report: JobReport,
         machine: &Machine,
-        listing: Option<&Listing>,
+        source: Option<&SourceRows>,
     ) -> Ending
         ensures report { result.report ≡ report }
         ensures reason { IfSome result.reason (λ why. stop_named why ≡ report.stop) }
     {
         let at = stop_address(report, machine);
-        let instruction = match instruction_text(alloc, machine.core(), at, listing) {
+        let instruction = match instruction_text(alloc, machine.core(), at, source) {
             Ok(text) => text,
             Err(_) => None,
         };

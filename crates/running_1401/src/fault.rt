@@ -5,6 +5,7 @@ ghost use Rattle.running_1401.specs.Run.{job_outcome};
 use crate::ending::Ending;
 use autocoder_1401::AsmFault;
 use cpu_1401::Stop;
+use deck_1401::LoadFault;
 use files_1401::FileFault;
 use image_1401::ImageFault;
 use job_1401::DeckFault;
@@ -31,6 +32,9 @@ pub enum RunFault {
     /// The file of this name is no deck.
     #[error("{0}: {1}")]
     Deck(String, DeckFault),
+    /// The deck whose image is asked for doesn't load itself.
+    #[error("the deck isn't loaded: {0}")]
+    Unloaded(LoadFault),
     /// The machine stopped otherwise than by a halt.
     #[error("{0}")]
     Stopped(Ending),

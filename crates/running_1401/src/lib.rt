@@ -9,6 +9,7 @@
 
 // what a run begins with
 mod inputs;
+mod loaded_image;
 mod one_file;
 pub mod programs;
 mod source_reports;
@@ -23,9 +24,9 @@ pub mod watching;
 // how a run ended, in words
 pub mod ending;
 pub mod fault;
-mod instruction_text;
 pub mod job_report;
 pub mod running;
+pub mod stopped_at;
 
 pub use calls_1401::{is_refused, size_for};
 pub use deck_running::{Broken, run_started};
@@ -33,8 +34,9 @@ pub use ending::Ending;
 pub use fault::{RunFault, job_outcome};
 pub use inputs::{read_cards, tell_small_letters};
 pub use job_report::JobReport;
-pub use programs::{Program, loaded_machine, program_of};
+pub use programs::{image_machine, loaded_machine, program_of};
 pub use punch_file::PunchFile;
 pub use running::{ErrorOutput, run_file, tell_ending};
+pub use stopped_at::SourceRows;
 pub use tracing::Trace;
 pub use watching::{HowFar, Shown, Unwatched, Watch};

@@ -81,11 +81,12 @@ fn check_input<R: Files + AllocGlobal>(
 ) -> Result<(), Clash>
     ensures { IfErr result (IsInputClash (Some input.now)
         (written_names (option_map string_bytes names.now.paper) (option_map string_bytes names.now.punch)
-        (option_map string_bytes names.now.trace))) }
+        (option_map string_bytes names.now.trace) (option_map string_bytes names.now.image))) }
 {
     check_with(rt, input, &names.paper)?;
     check_with(rt, input, &names.punch)?;
-    check_with(rt, input, &names.trace)
+    check_with(rt, input, &names.trace)?;
+    check_with(rt, input, &names.image)
 }
 
 /// Looks at a run's names: those of its program, of its deck and of the files that it writes.
@@ -101,7 +102,7 @@ pub(crate) fn check_names<R: Files + AllocGlobal>(
 ) -> Result<(), Clash>
     ensures { IfErr result (IsClashOf (input_names program.now (option_map string_bytes deck.now))
         (written_names (option_map string_bytes names.now.paper) (option_map string_bytes names.now.punch)
-        (option_map string_bytes names.now.trace))) }
+        (option_map string_bytes names.now.trace) (option_map string_bytes names.now.image))) }
 {
     check_input(rt, program, names)?;
     if let Some(deck) = deck {
@@ -109,5 +110,8 @@ pub(crate) fn check_names<R: Files + AllocGlobal>(
     }
     check_if_named(rt, &names.paper, &names.punch)?;
     check_if_named(rt, &names.paper, &names.trace)?;
-    check_if_named(rt, &names.punch, &names.trace)
+    check_if_named(rt, &names.punch, &names.trace)?;
+    check_if_named(rt, &names.paper, &names.image)?;
+    check_if_named(rt, &names.punch, &names.image)?;
+    check_if_named(rt, &names.trace, &names.image)
 }

@@ -7,6 +7,7 @@ use crate::fault::RunFault;
 use crate::punch_file::PunchFile;
 use crate::tracing::Trace;
 use files_1401::{LimitedFile, WriteFault, create};
+use machine_graphics::Graphics;
 use std::rt::Files;
 use streams_1401::ToWriter;
 
@@ -19,18 +20,24 @@ pub(crate) struct OutputNames {
     pub punch: Option<String>,
     /// The file of the trace; without one there is none.
     pub trace: Option<String>,
+    /// The file of the image of what a deck has loaded; without one there is none.
+    pub image: Option<String>,
+    /// The chain whose graphics the punched cards have.
+    pub graphics: Graphics,
 }
 
 impl OutputNames {
     /// The fault of a run that broke off.
     pub fn fault_of(self, broken: Broken) -> RunFault
         ensures { IsUnwritten (written_names (option_map string_bytes self.paper) (option_map string_bytes self.punch)
-            (option_map string_bytes self.trace)) result }
+            (option_map string_bytes self.trace) (option_map string_bytes self.image)) result }
     {
         let Self {
             paper,
             punch,
             trace,
+            image: _,
+            graphics: _,
         } = self;
         match broken {
             Broken::Memory => RunFault::Memory,
@@ -42,7 +49,7 @@ impl OutputNames {
 }
 
 /// The fault of a file of this name that isn't written, or of standard output if there is no name.
-fn unwritten(name: Option<String>) -> RunFault
+pub(crate) fn unwritten(name: Option<String>) -> RunFault
     ensures { IsUnwrittenFile (option_map string_bytes name) result }
 {
     match name {
@@ -72,7 +79,8 @@ pub(crate) fn create_outputs<R: Files + AllocGlobal>(
     names: &OutputNames,
 ) -> Result<Outputs<ToWriter<LimitedFile<R::File>>>, RunFault>
     ensures { IfErr result (IsUnwritten (written_names (option_map string_bytes names.now.paper)
-        (option_map string_bytes names.now.punch) (option_map string_bytes names.now.trace))) }
+        (option_map string_bytes names.now.punch) (option_map string_bytes names.now.trace)
+        (option_map string_bytes names.now.image))) }
 {
     let paper = match create_if_named(rt, &names.paper) {
         Ok(paper) => paper,
@@ -88,7 +96,10 @@ pub(crate) fn create_outputs<R: Files + AllocGlobal>(
     };
     Ok(Outputs {
         paper,
-        punch: PunchFile { file: punch },
+        punch: PunchFile {
+            file: punch,
+            graphics: names.graphics,
+        },
         trace: Trace::new(trace),
     })
 }

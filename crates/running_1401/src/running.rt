@@ -9,8 +9,9 @@ ghost use Rattle.calls_1401.specs.Sizes.{is_refused};
 use crate::deck_running::{Broken, run_started};
 use crate::ending::Ending;
 use crate::fault::{RunFault, job_outcome};
-use crate::inputs::{Inputs, read_inputs};
+use crate::inputs::{InputGraphics, Inputs, read_inputs};
 use crate::job_report::JobReport;
+use crate::loaded_image::store_image;
 use crate::one_file::{Clash, check_names};
 use crate::outputs::{OutputNames, Outputs, create_outputs};
 use crate::tracing::Trace;
@@ -19,6 +20,7 @@ use calls_1401::{Job, Start, is_refused};
 use cpu_1401::{Machine, Stop};
 use files_1401::LimitedFile;
 use job_1401::CardList;
+use machine_graphics::Graphics;
 use std::io;
 use std::rt::{Clock, Files};
 use streams_1401::{Sink, ToWriter};
@@ -34,7 +36,7 @@ pub enum ErrorOutput {
 
 /// Sets the sense switches.
 #[tactic(auto, using(crate::proofs::RunJobLemmas::turned_more, crate::proofs::RunJobLemmas::turned_none))]
-fn set_switches(machine: &mut Machine, switches: &[bool; 7])
+pub(crate) fn set_switches(machine: &mut Machine, switches: &[bool; 7])
     ensures { machine.new ≡ with_switches switches.now machine.old }
 {
     for (n, on) in switches.iter().enumerate() {
@@ -137,7 +139,8 @@ fn run_inputs<R: Files + Print + Eprint + Clock + AllocGlobal>(
 ) -> Result<JobReport, RunFault>
     ensures report { IfOk result (λ report. report ≡ report_on start limit (with_deck cards.now machine.old)) }
     ensures fault { IfErr result (IsUnwritten (written_names (option_map string_bytes names.paper)
-        (option_map string_bytes names.punch) (option_map string_bytes names.trace))) }
+        (option_map string_bytes names.punch) (option_map string_bytes names.trace)
+        (option_map string_bytes names.image))) }
 {
     let outputs = match create_outputs(rt, &names) {
         Ok(outputs) => outputs,
@@ -149,15 +152,16 @@ fn run_inputs<R: Files + Print + Eprint + Clock + AllocGlobal>(
     }
 }
 
-/// Runs a program with its deck, and says on standard error how it ended, if it halted.
+/// Runs a program with its deck, and says on standard error how it ended, if it halted. If the image of what a deck has
+/// loaded is asked for, it is written before.
 ///
 /// # Errors
 ///
 /// `Size` if there is no core storage of the size named; `OneFile` if two of the names lead to one file, the second one
-/// of a file that is written; `File`, `Source`, `Image` or `Deck` if there is no program or no deck; `Unwritten` or
-/// `Output` if a file can't be made, or paper, cards or trace aren't written; `Stopped` if the machine stopped
+/// of a file that is written; `File`, `Source`, `Image` or `Deck` if there is no program or no deck; `Unloaded` if there
+/// is no image of what the deck has loaded; `Unwritten` or `Output` if a file can't be made, or paper, cards or trace aren't written; `Stopped` if the machine stopped
 /// otherwise than by a halt; or `Memory`.
-#[tactic(auto, using(crate::proofs::RunJobLemmas::unread_reports, crate::proofs::RunJobLemmas::run_halted, crate::proofs::RunJobLemmas::run_stopped))]
+#[tactic(auto, using(crate::proofs::RunJobLemmas::unread_reports, crate::proofs::RunJobLemmas::unstored_reports, crate::proofs::RunJobLemmas::unstored_fault, crate::proofs::RunJobLemmas::run_halted, crate::proofs::RunJobLemmas::run_stopped))]
 pub fn run_file<R: Files + Print + Eprint + Clock + AllocGlobal>(
     rt: &R,
     error_output: ErrorOutput,
@@ -181,7 +185,11 @@ pub fn run_file<R: Files + Print + Eprint + Clock + AllocGlobal>(
         punch,
         paper,
         trace,
+        image,
         language,
+        graphics,
+        source_graphics,
+        punch_graphics,
         size,
         limit,
         switches,
@@ -193,16 +201,26 @@ pub fn run_file<R: Files + Print + Eprint + Clock + AllocGlobal>(
         paper,
         punch,
         trace,
+        image,
+        graphics: punch_graphics.unwrap_or(Graphics::Ours),
     };
     match check_names(rt, file.as_str(), &cards, &names) {
         Ok(()) => {}
         Err(Clash::Memory) => return Err(RunFault::Memory),
         Err(Clash::Names(first, second)) => return Err(RunFault::OneFile(first, second)),
     }
-    let inputs = match read_inputs(rt, file, start, language, size, cards) {
+    let asked = InputGraphics {
+        source: source_graphics,
+        decks: graphics,
+    };
+    let inputs = match read_inputs(rt, file, start, language, asked, size, cards) {
         Ok(inputs) => inputs,
         Err(fault) => return Err(fault),
     };
+    match store_image(rt, &names.image, start, &inputs.cards, size, &switches) {
+        Ok(()) => {}
+        Err(fault) => return Err(fault),
+    }
     run_and_tell(rt, error_output, inputs, start, limit, &switches, names)
 }
 
@@ -222,19 +240,20 @@ fn run_and_tell<R: Files + Print + Eprint + Clock + AllocGlobal>(
     ensures stopped { IfErr result (ReportsStop (report_on start limit
         (with_deck inputs.cards (with_switches switches.now inputs.machine)))) }
     ensures fault { IfErr result (IsOfRun (written_names (option_map string_bytes names.paper)
-        (option_map string_bytes names.punch) (option_map string_bytes names.trace))) }
+        (option_map string_bytes names.punch) (option_map string_bytes names.trace)
+        (option_map string_bytes names.image))) }
 {
     let Inputs {
         mut machine,
         cards,
-        listing,
+        source,
     } = inputs;
     set_switches(&mut machine, switches);
     match run_inputs(rt, error_output, &mut machine, &cards, start, limit, names) {
         Ok(report) => {
             tell_ending(
                 rt,
-                Ending::of(rt.alloc(), report, &machine, listing.as_ref()),
+                Ending::of(rt.alloc(), report, &machine, source.as_ref()),
             )
         }
         Err(fault) => Err(fault),

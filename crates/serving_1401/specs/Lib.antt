@@ -1,1 +1,5 @@
 pub mod Accounted
+pub mod Errands
+pub mod Holds
+pub mod Lasts
+pub mod Renewing

@@ -2,9 +2,10 @@
 //! sent; so a connection that sends nothing, as browsers open ahead, or that takes nothing, delays no other.
 
 use crate::crowd::{Crowd, NAPS, Stage};
+use crate::room_pages::{Answered, PageOfRoom};
 use crossbeam_channel::{Sender, bounded};
 use desk_1401::{SeatsFault, Service};
-use page_1401::{Site, WholeRequest, has_begun, linger, read_request, send_answer};
+use page_1401::{WholeRequest, has_begun, linger, read_request, send_answer};
 use room_1401::RoomId;
 use std::alloc::{AllocGlobal, Global};
 use std::io::{Read, Write};
@@ -40,7 +41,7 @@ pub(crate) fn accept_arrivals<J, R>(
     rt: &R,
     service: &Service<J>,
     listener: &TcpListener,
-    site: &Site,
+    page: PageOfRoom<'_>,
     crowd: &Crowd,
     asked: Sender<Asked>,
 )
@@ -49,7 +50,7 @@ where
     R: Threads + Wait + Sync + Clock + AllocGlobal + RandomSource,
 {
     thread::scope(thread::scope_env(), rt, move |scope| {
-        accept_each_arrival(scope, alloc, rt, service, listener, site, crowd, asked)
+        accept_each_arrival(scope, alloc, rt, service, listener, page, crowd, asked)
     });
 }
 
@@ -60,7 +61,7 @@ fn accept_each_arrival<'s, E: 's, J, R>(
     rt: &'s R,
     service: &'s Service<J>,
     listener: &TcpListener,
-    site: &'s Site,
+    page: PageOfRoom<'s>,
     crowd: &'s Crowd,
     asked: Sender<Asked>,
 )
@@ -75,7 +76,9 @@ where
             break;
         };
         number = next_after(number);
-        match let_in(scope, alloc, rt, site, crowd, stream, number, looks, &asked) {
+        match let_in(
+            scope, alloc, rt, service, page, crowd, stream, number, looks, &asked,
+        ) {
             // Once one was refused, the next one isn't waited for until there is a place again.
             Ok(is_inside) => looks = if is_inside { NAPS } else { 1 },
             Err(fault) => service.note(rt, fault),
@@ -95,11 +98,12 @@ fn next_after(number: u64) -> u64 {
 /// # Errors
 ///
 /// `Memory` if there is none for its handles, `Thread` if its thread was refused. The connection is closed.
-fn let_in<'s, E: 's, R>(
+fn let_in<'s, E: 's, J, R>(
     scope: &Scope<'s, E>,
     alloc: Global,
     rt: &'s R,
-    site: &'s Site,
+    service: &'s Service<J>,
+    page: PageOfRoom<'s>,
     crowd: &'s Crowd,
     stream: TcpStream,
     number: u64,
@@ -107,6 +111,7 @@ fn let_in<'s, E: 's, R>(
     asked: &Sender<Asked>,
 ) -> Result<bool, SeatsFault>
 where
+    J: RoomId + Send + Sync + 's,
     R: Threads + Wait + Sync + Clock + AllocGlobal + RandomSource + 's,
 {
     let Ok(stream) = Arc::new(alloc, stream) else {
@@ -123,7 +128,7 @@ where
         return Ok(false);
     }
     let started = scope.spawn(move || {
-        attend_arrival(alloc, rt, site, crowd, &stream, number, asked);
+        attend_arrival(alloc, rt, service, page, crowd, &stream, number, asked);
         crowd.leave(rt, number);
     });
     if started.is_err() {
@@ -134,29 +139,31 @@ where
 }
 
 /// Reads the request of a connection, has it answered, and sends the answer.
-fn attend_arrival<R>(
+fn attend_arrival<J, R>(
     alloc: Global,
     rt: &R,
-    site: &Site,
+    service: &Service<J>,
+    page: PageOfRoom<'_>,
     crowd: &Crowd,
     stream: &TcpStream,
     number: u64,
     asked: Sender<Asked>,
 )
 where
+    J: RoomId,
     R: Wait + Clock + AllocGlobal + RandomSource,
 {
     if !has_begun(rt, stream) {
         return;
     }
-    let Ok(Some(request)) = read_request(rt, site, stream) else {
+    let Ok(Some(request)) = read_request(rt, page.site, stream) else {
         return;
     };
     if !crowd.go_on(rt, number, Stage::Asking) {
         refuse(stream);
         return;
     }
-    let Some(answer) = ask(alloc, rt, request, asked) else {
+    let Some(answer) = answer_to(alloc, rt, service, page, request, asked) else {
         return;
     };
     let _open = crowd.go_on(rt, number, Stage::Writing);
@@ -165,6 +172,21 @@ where
     }
     let _open = crowd.go_on(rt, number, Stage::Lingering);
     linger(rt, stream);
+}
+
+/// The answer to a request: here if it is about the room, and else at the page's seat.
+fn answer_to<J: RoomId, R: Wait + Clock + AllocGlobal + RandomSource>(
+    alloc: Global,
+    rt: &R,
+    service: &Service<J>,
+    page: PageOfRoom<'_>,
+    request: WholeRequest,
+    asked: Sender<Asked>,
+) -> Option<Vec<u8>> {
+    match page.answer(rt, service, request) {
+        Answered::Here(answer) => answer,
+        Answered::AtSeat(request) => ask(alloc, rt, request, asked),
+    }
 }
 
 /// Has a request answered; there is no answer if the room is being closed, or if memory was refused.

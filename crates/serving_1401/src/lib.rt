@@ -8,6 +8,19 @@
 //! ```
 #![tactic(auto)]
 
+// what a room comes to, and how it is noted; when a new one follows, and the input until then
+pub mod noting;
+pub mod until_renewed;
+pub mod watch;
+
+// who holds the machine, and what pages are answered of that and of a new room
+mod errand;
+mod hold;
+mod hold_text;
+mod last;
+mod room_page;
+mod room_pages;
+
 // the connections of a page, its requests at its seat, and the pages of all seats
 mod arrivals;
 mod crowd;
@@ -18,5 +31,8 @@ mod visits;
 pub mod serving;
 
 pub use desk_1401::{GiveFault, SeatsFault, TakingTurns, foreign_seat, give, give_entries};
+pub use noting::NotingKeeper;
 pub use paging::PagePort;
-pub use serving::{SeatsServed, serve_pages, serve_seats};
+pub use serving::{SeatsServed, serve_pages, serve_seats, serve_watched};
+pub use until_renewed::UntilRenewed;
+pub use watch::Watch;

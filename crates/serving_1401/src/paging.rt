@@ -3,11 +3,13 @@ ghost use Rattle.std.specs.Prelude.{◌≡◌, ◌<◌, ◌≤◌, ◌^◌, leng
 
 use crate::arrivals::{Asked, accept_arrivals};
 use crate::crowd::{Crowd, MOST_INSIDE};
+use crate::room_pages::{PageOfRoom, RoomPages};
 use crate::visits::Visits;
+use crate::watch::Watch;
 use crossbeam_channel::{Receiver, Sender, bounded};
 use desk_1401::{SeatsFault, Service};
-use page_1401::document::{PAGE, POLICY};
-use page_1401::{SeatPage, Site, TakenSeat, answer_each, answer_page};
+use page_1401::document::document;
+use page_1401::{RoomName, SeatPage, Site, TakenPage, answer_each, answer_page};
 use room_1401::{Keeper, RoomId, Seat, SharedRoom};
 use std::alloc::{AllocGlobal, Global};
 use std::net::TcpListener;
@@ -34,6 +36,8 @@ pub(crate) fn start_pages<'s, E: 's, J, H, K, R>(
     room: &'s SharedRoom<J, H, K>,
     service: &'s Service<J>,
     pages: &'s [PagePort],
+    common: &'s RoomPages,
+    watch: Option<&'s Watch>,
 )
 where
     J: RoomId + Send + Sync + 's,
@@ -46,7 +50,7 @@ where
     let mut number = 0;
     for page in pages {
         number += 1;
-        start_page(scope, alloc, rt, room, service, page, number);
+        start_page(scope, alloc, rt, room, service, page, common, watch, number);
     }
 }
 
@@ -58,6 +62,8 @@ fn start_page<'s, E: 's, J, H, K, R>(
     room: &'s SharedRoom<J, H, K>,
     service: &'s Service<J>,
     page: &'s PagePort,
+    common: &'s RoomPages,
+    watch: Option<&'s Watch>,
     number: u8,
 )
 where
@@ -70,7 +76,7 @@ where
     let started = scope.spawn(
         move ||
             requires { (0 < number) × (number ≤ J.seats) }
-        { serve_page(alloc, rt, room, service, page, number) },
+        { serve_page(alloc, rt, room, service, page, common, watch, number) },
     );
     if started.is_err() {
         service.give_up(rt, &page.listener, SeatsFault::Thread);
@@ -84,6 +90,8 @@ fn serve_page<J, H, K, R>(
     room: &SharedRoom<J, H, K>,
     service: &Service<J>,
     page: &PagePort,
+    common: &RoomPages,
+    watch: Option<&Watch>,
     number: u8,
 )
 where
@@ -93,12 +101,24 @@ where
     R: Threads + Wait + Sync + Clock + AllocGlobal + RandomSource,
     requires { (0 < number) × (number ≤ J.seats) }
 {
-    let (Ok((asked, receiver)), Ok(crowd)) = (bounded(alloc, MOST_INSIDE), Crowd::new(alloc)) else {
-        service.give_up(rt, &page.listener, SeatsFault::Memory);
+    let PagePort { site, listener } = page;
+    let (Ok((asked, receiver)), Ok(crowd), Some(name)) = (
+        bounded(alloc, MOST_INSIDE),
+        Crowd::new(alloc),
+        &common.name,
+    ) else {
+        service.give_up(rt, listener, SeatsFault::Memory);
         return;
     };
+    let page = PageOfRoom {
+        site,
+        seat: number,
+        name,
+        watch,
+        pages: common,
+    };
     answer_all(
-        alloc, rt, room, service, page, number, &crowd, asked, receiver,
+        alloc, rt, room, service, listener, page, number, &crowd, asked, receiver,
     );
 }
 
@@ -108,7 +128,8 @@ fn answer_all<J, H, K, R>(
     rt: &R,
     room: &SharedRoom<J, H, K>,
     service: &Service<J>,
-    page: &PagePort,
+    listener: &TcpListener,
+    page: PageOfRoom<'_>,
     number: u8,
     crowd: &Crowd,
     asked: Sender<Asked>,
@@ -128,7 +149,7 @@ where
             requires { (0 < number) × (number ≤ J.seats) }
         {
             accept_and_answer(
-                scope, alloc, rt, room, service, page, number, crowd, asked, receiver,
+                scope, alloc, rt, room, service, listener, page, number, crowd, asked, receiver,
             )
         },
     );
@@ -141,7 +162,8 @@ fn accept_and_answer<'s, E: 's, J, H, K, R>(
     rt: &'s R,
     room: &'s SharedRoom<J, H, K>,
     service: &'s Service<J>,
-    page: &'s PagePort,
+    listener: &'s TcpListener,
+    page: PageOfRoom<'s>,
     number: u8,
     crowd: &'s Crowd,
     asked: Sender<Asked>,
@@ -154,26 +176,29 @@ where
     R: Threads + Wait + Sync + Clock + AllocGlobal + RandomSource + 's,
     requires { (0 < number) × (number ≤ J.seats) }
 {
-    let PagePort { site, listener } = page;
     let accepting = scope.spawn(move || accept_arrivals(
-        alloc, rt, service, listener, site, crowd, asked,
+        alloc, rt, service, listener, page, crowd, asked,
     ));
     if accepting.is_err() {
         service.give_up(rt, listener, SeatsFault::Thread);
         return;
     }
     let visits = Visits::new(rt, service, receiver);
-    answer_visits(alloc, rt, room, service, site, number, visits);
+    answer_visits(
+        alloc, rt, room, service, page.site, page.name, number, visits,
+    );
 }
 
-/// Answers the requests of a page one after the other. While a console sits at its seat they are refused. A request
-/// that finds the seat free has it until it is answered; a visit has it for all that follow.
+/// Answers the requests of a page one after the other. While a console sits at its seat, the page's text is served, and
+/// all other requests are refused. A request that finds the seat free has it until it is answered; a visit has it for
+/// all that follow.
 fn answer_visits<J, H, K, R>(
     alloc: Global,
     rt: &R,
     room: &SharedRoom<J, H, K>,
     service: &Service<J>,
     site: &Site,
+    name: &RoomName,
     number: u8,
     visits: Visits<'_, J, R>,
 )
@@ -192,10 +217,10 @@ where
         match service.take_free(rt, number) {
             Some(seat) => {
                 let seats = service.seats();
-                let seat = answer_at(alloc, rt, room, seat, seats, site, &mut visits);
+                let seat = answer_at(alloc, rt, room, seat, seats, site, name, &mut visits);
                 service.put_back(rt, seat);
             }
-            None => answer_each(rt, &mut TakenSeat, &mut visits),
+            None => answer_each(rt, &mut TakenPage::new(site, &document()), &mut visits),
         }
         visits.leave();
     }
@@ -209,6 +234,7 @@ fn answer_at<J, H, K, R>(
     seat: Seat<J>,
     seats: u8,
     site: &Site,
+    name: &RoomName,
     visits: &mut Visits<'_, J, R>,
 ) -> Seat<J>
 where
@@ -219,7 +245,16 @@ where
     requires { seats ≡ J.seats }
     ensures { result.number ≡ seat.number }
 {
-    let mut page = SeatPage::new(alloc, rt, room, seat, seats, site, PAGE, POLICY);
+    let mut page = SeatPage::new(
+        alloc,
+        rt,
+        room,
+        seat,
+        seats,
+        site,
+        name.as_slice(),
+        &document(),
+    );
     answer_page(rt, &mut page, visits);
     page.into_seat()
 }

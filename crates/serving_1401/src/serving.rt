@@ -7,6 +7,8 @@ ghost use Rattle.console_1401.specs.Served.{AreAllSeats};
 ghost use Rattle.serving_1401.specs.Accounted.{IsAccounted};
 
 use crate::paging::{PagePort, start_pages};
+use crate::room_pages::RoomPages;
+use crate::watch::Watch;
 use console_1401::Door;
 use desk_1401::{SeatsFault, Service, accept_each};
 use room_1401::{Keeper, Room, RoomId, Seat, SharedRoom};
@@ -17,8 +19,11 @@ use std::random::RandomSource;
 use std::sync::Wait;
 use std::thread;
 use std::thread::{Scope, Threads};
-use std::time::Clock;
+use std::time::{Clock, Duration};
 use streams_1401::Source;
+
+/// How long an open room looks again whether there is something to report, in milliseconds.
+const LOOK: u64 = 100;
 
 /// What is left of a served room.
 #[derive(Drop)]
@@ -120,9 +125,49 @@ where
     ensures accounted { result.fault ≢ Some SeatsFault.Unreturned
         → IsAccounted J.seats (kept_part (K.has_failed result.keeper) result.room.journal) }
 {
+    serve_watched(alloc, rt, room, seats, consoles, pages, None, input, door)
+}
+
+/// As `serve_pages`, of a room that is watched: standard error reports at once that an entry wasn't kept. If a new room
+/// may follow, its pages are answered when, and may ask for it.
+pub fn serve_watched<J, H, K, R, S, D>(
+    alloc: Global,
+    rt: &R,
+    room: SharedRoom<J, H, K>,
+    seats: Vec<Seat<J>>,
+    consoles: Option<&TcpListener>,
+    pages: &[PagePort],
+    watch: Option<&Watch>,
+    input: S,
+    door: &D,
+) -> SeatsServed<K>
+where
+    J: RoomId + Send + Sync,
+    H: Wait + Drop + Send + Sync,
+    K: Keeper + Drop + Send + Sync,
+    R: Threads + Wait + Sync + Clock + Eprint + AllocGlobal + RandomSource,
+    S: Source + Drop + Send,
+    D: Door + Sync,
+    requires ledger { J.parts ≡ J.seats }
+
+    // All of the room's seats are handed in, in the order of their numbers.
+    requires seats { AreAllSeats J.seats seats.items }
+    requires count { (0 < J.seats) × (J.seats < 2 ^ 8) }
+    requires pages { length pages.now ≤ J.seats }
+    ensures size { result.room.size ≡ J.size }
+    ensures legal { IsLegal J.size result.room.journal }
+    ensures kept { IsKeptAs K.form J.size result.room.journal (K.has_failed result.keeper) K.first
+        (K.kept result.keeper) }
+
+    // Whatever was refused, the room is closed with all of its seats.
+    ensures accounted { result.fault ≢ Some SeatsFault.Unreturned
+        → IsAccounted J.seats (kept_part (K.has_failed result.keeper) result.room.journal) }
+{
     let (seats, fault) = match Service::new(alloc, seats) {
         Ok(service) => {
-            serve_connections(alloc, rt, &room, &service, consoles, pages, input, door);
+            serve_connections(
+                alloc, rt, &room, &service, consoles, pages, watch, input, door,
+            );
             service.into_seats()
         }
         Err(seats) => (Some(seats), Some(SeatsFault::Memory)),
@@ -174,6 +219,7 @@ fn serve_connections<J, H, K, R, S, D>(
     service: &Service<J>,
     consoles: Option<&TcpListener>,
     pages: &[PagePort],
+    watch: Option<&Watch>,
     input: S,
     door: &D,
 )
@@ -187,6 +233,8 @@ where
     requires pages { length pages.now ≤ J.seats }
     requires count { J.seats < 2 ^ 8 }
 {
+    let common = RoomPages::new(rt);
+    let common = &common;
     thread::scope(
         thread::scope_env(),
         rt,
@@ -194,7 +242,7 @@ where
             requires { (length pages.now ≤ J.seats) × (J.seats < 2 ^ 8) }
         {
             listen(
-                scope, alloc, rt, room, service, consoles, pages, input, door,
+                scope, alloc, rt, room, service, consoles, pages, common, watch, input, door,
             )
         },
     );
@@ -210,6 +258,8 @@ fn listen<'s, E: 's, J, H, K, R, S, D>(
     service: &'s Service<J>,
     consoles: Option<&'s TcpListener>,
     pages: &'s [PagePort],
+    common: &'s RoomPages,
+    watch: Option<&'s Watch>,
     input: S,
     door: &'s D,
 )
@@ -229,21 +279,48 @@ where
         return;
     }
     if scope
-        .spawn(move || report_closed_port(rt, service))
+        .spawn(move || report_troubles(rt, service, watch))
         .is_err()
     {
         service.note(rt, SeatsFault::Thread);
     }
-    start_pages(scope, alloc, rt, room, service, pages);
+    start_pages(scope, alloc, rt, room, service, pages, common, watch);
     if let Some(listener) = consoles {
         accept_each(scope, alloc, rt, room, service, listener, door);
     }
 }
 
-/// Reports at once that a port was closed while the room is open.
-fn report_closed_port<J: RoomId, R: Wait + Clock + Eprint>(rt: &R, service: &Service<J>) {
-    if service.await_closed_port(rt) {
-        let _reported = eprintln!(rt; "ibm1401: a port was closed; the room goes on");
+/// Reports at once that a port was closed while the room is open, or that an entry wasn't kept.
+fn report_troubles<J: RoomId, R: Wait + Clock + Eprint>(
+    rt: &R,
+    service: &Service<J>,
+    watch: Option<&Watch>,
+) {
+    let mut is_port_told = false;
+    let mut is_loss_told = false;
+    for _ in rt.forever() {
+        if !is_port_told && service.has_closed_port() {
+            is_port_told = true;
+            let _reported = eprintln!(rt; "ibm1401: a port was closed; the room goes on");
+        }
+        if !is_loss_told && has_lost(watch) {
+            is_loss_told = true;
+            let _reported = eprintln!(rt;
+                "ibm1401: the journal cannot be written; no command is carried out any more"
+            );
+        }
+        if service.is_closing() {
+            return;
+        }
+        thread::sleep(rt, Duration::from_millis(LOOK));
+    }
+}
+
+/// Whether an entry of a room that is watched wasn't kept.
+fn has_lost(watch: Option<&Watch>) -> bool {
+    match watch {
+        Some(watch) => watch.has_lost(),
+        None => false,
     }
 }
 

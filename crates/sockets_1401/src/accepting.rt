@@ -1,10 +1,13 @@
-//! A listener that couldn't accept a connection.
+//! A listener: how many connections wait at it, and what is done if it couldn't accept one.
 
 use std::io::Error;
 use std::net::TcpListener;
 use std::os::fd::AsRawFd;
 use std::thread;
 use std::time::{Clock, Duration};
+
+/// How many connections wait at a listener until they are accepted. The system may be set to let fewer wait.
+const MOST_WAITING: i32 = 1024;
 
 /// Why there is no connection after all, as Linux numbers it: the wait was interrupted (4), or the connection ended or
 /// failed before it was accepted (64, 71, 92, 100, 101, 103, 110, 111, 112 and 113).
@@ -54,6 +57,13 @@ impl Pause {
         thread::sleep(clock, Duration::from_millis(self.millis));
         self.millis = self.millis.saturating_mul(2).min(LONGEST);
     }
+}
+
+/// Lets more connections wait at a listener than the 128 that it begins with. The system drops a connection for which
+/// there is no room, and its client tries again only after a second, then after two and four. If the system refuses,
+/// the listener is as it was.
+pub fn lengthen_queue(listener: &TcpListener) {
+    let _lengthened = libc::net::listen(listener.as_raw_fd(), MOST_WAITING);
 }
 
 /// Shuts a listener down: a thread that waits for its next connection waits no more, and whoever connects is refused.

@@ -3,7 +3,7 @@ use Rattle.std.proofs.Common.{◌≡◌, ℕ, ◌==◌, Bool, true, false, cond,
 use Rattle.std.proofs.Common.{take}
 use Rattle.std.proofs.Common.{drop, Option, Some, None, refl, ap, ◌∙◌}
 use Rattle.std.specs.Prelude.{ℤ, pos, slice_index, codes}
-use Rattle.std.proofs.lemmas.Bool.{and_parts, or_parts}
+use Rattle.std.proofs.lemmas.Bool.{and_parts, not-true, or_parts}
 use Rattle.std.specs.List.{list_all, prefix_len}
 use Rattle.std.specs.Option.{option_map, option_and_then}
 use Rattle.std.specs.Str.{bytes_eq}
@@ -16,7 +16,7 @@ use Rattle.source_1401.specs.Context.{with_context, nothing_above, registers_of,
 use Rattle.source_1401.specs.Context.{lines_said}
 use Rattle.bcd_1401.specs.Digits.{is_digit}
 use Rattle.source_1401.specs.Label.{label_of, label_in}
-use Rattle.source_1401.specs.Language.{is_sound, line_in}
+use Rattle.source_1401.specs.Language.{cuts_nothing, has_cut_constant, is_sound, line_in}
 use Rattle.source_1401.specs.Mnemonic.{operation_of}
 use Rattle.source_1401.specs.Numbers.{short_number}
 use Rattle.source_1401.specs.Operands.{as_literal, begins_literal, field_of, field_with, first_operand, second_operand}
@@ -132,6 +132,7 @@ body_stays these (bodies.AddressConstant constant) none =
     ap (λ (of : Operands). bodies.AddressConstant (record constant { operands = of }))
     (operands_stay these constant.operands none)
 body_stays these (bodies.Blanks places) none = refl
+body_stays these (bodies.PlacedConstant placed) none = refl
 body_stays these (bodies.LabelledOrigin of) none = ap bodies.LabelledOrigin (operands_stay these of none)
 body_stays these (bodies.LiteralOrigin of) none = ap bodies.LiteralOrigin (operands_stay these of none)
 body_stays these (bodies.WideField span) none = refl
@@ -432,13 +433,19 @@ settled_plain texts =
     rw (all_in_place nothing_above texts refl) (all_among (registers_of (map line_of texts)) texts)
 
 sound_lines : (texts : List (List ℕ)) → list_all is_sound (map line_of texts) ≡ true
-    → map (line_in Ibm) texts ≡ map line_of texts
-sound_lines [] all = refl
-sound_lines (text ∷ texts) all =
+    → list_all cuts_nothing texts ≡ true → map (line_in Ibm) texts ≡ map line_of texts
+sound_lines [] all uncut = refl
+sound_lines (text ∷ texts) all uncut =
     let parts = and_parts (is_sound (line_of text)) (list_all is_sound (map line_of texts)) all in
-    rw (sound_lines_agree text parts.0, sound_lines texts parts.1) refl
+    let none = and_parts (cuts_nothing text) (list_all cuts_nothing texts) uncut in
+    rw (
+      sound_lines_agree text parts.0 (not-true (has_cut_constant (columns_of text)) none.0),
+      sound_lines texts parts.1 none.1,
+    )
+    refl
 
--- lines that are sound in the plain language say the same in the wider one, with their neighbours too
+-- lines that are sound in the plain language, and in which no text ends before another at sign, say the same in the wider
+-- one, with their neighbours too
 pub sound_lines_said : (texts : List (List ℕ)) → list_all is_sound (map line_of texts) ≡ true
-    → lines_said Ibm texts ≡ lines_said Plain texts
-sound_lines_said texts all = rw (sound_lines texts all) (settled_plain texts)
+    → list_all cuts_nothing texts ≡ true → lines_said Ibm texts ≡ lines_said Plain texts
+sound_lines_said texts all uncut = rw (sound_lines texts all uncut) (settled_plain texts)

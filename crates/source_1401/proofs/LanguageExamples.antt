@@ -1,7 +1,8 @@
 -- Lines in the wider language, computed.
-use Rattle.std.proofs.Common.{◌≡◌, ℕ, true, false, List, [], ◌∷◌, ◌++◌, map, replicate, None, refl}
-use Rattle.std.specs.Prelude.{Bool, codes}
+use Rattle.std.proofs.Common.{◌≡◌, ℕ, true, false, List, [], ◌∷◌, ◌++◌, map, replicate, None, Some, refl}
+use Rattle.std.specs.Prelude.{Bool, Option, codes}
 use Rattle.bcd_1401.specs.Graphic.{graphics}
+use Rattle.source_1401.specs.Constant.{text_of}
 use Rattle.source_1401.specs.Heading.{system_cards}
 use Rattle.source_1401.specs.Language.{is_sound, wider_line, line_in}
 use Rattle.source_1401.specs.Mnemonic.{instructions, assembler_operations}
@@ -10,7 +11,11 @@ use Rattle.source_1401.specs.WideColumns.{capitals, plus_signs_from}
 use Rattle.source_1401.specs.WideMnemonic.{wide_instructions}
 use Rattle.source_1401.specs.WideOperation.{wide_operations}
 use Rattle.source_1401.specs.WideStatement.{wide_line_with}
+use Rattle.source_1401.specs.declared.constant.Constant.{Constant}
+use Rattle.source_1401.specs.declared.constant.Constant.TheVariants as constants
+use Rattle.source_1401.specs.declared.label.LabelField.TheVariants as labels
 use Rattle.source_1401.specs.declared.language.Language.TheVariants as languages
+use Rattle.source_1401.specs.declared.statement.Body.TheVariants as bodies
 use Rattle.source_1401.specs.declared.statement.Line.{Line}
 use Rattle.source_1401.specs.declared.statement.LineCheck.TheVariants as bytes
 
@@ -66,6 +71,19 @@ an_ampersand_is_a_d_character = refl
 a_text_has_its_ampersand : wide (codes "     tab       dcw  @a&b@") ≡ plain (codes "     TAB       DCW  @A&B@")
 unfolding wide plain
 a_text_has_its_ampersand = refl
+
+-- a text goes on to the last at sign of its line, with what is in it
+a_text_is_not_cut : wide (codes "     TAB       DCW  @A @&B@ C")
+    ≡ record {
+      bytes = bytes.Good;
+      statement =
+          Some (record {
+            label = labels.Label (record { text = codes "TAB   " });
+            body = bodies.MarkedConstant (Some (constants.Text (text_of (codes "A @&B"))));
+          });
+    }
+unfolding wide
+a_text_is_not_cut = refl
 
 a_comment_says_nothing : wide (codes "     * a&b") ≡ plain (codes "     * a&b")
 unfolding wide plain
@@ -123,3 +141,30 @@ a_heading_has_no_label = refl
 a_heading_has_no_tab : sound (codes "               JOB  WAGES" ++ 9 ∷ []) ≡ false
 unfolding sound
 a_heading_has_no_tab = refl
+
+-- a constant that ends at this place, with a word mark or without
+abbrev at_its_place : ℕ → Bool → Option Constant → Line
+at_its_place last is_marked constant =
+    record {
+      bytes = bytes.Good;
+      statement = Some (record {
+        label = labels.Absent;
+        body = bodies.PlacedConstant (record { last = last; is_marked = is_marked; constant = constant });
+      });
+    }
+
+a_place_before_a_constant : wide (codes "     110       DCW  @X@")
+    ∷ wide (codes "     00089     dc   12 a remark") ∷ wide (codes "     3         DCW  &5") ∷ wide (codes "     80        DCW  A") ∷ []
+    ≡ at_its_place 110 true (Some (constants.Text (text_of (codes "X"))))
+    ∷ at_its_place 89 false (Some (constants.Number (text_of (codes "12"))))
+    ∷ at_its_place 3 true (Some (constants.Plus (text_of (codes "5")))) ∷ at_its_place 80 true None ∷ []
+unfolding wide
+a_place_before_a_constant = refl
+
+-- a place is a number from column 6 on, and only a constant has one
+no_places_before_statements : map (λ (text : List ℕ). is_sound (wide text)) (codes "     110       DS   3"
+    ∷ codes "     110       DSA  5" ∷ codes "     110       H" ∷ codes "      110      DCW  @X@" ∷ codes "     123456    DCW  @X@"
+    ∷ codes "     1 1       DCW  @X@" ∷ codes "     1A        DCW  @X@" ∷ codes "     80        DCW  +TAG" ∷ [])
+    ≡ replicate 8 false
+unfolding wide
+no_places_before_statements = refl

@@ -9,7 +9,7 @@ use Rattle.std.proofs.lemmas.List.Quantifiers.{position-Some}
 use Rattle.std.specs.Char.{to_ascii_uppercase}
 use Rattle.std.specs.List.{list_all, position}
 use Rattle.bcd_1401.specs.Graphic.{graphics}
-use Rattle.source_1401.specs.Language.{are_good, is_sound, is_sound_statement, wider_line, line_in}
+use Rattle.source_1401.specs.Language.{are_good, has_cut_constant, is_sound, is_sound_statement, wider_line, line_in}
 use Rattle.source_1401.specs.SourceLine.{columns_of, columns_in, is_comment, is_graphic, is_printable}
 use Rattle.source_1401.specs.SourceLine.{has_foreign_bytes}
 use Rattle.source_1401.specs.Statement.{bytes_with, line_of, line_with}
@@ -92,12 +92,13 @@ none_foreign len columns sound =
     (and_parts (are_good (bytes_with len columns)) (is_sound_statement (line_with len columns).statement) sound).0
 
 still_sound : (len : ℕ) (columns : List ℕ) → is_sound (line_with len columns) ≡ true
-    → wider_line len columns ≡ line_with len columns
+    → has_cut_constant columns ≡ false → wider_line len columns ≡ line_with len columns
 unfolding wider_line
-still_sound len columns sound = rw sound refl
+still_sound len columns sound uncut = rw (sound, uncut) refl
 
 -- the law of the two languages
-pub sound_lines_agree : (line : List ℕ) → is_sound (line_of line) ≡ true → line_in languages.Ibm line ≡ line_of line
-sound_lines_agree line sound =
+pub sound_lines_agree : (line : List ℕ) → is_sound (line_of line) ≡ true → has_cut_constant (columns_of line) ≡ false
+    → line_in languages.Ibm line ≡ line_of line
+sound_lines_agree line sound uncut =
     rw (capitals_stay (columns_of line) (none_foreign (length line) (columns_of line) sound))
-    (still_sound (length line) (columns_of line) sound)
+    (still_sound (length line) (columns_of line) sound uncut)

@@ -14,7 +14,7 @@ use Rattle.std.proofs.lemmas.Str.Ascii.{lowercase-uppercase}
 use Rattle.source_1401.specs.Context.{control_in, control_of, first_size, may_be_control, size_of, size_or}
 use Rattle.source_1401.specs.Control.{is_control_size, size_by}
 use Rattle.source_1401.specs.Heading.{is_wide_comment}
-use Rattle.source_1401.specs.Language.{is_sound, line_in, wider_line}
+use Rattle.source_1401.specs.Language.{line_in, stays_plain, wider_line}
 use Rattle.source_1401.specs.Literal.{signed_address}
 use Rattle.source_1401.specs.Mnemonic.{operation_of}
 use Rattle.source_1401.specs.Operands.{lone_operand, operand_in}
@@ -27,7 +27,7 @@ use Rattle.source_1401.specs.WideConstant.{many_blanks, wide_constant_of}
 use Rattle.source_1401.specs.WideMnemonic.{AWideRow, wide_row_of}
 use Rattle.source_1401.specs.WideOperation.{AWideOwnRow, wide_operations, wide_operation_of}
 use Rattle.source_1401.specs.WideStatement.{instruction_or_else, wide_body_by, wide_line_with}
-use Rattle.source_1401.specs.WideStatement.{wide_statement_of}
+use Rattle.source_1401.specs.WideStatement.{constant_place, wide_statement_by, wide_statement_of}
 use Rattle.source_1401.specs.declared.address.Address.{Address}
 use Rattle.source_1401.specs.declared.constant.Constant.{Constant}
 use Rattle.source_1401.specs.declared.language.Language.TheVariants as languages
@@ -157,6 +157,13 @@ of_plain_line len columns = by (is_comment columns)
 abbrev has_no_control : List ℕ → Bool
 has_no_control columns = is_no_control (wide_operation_of (columns_in 16 20 columns))
 
+of_statement : (columns : List ℕ) (place : Option ℕ)
+    → (has_no_control columns ≡ true → control_in (Some (wide_statement_by place columns)) ≡ None)
+    × is_good (control_in (Some (wide_statement_by place columns))) ≡ true
+of_statement columns None =
+    of_own (wide_operation_of (columns_in 16 20 columns)) (columns_in 16 20 columns) (columns_in 21 72 columns)
+of_statement columns (Some last) = (λ _. refl, refl)
+
 of_wide_line : (len : ℕ) (columns : List ℕ)
     → (has_no_control columns ≡ true → control_in (wide_line_with len columns).statement ≡ None)
     × is_good (control_in (wide_line_with len columns).statement) ≡ true
@@ -167,14 +174,13 @@ of_wide_line len columns = by (is_wide_comment columns)
         → (has_no_control columns ≡ true → control_in (cond b None (Some (wide_statement_of columns))) ≡ None)
         × is_good (control_in (cond b None (Some (wide_statement_of columns)))) ≡ true
     by true = (λ _. refl, refl)
-    by false =
-        of_own (wide_operation_of (columns_in 16 20 columns)) (columns_in 16 20 columns) (columns_in 21 72 columns)
+    by false = of_statement columns (constant_place columns)
 
 of_columns : (len : ℕ) (columns : List ℕ)
     → (has_no_control (plus_signs columns) ≡ true → control_in (wider_line len columns).statement ≡ None)
     × is_good (control_in (wider_line len columns).statement) ≡ true
 unfolding wider_line
-of_columns len columns = by (is_sound (line_with len columns))
+of_columns len columns = by (stays_plain len columns)
   where
     by : (b : Bool)
         → (has_no_control (plus_signs columns) ≡ true

@@ -70,10 +70,11 @@ other_constants_stay = refl
 abbrev the_text : List ℕ → Body
 the_text graphics = bodies.MarkedConstant (Some (constants.Text (text_of graphics)))
 
--- a text goes on to its last at sign if it would be none else
+-- a text goes on to its last at sign
 at_signs_in_a_text : map (asks (codes "DCW  ")) (codes "@A@B@ " ∷ codes "@A@B@" ∷ codes "@@@ a remark"
     ∷ codes "@A@B C@D@ " ∷ codes "@A@B C@" ∷ codes "@A@ B@ " ∷ codes "@A @B@ C" ∷ [])
-    ≡ map the_text (codes "A@B" ∷ codes "A@B" ∷ codes "@" ∷ codes "A@B C@D" ∷ codes "A@B C" ∷ codes "A" ∷ codes "A @B" ∷ [])
+    ≡ map the_text (codes "A@B" ∷ codes "A@B" ∷ codes "@" ∷ codes "A@B C@D" ∷ codes "A@B C" ∷ codes "A@ B"
+    ∷ codes "A @B" ∷ [])
 unfolding asks
 at_signs_in_a_text = refl
 
@@ -82,6 +83,14 @@ no_texts : map (bad (codes "DCW  ")) (codes "@A@,B@ " ∷ codes "@A@B@C " ∷ co
     ≡ replicate 5 true
 unfolding bad
 no_texts = refl
+
+-- a text that would be too long, or that something follows, is the shorter one
+cut_texts : map (asks (codes "DC   ")) ((codes "@A@" ++ replicate 47 32 ++ codes "B@") ∷ (codes "@A@ " ++ replicate 46 32 ++ codes "B@")
+    ∷ codes "@A@ B@C" ∷ codes "@A@ AT @ HOME" ∷ [])
+    ≡ map (λ (text : List ℕ). bodies.Constant (Some (constants.Text (text_of text))))
+    ((codes "A@" ++ replicate 47 32 ++ codes "B") ∷ (codes "A@ " ++ replicate 46 32 ++ codes "B") ∷ codes "A" ∷ codes "A@ AT " ∷ [])
+unfolding asks
+cut_texts = refl
 
 abbrev sevens : ℕ → List ℕ
 sevens count = replicate count 55
@@ -142,10 +151,20 @@ unfolding bad
 literals_at_no_place = refl
 
 no_next_place : map (bad (codes "ORG  ")) (codes "*+X1 " ∷ codes "*+X00+5 " ∷ codes "*+X00,5 "
-    ∷ codes "TAB+X00 " ∷ codes "+5 " ∷ codes " *" ∷ codes "TAB+X2 " ∷ [])
-    ≡ replicate 7 true
+    ∷ codes "TAB+X00 " ∷ codes "+5 " ∷ codes "TAB+X2 " ∷ codes "%U1 " ∷ codes ",5 " ∷ [])
+    ≡ replicate 8 true
 unfolding bad
 no_next_place = refl
+
+back_to_the_highest_place : map (asks (codes "ORG  ")) (codes "   " ∷ codes " *" ∷ [])
+    ≡ replicate 2 (bodies.LabelledOrigin (one fields.Absent true))
+unfolding asks
+back_to_the_highest_place = refl
+
+these_are_next_places : map (bad (codes "ORG  ")) (codes "   " ∷ codes " 600" ∷ codes "* " ∷ codes "TAB+5 " ∷ [])
+    ≡ replicate 4 false
+unfolding bad
+these_are_next_places = refl
 
 -- an asterisk says a value, but the next hundred is for ORG and LTORG alone, and an index register for EQU
 values : List Bool
@@ -161,7 +180,7 @@ no_values = bad (codes "EQU  ") (codes "*+X00 ") ∷ bad (codes "EX   ") (codes 
     ∷ bad (codes "XFR  ") (codes "*+X00 ") ∷ bad (codes "END  ") (codes "*+X00 ")
     ∷ bad (codes "EX   ") (codes "5+X1 ") ∷ bad (codes "XFR  ") (codes "*+X3 ") ∷ bad (codes "END  ") (codes "*+X1 ")
     ∷ bad (codes "EQU  ") (codes "+5 ") ∷ bad (codes "EQU  ") (codes "TAB+X2,1 ") ∷ bad (codes "EQU  ") (codes "   ")
-    ∷ bad (codes "EQU  ") (codes "%U1 ") ∷ bad (codes "EX   ") (codes "   ") ∷ bad (codes "XFR  ") (codes "1,2 ") ∷ []
+    ∷ bad (codes "EQU  ") (codes "%U1,5 ") ∷ bad (codes "EX   ") (codes "   ") ∷ bad (codes "XFR  ") (codes "1,2 ") ∷ []
 
 an_asterisk_is_a_value : values ≡ replicate 9 false
 unfolding values
@@ -170,6 +189,20 @@ an_asterisk_is_a_value = refl
 these_are_no_values : no_values ≡ replicate 13 true
 unfolding no_values
 these_are_no_values = refl
+
+abbrev the_unit : List ℕ → OperandField
+the_unit graphics = fields.Operand (operands.Unit (record { graphics = graphics }))
+
+names_of_units : map (asks (codes "EQU  ")) (codes "%U1 " ∷ codes "%B3 a remark" ∷ codes "%U1,5 " ∷ [])
+    ≡ map bodies.WideEquate (one (the_unit (codes "%U1")) true ∷ one (the_unit (codes "%B3")) true
+    ∷ one (the_unit (codes "%U1")) false ∷ [])
+unfolding asks
+names_of_units = refl
+
+no_names_of_units : map (bad (codes "EQU  ")) (codes "%U1+1 " ∷ codes "%U1+X1 " ∷ codes "%1U " ∷ codes "%UU " ∷ codes "%U12 " ∷ [])
+    ≡ replicate 5 true
+unfolding bad
+no_names_of_units = refl
 
 an_end_without_operand : asks (codes "END  ") (codes "   ") ≡ bodies.WideEnd (one fields.Absent true)
 unfolding asks

@@ -350,6 +350,12 @@ how_often_an_operation_is_repeated : map (asks (codes "CHAIN")) (codes "1 " ∷ 
 unfolding asks
 how_often_an_operation_is_repeated = refl
 
+a_symbol_may_name_a_unit : asks (codes "CU   ") (codes "TAPE,R ") ∷ asks (codes "BSP  ") (codes "TAPE ") ∷ []
+    ≡ whole (byte "U") one_and_d (the (codes "TAPE")) fields.Absent (Some (byte "R"))
+    ∷ whole (byte "U") (form 1 1 (d.Fixed (byte "B"))) (the (codes "TAPE")) fields.Absent (Some (byte "B")) ∷ []
+unfolding asks
+a_symbol_may_name_a_unit = refl
+
 -- whether the operands of an operation aren't as it asks
 bad : List ℕ → List ℕ → Bool
 unfolding asks
@@ -358,10 +364,11 @@ bad operation columns = has_bad_operands (asks operation columns)
 -- a unit stands where the mnemonic has one, and first of all
 no_units_here : bad (codes "A    ") (codes "%U1,5 ") ∷ bad (codes "MCW  ") (codes "%U1,AREA ")
     ∷ bad (codes "MCW  ") (codes "AREA,%U1,R ") ∷ bad (codes "NOP  ") (codes "%U1,AREA,R ")
-    ∷ bad (codes "MU   ") (codes "AREA,AREA,R ") ∷ bad (codes "CU   ") (codes "1,R ")
+    ∷ bad (codes "MU   ") (codes "5,AREA,R ") ∷ bad (codes "CU   ") (codes "1,R ")
     ∷ bad (codes "RT   ") (codes "%B1,AREA ")
     ∷ bad (codes "RTB  ") (codes "%U1,AREA ") ∷ bad (codes "BSP  ") (codes "12 ") ∷ bad (codes "WTM  ") (codes "  ")
-    ∷ bad (codes "RT   ") (codes "1 ") ∷ bad (codes "EQU  ") (codes "%U1 ") ∷ []
-    ≡ replicate 12 true
+    ∷ bad (codes "RT   ") (codes "1 ") ∷ bad (codes "CU   ") (codes "TAPE+1,R ") ∷ bad (codes "RT   ") (codes "X1,AREA ")
+    ∷ bad (codes "MU   ") (codes "+TAPE,AREA,R ") ∷ []
+    ≡ replicate 14 true
 unfolding bad
 no_units_here = refl

@@ -42,3 +42,11 @@ constant_of (byte ∷ more) =
     else if byte == minus_sign then option_map constants.Minus (digits_in more)
     else if byte == number_sign then option_map constants.Blanks (number_between 1 50 more)
     else option_map constants.Number (digits_in (byte ∷ more))
+
+-- how many graphics a constant has
+abbrev pub graphics_in : Constant → ℕ
+graphics_in (constants.Text text) = text.len
+graphics_in (constants.Number text) = text.len
+graphics_in (constants.Plus text) = text.len
+graphics_in (constants.Minus text) = text.len
+graphics_in (constants.Blanks count) = count

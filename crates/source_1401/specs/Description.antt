@@ -1,13 +1,18 @@
 -- The table of the kinds of statement: a row for each kind, a column for each thing that the assembler asks of one
 -- (Autocoder, "Declarative Operations", "Assembler Control").
-use Rattle.std.specs.Prelude.{ℕ, Bool, true, false, not, Option, None, Some, is_some}
+use Rattle.std.specs.Prelude.{ℕ, ◌-◌, Bool, true, false, not, neg_ℤ, pos, Option, None, Some, is_some}
 use Rattle.std.specs.Option.{option_map_or}
-use Rattle.source_1401.specs.LoneAddress.{is_one_address, is_value, is_wide_entry, is_wide_origin, is_wide_value}
+use Rattle.source_1401.specs.Constant.{graphics_in}
+use Rattle.source_1401.specs.LoneAddress.{is_one_address, is_open_origin, is_value, is_wide_entry, is_wide_equal}
+use Rattle.source_1401.specs.LoneAddress.{is_unit, is_wide_origin, is_wide_value}
 use Rattle.source_1401.specs.Operands.{has_malformed}
 use Rattle.source_1401.specs.Symbols.{operands_under}
+use Rattle.source_1401.specs.declared.address.Base.TheVariants as bases
+use Rattle.source_1401.specs.declared.constant.Constant.{Constant}
 use Rattle.source_1401.specs.declared.description.Addressing.{Addressing}
 use Rattle.source_1401.specs.declared.description.Addressing.TheVariants as addressing
 use Rattle.source_1401.specs.declared.description.AreaRole.TheVariants as areas
+use Rattle.source_1401.specs.declared.description.Contents.{Contents}
 use Rattle.source_1401.specs.declared.description.Contents.TheVariants as contents
 use Rattle.source_1401.specs.declared.description.Description.{Description}
 use Rattle.source_1401.specs.declared.description.LabelRule.{LabelRule}
@@ -15,11 +20,13 @@ use Rattle.source_1401.specs.declared.description.LabelRule.TheVariants as label
 use Rattle.source_1401.specs.declared.description.Next.TheVariants as next
 use Rattle.source_1401.specs.declared.description.Point.TheVariants as point
 use Rattle.source_1401.specs.declared.description.Relation.TheVariants as relations
+use Rattle.source_1401.specs.declared.operands.Operand.TheVariants as operands
 use Rattle.source_1401.specs.declared.operands.OperandField.TheVariants as fields
 use Rattle.source_1401.specs.declared.operands.Operands.{Operands}
 use Rattle.source_1401.specs.declared.statement.Areas.{Areas}
 use Rattle.source_1401.specs.declared.statement.Body.{Body}
 use Rattle.source_1401.specs.declared.statement.Body.TheVariants as bodies
+use Rattle.source_1401.specs.declared.statement.PlacedConstant.{PlacedConstant}
 use Rattle.source_1401.specs.declared.statement.SizeField.{SizeField}
 use Rattle.source_1401.specs.declared.statement.SizeField.TheVariants as sizes
 use Rattle.source_1401.specs.declared.statement.SuffixField.{SuffixField}
@@ -113,6 +120,42 @@ one_area places =
       counts_from_zero = false;
     }
 
+-- a constant with a word mark or without
+abbrev pub constant_contents : Bool → Option Constant → Contents
+constant_contents true constant = contents.MarkedConstant constant
+constant_contents false constant = contents.Constant constant
+
+-- how many places a constant takes
+abbrev pub places_of_constant : Option Constant → ℕ
+places_of_constant constant = option_map_or graphics_in constant 0
+
+-- the first place of a constant that ends at this one, as the only operand
+abbrev pub first_place : ℕ → ℕ → Operands
+first_place last length =
+    record {
+      a = fields.Operand (operands.Address (record {
+        base = bases.Number last;
+        adjustment = neg_ℤ (pos (length - 1));
+        index = None;
+      }));
+      b = fields.Absent;
+      d = None;
+      is_whole = true;
+    }
+
+-- the row of a constant that isn't at the next place
+abbrev pub placed_row : PlacedConstant → Description
+placed_row placed =
+    record plain {
+      is_well_formed = is_some placed.constant;
+      label = label.Forbidden;
+      names = point.Value;
+      shows = point.Value;
+      addressing = addressing.EarlierValue (first_place placed.last (places_of_constant placed.constant));
+      next = next.Elsewhere;
+      contents = constant_contents placed.is_marked placed.constant;
+    }
+
 -- the row of a statement
 abbrev pub describe : Body → Description
 describe bodies.Unknown = record plain { is_known = false }
@@ -137,12 +180,13 @@ describe (bodies.Areas made) =
     record plain { is_well_formed = is_some made; areas = areas.Makes made; contents = contents.Areas made }
 describe (bodies.Blanks places) =
     record plain { names = point.Last; contents = contents.Areas (Some (one_area places)) }
+describe (bodies.PlacedConstant placed) = placed_row placed
 describe (bodies.Field span) = field_row label.OfField span
 describe (bodies.WideField span) = field_row label.Optional span
 describe (bodies.Equate of) = record (equate_row of) { is_well_formed = is_value of }
-describe (bodies.WideEquate of) = record (equate_row of) { is_well_formed = is_one_address of }
+describe (bodies.WideEquate of) = record (equate_row of) { is_well_formed = is_wide_equal of; is_remark = is_unit of.a }
 describe (bodies.Origin of) = record (origin_row of) { is_well_formed = is_value of; label = label.Forbidden }
-describe (bodies.LabelledOrigin of) = record (origin_row of) { is_well_formed = is_wide_origin of }
+describe (bodies.LabelledOrigin of) = record (origin_row of) { is_well_formed = is_open_origin of }
 describe (bodies.LiteralOrigin of) =
     record (origin_row of) { is_well_formed = is_wide_origin of; next = next.LiteralsAtValue }
 describe (bodies.Execute of) = record (execute_row of) { is_well_formed = is_value of }
@@ -235,6 +279,7 @@ body_under rule (bodies.Chain chain) = bodies.Chain chain
 body_under rule (bodies.AddressConstant constant) =
     bodies.AddressConstant (record constant { operands = operands_under rule constant.operands })
 body_under rule (bodies.Blanks places) = bodies.Blanks places
+body_under rule (bodies.PlacedConstant placed) = bodies.PlacedConstant placed
 body_under rule (bodies.LabelledOrigin of) = bodies.LabelledOrigin (operands_under rule of)
 body_under rule (bodies.LiteralOrigin of) = bodies.LiteralOrigin (operands_under rule of)
 body_under rule (bodies.WideField span) = bodies.WideField span

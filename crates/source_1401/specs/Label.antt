@@ -4,6 +4,7 @@ use Rattle.std.specs.Prelude.{slice_index, Option, None, Some, is_some, codes}
 use Rattle.std.specs.List.{position_or_len, list_all}
 use Rattle.std.specs.Str.{bytes_eq}
 use Rattle.bcd_1401.specs.Digits.{is_digit}
+use Rattle.source_1401.specs.Numbers.{short_number}
 use Rattle.source_1401.specs.SourceLine.{padded, is_blank}
 use Rattle.source_1401.specs.declared.label.Label.{Label}
 use Rattle.source_1401.specs.declared.label.LabelField.{LabelField}
@@ -52,3 +53,9 @@ label_in language columns =
     if not (list_all is_blank (drop n columns)) then labels.Malformed
     else if n == 0 then labels.Absent
     else labelled (label_of language (take n columns))
+
+-- the place that the columns for a label say: a number from the first of them on
+abbrev pub place_in : List ℕ → Option ℕ
+place_in columns =
+    let n = position_or_len is_blank columns in
+    if list_all is_blank (drop n columns) then short_number (take n columns) else None

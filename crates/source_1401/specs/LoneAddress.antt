@@ -1,6 +1,6 @@
 -- Operands that are one address, and what it says (Autocoder, "Assembler Control"; an asterisk in the wider language
 -- C24-3258 and J24-1434).
-use Rattle.std.specs.Prelude.{Bool, true, false, not, ◌&&◌, if◌then◌else◌, Option, None, Some, is_none, is_some}
+use Rattle.std.specs.Prelude.{Bool, true, false, not, ◌&&◌, ◌||◌, if◌then◌else◌, Option, None, Some, is_none, is_some}
 use Rattle.std.specs.Option.{option_map_or}
 use Rattle.source_1401.specs.declared.address.Base.{Base}
 use Rattle.source_1401.specs.declared.address.Base.TheVariants as bases
@@ -22,6 +22,13 @@ is_address fields.Malformed = false
 is_address (fields.Operand (operands.Address address)) = true
 is_address (fields.Operand (operands.Literal literal)) = false
 is_address (fields.Operand (operands.Unit unit)) = false
+
+abbrev pub is_unit : OperandField → Bool
+is_unit fields.Absent = false
+is_unit fields.Malformed = false
+is_unit (fields.Operand (operands.Address address)) = false
+is_unit (fields.Operand (operands.Literal literal)) = false
+is_unit (fields.Operand (operands.Unit unit)) = true
 
 -- the base of an address without index register
 abbrev pub base_alone : Operand → Option Base
@@ -64,6 +71,10 @@ is_wide_value this = option_map_or (λ base. not (is_next_hundred base)) (lone_b
 abbrev pub is_wide_origin : Operands → Bool
 is_wide_origin this = is_some (lone_base this)
 
+-- ORG may have no operand
+abbrev pub is_open_origin : Operands → Bool
+is_open_origin this = if is_absent this.a then this.is_whole else is_wide_origin this
+
 -- END may have no operand
 abbrev pub is_wide_entry : Operands → Bool
 is_wide_entry this = if is_absent this.a then this.is_whole else is_wide_value this
@@ -71,3 +82,7 @@ is_wide_entry this = if is_absent this.a then this.is_whole else is_wide_value t
 -- operands that are one address, with an index register or without
 abbrev pub is_one_address : Operands → Bool
 is_one_address this = this.is_whole && is_address this.a
+
+-- EQU may name a unit too
+abbrev pub is_wide_equal : Operands → Bool
+is_wide_equal this = is_one_address this || (this.is_whole && is_unit this.a)

@@ -2,6 +2,8 @@
 use Rattle.std.specs.Prelude.{ℕ, List, [], ◌∷◌, Option, None, Some, find, codes}
 use Rattle.std.specs.Option.{option_map}
 use Rattle.std.specs.Str.{bytes_eq, byte}
+use Rattle.machine_operations.specs.Operation.{mnemonic_of}
+use Rattle.machine_operations.specs.declared.operation.Operation.TheVariants as op
 use Rattle.source_1401.specs.declared.mnemonic.DCharacter.{DCharacter}
 use Rattle.source_1401.specs.declared.mnemonic.DCharacter.TheVariants as d
 use Rattle.source_1401.specs.declared.mnemonic.Instruction.{Instruction}
@@ -19,24 +21,24 @@ AnOwnRow = List ℕ × Operation
 -- the mnemonics of instructions, in the manual's order
 unfoldable pub instructions : List ARow
 instructions =
-    (codes "A    ", byte "A", 0, 2, d.Never) ∷
-    (codes "S    ", byte "S", 0, 2, d.Never) ∷
-    (codes "ZA   ", byte "?", 0, 2, d.Never) ∷
-    (codes "ZS   ", byte "!", 0, 2, d.Never) ∷
+    (mnemonic_of op.Add, byte "A", 0, 2, d.Never) ∷
+    (mnemonic_of op.Subtract, byte "S", 0, 2, d.Never) ∷
+    (mnemonic_of op.ZeroAdd, byte "?", 0, 2, d.Never) ∷
+    (mnemonic_of op.ZeroSubtract, byte "!", 0, 2, d.Never) ∷
     (codes "MLC  ", byte "M", 0, 2, d.Never) ∷
-    (codes "MCW  ", byte "M", 0, 2, d.Never) ∷
-    (codes "LCA  ", byte "L", 0, 2, d.Never) ∷
-    (codes "MN   ", byte "D", 0, 2, d.Never) ∷
-    (codes "MZ   ", byte "Y", 0, 2, d.Never) ∷
-    (codes "SW   ", byte ",", 0, 2, d.Never) ∷
-    (codes "CW   ", byte ")", 0, 2, d.Never) ∷
-    (codes "CS   ", byte "/", 0, 2, d.Never) ∷
-    (codes "C    ", byte "C", 0, 2, d.Never) ∷
-    (codes "MCS  ", byte "Z", 0, 2, d.Never) ∷
-    (codes "MCE  ", byte "E", 0, 2, d.Never) ∷
-    (codes "B    ", byte "B", 1, 1, d.Optional) ∷
+    (mnemonic_of op.Move, byte "M", 0, 2, d.Never) ∷
+    (mnemonic_of op.Load, byte "L", 0, 2, d.Never) ∷
+    (mnemonic_of op.MoveDigit, byte "D", 0, 2, d.Never) ∷
+    (mnemonic_of op.MoveZone, byte "Y", 0, 2, d.Never) ∷
+    (mnemonic_of op.SetWordMark, byte ",", 0, 2, d.Never) ∷
+    (mnemonic_of op.ClearWordMark, byte ")", 0, 2, d.Never) ∷
+    (mnemonic_of op.ClearStorage, byte "/", 0, 2, d.Never) ∷
+    (mnemonic_of op.Compare, byte "C", 0, 2, d.Never) ∷
+    (mnemonic_of op.ZeroSuppress, byte "Z", 0, 2, d.Never) ∷
+    (mnemonic_of op.Edit, byte "E", 0, 2, d.Never) ∷
+    (mnemonic_of op.Branch, byte "B", 1, 1, d.Optional) ∷
     (codes "BCE  ", byte "B", 2, 2, d.Required) ∷
-    (codes "BWZ  ", byte "V", 2, 2, d.Required) ∷
+    (mnemonic_of op.BranchOnCell, byte "V", 2, 2, d.Required) ∷
     (codes "BW   ", byte "V", 2, 2, d.Fixed (byte "1")) ∷
     (codes "BU   ", byte "B", 1, 1, d.Fixed (byte "/")) ∷
     (codes "BAV  ", byte "B", 1, 1, d.Fixed (byte "Z")) ∷
@@ -47,20 +49,20 @@ instructions =
     (codes "BL   ", byte "B", 1, 1, d.Fixed (byte "T")) ∷
     (codes "BH   ", byte "B", 1, 1, d.Fixed (byte "U")) ∷
     (codes "BSS  ", byte "B", 1, 1, d.Required) ∷
-    (codes "SAR  ", byte "Q", 1, 1, d.Never) ∷
-    (codes "SBR  ", byte "H", 1, 1, d.Never) ∷
-    (codes "R    ", byte "1", 0, 1, d.Never) ∷
-    (codes "W    ", byte "2", 0, 1, d.Never) ∷
-    (codes "WR   ", byte "3", 0, 1, d.Never) ∷
-    (codes "P    ", byte "4", 0, 1, d.Never) ∷
-    (codes "RP   ", byte "5", 0, 1, d.Never) ∷
-    (codes "WP   ", byte "6", 0, 1, d.Never) ∷
-    (codes "WRP  ", byte "7", 0, 1, d.Never) ∷
+    (mnemonic_of op.StoreA, byte "Q", 1, 1, d.Never) ∷
+    (mnemonic_of op.StoreB, byte "H", 1, 1, d.Never) ∷
+    (mnemonic_of op.ReadCard, byte "1", 0, 1, d.Never) ∷
+    (mnemonic_of op.WriteLine, byte "2", 0, 1, d.Never) ∷
+    (mnemonic_of op.WriteAndRead, byte "3", 0, 1, d.Never) ∷
+    (mnemonic_of op.PunchCard, byte "4", 0, 1, d.Never) ∷
+    (mnemonic_of op.ReadAndPunch, byte "5", 0, 1, d.Never) ∷
+    (mnemonic_of op.WriteAndPunch, byte "6", 0, 1, d.Never) ∷
+    (mnemonic_of op.WriteReadAndPunch, byte "7", 0, 1, d.Never) ∷
     (codes "WM   ", byte "2", 0, 1, d.Fixed (byte ")")) ∷
-    (codes "CC   ", byte "F", 0, 0, d.Required) ∷
-    (codes "SS   ", byte "K", 0, 0, d.Required) ∷
-    (codes "NOP  ", byte "N", 0, 0, d.Never) ∷
-    (codes "H    ", byte ".", 0, 1, d.Never) ∷ []
+    (mnemonic_of op.ControlCarriage, byte "F", 0, 0, d.Required) ∷
+    (mnemonic_of op.SelectStacker, byte "K", 0, 0, d.Required) ∷
+    (mnemonic_of op.NoOperation, byte "N", 0, 0, d.Never) ∷
+    (mnemonic_of op.Halt, byte ".", 0, 1, d.Never) ∷ []
 
 -- the mnemonics of the assembler's own operations; a blank one is a field of the areas above it
 unfoldable pub assembler_operations : List AnOwnRow

@@ -1,12 +1,15 @@
--- Input-output units and tapes in the place of an address (Autocoder, "Operand", C24-3258 and J24-1434).
+-- Input-output units and tapes in the place of an address (Autocoder, "Operand", C24-3258 and J24-1434; that a symbol
+-- may name one there too from memory).
 use Rattle.std.specs.Prelude.{ℕ, ◌==◌, Bool, true, false, ◌&&◌, ◌||◌, if◌then◌else◌, List, [], ◌∷◌, length, slice_index}
-use Rattle.std.specs.Prelude.{Option, None, Some}
+use Rattle.std.specs.Prelude.{pos, Option, None, Some, is_some}
 use Rattle.std.specs.Option.{option_map, option_or}
 use Rattle.bcd_1401.specs.Digits.{is_digit}
-use Rattle.source_1401.specs.Label.{is_letter}
+use Rattle.source_1401.specs.Label.{is_letter, label_of, register_of}
 use Rattle.source_1401.specs.Operands.{OperandAndRest, behind_operand, field_with, instruction_operand_of, is_ended}
 use Rattle.source_1401.specs.Operands.{operand_in, operands_after}
 use Rattle.source_1401.specs.Punctuation.{percent_sign}
+use Rattle.source_1401.specs.declared.address.Base.TheVariants as bases
+use Rattle.source_1401.specs.declared.label.Label.{Label}
 use Rattle.source_1401.specs.declared.language.Language.TheVariants as languages
 use Rattle.source_1401.specs.declared.mnemonic.DCharacter.{DCharacter}
 use Rattle.source_1401.specs.declared.mnemonic.DCharacter.TheVariants as d
@@ -40,6 +43,21 @@ tape_of letter word =
     else if slice_index word 1 == letter then unit_of word
     else None
 
+-- a symbol alone, which may name a unit
+abbrev pub unit_name_of : List ℕ → Option Operand
+unit_name_of word =
+    if is_some (register_of word) then None
+    else option_map (λ (label : Label). operands.Address (record {
+      base = bases.Symbol label;
+      adjustment = pos 0;
+      index = None;
+    }))
+    (label_of languages.Ibm word)
+
+-- a unit, or the name of one
+abbrev pub unit_or_name : Option AUnit → List ℕ → Option Operand
+unit_or_name unit word = option_or (option_map operands.Unit unit) (unit_name_of word)
+
 -- a d-character that is written
 abbrev pub is_written : DCharacter → Bool
 is_written d.Never = false
@@ -56,8 +74,8 @@ abbrev pub first_in : FirstOperand → Form → List ℕ → Option Operand
 first_in firsts.Address form word = instruction_operand_of languages.Ibm word
 first_in firsts.UnitOrAddress form word =
     if is_written form.d then unit_or_address word else instruction_operand_of languages.Ibm word
-first_in firsts.Unit form word = option_map operands.Unit (unit_of word)
-first_in (firsts.Tape letter) form word = option_map operands.Unit (tape_of letter word)
+first_in firsts.Unit form word = unit_or_name (unit_of word) word
+first_in (firsts.Tape letter) form word = unit_or_name (tape_of letter word) word
 
 -- the first operand and what follows it
 abbrev pub wide_first : FirstOperand → Form → List ℕ → OperandAndRest

@@ -8,7 +8,7 @@ use Rattle.source_1401.specs.Statement.{most_places, one_address}
 use Rattle.source_1401.specs.Units.{wide_operands}
 use Rattle.source_1401.specs.WideAreas.{wide_areas_of, wide_span_of}
 use Rattle.source_1401.specs.WideConstant.{wide_constant}
-use Rattle.source_1401.specs.WideOrigin.{entry_in, origin_in}
+use Rattle.source_1401.specs.WideOrigin.{entry_in, equal_in, origin_in}
 use Rattle.source_1401.specs.declared.language.Language.TheVariants as languages
 use Rattle.source_1401.specs.declared.mnemonic.Operation.{Operation}
 use Rattle.source_1401.specs.declared.mnemonic.Operation.TheVariants as operations
@@ -25,7 +25,7 @@ shared_body_with operations.Constant columns = wide_constant false columns
 shared_body_with operations.Space columns = bodies.Space (number_between 1 most_places (lone_operand columns))
 shared_body_with operations.Areas columns = bodies.Areas (wide_areas_of columns)
 shared_body_with operations.Field columns = bodies.WideField (wide_span_of columns)
-shared_body_with operations.Equate columns = bodies.WideEquate (operands_of languages.Ibm one_address columns)
+shared_body_with operations.Equate columns = bodies.WideEquate (equal_in columns)
 shared_body_with operations.Origin columns = bodies.LabelledOrigin (origin_in columns)
 shared_body_with operations.Execute columns = bodies.WideExecute (operands_of languages.Ibm one_address columns)
 shared_body_with operations.End columns = bodies.WideEnd (entry_in columns)

@@ -1,7 +1,8 @@
 -- The columns of a line as the wider language reads them (Autocoder, "Coding Sheet", "Operand"; small letters own).
 use Rattle.std.specs.Prelude.{ℕ, ◌==◌, Bool, true, false, not, ◌&&◌, ◌||◌, if◌then◌else◌, List, [], ◌∷◌, ◌++◌, map}
-use Rattle.std.specs.Prelude.{take, drop}
+use Rattle.std.specs.Prelude.{take, drop, codes}
 use Rattle.std.specs.Char.{to_ascii_uppercase}
+use Rattle.std.specs.Str.{bytes_eq}
 use Rattle.source_1401.specs.Punctuation.{ampersand, at_sign, blank, comma, plus_sign}
 use Rattle.source_1401.specs.SourceLine.{columns_in, is_comment}
 
@@ -32,7 +33,25 @@ plus_signs_from is_quoted begins (byte ∷ more) =
     plus_sign_for is_quoted begins byte more
     ∷ plus_signs_from (if byte == at_sign then not is_quoted else is_quoted) (not is_quoted && is_separator byte) more
 
+-- columns 16 to 20 ask for a constant
+abbrev pub is_constant_operation : List ℕ → Bool
+is_constant_operation operation = bytes_eq (codes "DCW  ") operation || bytes_eq (codes "DC   ") operation
+
+-- columns for operands begin with a text
+abbrev pub begins_text : List ℕ → Bool
+begins_text [] = false
+begins_text (byte ∷ more) = byte == at_sign
+
+-- columns hold a constant that begins as a text does
+abbrev pub is_text_constant : List ℕ → Bool
+is_text_constant columns =
+    is_constant_operation (columns_in 16 20 columns) && begins_text (columns_in 21 72 columns)
+
+-- the operands of a constant that is a text stay as they are
+abbrev pub signed : Bool → List ℕ → List ℕ
+signed is_text operands = if is_text then operands else plus_signs_from false true operands
+
 -- an `&` of columns 21 to 72 may stand for a plus sign: both are the 12 punch
 abbrev pub plus_signs : List ℕ → List ℕ
 plus_signs columns =
-    take 20 columns ++ (plus_signs_from false true (columns_in 21 72 columns) ++ drop 72 columns)
+    take 20 columns ++ (signed (is_text_constant columns) (columns_in 21 72 columns) ++ drop 72 columns)

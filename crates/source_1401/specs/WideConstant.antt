@@ -3,15 +3,16 @@
 -- to the last of them, own).
 use Rattle.std.specs.Prelude.{ℕ, ◌-◌, ◌==◌, nat_lt, Bool, true, false, not, ◌&&◌, ◌||◌, if◌then◌else◌, List, [], ◌∷◌, length}
 use Rattle.std.specs.Prelude.{take, drop, slice_index, Option, None, Some}
-use Rattle.std.specs.List.{suffix_len, list_all}
+use Rattle.std.specs.List.{suffix_len, list_all, list_any}
 use Rattle.std.specs.Option.{option_map, option_or}
 use Rattle.bcd_1401.specs.Digits.{is_digit}
-use Rattle.source_1401.specs.Constant.{constant_of, text_of}
+use Rattle.source_1401.specs.Constant.{constant_of, is_at_sign, text_of}
 use Rattle.source_1401.specs.Literal.{signed_address}
 use Rattle.source_1401.specs.Numbers.{number_between}
 use Rattle.source_1401.specs.Operands.{behind_operand, is_ended, lone_operand, operand_in, operands_of}
 use Rattle.source_1401.specs.Punctuation.{at_sign, minus_sign, number_sign, plus_sign}
 use Rattle.source_1401.specs.Statement.{one_address}
+use Rattle.source_1401.specs.WideColumns.{begins_text}
 use Rattle.source_1401.specs.declared.address.Address.{Address}
 use Rattle.source_1401.specs.declared.constant.Constant.{Constant}
 use Rattle.source_1401.specs.declared.constant.Constant.TheVariants as constants
@@ -57,11 +58,21 @@ whole_text_of (byte ∷ more) =
     if (byte == at_sign) && is_ended (behind_operand (byte ∷ more)) then option_map constants.Text (whole_text more)
     else None
 
+-- columns for operands hold a text, and another at sign in what follows it
+abbrev pub has_cut_text : List ℕ → Bool
+has_cut_text columns =
+    begins_text columns && is_ended (behind_operand columns) && list_any is_at_sign (behind_operand columns)
+
+-- a text with at signs in it, where a shorter one ends before a blank
+abbrev pub uncut_text_of : List ℕ → Option Constant
+uncut_text_of columns = if has_cut_text columns then whole_text_of columns else None
+
 -- the constant that columns for operands hold: one of both languages, a longer number, or a text with at signs in it
 abbrev pub wide_constant_of : List ℕ → Option Constant
 wide_constant_of columns =
-    option_or (constant_of (lone_operand columns))
-    (option_or (long_number_of (lone_operand columns)) (whole_text_of columns))
+    option_or (uncut_text_of columns)
+    (option_or (constant_of (lone_operand columns))
+    (option_or (long_number_of (lone_operand columns)) (whole_text_of columns)))
 
 -- how many blanks a word asks for, if they are more than a literal may have
 abbrev pub many_blanks : List ℕ → Option ℕ

@@ -1,9 +1,11 @@
--- The operands of ORG, LTORG and END in the wider language (Autocoder, "Assembler Control", C24-3258 and J24-1434;
--- LTORG and END without operand own).
+-- The operands of EQU, ORG, LTORG and END in the wider language (Autocoder, "Assembler Control", C24-3258 and J24-1434;
+-- EQU of a unit and ORG without operand from memory, LTORG and END without operand own).
 use Rattle.std.specs.Prelude.{ℕ, Bool, true, if◌then◌else◌, List, pos, None, codes}
+use Rattle.std.specs.Option.{option_map_or}
 use Rattle.std.specs.Str.{bytes_eq}
 use Rattle.source_1401.specs.Operands.{behind_operand, is_ended, operand_in, operands_of}
 use Rattle.source_1401.specs.Statement.{one_address}
+use Rattle.source_1401.specs.Units.{unit_of}
 use Rattle.source_1401.specs.declared.address.Base.TheVariants as bases
 use Rattle.source_1401.specs.declared.language.Language.TheVariants as languages
 use Rattle.source_1401.specs.declared.mnemonic.DCharacter.TheVariants as d
@@ -12,6 +14,7 @@ use Rattle.source_1401.specs.declared.operands.Operand.TheVariants as operands
 use Rattle.source_1401.specs.declared.operands.OperandField.{OperandField}
 use Rattle.source_1401.specs.declared.operands.OperandField.TheVariants as fields
 use Rattle.source_1401.specs.declared.operands.Operands.{Operands}
+use Rattle.source_1401.specs.declared.operands.Unit.{Unit as AUnit}
 
 -- the first operand is the next place whose number ends in 00
 abbrev pub is_hundred : List ℕ → Bool
@@ -20,12 +23,16 @@ is_hundred columns = bytes_eq (operand_in columns) (codes "*+X00")
 abbrev pub next_hundred : OperandField
 next_hundred = fields.Operand (operands.Address (record { base = bases.NextHundred; adjustment = pos 0; index = None }))
 
--- the operand of ORG: an address, or the next place whose number ends in 00
+-- an address or none, without a d-character
+abbrev pub up_to_one : Form
+up_to_one = record { least = 0; most = 1; d = d.Never }
+
+-- the operand of ORG: an address, the next place whose number ends in 00, or none
 abbrev pub origin_in : List ℕ → Operands
 origin_in columns =
     if is_hundred columns
     then record { a = next_hundred; b = fields.Absent; d = None; is_whole = is_ended (behind_operand columns) }
-    else operands_of languages.Ibm one_address columns
+    else operands_of languages.Ibm up_to_one columns
 
 -- an asterisk alone
 abbrev pub here_alone : Operands
@@ -41,10 +48,17 @@ here_alone =
 abbrev pub literal_origin_in : List ℕ → Operands
 literal_origin_in columns = if is_ended columns then here_alone else origin_in columns
 
--- an address or none, without a d-character
-abbrev pub up_to_one : Form
-up_to_one = record { least = 0; most = 1; d = d.Never }
-
 -- the operand of END
 abbrev pub entry_in : List ℕ → Operands
 entry_in columns = operands_of languages.Ibm up_to_one columns
+
+-- a unit as the only operand, if nothing follows it
+abbrev pub unit_alone : AUnit → List ℕ → Operands
+unit_alone unit behind =
+    record { a = fields.Operand (operands.Unit unit); b = fields.Absent; d = None; is_whole = is_ended behind }
+
+-- the operand of EQU: a unit, or an address
+abbrev pub equal_in : List ℕ → Operands
+equal_in columns =
+    option_map_or (λ (unit : AUnit). unit_alone unit (behind_operand columns)) (unit_of (operand_in columns))
+    (operands_of languages.Ibm one_address columns)

@@ -5,6 +5,7 @@ ghost use Rattle.std.specs.List.{position_or_len, list_all};
 ghost use Rattle.bcd_1401.specs.Digits.{is_digit};
 ghost use Rattle.source_1401.specs.declared.constant.Constant.TheVariants.{Blanks};
 ghost use Rattle.source_1401.specs.Constant.{is_at_sign, text_of, bytes_of, quoted, digits_in, constant_of};
+ghost use Rattle.source_1401.specs.Constant.{graphics_in};
 
 use crate::columns::padded;
 use crate::label::is_digit;
@@ -108,6 +109,19 @@ impl Constant {
             [b'-', digits @ ..] => digits_in(digits).map(Constant::Minus),
             [b'#', count @ ..] => blanks(number_between(1, TEXT_LENGTH as u32, count)),
             _ => digits_in(word).map(Constant::Number),
+        }
+    }
+
+    /// How many graphics it has.
+    pub(crate) fn graphics(&self) -> u8
+        ensures { result ≡ graphics_in self.now }
+    {
+        match self {
+            Constant::Text(text)
+            | Constant::Number(text)
+            | Constant::Plus(text)
+            | Constant::Minus(text) => text.len,
+            Constant::Blanks(count) => *count,
         }
     }
 }

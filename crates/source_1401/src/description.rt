@@ -3,15 +3,19 @@
 //! A new kind of statement is a new row. What the assembler does with a statement, it does by the columns.
 ghost use Rattle.std.specs.Prelude.{◌≡◌};
 ghost use Rattle.source_1401.specs.Description.{field_row, equate_row, origin_row, execute_row, end_row};
+ghost use Rattle.source_1401.specs.Description.{places_of_constant, first_place, placed_row};
 ghost use Rattle.source_1401.specs.Description.{describe, operands_in, body_under};
 ghost use Rattle.source_1401.specs.AreaLiterals.{areas_of_body};
 ghost use Rattle.source_1401.specs.declared.statement.Body.TheVariants as bodies;
 
+use crate::address::{Address, Base};
 use crate::area_literals::{DeclaredAreas, NO_AREAS};
 use crate::constant::Constant;
 use crate::mnemonic::Instruction;
-use crate::operands::{OperandField, Operands};
-use crate::statement::{AddressConstant, Areas, Body, Chain, SizeField, Span, SuffixField};
+use crate::operands::{Operand, OperandField, Operands};
+use crate::statement::{
+    AddressConstant, Areas, Body, Chain, PlacedConstant, SizeField, Span, SuffixField,
+};
 use crate::symbols::SymbolRule;
 
 /// Whether a statement has a label.
@@ -70,6 +74,8 @@ pub enum Next {
     Value,
     /// The literals used so far are placed from the value of the operand on, and it is the one after them.
     LiteralsAtValue,
+    /// It stays: the statement's places are from the value of its operand on.
+    Elsewhere,
 }
 
 /// What a statement is to areas (DA).
@@ -283,9 +289,61 @@ fn blanks_row(places: u16) -> Description
     }
 }
 
-/// The row of EQU, whose operands are as it asks or not.
-fn equate_row(operands: &Operands, is_well_formed: bool) -> Description
-    ensures { result ≡ record (equate_row operands.now) { is_well_formed = is_well_formed } }
+/// The first place of a constant of this length that ends at a place, as the only operand.
+fn first_place(last: u32, length: u8) -> Operands
+    ensures { result ≡ first_place last length }
+{
+    Operands {
+        a: OperandField::Operand(Operand::Address(Address {
+            base: Base::Number(last),
+            adjustment: -i32::from(length.saturating_sub(1)),
+            index: None,
+        })),
+        b: OperandField::Absent,
+        d: None,
+        is_whole: true,
+    }
+}
+
+/// How many places a constant takes; none if there is none.
+fn places_of_constant(constant: &Option<Constant>) -> u8
+    ensures { result ≡ places_of_constant constant.now }
+{
+    match constant {
+        Some(constant) => constant.graphics(),
+        None => 0,
+    }
+}
+
+/// The row of DCW and DC at a place of its own.
+fn placed_row(placed: &PlacedConstant) -> Description
+    ensures { result ≡ placed_row placed.now }
+{
+    Description {
+        is_well_formed: placed.constant.is_some(),
+        label: LabelRule::Forbidden,
+        names: Point::Value,
+        shows: Point::Value,
+        addressing: Addressing::EarlierValue(first_place(
+            placed.last,
+            places_of_constant(&placed.constant),
+        )),
+        next: Next::Elsewhere,
+        contents: if placed.is_marked {
+            Contents::MarkedConstant(placed.constant)
+        } else {
+            Contents::Constant(placed.constant)
+        },
+        ..PLAIN
+    }
+}
+
+/// The row of EQU, whose operands are as it asks or not; one of a unit is listed as a comment is.
+fn equate_row(operands: &Operands, is_well_formed: bool, is_remark: bool) -> Description
+    ensures { result ≡ record (equate_row operands.now) {
+      is_well_formed = is_well_formed;
+      is_remark = is_remark;
+    } }
 {
     Description {
         is_well_formed,
@@ -293,6 +351,7 @@ fn equate_row(operands: &Operands, is_well_formed: bool) -> Description
         names: Point::Value,
         shows: Point::Value,
         addressing: Addressing::Equal(*operands),
+        is_remark,
         ..PLAIN
     }
 }
@@ -453,8 +512,10 @@ impl Body {
             Body::Areas(areas) => areas_row(areas),
             Body::Field(span) => field_row(LabelRule::OfField, span),
             Body::WideField(span) => field_row(LabelRule::Optional, span),
-            Body::Equate(operands) => equate_row(operands, operands.are_value()),
-            Body::WideEquate(operands) => equate_row(operands, operands.are_one_address()),
+            Body::Equate(operands) => equate_row(operands, operands.are_value(), false),
+            Body::WideEquate(operands) => {
+                equate_row(operands, operands.are_wide_equal(), operands.a.is_unit())
+            },
             Body::Origin(operands) => {
                 origin_row(
                     operands,
@@ -465,7 +526,7 @@ impl Body {
             },
             Body::LabelledOrigin(operands) => origin_row(
                 operands,
-                operands.are_wide_origin(),
+                operands.are_open_origin(),
                 LabelRule::Optional,
                 Next::Value,
             ),
@@ -487,6 +548,7 @@ impl Body {
             Body::Chain(chain) => chain_row(*chain),
             Body::AddressConstant(constant) => address_constant_row(constant),
             Body::Blanks(places) => blanks_row(*places),
+            Body::PlacedConstant(placed) => placed_row(placed),
         }
     }
 }
@@ -521,7 +583,8 @@ impl Body {
             | Body::Heading(_)
             | Body::Transfer(_)
             | Body::AddressConstant(_)
-            | Body::Blanks(_) => Relation::Apart,
+            | Body::Blanks(_)
+            | Body::PlacedConstant(_) => Relation::Apart,
         }
     }
 }
@@ -572,6 +635,7 @@ impl Body {
             | Body::Chain(_)
             | Body::AddressConstant(_)
             | Body::Blanks(_)
+            | Body::PlacedConstant(_)
             | Body::LabelledOrigin(_)
             | Body::LiteralOrigin(_)
             | Body::WideField(_)
@@ -617,7 +681,8 @@ impl Body {
             | Body::SecondControl
             | Body::Suffix(_)
             | Body::Chain(_)
-            | Body::Blanks(_) => self,
+            | Body::Blanks(_)
+            | Body::PlacedConstant(_) => self,
         }
     }
 }

@@ -3,11 +3,12 @@ ghost use Rattle.std.specs.Prelude.{◌≡◌, ◌≤◌, length, slice_index};
 ghost use Rattle.std.specs.List.{position_or_len, list_all};
 ghost use Rattle.bcd_1401.specs.Digits.{is_digit};
 ghost use Rattle.source_1401.specs.Label.{is_letter, is_letter_or_digit, register_of, may_be_label, is_label};
-ghost use Rattle.source_1401.specs.Label.{label_of, label_in};
+ghost use Rattle.source_1401.specs.Label.{label_of, label_in, place_in};
 ghost use Rattle.source_1401.specs.SourceLine.{is_blank};
 
 use crate::columns::{are_blank, padded};
 use crate::language::Language;
+use crate::numbers::short_number;
 
 /// The most letters and digits that a label may have.
 pub const LABEL_LENGTH: usize = 6;
@@ -140,5 +141,17 @@ impl LabelField {
             Some(label) => LabelField::Label(label),
             None => LabelField::Malformed,
         }
+    }
+}
+
+/// The place that the columns for a label say, if they hold a number of one to five digits from the first of them on.
+pub(crate) fn place_in(columns: &[u8]) -> Option<u32>
+    ensures { result ≡ place_in columns.now }
+{
+    let (word, behind) = columns.split_at(bytes_before_blank(columns));
+    if are_blank(behind) {
+        short_number(word)
+    } else {
+        None
     }
 }

@@ -32,7 +32,7 @@ pub mod units; // units and tapes in the place of an address
 pub mod wide_mnemonic; // the mnemonics of instructions in the wider language
 pub mod wide_constant; // constants of addresses
 pub mod wide_areas; // options of DA, and fields without a mark
-pub mod wide_origin; // the operands of ORG and END in the wider language
+pub mod wide_origin; // the operands of EQU, ORG and END in the wider language
 pub mod wide_body; // what the operations of both languages ask for in the wider one
 pub mod wide_operation; // the assembler's own operations that the plain language hasn't
 pub mod wide_statement; // what a line says in the wider language
@@ -70,6 +70,7 @@ pub use nearness::{is_near, nearest_mnemonic, word_in};
 pub use operands::{Operand, OperandField, Operands, Unit};
 pub use operands_at_fault::operand_flaw;
 pub use statement::{
-    AddressConstant, Areas, Body, Chain, Line, LineCheck, SizeField, Span, Statement, SuffixField,
+    AddressConstant, Areas, Body, Chain, Line, LineCheck, PlacedConstant, SizeField, Span,
+    Statement, SuffixField,
 };
 pub use symbols::Registers;

@@ -1,7 +1,8 @@
 //! Operands that are one address, and what it says.
 ghost use Rattle.std.specs.Prelude.{◌≡◌};
 ghost use Rattle.source_1401.specs.LoneAddress.{lone_base, base_alone, is_asterisk, is_next_hundred, is_value};
-ghost use Rattle.source_1401.specs.LoneAddress.{is_wide_value, is_wide_origin, is_wide_entry, is_one_address};
+ghost use Rattle.source_1401.specs.LoneAddress.{is_wide_value, is_wide_origin, is_open_origin, is_wide_entry};
+ghost use Rattle.source_1401.specs.LoneAddress.{is_unit, is_one_address, is_wide_equal};
 
 use crate::address::{Address, Base};
 use crate::operands::{Operand, OperandField, Operands};
@@ -44,6 +45,16 @@ impl Operands {
         self.lone_base().is_some()
     }
 
+    /// Whether they say the next place of ORG in the wider language: as `are_wide_origin`, or nothing.
+    pub(crate) fn are_open_origin(self) -> bool
+        ensures { result ≡ is_open_origin self }
+    {
+        match self.a {
+            OperandField::Absent => self.is_whole,
+            OperandField::Malformed | OperandField::Operand(_) => self.are_wide_origin(),
+        }
+    }
+
     /// Whether they say where the program begins in the wider language: an address that says a value, or nothing.
     pub(crate) fn are_wide_entry(self) -> bool
         ensures { result ≡ is_wide_entry self }
@@ -64,6 +75,27 @@ impl Operands {
             | OperandField::Absent
             | OperandField::Malformed => false,
         }
+    }
+
+    /// Whether they say what EQU takes in the wider language: one address of any kind, or a unit.
+    pub(crate) fn are_wide_equal(self) -> bool
+        ensures { result ≡ is_wide_equal self }
+    {
+        match self.a {
+            OperandField::Operand(Operand::Address(_) | Operand::Unit(_)) => self.is_whole,
+            OperandField::Operand(Operand::Literal(_))
+            | OperandField::Absent
+            | OperandField::Malformed => false,
+        }
+    }
+}
+
+impl OperandField {
+    /// Whether there is a unit.
+    pub(crate) fn is_unit(self) -> bool
+        ensures { result ≡ is_unit self }
+    {
+        matches!(self, OperandField::Operand(Operand::Unit(_)))
     }
 }
 

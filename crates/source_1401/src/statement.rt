@@ -58,6 +58,17 @@ pub struct AddressConstant {
     pub operands: Operands,
 }
 
+/// DCW or DC with a place in the columns for a label, in the wider language.
+#[derive(Clone, Copy, Debug, PartialEq, Eq)]
+pub struct PlacedConstant {
+    /// The last of its places, in core or not.
+    pub last: u32,
+    /// Whether there is a word mark at its high place.
+    pub is_marked: bool,
+    /// The constant, if its operand says one.
+    pub constant: Option<Constant>,
+}
+
 /// What CTL says of the machine that a program is for.
 #[derive(Clone, Copy, Debug, PartialEq, Eq)]
 pub enum SizeField {
@@ -131,13 +142,16 @@ pub enum Body {
     AddressConstant(AddressConstant),
     /// DCW of 51 to 9,999 blanks, in the wider language, with a word mark at the high place.
     Blanks(u16),
-    /// ORG, in the wider language: the next place, which it may give a label before.
+    /// DCW or DC of a constant at a place of its own, in the wider language.
+    PlacedConstant(PlacedConstant),
+    /// ORG, in the wider language: the next place, which it may give a label before. Without an address it is the one
+    /// after the highest that was taken.
     LabelledOrigin(Operands),
     /// LTORG, in the wider language: the next place, likewise, from which literals are placed.
     LiteralOrigin(Operands),
     /// A field of areas, in the wider language: with a label or without.
     WideField(Option<Span>),
-    /// EQU, in the wider language: the value may be counted from an asterisk.
+    /// EQU, in the wider language: the value may be counted from an asterisk, or be a unit.
     WideEquate(Operands),
     /// EX, in the wider language, likewise.
     WideExecute(Operands),

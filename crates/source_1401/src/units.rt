@@ -1,9 +1,10 @@
 //! Input-output units and tapes in the place of an address.
 ghost use Rattle.std.specs.Prelude.{◌≡◌};
 ghost use Rattle.source_1401.specs.Units.{unit_of, tape_of, is_written, unit_or_address, first_in, wide_first};
-ghost use Rattle.source_1401.specs.Units.{wide_operands};
+ghost use Rattle.source_1401.specs.Units.{unit_name_of, unit_or_name, wide_operands};
 
-use crate::label::{is_digit, is_letter};
+use crate::address::{Address, Base};
+use crate::label::{Label, is_digit, is_letter, register_of};
 use crate::language::Language;
 use crate::mnemonic::{DCharacter, Form};
 use crate::operands::{Operand, OperandField, Operands, Unit, is_ended, split_operand};
@@ -15,14 +16,14 @@ pub enum FirstOperand {
     Address,
     /// An address, or a unit if the source writes a d-character.
     UnitOrAddress,
-    /// A unit.
+    /// A unit, or a symbol that names one.
     Unit,
-    /// A tape: a unit with this letter, or its digit alone.
+    /// A tape: a unit with this letter, or its digit alone, or a symbol that names one.
     Tape(u8),
 }
 
 /// The unit that a word is, if it is one.
-fn unit_of(word: &[u8]) -> Option<Unit>
+pub(crate) fn unit_of(word: &[u8]) -> Option<Unit>
     ensures { result ≡ unit_of word.now }
 {
     match word {
@@ -43,6 +44,33 @@ fn tape_of(letter: u8, word: &[u8]) -> Option<Unit>
         }),
         [_, written, ..] if *written == letter => unit_of(word),
         _ => None,
+    }
+}
+
+/// The symbol that a word is, which may name a unit, if it is one.
+fn unit_name_of(word: &[u8]) -> Option<Operand>
+    ensures { result ≡ unit_name_of word.now }
+{
+    if register_of(word).is_some() {
+        return None;
+    }
+    match Label::from_word(Language::Ibm, word) {
+        Some(label) => Some(Operand::Address(Address {
+            base: Base::Symbol(label),
+            adjustment: 0,
+            index: None,
+        })),
+        None => None,
+    }
+}
+
+/// This unit, or else the name of a unit, if the word is a symbol.
+fn unit_or_name(unit: Option<Unit>, word: &[u8]) -> Option<Operand>
+    ensures { result ≡ unit_or_name unit word.now }
+{
+    match unit {
+        Some(unit) => Some(Operand::Unit(unit)),
+        None => unit_name_of(word),
     }
 }
 
@@ -78,8 +106,8 @@ impl FirstOperand {
             FirstOperand::Address | FirstOperand::UnitOrAddress => {
                 Operand::of_instruction(Language::Ibm, word)
             },
-            FirstOperand::Unit => unit_of(word).map(Operand::Unit),
-            FirstOperand::Tape(letter) => tape_of(letter, word).map(Operand::Unit),
+            FirstOperand::Unit => unit_or_name(unit_of(word), word),
+            FirstOperand::Tape(letter) => unit_or_name(tape_of(letter, word), word),
         }
     }
 

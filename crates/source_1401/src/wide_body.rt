@@ -24,7 +24,7 @@ impl Body {
             Operation::Space => Body::Space(space_of(lone_operand(columns))),
             Operation::Areas => Body::Areas(wide_areas_of(columns)),
             Operation::Field => Body::WideField(wide_span_of(columns)),
-            Operation::Equate => Body::WideEquate(Operands::one_address(Language::Ibm, columns)),
+            Operation::Equate => Body::WideEquate(Operands::equal(columns)),
             Operation::Origin => Body::LabelledOrigin(Operands::origin(columns)),
             Operation::Execute => Body::WideExecute(Operands::one_address(Language::Ibm, columns)),
             Operation::End => Body::WideEnd(Operands::entry(columns)),

@@ -1,11 +1,13 @@
 //! Constants of the wider language: what DCW and DC take there in addition, and DSA.
 ghost use Rattle.std.specs.Prelude.{◌≡◌, ◌≤◌, length};
+ghost use Rattle.std.specs.List.{list_any};
+ghost use Rattle.source_1401.specs.Constant.{is_at_sign};
 ghost use Rattle.source_1401.specs.Literal.{signed_address};
 ghost use Rattle.source_1401.specs.Operands.{operand_in};
 ghost use Rattle.source_1401.specs.WideConstant.{long_digits, long_number_of, len_to_at_sign, whole_text};
 ghost use Rattle.source_1401.specs.WideConstant.{whole_text_of, wide_constant_of, many_blanks, constant_or_address};
 ghost use Rattle.source_1401.specs.WideConstant.{only, constant_by, address_or_none, wide_constant};
-ghost use Rattle.source_1401.specs.WideConstant.{constant_of_address};
+ghost use Rattle.source_1401.specs.WideConstant.{constant_of_address, has_cut_text, uncut_text_of};
 
 use crate::address::Address;
 use crate::constant::{Constant, TEXT_LENGTH, Text, are_digits};
@@ -14,6 +16,7 @@ use crate::literal::{begins_with_minus, signed_address};
 use crate::numbers::number_between;
 use crate::operands::{Operand, OperandField, Operands, is_ended, lone_operand, split_operand};
 use crate::statement::{AddressConstant, Body};
+use crate::wide_columns::begins_text;
 
 /// The most blanks of a constant.
 const MOST_BLANKS: u32 = 9_999;
@@ -51,6 +54,21 @@ fn whole_text(text: &[u8]) -> Option<Text>
     Some(Text::from_slice(&text[..count - 1]))
 }
 
+/// Whether there is an at sign.
+fn has_at_sign(text: &[u8]) -> bool
+    ensures { result ≡ list_any is_at_sign text.now }
+{
+    text.iter().any(|byte| *byte == b'@')
+}
+
+/// Whether columns for operands hold a text, and another at sign in what follows it.
+pub(crate) fn has_cut_text(columns: &[u8]) -> bool
+    ensures { result ≡ has_cut_text columns.now }
+{
+    let (_, behind) = split_operand(columns);
+    begins_text(columns) && is_ended(behind) && has_at_sign(behind)
+}
+
 impl Constant {
     /// The number of up to fifty digits that a word is, if it is one.
     fn from_long_number(word: &[u8]) -> Option<Constant>
@@ -76,11 +94,25 @@ impl Constant {
         }
     }
 
+    /// The text with at signs in it that columns for operands hold, where a shorter one ends before a blank.
+    fn from_uncut_text(columns: &[u8]) -> Option<Constant>
+        ensures { result ≡ uncut_text_of columns.now }
+    {
+        if has_cut_text(columns) {
+            Constant::from_whole_text(columns)
+        } else {
+            None
+        }
+    }
+
     /// The constant that columns for operands hold, if they do: one of both languages, a longer number, or a text with at
     /// signs in it.
-    fn from_wide_columns(columns: &[u8]) -> Option<Constant>
+    pub(crate) fn from_wide_columns(columns: &[u8]) -> Option<Constant>
         ensures { result ≡ wide_constant_of columns.now }
     {
+        if let Some(text) = Constant::from_uncut_text(columns) {
+            return Some(text);
+        }
         let word = lone_operand(columns);
         if let Some(constant) = Constant::from_word(word) {
             return Some(constant);

@@ -7,6 +7,12 @@ use crate::mnemonic::DCharacter::{self, Fixed};
 use crate::mnemonic::Form;
 use crate::operands::Operands;
 use crate::units::FirstOperand::{self, Address, Tape, Unit, UnitOrAddress};
+use machine_operations::mnemonics::{
+    BRANCH, BRANCH_ON_BIT, BRANCH_ON_CELL, BRANCH_ON_CHARACTER, BRANCH_ON_WORD_MARK,
+    CONTROL_CARRIAGE, CONTROL_UNIT, DIVIDE, HALT, LOAD, MODIFY_ADDRESS, MOVE,
+    MOVE_AND_INSERT_ZEROS, MOVE_RECORD, MULTIPLY, NO_OPERATION, SELECT_STACKER, START_PUNCH_FEED,
+    START_READ_FEED, STORE_A, STORE_B,
+};
 
 /// A form in the table: how many addresses the source writes at least and at most, and the d-character.
 pub(crate) type FormRow = (u8, u8, DCharacter);
@@ -17,8 +23,17 @@ pub(crate) type WideRow = ([u8; 5], u8, FirstOperand, FormRow, Option<FormRow>);
 /// No address, one or two.
 const TO_TWO: FormRow = (0, 2, DCharacter::Never);
 
+/// No address or one.
+const TO_ONE: FormRow = (0, 1, DCharacter::Never);
+
+/// No address, or one and a d-character or none.
+const TO_ONE_OR_D: FormRow = (0, 1, DCharacter::Optional);
+
 /// Two addresses and a d-character.
 const TWO_AND_D: FormRow = (2, 2, DCharacter::Required);
+
+/// Two addresses; the d-character is a 1.
+const TWO_AND_1: FormRow = (2, 2, Fixed(b'1'));
 
 /// An address and a d-character.
 const ONE_AND_D: FormRow = (1, 1, DCharacter::Required);
@@ -40,47 +55,41 @@ const BINARY_TAPE: FirstOperand = Tape(b'B');
 /// after it.
 static WIDE_INSTRUCTIONS: [WideRow; 47] = [
     (*b"MLC  ", b'M', UnitOrAddress, TO_TWO, Some(TWO_AND_D)),
-    (*b"MCW  ", b'M', UnitOrAddress, TO_TWO, Some(TWO_AND_D)),
-    (*b"LCA  ", b'L', UnitOrAddress, TO_TWO, Some(TWO_AND_D)),
+    (MOVE, b'M', UnitOrAddress, TO_TWO, Some(TWO_AND_D)),
+    (LOAD, b'L', UnitOrAddress, TO_TWO, Some(TWO_AND_D)),
     (*b"MLCWA", b'L', UnitOrAddress, TO_TWO, Some(TWO_AND_D)),
     (*b"MLNS ", b'D', Address, TO_TWO, None),
     (*b"MLZS ", b'Y', Address, TO_TWO, None),
-    (
-        *b"B    ",
-        b'B',
-        Address,
-        (0, 1, DCharacter::Optional),
-        Some(TWO_AND_D),
-    ),
-    (*b"BCE  ", b'B', Address, TWO_AND_D, Some(ALONE)),
-    (*b"BWZ  ", b'V', Address, TWO_AND_D, Some(ALONE)),
-    (*b"BW   ", b'V', Address, (2, 2, Fixed(b'1')), Some(ALONE)),
-    (*b"BBE  ", b'W', Address, TWO_AND_D, Some(ALONE)),
+    (BRANCH, b'B', Address, TO_ONE_OR_D, Some(TWO_AND_D)),
+    (BRANCH_ON_CHARACTER, b'B', Address, TWO_AND_D, Some(ALONE)),
+    (BRANCH_ON_CELL, b'V', Address, TWO_AND_D, Some(ALONE)),
+    (BRANCH_ON_WORD_MARK, b'V', Address, TWO_AND_1, Some(ALONE)),
+    (BRANCH_ON_BIT, b'W', Address, TWO_AND_D, Some(ALONE)),
     (*b"BM   ", b'V', Address, (2, 2, Fixed(b'K')), None),
     (*b"BIN  ", b'B', Address, ONE_AND_D, None),
     (*b"BEF  ", b'B', Address, (1, 1, Fixed(b'K')), None),
     (*b"BER  ", b'B', Address, (1, 1, Fixed(b'L')), None),
     (*b"BPB  ", b'B', Address, (1, 1, Fixed(b'P')), None),
     (*b"BPCB ", b'B', Address, (1, 1, Fixed(b'R')), None),
-    (*b"CC   ", b'F', Address, D_ALONE, Some(ONE_AND_D)),
-    (*b"SS   ", b'K', Address, D_ALONE, Some(ONE_AND_D)),
+    (CONTROL_CARRIAGE, b'F', Address, D_ALONE, Some(ONE_AND_D)),
+    (SELECT_STACKER, b'K', Address, D_ALONE, Some(ONE_AND_D)),
     (*b"CCB  ", b'F', Address, ONE_AND_D, None),
     (*b"SSB  ", b'K', Address, ONE_AND_D, None),
-    (*b"NOP  ", b'N', Address, TO_TWO, Some(TWO_AND_D)),
-    (*b"H    ", b'.', Address, TO_TWO, None),
-    (*b"SAR  ", b'Q', Address, (1, 2, DCharacter::Never), None),
-    (*b"SBR  ", b'H', Address, (1, 2, DCharacter::Never), None),
-    (*b"M    ", b'@', Address, TO_TWO, None),
-    (*b"D    ", b'%', Address, TO_TWO, None),
-    (*b"MA   ", b'#', Address, TO_TWO, None),
-    (*b"MIZ  ", b'X', Address, TO_TWO, None),
-    (*b"MCM  ", b'P', Address, TO_TWO, None),
+    (NO_OPERATION, b'N', Address, TO_TWO, Some(TWO_AND_D)),
+    (HALT, b'.', Address, TO_TWO, None),
+    (STORE_A, b'Q', Address, (1, 2, DCharacter::Never), None),
+    (STORE_B, b'H', Address, (1, 2, DCharacter::Never), None),
+    (MULTIPLY, b'@', Address, TO_TWO, None),
+    (DIVIDE, b'%', Address, TO_TWO, None),
+    (MODIFY_ADDRESS, b'#', Address, TO_TWO, None),
+    (MOVE_AND_INSERT_ZEROS, b'X', Address, TO_TWO, None),
+    (MOVE_RECORD, b'P', Address, TO_TWO, None),
     (*b"MRCM ", b'P', Address, TO_TWO, None),
-    (*b"SRF  ", b'8', Address, (0, 1, DCharacter::Never), None),
-    (*b"SPF  ", b'9', Address, (0, 1, DCharacter::Never), None),
+    (START_READ_FEED, b'8', Address, TO_ONE, None),
+    (START_PUNCH_FEED, b'9', Address, TO_ONE, None),
     (*b"MU   ", b'M', Unit, TWO_AND_D, None),
     (*b"LU   ", b'L', Unit, TWO_AND_D, None),
-    (*b"CU   ", b'U', Unit, ONE_AND_D, None),
+    (CONTROL_UNIT, b'U', Unit, ONE_AND_D, None),
     (*b"RT   ", b'M', TAPE, (2, 2, Fixed(b'R')), None),
     (*b"WT   ", b'M', TAPE, (2, 2, Fixed(b'W')), None),
     (*b"RTW  ", b'L', TAPE, (2, 2, Fixed(b'R')), None),

@@ -1,11 +1,13 @@
-//! The operands of ORG, LTORG and END in the wider language.
+//! The operands of EQU, ORG, LTORG and END in the wider language.
 ghost use Rattle.std.specs.Prelude.{◌≡◌};
 ghost use Rattle.source_1401.specs.WideOrigin.{is_hundred, origin_in, here_alone, literal_origin_in, entry_in};
+ghost use Rattle.source_1401.specs.WideOrigin.{equal_in};
 
 use crate::address::{Address, Base};
 use crate::language::Language;
 use crate::mnemonic::{DCharacter, Form};
 use crate::operands::{Operand, OperandField, Operands, is_ended, split_operand};
+use crate::units::unit_of;
 
 /// An address or none, without a d-character.
 const UP_TO_ONE: Form = Form {
@@ -22,12 +24,12 @@ pub(crate) fn is_hundred(columns: &[u8]) -> bool
 }
 
 impl Operands {
-    /// The operand of ORG: an address, or the next place whose number ends in 00.
+    /// The operand of ORG: an address, the next place whose number ends in 00, or nothing.
     pub(crate) fn origin(columns: &[u8]) -> Operands
         ensures { result ≡ origin_in columns.now }
     {
         if !is_hundred(columns) {
-            return Operands::one_address(Language::Ibm, columns);
+            return Operands::entry(columns);
         }
         let (_, behind) = split_operand(columns);
         Operands {
@@ -74,5 +76,21 @@ impl Operands {
         ensures { result ≡ entry_in columns.now }
     {
         Operands::from_columns(Language::Ibm, UP_TO_ONE, columns)
+    }
+
+    /// The operand of EQU: a unit, or an address.
+    pub(crate) fn equal(columns: &[u8]) -> Operands
+        ensures { result ≡ equal_in columns.now }
+    {
+        let (word, behind) = split_operand(columns);
+        match unit_of(word) {
+            Some(unit) => Operands {
+                a: OperandField::Operand(Operand::Unit(unit)),
+                b: OperandField::Absent,
+                d: None,
+                is_whole: is_ended(behind),
+            },
+            None => Operands::one_address(Language::Ibm, columns),
+        }
     }
 }

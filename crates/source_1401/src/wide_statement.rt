@@ -1,14 +1,17 @@
 //! What the columns of a line say in the wider language.
 ghost use Rattle.std.specs.Prelude.{◌≡◌};
-ghost use Rattle.source_1401.specs.WideStatement.{wide_instruction, wide_body_of, wide_statement_of, wide_line_with};
+ghost use Rattle.source_1401.specs.WideStatement.{wide_instruction, wide_body_of, constant_place, wide_statement_of};
+ghost use Rattle.source_1401.specs.WideStatement.{wide_line_with};
 
 use crate::columns::{COLUMNS, columns_in};
+use crate::constant::Constant;
 use crate::heading::is_wide_comment;
-use crate::label::LabelField;
+use crate::label::{LabelField, place_in};
 use crate::language::Language;
 use crate::mnemonic::Instruction;
 use crate::operands::Operands;
-use crate::statement::{Body, Line, LineCheck, Statement};
+use crate::statement::{Body, Line, LineCheck, PlacedConstant, Statement};
+use crate::wide_columns::is_constant_operation;
 use crate::wide_mnemonic::{WideRow, form_by, wide_row_of};
 use crate::wide_operation::wide_operation_of;
 
@@ -41,14 +44,36 @@ impl Body {
     }
 }
 
+/// The place that a DCW or DC has in the columns for a label, if it has one.
+fn constant_place(columns: &[u8; COLUMNS]) -> Option<u32>
+    ensures { result ≡ constant_place columns.now }
+{
+    if is_constant_operation(columns_in(columns, 16, 20)) {
+        place_in(columns_in(columns, 6, 15))
+    } else {
+        None
+    }
+}
+
 impl Statement {
     /// What the columns of a line say that is no comment.
     fn from_wide_columns(columns: &[u8; COLUMNS]) -> Statement
         ensures { result ≡ wide_statement_of columns.now }
     {
-        Statement {
-            label: LabelField::from_columns(Language::Ibm, columns_in(columns, 6, 15)),
-            body: Body::from_wide_columns(columns_in(columns, 16, 20), columns_in(columns, 21, 72)),
+        let operation = columns_in(columns, 16, 20);
+        match constant_place(columns) {
+            Some(last) => Statement {
+                label: LabelField::Absent,
+                body: Body::PlacedConstant(PlacedConstant {
+                    last,
+                    is_marked: operation == b"DCW  ".as_slice(),
+                    constant: Constant::from_wide_columns(columns_in(columns, 21, 72)),
+                }),
+            },
+            None => Statement {
+                label: LabelField::from_columns(Language::Ibm, columns_in(columns, 6, 15)),
+                body: Body::from_wide_columns(operation, columns_in(columns, 21, 72)),
+            },
         }
     }
 }

@@ -30,8 +30,8 @@ use Rattle.devices_1401.specs.Carriage.{controlled}
 use Rattle.fields_1401.specs.Outcome.{Outcome, below_by}
 use Rattle.cpu_1401.specs.declared.io_request.IoRequest.{IoRequest}
 use Rattle.cpu_1401.specs.declared.instruction.Instruction.{Instruction}
-use Rattle.cpu_1401.specs.declared.operation.Operation.{Operation}
-use Rattle.cpu_1401.specs.declared.operation.Operation.TheVariants as op
+use Rattle.machine_operations.specs.declared.operation.Operation.{Operation}
+use Rattle.machine_operations.specs.declared.operation.Operation.TheVariants as op
 use Rattle.panel_1401.specs.declared.stop.Stop.{Stop}
 use Rattle.panel_1401.specs.declared.stop.Stop.TheVariants as stop
 use Rattle.cpu_1401.specs.Branch.{after_branch, branch_on_cell, go_on, has_char, passes}
@@ -42,9 +42,9 @@ use Rattle.cpu_1401.specs.CardsAndPrinter.{first_io_stop, move_on, punching, rea
 use Rattle.cpu_1401.specs.CardsAndPrinter.{writing_and_punching, writing_and_reading}
 use Rattle.cpu_1401.specs.FieldStep.{after_clear, after_comparison, after_field}
 use Rattle.cpu_1401.specs.Instruction.{begins_at, instruction_of, length_at}
-use Rattle.cpu_1401.specs.Operation.{has_length, is_unfitted, is_unfitted_length, operation_of, operations}
+use Rattle.machine_operations.specs.Operation.{has_length, is_unfitted, is_unfitted_length, operation_of, operations}
 use Rattle.cpu_1401.specs.RegisterStep.{after_store}
-use Rattle.cpu_1401.specs.Rows.{meaning_in}
+use Rattle.machine_operations.specs.Rows.{meaning_in}
 use Rattle.cpu_1401.specs.State.{State}
 use Rattle.cpu_1401.specs.Step.{check_length, check_operation, perform, step}
 use Rattle.cpu_1401.specs.Stepped.{Stepped, stopped}

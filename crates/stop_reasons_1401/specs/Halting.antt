@@ -6,9 +6,9 @@ use Rattle.core_1401.specs.Address.{addresses, effective_at}
 use Rattle.core_1401.specs.Field.{next_mark_from}
 use Rattle.core_1401.specs.Storage.{Storage, cell_at}
 use Rattle.fields_1401.specs.Outcome.{below_by}
-use Rattle.cpu_1401.specs.declared.operation.Operation.TheVariants as op
+use Rattle.machine_operations.specs.declared.operation.Operation.TheVariants as op
 use Rattle.cpu_1401.specs.Instruction.{begins_at, length_at}
-use Rattle.cpu_1401.specs.Operation.{operation_of}
+use Rattle.machine_operations.specs.Operation.{operation_of}
 use Rattle.cpu_1401.specs.State.{State}
 use Rattle.stop_reasons_1401.specs.Said.{longest_of}
 

@@ -4,10 +4,10 @@ use Rattle.core_1401.specs.Storage.{cell_at, is_in_core}
 use Rattle.devices_1401.specs.Control.{line_of_channel, low_of}
 use Rattle.devices_1401.specs.Devices.{is_full}
 use Rattle.cpu_1401.specs.declared.instruction.Instruction.{Instruction}
-use Rattle.cpu_1401.specs.declared.operation.Operation.TheVariants as op
+use Rattle.machine_operations.specs.declared.operation.Operation.TheVariants as op
 use Rattle.panel_1401.specs.declared.stop.Stop.{Stop}
 use Rattle.panel_1401.specs.declared.stop.Stop.TheVariants as stop
-use Rattle.cpu_1401.specs.Operation.{is_unfitted, operation_of}
+use Rattle.machine_operations.specs.Operation.{is_unfitted, operation_of}
 use Rattle.cpu_1401.specs.State.{State}
 use Rattle.fields_1401.specs.Outcome.{stop_of}
 use Rattle.stop_reasons_1401.specs.declared.reason.Reason.{Reason}

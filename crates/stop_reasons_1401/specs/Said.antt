@@ -3,10 +3,10 @@ use Rattle.std.specs.Prelude.{ℕ, ◌+◌, ◌&&◌, nat_le, Bool, false, Optio
 use Rattle.core_1401.specs.Address.{effective_at}
 use Rattle.core_1401.specs.Storage.{cell_at}
 use Rattle.cpu_1401.specs.declared.instruction.Instruction.{Instruction}
-use Rattle.cpu_1401.specs.declared.operation.Operation.{Operation}
+use Rattle.machine_operations.specs.declared.operation.Operation.{Operation}
 use Rattle.panel_1401.specs.declared.stop.Stop.{Stop}
 use Rattle.cpu_1401.specs.Instruction.{instruction_of, length_at}
-use Rattle.cpu_1401.specs.Operation.{form_of, has_length, is_unfitted_length, operation_of}
+use Rattle.machine_operations.specs.Operation.{form_of, has_length, is_unfitted_length, operation_of}
 use Rattle.cpu_1401.specs.State.{State}
 use Rattle.cpu_1401.specs.Step.{perform}
 

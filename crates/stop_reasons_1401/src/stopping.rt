@@ -4,10 +4,10 @@ ghost use Rattle.std.specs.Prelude.{IfSome};
 ghost use Rattle.std.specs.Option.{option_map};
 ghost use Rattle.core_1401.specs.Address.{addresses};
 ghost use Rattle.core_1401.specs.Storage.{cell_at};
-ghost use Rattle.cpu_1401.specs.declared.operation.Operation.TheVariants as op;
+ghost use Rattle.machine_operations.specs.declared.operation.Operation.TheVariants as op;
 ghost use Rattle.cpu_1401.specs.CardsAndPrinter.{after_write};
 ghost use Rattle.cpu_1401.specs.Instruction.{instruction_of};
-ghost use Rattle.cpu_1401.specs.Operation.{operation_of};
+ghost use Rattle.machine_operations.specs.Operation.{operation_of};
 ghost use Rattle.cpu_1401.specs.Step.{check_operation, step};
 ghost use Rattle.stop_reasons_1401.specs.declared.reason.Reason.TheVariants as AReason;
 ghost use Rattle.stop_reasons_1401.specs.Reason.{IsSo, IsSoOf, stop_named};
@@ -24,11 +24,12 @@ use crate::fields::{
     b_reason, both_reason, edit_reason, load_reason, pair_reason, store_reason, sum_reason,
     suppress_reason,
 };
-use crate::operations::{is_length_of, is_unfitted, is_unfitted_at, longest};
+use crate::operations::{is_length_of, is_unfitted_at, longest};
 use crate::reason::Reason;
 use bcd_1401::Char;
 use cpu_1401::{Machine, Stop};
 use devices_1401::ControlFault;
+use machine_operations::is_unfitted;
 
 /// The code of the lozenge, which asks for word marks to be printed.
 const LOZENGE: u8 = 60;

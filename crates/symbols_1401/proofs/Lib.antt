@@ -1,4 +1,5 @@
 pub mod ChainLawLemmas
 pub mod ChainLinksLemmas
+pub mod KeptLinesLemmas
 pub mod ReadingLemmas
 pub mod SymbolsLemmas

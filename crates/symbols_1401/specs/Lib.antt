@@ -1,6 +1,6 @@
 pub mod Chains
 pub mod Fault
-pub mod KeptLine
+pub mod KeptLines
 pub mod Known
 pub mod Reading
 pub mod Symbols

@@ -11,12 +11,12 @@ ghost use Rattle.symbols_1401.specs.View.{chains_view};
 
 use crate::fault::AsmFault;
 use crate::hashing::SourceHashing;
-use crate::kept_line::KeptLine;
+use crate::kept_lines::Lines;
 use crate::sums::checked_sum;
 use crate::symbols::{Sites, is_label_before};
 use indexmap::IndexSet;
 use source_1401::{
-    Address, Addressing, Base, Label, LabelField, Language, Operand, OperandField, Statement,
+    Address, Addressing, Base, Label, LabelField, Language, Line, Operand, OperandField, Statement,
 };
 use std::alloc::Global;
 
@@ -200,13 +200,13 @@ impl Chains {
     }
 
     /// Adds the link that a line of this number is, and says whether it is END.
-    fn add_line(&mut self, sites: &Sites, number: u64, line: &KeptLine) -> Result<bool, AsmFault>
+    fn add_line(&mut self, sites: &Sites, number: u64, line: &Line) -> Result<bool, AsmFault>
         ensures ok { OnOk result
             (chains_view self.new ≡ with_line (get same_label sites.now) number (chains_view self.old) line.now) }
         ensures end { IfOk result (λ end. end ≡ is_end line.now) }
         ensures err { IfErr result IsMemory }
     {
-        let Some(Statement { label, body }) = &line.line().statement else {
+        let Some(Statement { label, body }) = &line.statement else {
             return Ok(false);
         };
         let row = body.describe();
@@ -220,13 +220,14 @@ impl Chains {
     }
 
     /// Adds the links that lines are, up to END.
-    fn add_lines(&mut self, sites: &Sites, lines: &[KeptLine]) -> Result<(), AsmFault>
+    fn add_lines(&mut self, sites: &Sites, lines: &Lines<'_>) -> Result<(), AsmFault>
         requires { length lines.now < 2 ^ 32 }
         ensures ok { OnOk result (chains_view self.new
             ≡ links_from (get same_label sites.now) 1 (chains_view self.old) (up_to_end lines.now)) }
         ensures err { IfErr result IsMemory }
     {
-        for (i, line) in lines.iter().enumerate() {
+        for i in 0..lines.len() {
+            let line = lines.line(i);
             let is_end = self.add_line(sites, i as u64 + 1, line)?;
             if is_end {
                 return Ok(());
@@ -287,7 +288,7 @@ pub(crate) fn chains_in(
     hashing: SourceHashing,
     language: Language,
     sites: &Sites,
-    lines: &[KeptLine],
+    lines: &Lines<'_>,
 ) -> Result<Chains, AsmFault>
     requires { length lines.now < 2 ^ 32 }
     ensures ok { IfOk result

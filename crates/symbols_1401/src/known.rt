@@ -11,7 +11,7 @@ ghost use Rattle.symbols_1401.specs.View.{symbols_view};
 use crate::chains::{Chains, Link, chains_in};
 use crate::fault::AsmFault;
 use crate::hashing::SourceHashing;
-use crate::kept_line::KeptLine;
+use crate::kept_lines::Lines;
 use crate::symbols::{Declaration, Sites, sites_of};
 use source_1401::{Label, Language};
 use std::alloc::Global;
@@ -127,7 +127,7 @@ pub fn declared(
     alloc: Global,
     hashing: SourceHashing,
     language: Language,
-    lines: &[KeptLine],
+    lines: &Lines<'_>,
 ) -> Result<Symbols, AsmFault>
     requires { length lines.now < 2 ^ 32 }
     ensures ok { IfOk result (λ symbols. symbols_view symbols ≡ declared_at language lines.now) }

@@ -13,7 +13,7 @@
 
 pub mod fault; // the kinds of fault
 pub mod hashing; // how labels and literals are hashed
-pub mod kept_line; // a line, as it is kept
+pub mod kept_lines; // what is held of the lines
 pub mod reading; // a source as its lines, each with its neighbours
 pub mod symbols; // which line declares a symbol
 pub mod sums; // sums of places and values
@@ -23,7 +23,7 @@ pub mod known; // from which line on the value of a symbol is known
 pub use chains::{Chains, Link};
 pub use fault::{AsmFault, AsmKind};
 pub use hashing::SourceHashing;
-pub use kept_line::KeptLine;
+pub use kept_lines::{KeptLines, Lines};
 pub use known::{Known, Symbols, declared, is_known_at_end, is_known_before};
 pub use reading::read_lines;
 pub use sums::checked_sum;

@@ -10,9 +10,9 @@ ghost use Rattle.symbols_1401.specs.Symbols.{is_label_before};
 
 use crate::fault::AsmFault;
 use crate::hashing::SourceHashing;
-use crate::kept_line::KeptLine;
+use crate::kept_lines::Lines;
 use indexmap::IndexMap;
-use source_1401::{AreaLiteral, DeclaredAreas, Label};
+use source_1401::{AreaLiteral, DeclaredAreas, Label, Line};
 use std::alloc::Global;
 
 /// Where a symbol is declared.
@@ -103,13 +103,13 @@ fn note_areas(sites: &mut Sites, areas: DeclaredAreas, number: u64) -> Result<()
 }
 
 /// Notes the symbols that a line with this number declares.
-fn note_line(sites: &mut Sites, line: &KeptLine, number: u64) -> Result<(), AsmFault>
+fn note_line(sites: &mut Sites, line: &Line, number: u64) -> Result<(), AsmFault>
     ensures noted { OnOk result ((label : ALabel) → get same_label sites.new label
         ≡ option_or (get same_label sites.old label) (declared_by number line.now label)) }
     ensures err { IfErr result IsMemory }
 {
-    note_label(sites, line.line().label(), number)?;
-    note_areas(sites, line.line().areas(), number)?;
+    note_label(sites, line.label(), number)?;
+    note_areas(sites, line.areas(), number)?;
     Ok(())
 }
 
@@ -121,7 +121,7 @@ fn note_line(sites: &mut Sites, line: &KeptLine, number: u64) -> Result<(), AsmF
 pub fn sites_anywhere(
     alloc: Global,
     hashing: SourceHashing,
-    lines: &[KeptLine],
+    lines: &Lines<'_>,
 ) -> Result<Sites, AsmFault>
     requires { length lines.now < 2 ^ 32 }
     ensures lines { IfOk result
@@ -129,7 +129,8 @@ pub fn sites_anywhere(
     ensures err { IfErr result IsMemory }
 {
     let mut sites = IndexMap::with_hasher(alloc, hashing);
-    for (i, line) in lines.iter().enumerate() {
+    for i in 0..lines.len() {
+        let line = lines.line(i);
         note_line(&mut sites, line, i as u64 + 1)?;
     }
     Ok(sites)
@@ -143,7 +144,7 @@ pub fn sites_anywhere(
 pub(crate) fn sites_of(
     alloc: Global,
     hashing: SourceHashing,
-    lines: &[KeptLine],
+    lines: &Lines<'_>,
 ) -> Result<Sites, AsmFault>
     requires { length lines.now < 2 ^ 32 }
     ensures lines { IfOk result
@@ -151,9 +152,10 @@ pub(crate) fn sites_of(
     ensures err { IfErr result IsMemory }
 {
     let mut sites = IndexMap::with_hasher(alloc, hashing);
-    for (i, line) in lines.iter().enumerate() {
+    for i in 0..lines.len() {
+        let line = lines.line(i);
         note_line(&mut sites, line, i as u64 + 1)?;
-        if line.line().is_end() {
+        if line.is_end() {
             return Ok(sites);
         }
     }

@@ -1,25 +1,21 @@
-//! The libraries by themselves: what a call that takes memory answers if it is refused, and how fast they are.
+//! The libraries by themselves: what a call that takes memory answers if it is refused.
 //!
-//! The word names a trial. One of refused memory tells what its calls answered, and in the end the journal and the
-//! machine; a line that begins with `refused` tells of a call that was refused memory, and was then made once more.
-//! `./check` runs each of these once for each growth of memory, with that one refused. `time_rooms` and `time_images`
-//! measure. Without a word it says only so, since a measure is never the same twice.
+//! The word names a trial. It prints what its calls answered, and in the end the journal and the machine; a line that
+//! begins with `refused` says which call was refused memory, and was then made once more. `./check` runs each trial once
+//! for each allocation, with that one refused. Without a word it prints its usage.
 #![tactic(auto)]
 
 mod attended;
 mod given;
-mod image_speed;
 mod loaded;
 mod notes;
 mod recorded;
-mod room_speed;
 mod rooms;
 mod served;
 mod shared;
 mod shown;
 mod started;
 mod telling;
-mod timing;
 mod trials;
 mod written;
 

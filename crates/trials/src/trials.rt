@@ -1,7 +1,5 @@
 //! The trials, and the words that name them.
 
-use crate::image_speed::time_images;
-use crate::room_speed::time_rooms;
 use crate::started::AT_POWER_ON;
 use crate::telling::Teller;
 use crate::written::{IMAGES, Kind, SOURCES, tell_texts};
@@ -48,10 +46,6 @@ pub enum Trial {
     Work(rooms::Work),
     /// Work in a new room with two seats.
     Share(shared::Work),
-    /// How fast rooms are.
-    TimeRooms,
-    /// How fast images are read and written.
-    TimeImages,
 }
 
 /// Each trial by its word.
@@ -75,8 +69,6 @@ const TRIALS: &[(&str, Trial)] = &[
     ("program", Trial::Program),
     ("attend", Trial::Share(shared::Work::Attend)),
     ("serve", Trial::Serve),
-    ("time_rooms", Trial::TimeRooms),
-    ("time_images", Trial::TimeImages),
 ];
 
 /// The trial that a word names.
@@ -89,11 +81,9 @@ pub fn trial_of(word: &str) -> Option<Trial> {
     None
 }
 
-/// Tells what each word is for.
+/// Prints what the word is for.
 pub fn tell_usage(teller: &mut Teller) {
     teller.tell("trials CALL: what a call answers where memory is refused");
-    teller.tell("trials time_rooms: commands a second by seats, and the time of a glance");
-    teller.tell("trials time_images: segments of images read and written a second");
 }
 
 /// Makes a trial, and makes it a second time if what it begins with was refused.
@@ -130,8 +120,6 @@ fn begin<R: Threads + Wait + Clock + Sync + Net<Listener = TcpListener, Stream =
         Trial::ReadImage => tell_texts(teller, alloc, IMAGES, Kind::Text),
         Trial::Notes => shared::notes(rt, teller, input, alloc),
         Trial::Serve => served::serve(rt, teller, alloc),
-        Trial::TimeRooms => time_rooms(rt, teller, alloc),
-        Trial::TimeImages => time_images(rt, teller, alloc),
     }
     true
 }

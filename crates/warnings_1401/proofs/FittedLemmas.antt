@@ -6,6 +6,7 @@ use Rattle.std.specs.Prelude.{find, is_some}
 use Rattle.std.specs.List.{list_all}
 use Rattle.std.specs.Option.{option_map, option_map_or}
 use Rattle.std.specs.Str.{bytes_eq}
+use Rattle.machine_operations.specs.Operation.{is_fitted}
 use Rattle.source_1401.specs.Address.{address_of}
 use Rattle.source_1401.specs.Constant.{constant_of}
 use Rattle.source_1401.specs.Description.{describe}
@@ -33,7 +34,6 @@ use Rattle.source_1401.specs.declared.statement.Body.{Body}
 use Rattle.source_1401.specs.declared.statement.Body.TheVariants as bodies
 use Rattle.source_1401.specs.declared.statement.Span.{Span}
 use Rattle.placing_1401.specs.Placement.{instruction_length}
-use Rattle.placing_1401.specs.Fitted.{is_fitted}
 use Rattle.warnings_1401.specs.Warnings.{is_unit, is_unfitted, is_not_fitted}
 
 -- what is found has what each row has

@@ -23,7 +23,7 @@ use Rattle.warnings_1401.specs.Loss.{losses_of}
 use Rattle.warnings_1401.specs.Overlap.{overlaps_of}
 use Rattle.warnings_1401.specs.Warnings.{is_not_fitted, is_unused, branches_unset, compares_unlike, read_on, warned_if}
 use Rattle.warnings_1401.specs.Warnings.{warned_of, statement_warnings, line_warnings, warnings_from, all_warnings}
-use Rattle.warnings_1401.specs.Warnings.{card_lost, warnings_with}
+use Rattle.warnings_1401.specs.Warnings.{card_lost, has_whole_text, loss_left, warnings_with}
 use Rattle.warnings_1401.specs.Warnings.{is_of_areas, never_branches, starts_nothing, overlap_warned, loss_warned}
 use Rattle.warnings_1401.specs.Warnings.{own_warnings, place_warnings, facts_of, AllFitted, PlainIsCarriedOut}
 use Rattle.warnings_1401.specs.declared.loss.Loss.{Loss}
@@ -97,7 +97,7 @@ by_place storage number facts this =
       All-append IsOther,
       read_on_warning (read_on storage facts.address row.contents) number,
       overlap_warning facts.overlap number,
-      loss_unless row.is_remark facts.loss number,
+      loss_unless row.is_remark (loss_left (has_whole_text row.contents) facts.loss) number,
     )
 
 -- the warnings of a statement that is fitted
@@ -157,7 +157,7 @@ of_all size source texts sound =
 -- the law of what the plain language takes
 pub plain_is_carried_out : (language : Language) (size : ℕ) (source : List ℕ)
     → PlainIsCarriedOut source (all_warnings size source (lines_in language source))
-plain_is_carried_out language size source none =
-    rw (lines_alike language source none)
+plain_is_carried_out language size source uncut none =
+    rw (lines_alike language source none uncut)
     (of_all size source (lines_of source)
     (all_sound (declared_at Plain (lines_in Plain source)) first_place (lines_in Plain source) none))

@@ -1,11 +1,15 @@
 -- What a source without a fault says and hardly means (own).
 use Rattle.std.specs.Prelude.{◌≡◌, ◌≢◌, ℕ, ◌+◌, ◌==◌, Bool, true, false, not, ◌&&◌, ◌||◌, if◌then◌else◌, List, [], ◌∷◌}
 use Rattle.std.specs.Prelude.{◌++◌, codes, pos, nat_le, slice_get, All, Option, Some, None, unwrap_or}
+use Rattle.std.specs.List.{list_any}
 use Rattle.std.specs.Option.{option_map_or, option_and_then}
 use Rattle.std.specs.Ordering.{int_eq}
 use Rattle.std.specs.Str.{byte}
 use Rattle.bcd_1401.specs.declared.cell.Cell.{Cell}
+use Rattle.machine_operations.specs.Operation.{is_fitted, longest_at}
+use Rattle.source_1401.specs.Constant.{bytes_of, is_at_sign}
 use Rattle.source_1401.specs.Description.{describe}
+use Rattle.source_1401.specs.Language.{cuts_no_text}
 use Rattle.source_1401.specs.Operands.{count_of}
 use Rattle.source_1401.specs.Statement.{well_formed}
 use Rattle.source_1401.specs.declared.address.Address.{Address}
@@ -36,7 +40,6 @@ use Rattle.faults_1401.specs.FirstFault.{first_fault, symbol_in_base}
 use Rattle.explanations_1401.specs.Notes.{Known, known_in}
 use Rattle.placing_1401.specs.Filling.{filled, addresses_of}
 use Rattle.placing_1401.specs.Placement.{instruction_length, chain_length}
-use Rattle.placing_1401.specs.Fitted.{is_fitted, is_one_of}
 use Rattle.warnings_1401.specs.Loss.{losses_of}
 use Rattle.warnings_1401.specs.Overlap.{overlaps_of}
 use Rattle.warnings_1401.specs.declared.loss.Loss.{Loss}
@@ -158,16 +161,13 @@ compares_unlike known (contents.Areas areas) = false
 compares_unlike known (contents.Chain chain) = false
 compares_unlike known (contents.AddressConstant constant) = false
 
--- the most characters that an instruction has
-abbrev pub longest : ℕ → ℕ
-longest operation = if (operation == byte ",") || (operation == byte "/") then 7 else 8
+-- the fifth character of an instruction of this length before a cell: that cell's, or else any but a blank
+abbrev pub fifth_before : ℕ → Cell → ℕ
+fifth_before length cell = if length == 4 then cell.char else 1
 
--- the cell after an instruction ends it: by its word mark, or because nothing longer is an instruction, or since a
--- branch of four characters ends before a blank
+-- the cell after an instruction ends it: by its word mark, or because no more characters are looked at
 abbrev pub ends : ℕ → ℕ → Cell → Bool
-ends operation length cell =
-    cell.mark || nat_le (longest operation) length
-    || ((operation == byte "B") && (length == 4) && (cell.char == 0))
+ends operation length cell = cell.mark || nat_le (longest_at operation (fifth_before length cell)) length
 
 -- the place after an instruction whose cell doesn't end it; the end of core storage ends any
 abbrev pub open_place : List Cell → ℕ → ℕ → ℕ → Option ℕ
@@ -190,6 +190,10 @@ read_on storage address (contents.Space places) = None
 read_on storage address (contents.Areas areas) = None
 read_on storage address (contents.Chain chain) = chain_read_on storage address chain
 read_on storage address (contents.AddressConstant constant) = None
+
+-- whether a number is one of these
+abbrev pub is_one_of : List ℕ → ℕ → Bool
+is_one_of numbers number = list_any (λ each. each == number) numbers
 
 -- a d-character with which a branch never branches: of five characters, and of V
 abbrev pub is_idle : ℕ → Bool → ℕ → Bool
@@ -260,12 +264,39 @@ own_warnings known number this =
     ++ warned_if (never_branches (describe this.body).contents) number warnings.NeverBranches
     ++ warned_if (starts_nothing (describe this.body).addressing) number warnings.StartsNothing
 
+-- a constant is a text with an at sign in it: it goes on to the last one of its line
+abbrev pub holds_at_sign : Option Constant → Bool
+holds_at_sign None = false
+holds_at_sign (Some (constants.Text text)) = list_any is_at_sign (bytes_of text)
+holds_at_sign (Some (constants.Number digits)) = false
+holds_at_sign (Some (constants.Plus digits)) = false
+holds_at_sign (Some (constants.Minus digits)) = false
+holds_at_sign (Some (constants.Blanks count)) = false
+
+abbrev pub has_whole_text : Contents → Bool
+has_whole_text contents.Nothing = false
+has_whole_text (contents.Instruction instruction operands) = false
+has_whole_text (contents.MarkedConstant constant) = holds_at_sign constant
+has_whole_text (contents.Constant constant) = holds_at_sign constant
+has_whole_text (contents.Space places) = false
+has_whole_text (contents.Areas areas) = false
+has_whole_text (contents.Chain chain) = false
+has_whole_text (contents.AddressConstant constant) = false
+
+-- what a line loses, if its text is whole or not
+abbrev pub loss_left : Bool → Option Loss → Option Loss
+loss_left is_whole None = None
+loss_left is_whole (Some losses.Card) = Some losses.Card
+loss_left is_whole (Some losses.Text) = if is_whole then None else Some losses.Text
+loss_left is_whole (Some losses.Column73) = Some losses.Column73
+
 -- the warnings of a statement by where it is and what its line has; a remark may have any text
 abbrev pub place_warnings : List Cell → ℕ → LineFacts → Statement → List Warning
 place_warnings storage number facts this =
     warned_of (read_on storage facts.address (describe this.body).contents) number
     ++ overlap_warned facts.overlap number
-    ++ (if (describe this.body).is_remark then [] else loss_warned facts.loss number)
+    ++ (if (describe this.body).is_remark then []
+    else loss_warned (loss_left (has_whole_text (describe this.body).contents) facts.loss) number)
 
 -- the warnings of a statement on the line of this number
 abbrev pub statement_warnings : Known → List Cell → ℕ → LineFacts → Statement → List Warning
@@ -315,6 +346,6 @@ IsTakenPlain source = first_fault Plain (lines_in Plain source) ≡ None
 abbrev pub AllFitted : List Warning → Type 0
 AllFitted told = All (λ (this : Warning). this.kind ≢ warnings.NotFitted) told
 
--- if the plain language takes a source, none of its warnings tells so
+-- if the plain language takes a source, and cuts no text of it, none of its warnings tells so
 abbrev pub PlainIsCarriedOut : List ℕ → List Warning → Type 0
-PlainIsCarriedOut source told = IsTakenPlain source → AllFitted told
+PlainIsCarriedOut source told = cuts_no_text source ≡ true → IsTakenPlain source → AllFitted told

@@ -1,13 +1,10 @@
 //! What a line loses: all of it, or operands after a text, or after the last column for them.
-ghost use Rattle.std.specs.Prelude.{◌≡◌, ◌≤◌, false, drop, length, take, IfOk, IfErr};
+ghost use Rattle.std.specs.Prelude.{◌≡◌, ◌≤◌, false, drop, length, take};
 ghost use Rattle.std.specs.List.{list_any};
 ghost use Rattle.source_1401.specs.Constant.{is_at_sign};
-ghost use Rattle.symbols_1401.specs.Fault.{IsMemory};
-ghost use Rattle.warnings_1401.specs.Loss.{operand_columns, operands_len, is_cut, goes_on, loss_of, losses_of};
+ghost use Rattle.warnings_1401.specs.Loss.{operand_columns, operands_len, is_cut, goes_on, loss_of};
 
-use source_1401::{is_system_line, split_line};
-use std::alloc::Global;
-use symbols_1401::AsmFault;
+use source_1401::is_system_line;
 
 /// What a line loses.
 #[derive(Clone, Copy, Debug, PartialEq, Eq)]
@@ -60,7 +57,7 @@ fn operands_len(columns: &[u8]) -> usize
 }
 
 /// Whether there is an at sign.
-fn has_at_sign(text: &[u8]) -> bool
+pub(crate) fn has_at_sign(text: &[u8]) -> bool
     ensures { result ≡ list_any is_at_sign text.now }
 {
     text.iter().any(|byte| *byte == b'@')
@@ -84,7 +81,7 @@ fn goes_on(line: &[u8]) -> bool
 }
 
 /// What a line loses.
-fn loss_of(line: &[u8]) -> Option<Loss>
+pub(crate) fn loss_of(line: &[u8]) -> Option<Loss>
     ensures { result ≡ loss_of line.now }
 {
     if is_system_line(line) {
@@ -96,18 +93,4 @@ fn loss_of(line: &[u8]) -> Option<Loss>
     } else {
         None
     }
-}
-
-/// What each line of a source loses.
-pub(crate) fn losses_of(alloc: Global, source: &[u8]) -> Result<Vec<Option<Loss>>, AsmFault>
-    ensures ok { IfOk result (λ losses. losses.items ≡ losses_of source.now) }
-    ensures err { IfErr result IsMemory }
-{
-    let mut losses = Vec::new(alloc);
-    let mut rest = source;
-    while let Some((line, behind)) = split_line(rest) {
-        losses.push(loss_of(line))?;
-        rest = behind;
-    }
-    Ok(losses)
 }

@@ -1,15 +1,13 @@
 //! Places that two lines fill, and phases that are overwritten before they are entered.
-ghost use Rattle.std.specs.Prelude.{◌≡◌, ◌+◌, ◌∷◌, ◌++◌, ◌<◌, ◌≤◌};
-ghost use Rattle.std.specs.Prelude.{◌^◌, [], length, take, slice_index_or, replicate, drop};
-ghost use Rattle.std.specs.Prelude.{◌-◌, IfOk, IfErr, OnOk};
+ghost use Rattle.std.specs.Prelude.{◌≡◌, ◌+◌, ◌-◌, ◌<◌, ◌≤◌, ◌^◌, length, take, slice_index_or, drop};
+ghost use Rattle.std.specs.Prelude.{IfOk, IfErr, OnOk};
 ghost use Rattle.symbols_1401.specs.Fault.{IsMemory};
 ghost use Rattle.warnings_1401.specs.Overlap.{first_filled, with_filler, enters_phase, is_entry_line, entry_from};
-ghost use Rattle.warnings_1401.specs.Overlap.{overlap_at, first_overlap, overlaps_from};
+ghost use Rattle.warnings_1401.specs.Overlap.{overlap_at, first_overlap};
 
 use placing_1401::FilledPlaces;
-use source_1401::{Addressing, Statement};
-use std::alloc::Global;
-use symbols_1401::{AsmFault, KeptLine};
+use source_1401::{Addressing, Line, Statement};
+use symbols_1401::{AsmFault, Lines};
 
 /// A place that two lines fill.
 #[derive(Clone, Copy, Debug, PartialEq, Eq)]
@@ -80,23 +78,23 @@ pub(crate) fn enters_phase(addressing: Addressing) -> bool
 }
 
 /// Whether a line would enter a phase.
-fn is_entry_line(line: &KeptLine) -> bool
+fn is_entry_line(line: &Line) -> bool
     ensures { result ≡ is_entry_line line.now }
 {
-    match line.line().statement {
+    match line.statement {
         Some(Statement { body, .. }) => enters_phase(body.describe().addressing),
         None => false,
     }
 }
 
 /// The number of the first of these lines that would enter a phase, counting them from this one.
-fn entry_from(number: u32, lines: &[KeptLine]) -> Option<u64>
+fn entry_from(number: u32, lines: &Lines<'_>) -> Option<u64>
     requires { length lines.now < 2 ^ 32 }
     ensures { result ≡ entry_from number lines.now }
 {
     let mut at = u64::from(number);
-    for line in lines {
-        if is_entry_line(line) {
+    for i in 0..lines.len() {
+        if is_entry_line(lines.line(i)) {
             return Some(at);
         }
         at += 1;
@@ -105,16 +103,15 @@ fn entry_from(number: u32, lines: &[KeptLine]) -> Option<u64>
 }
 
 /// The lines from the one of this number on.
-fn lines_from(number: u32, lines: &[KeptLine]) -> &[KeptLine]
-    ensures value { result.now ≡ drop (number - 1) lines.now }
-    ensures count { length result.now ≤ length lines.now }
+fn lines_from<'a>(number: u32, lines: &Lines<'a>) -> Lines<'a>
+    ensures value { result ≡ drop (number - 1) lines.now }
+    ensures count { length result ≤ length lines.now }
 {
-    let above = (number as usize).saturating_sub(1);
-    lines.get(above..).unwrap_or(&[])
+    lines.from((number as usize).saturating_sub(1))
 }
 
 /// The overlap at a place, for a line below these.
-fn overlap_at(fillers: &[u32], above: &[KeptLine], place: usize) -> Overlap
+fn overlap_at(fillers: &[u32], above: &Lines<'_>, place: usize) -> Overlap
     requires { length above.now < 2 ^ 32 }
     ensures { result ≡ overlap_at fillers.now above.now place }
 {
@@ -122,14 +119,14 @@ fn overlap_at(fillers: &[u32], above: &[KeptLine], place: usize) -> Overlap
     Overlap {
         place,
         line,
-        entered: entry_from(line, lines_from(line, above)),
+        entered: entry_from(line, &lines_from(line, above)),
     }
 }
 
 /// The first overlap of a line that fills these places, below these lines.
 fn first_overlap(
     fillers: &[u32],
-    above: &[KeptLine],
+    above: &Lines<'_>,
     places: FilledPlaces,
 ) -> Result<Option<Overlap>, AsmFault>
     requires { length above.now < 2 ^ 32 }
@@ -142,61 +139,20 @@ fn first_overlap(
     }
 }
 
-/// Adds the overlap of the line that fills these places, with this many lines above it, and has them filled by it.
-fn put_overlap(
-    overlaps: &mut Vec<Option<Overlap>>,
+/// The overlap of the line that fills these places, with this many lines above it. They are filled by it afterwards.
+pub(crate) fn put_places(
     fillers: &mut [u32],
-    lines: &[KeptLine],
+    lines: &Lines<'_>,
     n: usize,
     places: FilledPlaces,
-) -> Result<(), AsmFault>
+) -> Result<Option<Overlap>, AsmFault>
     requires few { length lines.now < 2 ^ 32 }
     requires line { n < length lines.now }
-    ensures overlaps { OnOk result (overlaps.new.items
-        ≡ overlaps.old.items ++ first_overlap fillers.old (take n lines.now) places ∷ []) }
-    ensures fillers { OnOk result (fillers.new
-        ≡ with_filler (n + 1) places.first places.count fillers.old) }
+    ensures overlap { IfOk result (λ overlap. overlap ≡ first_overlap fillers.old (take n lines.now) places) }
+    ensures fillers { OnOk result (fillers.new ≡ with_filler (n + 1) places.first places.count fillers.old) }
     ensures err { IfErr result IsMemory }
 {
-    let overlap = first_overlap(fillers, &lines[..n], places)?;
-    overlaps.push(overlap)?;
-    put_filler(fillers, places.first, places.count, n as u32 + 1)
-}
-
-/// Adds the overlaps of lines that fill these places.
-fn put_overlaps(
-    overlaps: &mut Vec<Option<Overlap>>,
-    fillers: &mut [u32],
-    lines: &[KeptLine],
-    places: &[FilledPlaces],
-) -> Result<(), AsmFault>
-    requires few { length lines.now < 2 ^ 32 }
-    requires as_many { length places.now ≡ length lines.now }
-    ensures ok { OnOk result (overlaps.new.items
-        ≡ overlaps.old.items ++ overlaps_from lines.now fillers.old 0 places.now) }
-    ensures err { IfErr result IsMemory }
-{
-    for (n, each) in places.iter().enumerate() {
-        put_overlap(overlaps, fillers, lines, n, *each)?;
-    }
-    Ok(())
-}
-
-/// The overlap of each line in core storage of this size, if the lines fill these places.
-pub(crate) fn overlaps_of(
-    alloc: Global,
-    size: u16,
-    lines: &[KeptLine],
-    places: &[FilledPlaces],
-) -> Result<Vec<Option<Overlap>>, AsmFault>
-    requires few { length lines.now < 2 ^ 32 }
-    requires as_many { length places.now ≡ length lines.now }
-    ensures ok { IfOk result (λ overlaps. overlaps.items
-        ≡ overlaps_from lines.now (replicate size 0) 0 places.now) }
-    ensures err { IfErr result IsMemory }
-{
-    let mut overlaps = Vec::new(alloc);
-    let mut fillers = vec![in alloc; 0u32; usize::from(size)]?;
-    put_overlaps(&mut overlaps, &mut fillers, lines, places)?;
-    Ok(overlaps)
+    let overlap = first_overlap(fillers, &lines.above(n), places)?;
+    put_filler(fillers, places.first, places.count, n as u32 + 1)?;
+    Ok(overlap)
 }

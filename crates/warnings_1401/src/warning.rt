@@ -1,37 +1,41 @@
 //! What a source without a fault says and hardly means.
-ghost use Rattle.std.specs.Prelude.{◌≡◌, ◌+◌, ◌<◌, ◌^◌, ◌++◌, length, IfOk, IfErr, OnOk};
+ghost use Rattle.std.specs.Prelude.{◌≡◌, ◌+◌, ◌<◌, ◌^◌, ◌++◌, [], length, replicate, take, IfOk, IfErr, OnOk};
+ghost use Rattle.machine_operations.specs.Operation.{longest_at};
 ghost use Rattle.source_1401.specs.SourceLine.{lines_of};
 ghost use Rattle.source_1401.specs.Statement.{well_formed};
 ghost use Rattle.symbols_1401.specs.Reading.{lines_in};
 ghost use Rattle.symbols_1401.specs.Fault.{IsMemory};
 ghost use Rattle.explanations_1401.specs.Noted.{known_of};
 ghost use Rattle.explanations_1401.specs.Notes.{known_in};
-ghost use Rattle.placing_1401.specs.Filling.{filled, addresses_of};
-ghost use Rattle.placing_1401.specs.Fitted.{is_one_of};
-ghost use Rattle.placing_1401.specs.Placement.{instruction_length};
+ghost use Rattle.placing_1401.specs.Cells.{address_or_zero};
+ghost use Rattle.placing_1401.specs.Filling.{addresses_from, filled, filled_by, filled_from};
+ghost use Rattle.placing_1401.specs.Placement.{instruction_length, placed, placed_after, unplaced};
+ghost use Rattle.placing_1401.specs.View.{places_of};
 ghost use Rattle.warnings_1401.specs.Warnings.{is_unit, is_unfitted, is_unfitted_chain, is_not_fitted, is_unused};
 ghost use Rattle.warnings_1401.specs.Warnings.{tests_comparison, is_unset, branches_unset, is_signed_literal};
-ghost use Rattle.warnings_1401.specs.Warnings.{lone_symbol, stays_unsigned, are_unlike, compares_unlike, longest};
+ghost use Rattle.warnings_1401.specs.Warnings.{lone_symbol, stays_unsigned, are_unlike, compares_unlike, fifth_before};
 ghost use Rattle.warnings_1401.specs.Warnings.{ends, open_place, chain_read_on, read_on, warned_if, warned_of};
-ghost use Rattle.warnings_1401.specs.Warnings.{card_lost, line_warnings, warnings_from, all_warnings};
-ghost use Rattle.warnings_1401.specs.Warnings.{is_of_areas, is_idle, never_branches};
+ghost use Rattle.warnings_1401.specs.Warnings.{card_lost, facts_of, line_warnings, warnings_from, all_warnings};
+ghost use Rattle.warnings_1401.specs.Warnings.{is_of_areas, is_idle, is_one_of, never_branches};
 ghost use Rattle.warnings_1401.specs.Warnings.{may_begin, names_phase, starts_nothing};
+ghost use Rattle.warnings_1401.specs.Warnings.{has_whole_text, holds_at_sign, loss_left};
 ghost use Rattle.warnings_1401.specs.Warnings.{overlap_warned, loss_warned, own_warnings, place_warnings};
-ghost use Rattle.warnings_1401.specs.Loss.{losses_of};
-ghost use Rattle.warnings_1401.specs.Overlap.{overlaps_of};
+ghost use Rattle.warnings_1401.specs.Loss.{loss_of, losses_of};
+ghost use Rattle.warnings_1401.specs.Overlap.{first_overlap, overlaps_from, with_filler};
 ghost use Rattle.warnings_1401.specs.Warnings.{PlainIsCarriedOut};
 
-use crate::loss::{Loss, losses_of};
-use crate::overlap::{Overlap, overlaps_of};
+use crate::loss::{Loss, has_at_sign, loss_of};
+use crate::overlap::{Overlap, put_places};
 use bcd_1401::{Cell, Char};
 use explanations_1401::Notes;
-use placing_1401::{Filling, chain_length, fill, instruction_length, is_fitted};
+use machine_operations::{is_fitted, longest_at};
+use placing_1401::{FilledPlaces, Placing, chain_length, fill, instruction_length, place_all};
 use source_1401::{
     Addressing, AreaRole, Base, Chain, Constant, Contents, Instruction, Label, LabelField,
-    Language, Literal, Operand, OperandField, Operands, Statement,
+    Language, Line, Literal, Operand, OperandField, Operands, Statement, split_line,
 };
 use std::alloc::Global;
-use symbols_1401::{AsmFault, KeptLine, SourceHashing, read_lines};
+use symbols_1401::{AsmFault, Lines, SourceHashing, declared, read_lines};
 
 /// What a line says and hardly means.
 #[derive(Clone, Copy, Debug, PartialEq, Eq)]
@@ -233,13 +237,14 @@ fn compares_unlike(notes: &Notes, contents: Contents) -> bool
     }
 }
 
-/// The most characters that an instruction of this operation has.
-fn longest(operation: u8) -> u32
-    ensures { result ≡ longest operation }
+/// The fifth character of an instruction of this length before a cell: that cell's, or else any but a blank.
+fn fifth_before(length: u32, cell: Cell) -> Char
+    ensures { result ≡ fifth_before length cell }
 {
-    match operation {
-        b',' | b'/' => 7,
-        _ => 8,
+    if length == 4 {
+        cell.char
+    } else {
+        Char::of_digit(1, 0)
     }
 }
 
@@ -247,9 +252,7 @@ fn longest(operation: u8) -> u32
 fn ends(operation: u8, length: u32, cell: Cell) -> bool
     ensures { result ≡ ends operation length cell }
 {
-    cell.mark
-        || length >= longest(operation)
-        || (operation == b'B' && length == 4 && cell.char == Char::BLANK)
+    cell.mark || length >= u32::from(longest_at(operation, fifth_before(length, cell)))
 }
 
 /// The place after an instruction of this length, if it is read on there.
@@ -449,38 +452,26 @@ pub struct LineFacts {
 struct Context {
     /// What they say of labels, and which indicators they can set.
     notes: Notes,
-    /// Core storage as their cells fill it, and where they begin.
-    filling: Filling,
-    /// The overlap of each.
-    overlaps: Vec<Option<Overlap>>,
-    /// What each loses.
-    losses: Vec<Option<Loss>>,
+    /// Core storage as their cells fill it.
+    storage: Vec<Cell>,
 }
 
 impl Context {
-    /// What is known of these lines of a source, for core storage of this size.
-    #[tactic(auto, using(crate::proofs::OverlapLemmas::as_many_filled, crate::proofs::OverlapLemmas::as_many_overlaps))]
-    fn new(alloc: Global, size: u16, source: &[u8], lines: &[KeptLine]) -> Result<Context, AsmFault>
-        requires few { length lines.now < 2 ^ 32 }
+    /// What is known of these lines for core storage of this size, once all is placed.
+    fn new(
+        alloc: Global,
+        all: &Placing<'_>,
+        size: u16,
+        lines: &Lines<'_>,
+    ) -> Result<Context, AsmFault>
+        requires { places_of all.now ≡ placed lines.now }
         ensures notes { IfOk result (λ this. known_of this.notes ≡ known_in lines.now) }
-        ensures storage { IfOk result (λ this. this.filling.storage.items ≡ filled size lines.now) }
-        ensures addresses { IfOk result (λ this. this.filling.addresses.items ≡ addresses_of lines.now) }
-        ensures as_many { IfOk result (λ this. length this.filling.addresses.items ≡ length lines.now) }
-        ensures overlaps { IfOk result (λ this. this.overlaps.items ≡ overlaps_of size lines.now) }
-        ensures losses { IfOk result (λ this. this.losses.items ≡ losses_of source.now) }
+        ensures storage { IfOk result (λ this. this.storage.items ≡ filled size lines.now) }
         ensures err { IfErr result IsMemory }
     {
-        let hashing = SourceHashing::from_source(source);
-        let notes = Notes::new(alloc, hashing, lines)?;
-        let filling = fill(alloc, hashing, size, lines)?;
-        let overlaps = overlaps_of(alloc, size, lines, &filling.places)?;
-        let losses = losses_of(alloc, source)?;
-        Ok(Context {
-            notes,
-            filling,
-            overlaps,
-            losses,
-        })
+        let notes = Notes::new(alloc, all.hashing, lines)?;
+        let storage = fill(alloc, all, size, lines)?;
+        Ok(Context { notes, storage })
     }
 }
 
@@ -524,10 +515,52 @@ fn warn_of_place(
 {
     let row = statement.body.describe();
     let place = read_on(storage, facts.address, row.contents);
-    let loss = if row.is_remark { None } else { facts.loss };
+    let loss = if row.is_remark {
+        None
+    } else {
+        loss_left(has_whole_text(&row.contents), facts.loss)
+    };
     warn_of(warnings, place, number)?;
     warn_of_overlap(warnings, facts.overlap, number)?;
     warn_of_loss(warnings, loss, number)
+}
+
+/// Whether a constant is a text with an at sign in it, which goes on to the last one of its line.
+fn holds_at_sign(constant: &Option<Constant>) -> bool
+    ensures { result ≡ holds_at_sign constant.now }
+{
+    match constant {
+        Some(Constant::Text(text)) => has_at_sign(text.as_slice()),
+        Some(Constant::Number(_) | Constant::Plus(_) | Constant::Minus(_) | Constant::Blanks(_))
+        | None => false,
+    }
+}
+
+/// Whether contents are such a constant.
+fn has_whole_text(contents: &Contents) -> bool
+    ensures { result ≡ has_whole_text contents.now }
+{
+    match contents {
+        Contents::MarkedConstant(constant) | Contents::Constant(constant) => {
+            holds_at_sign(constant)
+        }
+        Contents::Nothing
+        | Contents::Instruction(..)
+        | Contents::Space(_)
+        | Contents::Areas(_)
+        | Contents::Chain(_)
+        | Contents::AddressConstant(_) => false,
+    }
+}
+
+/// What a line loses, if its text is whole or not.
+fn loss_left(is_whole: bool, loss: Option<Loss>) -> Option<Loss>
+    ensures { result ≡ loss_left is_whole loss }
+{
+    match loss {
+        Some(Loss::Text) if is_whole => None,
+        loss => loss,
+    }
 }
 
 /// What a line loses that is read as a comment: all of it, if it is a card for the system.
@@ -546,62 +579,207 @@ fn warn_of_line(
     this: &Context,
     number: u64,
     facts: LineFacts,
-    line: &KeptLine,
+    line: &Line,
 ) -> Result<(), AsmFault>
     ensures ok { OnOk result (warnings.new.items ≡ warnings.old.items
-        ++ line_warnings (known_of this.now.notes) this.now.filling.storage.items number facts line.now) }
+        ++ line_warnings (known_of this.now.notes) this.now.storage.items number facts line.now) }
     ensures err { IfErr result IsMemory }
 {
-    match line.line().statement {
+    match line.statement {
         Some(statement) => {
             warn_of_own(warnings, &this.notes, number, statement)?;
-            warn_of_place(warnings, &this.filling.storage, number, facts, statement)
+            warn_of_place(warnings, &this.storage, number, facts, statement)
         }
         None => warn_of_loss(warnings, card_lost(facts.loss), number),
     }
 }
 
-/// The warnings of lines.
-fn warnings_of(alloc: Global, this: &Context, lines: &[KeptLine]) -> Result<Vec<Warning>, AsmFault>
+/// The warnings of the lines so far.
+#[derive(Drop)]
+struct WarningsSoFar<'a> {
+    /// What is placed so far.
+    so_far: Placing<'a>,
+    /// The numbers of the lines that fill the places of core storage, 0 for none.
+    fillers: Vec<u32>,
+    /// The warnings.
+    warnings: Vec<Warning>,
+}
+
+impl<'a> WarningsSoFar<'a> {
+    /// None, before the first line.
+    fn new(alloc: Global, all: &Placing<'a>, size: u16) -> Result<WarningsSoFar<'a>, AsmFault>
+        ensures placed { IfOk result (λ made. places_of made.so_far ≡ unplaced (places_of all.now)) }
+        ensures fillers { IfOk result (λ made. made.fillers.items ≡ replicate size 0) }
+        ensures warnings { IfOk result (λ made. made.warnings.items ≡ []) }
+        ensures err { IfErr result IsMemory }
+    {
+        let fillers = vec![in alloc; 0u32; usize::from(size)]?;
+        Ok(WarningsSoFar {
+            so_far: Placing::new(alloc, all.hashing, all.chains),
+            fillers,
+            warnings: Vec::new(alloc),
+        })
+    }
+
+    /// What is known of a line of this text by where it is, with this many lines above it and these after it. Its places
+    /// are filled by it afterwards.
+    fn facts(
+        &mut self,
+        alloc: Global,
+        all: &Placing<'a>,
+        lines: &Lines<'_>,
+        n: usize,
+        text: &[u8],
+        line: &Line,
+        behind: &Lines<'_>,
+    ) -> Result<LineFacts, AsmFault>
+        requires few { length lines.now < 2 ^ 32 }
+        requires line { n < length lines.now }
+        ensures facts { IfOk result (λ facts. facts ≡ facts_of (address_or_zero (places_of self.old.so_far).next)
+            (first_overlap self.old.fillers.items (take n lines.now)
+            (filled_by (places_of all.now) (places_of self.old.so_far) line.now behind.now)) (loss_of text.now)) }
+        ensures fillers { OnOk result (self.new.fillers.items ≡ with_filler (n + 1)
+            (filled_by (places_of all.now) (places_of self.old.so_far) line.now behind.now).first
+            (filled_by (places_of all.now) (places_of self.old.so_far) line.now behind.now).count
+            self.old.fillers.items) }
+        ensures same { (self.new.so_far ≡ self.old.so_far) × (self.new.warnings ≡ self.old.warnings) }
+        ensures err { IfErr result IsMemory }
+    {
+        let places = FilledPlaces::of_line(alloc, all, &self.so_far, line, behind)?;
+        let overlap = put_places(&mut self.fillers, lines, n, places)?;
+        Ok(LineFacts {
+            address: self.so_far.address(),
+            overlap,
+            loss: loss_of(text),
+        })
+    }
+
+    /// Adds the warnings of a line of this text, with this many lines above it and these after it, and places it.
+    fn put_line(
+        &mut self,
+        alloc: Global,
+        this: &Context,
+        all: &Placing<'a>,
+        lines: &Lines<'_>,
+        n: usize,
+        text: &[u8],
+        line: &Line,
+        behind: &Lines<'_>,
+    ) -> Result<(), AsmFault>
+        requires few { length lines.now < 2 ^ 32 }
+        requires line { n < length lines.now }
+        ensures warned { OnOk result (self.new.warnings.items ≡ self.old.warnings.items
+            ++ line_warnings (known_of this.now.notes) this.now.storage.items (n + 1)
+            (facts_of (address_or_zero (places_of self.old.so_far).next)
+            (first_overlap self.old.fillers.items (take n lines.now)
+            (filled_by (places_of all.now) (places_of self.old.so_far) line.now behind.now)) (loss_of text.now))
+            line.now) }
+        ensures fillers { OnOk result (self.new.fillers.items ≡ with_filler (n + 1)
+            (filled_by (places_of all.now) (places_of self.old.so_far) line.now behind.now).first
+            (filled_by (places_of all.now) (places_of self.old.so_far) line.now behind.now).count
+            self.old.fillers.items) }
+        ensures placed { OnOk result
+            (places_of self.new.so_far ≡ placed_after (places_of self.old.so_far) line.now) }
+        ensures err { IfErr result IsMemory }
+    {
+        let facts = self.facts(alloc, all, lines, n, text, line, behind)?;
+        warn_of_line(&mut self.warnings, this, n as u64 + 1, facts, line)?;
+        self.so_far.place(line)?;
+        Ok(())
+    }
+
+    /// Adds the warnings of the lines of a source.
+    fn put_lines(
+        &mut self,
+        alloc: Global,
+        this: &Context,
+        all: &Placing<'a>,
+        source: &[u8],
+        lines: &Lines<'_>,
+    ) -> Result<(), AsmFault>
+        requires few { length lines.now < 2 ^ 32 }
+        requires as_many { length lines.now ≡ length (lines_of source.now) }
+        ensures warned { OnOk result (self.new.warnings.items ≡ self.old.warnings.items
+            ++ warnings_from (known_of this.now.notes) this.now.storage.items 1
+            (addresses_from (places_of self.old.so_far) lines.now)
+            (overlaps_from lines.now self.old.fillers.items 0
+            (filled_from (places_of all.now) (places_of self.old.so_far) lines.now))
+            (losses_of source.now) lines.now) }
+        ensures err { IfErr result IsMemory }
+    {
+        let mut sources = source;
+        for i in 0..lines.len() {
+            let Some((text, rest)) = split_line(sources) else {
+                unreachable!()
+            };
+            let behind = lines.behind(i);
+            self.put_line(alloc, this, all, lines, i, text, lines.line(i), &behind)?;
+            sources = rest;
+        }
+        Ok(())
+    }
+
+    /// The warnings so far and those of the lines of a source.
+    fn finish(
+        self,
+        alloc: Global,
+        this: &Context,
+        all: &Placing<'a>,
+        source: &[u8],
+        lines: &Lines<'_>,
+    ) -> Result<Vec<Warning>, AsmFault>
+        requires few { length lines.now < 2 ^ 32 }
+        requires as_many { length lines.now ≡ length (lines_of source.now) }
+        ensures warned { IfOk result (λ warnings. warnings.items ≡ self.entry.warnings.items
+            ++ warnings_from (known_of this.now.notes) this.now.storage.items 1
+            (addresses_from (places_of self.entry.so_far) lines.now)
+            (overlaps_from lines.now self.entry.fillers.items 0
+            (filled_from (places_of all.now) (places_of self.entry.so_far) lines.now))
+            (losses_of source.now) lines.now) }
+        ensures err { IfErr result IsMemory }
+    {
+        let mut made = self;
+        made.put_lines(alloc, this, all, source, lines)?;
+        Ok(made.warnings)
+    }
+}
+
+/// The warnings of the lines of a source for core storage of this size, once all is placed.
+fn warnings_placed(
+    alloc: Global,
+    all: &Placing<'_>,
+    size: u16,
+    source: &[u8],
+    lines: &Lines<'_>,
+) -> Result<Vec<Warning>, AsmFault>
     requires few { length lines.now < 2 ^ 32 }
-    requires addresses { length this.now.filling.addresses.items ≡ length lines.now }
-    requires overlaps { length this.now.overlaps.items ≡ length lines.now }
-    requires losses { length this.now.losses.items ≡ length lines.now }
-    ensures ok { IfOk result (λ warnings. warnings.items ≡ warnings_from (known_of this.now.notes)
-        this.now.filling.storage.items 1 this.now.filling.addresses.items this.now.overlaps.items
-        this.now.losses.items lines.now) }
+    requires as_many { length lines.now ≡ length (lines_of source.now) }
+    requires placed { places_of all.now ≡ placed lines.now }
+    ensures ok { IfOk result (λ warnings. warnings.items ≡ all_warnings size source.now lines.now) }
     ensures err { IfErr result IsMemory }
 {
-    let mut warnings = Vec::new(alloc);
-    let addresses = this.filling.addresses.as_slice();
-    let overlaps = this.overlaps.as_slice();
-    let losses = this.losses.as_slice();
-    for (i, line) in lines.iter().enumerate() {
-        let facts = LineFacts {
-            address: addresses[i],
-            overlap: overlaps[i],
-            loss: losses[i],
-        };
-        warn_of_line(&mut warnings, this, i as u64 + 1, facts, line)?;
-    }
-    Ok(warnings)
+    let this = Context::new(alloc, all, size, lines)?;
+    let made = WarningsSoFar::new(alloc, all, size)?;
+    made.finish(alloc, &this, all, source, lines)
 }
 
 /// The warnings of the lines of a source for core storage of this size.
-#[tactic(auto, using(crate::proofs::OverlapLemmas::as_many_of_all, crate::proofs::OverlapLemmas::as_many_losses))]
 fn warnings_in(
     alloc: Global,
     size: u16,
     source: &[u8],
-    lines: &[KeptLine],
+    lines: &Lines<'_>,
 ) -> Result<Vec<Warning>, AsmFault>
     requires few { length lines.now < 2 ^ 32 }
     requires as_many { length lines.now ≡ length (lines_of source.now) }
     ensures ok { IfOk result (λ warnings. warnings.items ≡ all_warnings size source.now lines.now) }
     ensures err { IfErr result IsMemory }
 {
-    let this = Context::new(alloc, size, source, lines)?;
-    warnings_of(alloc, &this, lines)
+    let hashing = SourceHashing::from_source(source);
+    let symbols = declared(alloc, hashing, Language::Ibm, lines)?;
+    let all = place_all(alloc, hashing, &symbols.chains, lines)?;
+    let warnings = warnings_placed(alloc, &all, size, source, lines)?;
+    Ok(warnings)
 }
 
 /// The warnings of a source in this language for core storage of this size, in the order of its lines, and those of a
@@ -626,6 +804,6 @@ pub fn source_warnings(
     ensures err { IfErr result IsMemory }
 {
     let lines = read_lines(alloc, language, source)?;
-    let warnings = warnings_in(alloc, size, source, &lines)?;
+    let warnings = warnings_in(alloc, size, source, &lines.lend())?;
     Ok(warnings)
 }

@@ -148,9 +148,9 @@ fn entry_and_count(image: &Image) -> (u16, usize) {
 /// Compares an image and the number of lines of a listing with those beside the tables of a source.
 fn expect_beside(rt: &(impl Abort + AllocGlobal), source: &[u8], start: u16, lines: usize) {
     let made = tables_of(rt, source);
-    let found = entry_and_count(&made.assembly.image);
+    let found = entry_and_count(&made.image);
     expect_same(rt, &found, &(start, 1), source);
-    let listed = made.assembly.listing.as_slice().len();
+    let listed = made.listing.iter().filter(|byte| **byte == b'\n').count();
     expect_same(rt, &listed, &lines, source);
 }
 

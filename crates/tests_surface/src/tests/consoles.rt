@@ -5,8 +5,8 @@ use super::assembler::IMAGE;
 use super::{cells_of, expect_same, expect_text};
 use autocoder_1401::read_image;
 use console_1401::{
-    FromReader, Line, LineFault, OpenDoor, ServeFault, Served, SessionEnd, ToWriter, parse_line,
-    put_image, reply_text, serve, session,
+    Failed, FromReader, Line, LineFault, OpenDoor, ServeFault, Served, SessionEnd, Sink, Source,
+    ToWriter, parse_line, put_image, reply_text, serve, session,
 };
 use room_1401::{Answer, Command, Opened, Room, RoomId, SharedRoom};
 use std::io::{Read, Write};
@@ -62,6 +62,24 @@ fn numbers_of_faults_and_ends(rt: HostRuntime) {
 fn the_text_of_an_answer(rt: HostRuntime) {
     let text = reply_text(rt.alloc(), &Answer::Cells(cells_of(&rt, "~0K"))).expect(&rt, "room");
     expect_text(&rt, "reply_text", text.as_slice(), "~0K");
+}
+
+#[test]
+fn a_source_gives_byte_after_byte(rt: HostRuntime) {
+    let mut reader = FromReader::new(b"Q".as_slice());
+    let first = reader.next_byte().expect(&rt, "a byte");
+    let second = reader.next_byte().expect(&rt, "an end");
+    expect_same(&rt, "next_byte", &(first, second), &(Some(b'Q'), None));
+    expect_same(&rt, "has_failed", &Source::has_failed(&reader), &false);
+}
+
+#[test]
+fn a_sink_takes_bytes(rt: HostRuntime) {
+    let mut writer = ToWriter::new(Vec::new(rt.alloc()));
+    let taken: Result<usize, Failed> = writer.put(b"BYE");
+    expect_same(&rt, "put", &taken, &Ok(3));
+    expect_same(&rt, "has_failed", &Sink::has_failed(&writer), &false);
+    expect_text(&rt, "put", writer.into_inner().as_slice(), "BYE");
 }
 
 /// Holds a session in a room, and compares what it wrote.

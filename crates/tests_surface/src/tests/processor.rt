@@ -1,8 +1,10 @@
 //! The processor.
 
-use super::{cell_of, cells_of, expect_same};
+use super::devices::card_of;
+use super::{cell_of, cells_of, char_of, expect_same};
 use core_1401::CoreFault;
 use cpu_1401::{Machine, Ran, Regs, Stop};
+use devices_1401::{PrintLine, ReaderEmpty};
 use std::process::Abort;
 
 /// A machine with 4,000 places and the cells of a text from a place on, which is the next instruction's.
@@ -60,6 +62,35 @@ fn registers_and_switches(rt: HostRuntime) {
     expect_same(&rt, "regs", &machine.regs(), &wanted);
     let fault = Machine::power_on(rt.alloc(), 100).err();
     expect_same(&rt, "power_on", &fault, &Some(CoreFault::Size));
+}
+
+#[test]
+fn the_load_key_reads_a_card(rt: HostRuntime) {
+    let mut machine = Machine::power_on(rt.alloc(), 4_000).expect(&rt, "a machine");
+    expect_same(&rt, "load_key", &machine.load_key(), &Err(ReaderEmpty));
+    expect_same(&rt, "feed", &machine.feed(card_of(&rt, b'A')), &Ok(()));
+    expect_same(&rt, "load_key", &machine.load_key(), &Ok(()));
+    let Regs { i, hopper, .. } = machine.regs();
+    expect_same(&rt, "I and the hopper", &(i, hopper), &(1, 0));
+    for (place, mark) in [(1, true), (2, false), (80, false)] {
+        assert!(rt; machine.core().in_core(place));
+        let cell = cell_of(&rt, b'A', mark);
+        expect_same(&rt, "core", &machine.core().get(place), &cell);
+    }
+}
+
+#[test]
+fn a_line_and_a_card_are_taken(rt: HostRuntime) {
+    let mut machine = machine_with(&rt, 600, "~2~4~.~.");
+    expect_same(&rt, "take_line", &machine.take_line(), &None);
+    expect_same(&rt, "take_card", &machine.take_card(), &None);
+    let (steps, stop) = (3, Stop::Halt);
+    expect_same(&rt, "run", &machine.run(3), &Ran { steps, stop });
+    let (form, line, text) = (1, 1, [char_of(&rt, b' '); 132]);
+    let printed = PrintLine { form, line, text };
+    expect_same(&rt, "take_line", &machine.take_line(), &Some(printed));
+    let punched = Some(card_of(&rt, b' '));
+    expect_same(&rt, "take_card", &machine.take_card(), &punched);
 }
 
 #[test]

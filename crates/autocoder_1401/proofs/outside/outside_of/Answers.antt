@@ -8,5 +8,5 @@ use Rattle.autocoder_1401.proofs.outside.outside_of.Goals as goal
 pub outside_in-requires : goal.outside_in-requires
 outside_in-requires c = record {
   chains = c.in_ok-read.ensures.chains
-      ∙ ap (λ (lines : List Line). chains_of (sites_of lines) lines) (sym c.as_slice-lines.ensures.value);
+      ∙ ap (λ (lines : List Line). chains_of (sites_of lines) lines) (sym c.lend-lines.ensures);
 }

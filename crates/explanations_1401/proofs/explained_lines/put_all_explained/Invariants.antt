@@ -8,14 +8,14 @@ use Rattle.explanations_1401.specs.Explanation.{explained_from}
 use Rattle.explanations_1401.specs.OwnFault.{nothing_before}
 use Rattle.explanations_1401.proofs.explained_lines.put_all_explained.Given as goal
 
-abbrev pub invariant-loop-line : goal.invariant-loop-line
-invariant-loop-line l = record {
+abbrev pub invariant-loop-i : goal.invariant-loop-i
+invariant-loop-i l = record {
   explained : l.explanations.items
       ++ explained_from l.language (symbols_view l.this.symbols) (get same_label l.this.anywhere) l.lines l.before
-      (drop l.line-index l.lines) (lines_of l.sources)
+      (drop l.i l.lines) (lines_of l.sources)
       ≡ l.initial.explanations.items
       ++ explained_from l.language (symbols_view l.this.symbols) (get same_label l.this.anywhere) l.lines nothing_before
       l.lines (lines_of l.source);
-  number : l.before.at.number ≡ l.line-index + 1;
-  left : length (drop l.line-index l.lines) ≡ length (lines_of l.sources);
+  number : l.before.at.number ≡ l.i + 1;
+  left : length (drop l.i l.lines) ≡ length (lines_of l.sources);
 }

@@ -4,6 +4,6 @@ use Rattle.std.specs.List.{list_any}
 use Rattle.explanations_1401.specs.Notes.{has_operation}
 use Rattle.explanations_1401.proofs.notes.have_operation.Given as goal
 
-abbrev pub invariant-loop-line : goal.invariant-loop-line
-invariant-loop-line l =
-    list_any (has_operation l.operation) (drop l.line-index l.lines) ≡ list_any (has_operation l.operation) l.lines
+abbrev pub invariant-loop-i : goal.invariant-loop-i
+invariant-loop-i l =
+    list_any (has_operation l.operation) (drop l.i l.lines) ≡ list_any (has_operation l.operation) l.lines

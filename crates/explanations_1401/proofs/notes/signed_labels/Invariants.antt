@@ -8,7 +8,7 @@ use Rattle.symbols_1401.specs.Symbols.{same_label}
 use Rattle.explanations_1401.specs.Notes.{is_signed_in}
 use Rattle.explanations_1401.proofs.notes.signed_labels.Given as goal
 
-abbrev pub invariant-loop-line : goal.invariant-loop-line
-invariant-loop-line l =
-    (label : Label) → (contains same_label l.labels label || list_any (is_signed_in label) (drop l.line-index l.lines))
+abbrev pub invariant-loop-i : goal.invariant-loop-i
+invariant-loop-i l =
+    (label : Label) → (contains same_label l.labels label || list_any (is_signed_in label) (drop l.i l.lines))
     ≡ list_any (is_signed_in label) l.lines

@@ -7,11 +7,11 @@ use Rattle.explanations_1401.specs.ToldFaults.{faults_from}
 use Rattle.explanations_1401.specs.OwnFault.{nothing_before}
 use Rattle.explanations_1401.proofs.told_faults.put_faults.Given as goal
 
-abbrev pub invariant-loop-line : goal.invariant-loop-line
-invariant-loop-line l = record {
+abbrev pub invariant-loop-i : goal.invariant-loop-i
+invariant-loop-i l = record {
   told : l.faults.items
-      ++ faults_from (symbols_view l.symbols) (get same_label l.anywhere) l.before (drop l.line-index l.lines)
+      ++ faults_from (symbols_view l.symbols) (get same_label l.anywhere) l.before (drop l.i l.lines)
       ≡ l.initial.faults.items
       ++ faults_from (symbols_view l.symbols) (get same_label l.anywhere) nothing_before l.lines;
-  number : l.before.at.number ≡ l.line-index + 1;
+  number : l.before.at.number ≡ l.i + 1;
 }

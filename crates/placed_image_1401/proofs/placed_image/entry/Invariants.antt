@@ -4,5 +4,5 @@ use Rattle.placing_1401.specs.PlacedImage.{entry_in}
 use Rattle.placing_1401.specs.View.{places_of}
 use Rattle.placed_image_1401.proofs.placed_image.entry.Given as goal
 
-abbrev pub invariant-loop-line : goal.invariant-loop-line
-invariant-loop-line l = entry_in (places_of l.all) (drop l.line-index l.lines) ≡ entry_in (places_of l.all) l.lines
+abbrev pub invariant-loop-i : goal.invariant-loop-i
+invariant-loop-i l = entry_in (places_of l.all) (drop l.i l.lines) ≡ entry_in (places_of l.all) l.lines

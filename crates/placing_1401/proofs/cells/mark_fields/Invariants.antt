@@ -4,7 +4,7 @@ use Rattle.std.specs.Prelude.{fold}
 use Rattle.placing_1401.specs.Cells.{with_field, fields_behind}
 use Rattle.placing_1401.proofs.cells.mark_fields.Given as goal
 
-abbrev pub invariant-loop-line : goal.invariant-loop-line
-invariant-loop-line l =
-    fold with_field l.area (fields_behind (drop l.line-index l.lines))
+abbrev pub invariant-loop-i : goal.invariant-loop-i
+invariant-loop-i l =
+    fold with_field l.area (fields_behind (drop l.i l.lines))
     ≡ fold with_field l.initial.area (fields_behind l.lines)

@@ -1,5 +1,5 @@
 -- What is read, and what is left to read below it, are all lines; and so are their labels.
-use Rattle.std.proofs.Common.{◌≡◌, ◌++◌, ◌<◌, ◌^◌, map, length, vec_len}
+use Rattle.std.proofs.Common.{◌≡◌, ◌++◌, ◌<◌, ◌^◌, map, length}
 use Rattle.std.specs.Prelude.{fold}
 use Rattle.source_1401.specs.Context.{nothing_above, with_context, registers_and, registers_of}
 use Rattle.source_1401.specs.Language.{line_in}
@@ -9,11 +9,11 @@ use Rattle.symbols_1401.proofs.reading.read_in_context.Given as goal
 
 abbrev pub invariant-loop-text : goal.invariant-loop-text
 invariant-loop-text l = record {
-  lines : l.lines.items ++ with_context l.context (map (line_in Ibm) (lines_of l.rest))
+  lines : l.lines ++ with_context l.context (map (line_in Ibm) (lines_of l.rest))
       ≡ with_context nothing_above (map (line_in Ibm) (lines_of l.source));
   registers : fold registers_and l.registers (with_context l.context (map (line_in Ibm) (lines_of l.rest)))
       ≡ registers_of (with_context nothing_above (map (line_in Ibm) (lines_of l.source)));
-  few : vec_len l.lines < 2 ^ 32;
+  few : length l.lines < 2 ^ 32;
 }
 
 abbrev pub decreases-loop-text : goal.decreases-loop-text

@@ -7,5 +7,5 @@ use Rattle.symbols_1401.proofs.reading.read_lines.Goals as goal
 
 pub returns-clause-as_many : goal.returns-clause-as_many
 returns-clause-as_many c =
-    let same : c.match-language.lines.items ≡ lines_said c.args.language (lines_of c.args.source.now) = search rules in
+    let same : c.match-language.lines ≡ lines_said c.args.language (lines_of c.args.source.now) = search rules in
     ap length same ∙ as_many_said c.args.language (lines_of c.args.source.now)

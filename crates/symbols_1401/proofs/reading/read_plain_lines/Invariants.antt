@@ -1,12 +1,12 @@
 -- What is read, and what is left to read, are all lines.
-use Rattle.std.proofs.Common.{◌≡◌, ◌++◌, ◌<◌, ◌^◌, map, length, vec_len}
+use Rattle.std.proofs.Common.{◌≡◌, ◌++◌, ◌<◌, ◌^◌, map, length}
 use Rattle.source_1401.specs.SourceLine.{lines_of}
 use Rattle.source_1401.specs.Statement.{line_of}
 use Rattle.symbols_1401.proofs.reading.read_plain_lines.Given as goal
 
 abbrev pub invariant-loop-line : goal.invariant-loop-line
 invariant-loop-line l =
-    (l.lines.items ++ map line_of (lines_of l.rest) ≡ map line_of (lines_of l.source)) × (vec_len l.lines < 2 ^ 32)
+    (l.lines ++ map line_of (lines_of l.rest) ≡ map line_of (lines_of l.source)) × (length l.lines < 2 ^ 32)
 
 abbrev pub decreases-loop-line : goal.decreases-loop-line
 decreases-loop-line l = length l.rest

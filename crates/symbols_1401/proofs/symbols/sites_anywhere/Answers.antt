@@ -1,20 +1,20 @@
 -- The line is noted, and those after it are left.
-use Rattle.std.proofs.Common.{◌+◌, List, drop, ap, ◌∙◌, arith}
+use Rattle.std.proofs.Common.{◌+◌, List, drop, sym, ap, ◌∙◌, arith}
 use Rattle.std.specs.Option.{option_or}
 use Rattle.std.proofs.lemmas.List.{drop_all}
 use Rattle.indexmap.specs.IndexMap.{get}
 use Rattle.source_1401.specs.declared.statement.Line.{Line}
 use Rattle.symbols_1401.specs.Symbols.{same_label, first_from, sites_anywhere}
-use Rattle.symbols_1401.proofs.SymbolsLemmas.{line_noted, line_of_rest, none_left}
+use Rattle.symbols_1401.proofs.SymbolsLemmas.{line_noted, none_left}
 use Rattle.symbols_1401.proofs.symbols.sites_anywhere.Goals as goal
 
 pub loop-i-preserved : goal.loop-i-preserved
 loop-i-preserved c = λ label.
     let rest : List Line = drop (c.loop-i.i + 1) c.args.lines.now in
-    line_noted c.loop-i.sites c.note_line.new.sites (c.loop-i.i + 1) c.index-lines-i.result rest label
+    line_noted c.loop-i.sites c.note_line.new.sites (c.loop-i.i + 1) c.line-line.result.now rest label
     (c.in_ok-note_line.ensures.noted label)
     ∙ ap (λ (lines : List Line). option_or (get same_label c.loop-i.sites label) (first_from (c.loop-i.i + 1) lines label))
-    (line_of_rest c.args.lines.now c.loop-i.i c.index-lines-i.result c.loop-i-test.true c.index-lines-i.is)
+    (sym c.line-line.ensures.rest)
     ∙ c.loop-i.invariant label
 
 pub returns-clause-lines : goal.returns-clause-lines

@@ -6,19 +6,19 @@ use Rattle.indexmap.specs.IndexMap.{get}
 use Rattle.source_1401.specs.Statement.{is_end}
 use Rattle.source_1401.specs.declared.statement.Line.{Line}
 use Rattle.symbols_1401.specs.Symbols.{same_label, first_from, sites_of, up_to_end}
-use Rattle.symbols_1401.proofs.SymbolsLemmas.{goes_on, line_noted, line_of_rest, none_left}
+use Rattle.symbols_1401.proofs.SymbolsLemmas.{goes_on, line_noted, none_left}
 use Rattle.symbols_1401.proofs.symbols.sites_of.Goals as goal
 
 pub loop-i-preserved : goal.loop-i-preserved
 loop-i-preserved c = λ label.
-    let line : Line = c.index-lines-i.result in
+    let line : Line = c.line-line.result.now in
     let rest : List Line = drop (c.loop-i.i + 1) c.args.lines.now in
     line_noted c.loop-i.sites c.note_line.new.sites (c.loop-i.i + 1) line (up_to_end rest) label
     (c.in_ok-note_line.ensures.noted label)
     ∙ ap (λ (lines : List Line). option_or (get same_label c.loop-i.sites label) (first_from (c.loop-i.i + 1) lines label))
-    (goes_on line rest (ap is_end (sym c.line.ensures) ∙ sym c.is_end.ensures ∙ c.if-is_end.false)
+    (goes_on line rest (sym c.is_end.ensures ∙ c.if-is_end.false)
     ∙ ap up_to_end
-    (line_of_rest c.args.lines.now c.loop-i.i line c.loop-i-test.true c.index-lines-i.is))
+    (sym c.line-line.ensures.rest))
     ∙ c.loop-i.invariant label
 
 pub returns-clause-lines : goal.returns-clause-lines

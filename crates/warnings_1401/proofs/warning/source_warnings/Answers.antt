@@ -7,7 +7,7 @@ use Rattle.warnings_1401.proofs.warning.source_warnings.Goals as goal
 pub returns-clause-ok : goal.returns-clause-ok
 returns-clause-ok c =
     c.in_ok-warnings.ensures.ok
-    ∙ ap (all_warnings c.args.size c.args.source.now) (c.deref.ensures.value ∙ c.in_ok-lines.ensures.lines)
+    ∙ ap (all_warnings c.args.size c.args.source.now) (c.lend.ensures ∙ c.in_ok-lines.ensures.lines)
 
 pub returns-clause-carried_out : goal.returns-clause-carried_out
 returns-clause-carried_out c =

@@ -7,4 +7,4 @@ use Rattle.faults_1401.proofs.faultless.FaultlessLines.read.Goals as goal
 
 pub returns-clause-chains : goal.returns-clause-chains
 returns-clause-chains c =
-    c.in_ok-chains.ensures.ok ∙ ap (λ (lines : List Line). chains_of (sites_of lines) lines) c.deref.ensures.value
+    c.in_ok-chains.ensures.ok ∙ ap (λ (lines : List Line). chains_of (sites_of lines) lines) c.lend.ensures

@@ -5,7 +5,7 @@ use Rattle.placing_1401.specs.Placement.{placed_after}
 use Rattle.placing_1401.specs.View.{places_of}
 use Rattle.placing_1401.proofs.placing.Placing.place_each.Given as goal
 
-abbrev pub invariant-loop-line : goal.invariant-loop-line
-invariant-loop-line l =
-    fold placed_after (places_of l.self) (drop l.line-index l.lines)
+abbrev pub invariant-loop-i : goal.invariant-loop-i
+invariant-loop-i l =
+    fold placed_after (places_of l.self) (drop l.i l.lines)
     ≡ fold placed_after (places_of l.initial.self) l.lines

@@ -1,0 +1,110 @@
+//! The text of a source's listing.
+ghost use Rattle.std.specs.Prelude.{◌≡◌, ◌<◌, ◌^◌, ◌⊎◌, length, None, Some, Ok, Err, IfOk, IfErr, OnOk};
+ghost use Rattle.source_1401.specs.SourceLine.{lines_of};
+ghost use Rattle.symbols_1401.specs.Chains.{chains_of};
+ghost use Rattle.symbols_1401.specs.Fault.{IsMemory};
+ghost use Rattle.symbols_1401.specs.Symbols.{sites_of};
+ghost use Rattle.symbols_1401.specs.View.{chains_view};
+ghost use Rattle.placing_1401.specs.Laws.{IsFirstOutside};
+ghost use Rattle.placing_1401.specs.Placement.{placed};
+ghost use Rattle.placing_1401.specs.Values.{first_outside};
+ghost use Rattle.placing_1401.specs.View.{places_of};
+ghost use Rattle.listing_1401.specs.Listing.{listing_of, listing_text, listing_with};
+ghost use Rattle.autocoder_1401.specs.Assembly.{assembly_in, assembly_of};
+ghost use Rattle.autocoder_1401.specs.Languages.{AgreesWithPlain};
+
+use faults_1401::FaultlessLines;
+use listing_1401::listing_text;
+use placed_image_1401::make_image;
+use placing_1401::{Placing, place_all};
+use source_1401::Language;
+use std::alloc::Global;
+use symbols_1401::{AsmFault, Chains, Lines, SourceHashing};
+
+/// Looks whether all of lines is in core storage of this size, once all is placed.
+fn check_places(
+    alloc: Global,
+    all: &Placing<'_>,
+    lines: &Lines<'_>,
+    size: u16,
+) -> Result<(), AsmFault>
+    requires few { length lines.now < 2 ^ 32 }
+    requires placed { places_of all.now ≡ placed lines.now }
+    ensures inside { OnOk result (first_outside size lines.now ≡ None) }
+    ensures outside { IfErr result (λ fault. IsMemory fault
+        ⊎ ((first_outside size lines.now ≡ Some fault) × IsFirstOutside size lines.now fault)) }
+{
+    let _image = make_image(alloc, all, lines, size)?;
+    Ok(())
+}
+
+/// The text of the listing of the lines of this source, once all is placed.
+fn placed_listing(
+    alloc: Global,
+    all: &Placing<'_>,
+    source: &[u8],
+    lines: &Lines<'_>,
+    size: u16,
+) -> Result<Vec<u8>, AsmFault>
+    requires as_many { length lines.now ≡ length (lines_of source.now) }
+    requires few { length lines.now < 2 ^ 32 }
+    requires placed { places_of all.now ≡ placed lines.now }
+    ensures text { IfOk result (λ text. text.items ≡ listing_text (listing_with lines.now (lines_of source.now))) }
+    ensures inside { OnOk result (first_outside size lines.now ≡ None) }
+    ensures outside { IfErr result (λ fault. IsMemory fault
+        ⊎ ((first_outside size lines.now ≡ Some fault) × IsFirstOutside size lines.now fault)) }
+{
+    check_places(alloc, all, lines, size)?;
+    let text = listing_text(alloc, all, source, lines)?;
+    Ok(text)
+}
+
+/// The text of the listing of the lines of this source, which have no fault.
+fn faultless_listing(
+    alloc: Global,
+    hashing: SourceHashing,
+    chains: &Chains,
+    source: &[u8],
+    lines: &Lines<'_>,
+    size: u16,
+) -> Result<Vec<u8>, AsmFault>
+    requires as_many { length lines.now ≡ length (lines_of source.now) }
+    requires few { length lines.now < 2 ^ 32 }
+    requires chains { chains_view chains.now ≡ chains_of (sites_of lines.now) lines.now }
+    ensures text { IfOk result (λ text. text.items ≡ listing_text (listing_with lines.now (lines_of source.now))) }
+    ensures inside { OnOk result (first_outside size lines.now ≡ None) }
+    ensures outside { IfErr result (λ fault. IsMemory fault
+        ⊎ ((first_outside size lines.now ≡ Some fault) × IsFirstOutside size lines.now fault)) }
+{
+    let all = place_all(alloc, hashing, chains, lines)?;
+    placed_listing(alloc, &all, source, lines, size)
+}
+
+/// The text of the listing of a source in this language: the lines of that of `assemble_in`, each with its line feed, in
+/// less memory.
+///
+/// # Errors
+///
+/// As `assemble_in`.
+#[tactic(auto, using(crate::proofs::LanguagesLemmas::agrees_with_plain))]
+pub fn assemble_listing(
+    alloc: Global,
+    language: Language,
+    source: &[u8],
+    size: u16,
+) -> Result<Vec<u8>, AsmFault>
+    // The text of the listing of a source that assembles.
+    ensures text { IfOk result (λ text. text.items ≡ listing_text (listing_of language (lines_of source.now))) }
+    ensures assembled { OnOk result (assembly_in language size source.now ≡ Ok (assembly_of language size source.now)) }
+
+    // What the plain language takes means the same in each language.
+    ensures plain { AgreesWithPlain language size source.now }
+
+    // Or its first fault, unless memory is refused.
+    ensures fault { IfErr result (λ fault. IsMemory fault ⊎ (assembly_in language size source.now ≡ Err fault)) }
+{
+    let read = FaultlessLines::read(alloc, language, source)?;
+    let lines = read.lines.lend();
+    let text = faultless_listing(alloc, read.hashing, &read.chains, source, &lines, size)?;
+    Ok(text)
+}

@@ -1,0 +1,108 @@
+//! The image of a source with the rows of its listing.
+ghost use Rattle.std.specs.Prelude.{◌≡◌, ◌<◌, ◌^◌, ◌⊎◌, length, None, Some, true, IfOk, IfErr, OnOk};
+ghost use Rattle.core_1401.specs.Storage.{is_core_size};
+ghost use Rattle.image_1401.specs.Image.{IsInCore};
+ghost use Rattle.symbols_1401.specs.Chains.{chains_of};
+ghost use Rattle.symbols_1401.specs.Fault.{IsMemory, Gives};
+ghost use Rattle.symbols_1401.specs.Reading.{lines_in};
+ghost use Rattle.symbols_1401.specs.Symbols.{sites_of};
+ghost use Rattle.symbols_1401.specs.View.{chains_view};
+ghost use Rattle.placing_1401.specs.Laws.{IsFirstOutside};
+ghost use Rattle.placing_1401.specs.PlacedImage.{image_of};
+ghost use Rattle.placing_1401.specs.Placement.{placed};
+ghost use Rattle.placing_1401.specs.Values.{first_outside};
+ghost use Rattle.placing_1401.specs.View.{places_of};
+ghost use Rattle.listing_1401.specs.Rows.{rows_of};
+ghost use Rattle.autocoder_1401.specs.Assembly.{assembly_in, with_listing};
+ghost use Rattle.autocoder_1401.specs.Languages.{AgreesWithPlain};
+ghost use Rattle.autocoder_1401.specs.declared.rows.AssemblyRows.{AssemblyRows as Made};
+
+use faults_1401::FaultlessLines;
+use image_1401::Image;
+use listing_1401::{Rows, make_rows};
+use placed_image_1401::make_image;
+use placing_1401::{Placing, place_all};
+use source_1401::Language;
+use std::alloc::Global;
+use symbols_1401::{AsmFault, Chains, Lines, SourceHashing};
+
+/// The image of a source, and the rows of its listing that have an address.
+#[derive(Debug, Drop)]
+pub struct AssemblyRows {
+    /// The core image.
+    pub image: Image,
+    /// The rows.
+    pub rows: Rows,
+}
+
+/// The image and the rows of lines, once all is placed.
+fn make_assembly_rows(
+    alloc: Global,
+    all: &Placing<'_>,
+    lines: &Lines<'_>,
+    size: u16,
+) -> Result<AssemblyRows, AsmFault>
+    requires few { length lines.now < 2 ^ 32 }
+    requires placed { places_of all.now ≡ placed lines.now }
+    ensures image { IfOk result (λ made. made.image ≡ image_of size lines.now) }
+    ensures rows { IfOk result (λ made. made.rows ≡ rows_of lines.now) }
+    ensures inside { OnOk result (first_outside size lines.now ≡ None) }
+    ensures outside { IfErr result (λ fault. IsMemory fault
+        ⊎ ((first_outside size lines.now ≡ Some fault) × IsFirstOutside size lines.now fault)) }
+{
+    let image = make_image(alloc, all, lines, size)?;
+    let rows = make_rows(alloc, all, lines)?;
+    Ok(AssemblyRows { image, rows })
+}
+
+/// The image and the rows of lines without a fault.
+fn faultless_rows(
+    alloc: Global,
+    hashing: SourceHashing,
+    chains: &Chains,
+    lines: &Lines<'_>,
+    size: u16,
+) -> Result<AssemblyRows, AsmFault>
+    requires few { length lines.now < 2 ^ 32 }
+    requires chains { chains_view chains.now ≡ chains_of (sites_of lines.now) lines.now }
+    ensures image { IfOk result (λ made. made.image ≡ image_of size lines.now) }
+    ensures rows { IfOk result (λ made. made.rows ≡ rows_of lines.now) }
+    ensures inside { OnOk result (first_outside size lines.now ≡ None) }
+    ensures outside { IfErr result (λ fault. IsMemory fault
+        ⊎ ((first_outside size lines.now ≡ Some fault) × IsFirstOutside size lines.now fault)) }
+{
+    let all = place_all(alloc, hashing, chains, lines)?;
+    make_assembly_rows(alloc, &all, lines, size)
+}
+
+/// The core image of a source in this language, as `assemble_image` answers it, with the rows of its listing that have
+/// an address. They say which line placed cells, and take less memory than the listing.
+///
+/// # Errors
+///
+/// As `assemble_in`.
+#[tactic(auto, using(crate::proofs::LanguagesLemmas::agrees_with_plain))]
+pub fn assemble_rows(
+    alloc: Global,
+    language: Language,
+    source: &[u8],
+    size: u16,
+) -> Result<AssemblyRows, AsmFault>
+    // With the listing of the source it is what `assemble_in` makes, or the first fault, unless memory is refused.
+    ensures exact { Gives (λ (made : Made). with_listing language source.now made.image) result
+        (assembly_in language size source.now) }
+
+    // What the plain language takes means the same in each language.
+    ensures plain { AgreesWithPlain language size source.now }
+
+    // The rows of the lines.
+    ensures rows { IfOk result (λ made. made.rows ≡ rows_of (lines_in language source.now)) }
+
+    // All of the image is in core.
+    ensures in_core { is_core_size size ≡ true → IfOk result (λ made. IsInCore made.image) }
+{
+    let read = FaultlessLines::read(alloc, language, source)?;
+    let lines = read.lines.lend();
+    let made = faultless_rows(alloc, read.hashing, &read.chains, &lines, size)?;
+    Ok(made)
+}

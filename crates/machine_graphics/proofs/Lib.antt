@@ -1,0 +1,2 @@
+mod GraphicsExamples
+pub mod GraphicsLemmas

@@ -1,0 +1,2 @@
+pub mod Graphics
+pub mod Suggestion

@@ -1,0 +1,200 @@
+"""Rooms that follow each other: by a key of a page, after idle minutes, and before a journal is full."""
+import threading
+import time
+
+from tests.support import SECONDS, ProgramTest, program, status, wait_until
+
+# The text of a card.
+CARD = "HELLO FROM AN IBM 1401"
+# An idle room, and a notice, have a minute; and how long after that a new room may take.
+MINUTE = 60
+LATE = 30
+# A journal with this many entries is nearly full.
+NEARLY_FULL = 95_000
+
+
+class Renewal(ProgramTest):
+    """Tests of rooms with --renew-after."""
+
+    def rooms(self, *words, seats=1, minutes=1, **how):
+        """A room with pages and consoles that new ones follow."""
+        return self.room("serve", "--renew-after", minutes, *words, seats=seats, pages=True, **how)
+
+    def deck(self):
+        """The name of a deck of one card."""
+        deck = self.folder / "hello.deck"
+        deck.write_text(f"{CARD}\n")
+        return deck
+
+    def ask_anew(self, room, seat=1, **fields):
+        """The status and the text of the answer to a request for a new room, from the page of a seat."""
+        return room.ask(seat, "POST", "/renewal", "", {"Origin": room.address(seat), **fields})
+
+    def when(self, room, seat=1):
+        """What a page is answered that asks when a new room follows."""
+        return room.ask(seat, path="/renewal")[1]
+
+    def follows(self, name, room, made, journal=1):
+        """A subtest: soon a picture of seat 1 shows a machine of a new room, in which it made this many commands."""
+        soon = wait_until(lambda: room.made() == made, SECONDS)
+        self.check(name, "" if soon else f"seat 1 has made {room.made()} commands, not {made}, after journal {journal}")
+
+
+class ByKey(Renewal):
+    """A page asks for a new room."""
+
+    def test_a_new_room_has_the_cards_and_a_journal_of_its_own(self):
+        first, second = (self.folder / name for name in ("day.journal", "day.journal.2"))
+        room = self.rooms("--journal", first, "--cards", self.deck(), seats=2)
+        self.same("a line is carried out", room.give(1, 1, b"DEPOSIT 0700 ~2"), (200, b"OK\n"))
+        self.same("another seat asks", self.ask_anew(room, 2), (200, b"RENEWAL IN 0\n"))
+        self.follows("the card is fed again, and nothing else was done", room, 1)
+        picture = room.ask(1, path="/picture?core=0700&paper=0")[1]
+        self.check("what was deposited is gone", "" if b"\n" + b" " * 40 + b"\n" in picture else str(picture))
+        self.check("the hopper has the card", "" if f"\nHOPPER {CARD}\n".encode() in picture else str(picture))
+        self.same("a line goes on from there", room.give(1, 1, b"EXAMINE 0700 1"), (200, b" \n"))
+        ended = room.end()
+        self.expect("both rooms", ended, 0, f"{room.ready}JOURNAL 2\nROOM 2\nJOURNAL 2\n")
+        fed = f"1\t1\tFEED {CARD}\tOK\n"
+        self.holds("the first journal", first, f"JOURNAL1 4000\n{fed}2\t1\tDEPOSIT 0700 ~2\tOK\n")
+        self.holds("the second journal", second, f"JOURNAL1 4000\n{fed}2\t1\tEXAMINE 0700 1\t \n")
+        for journal in first, second:
+            self.expect(f"{journal.name} is legal", program("journal", "--check", journal), 0, "2 entries\n")
+
+    def test_consoles_end_with_their_room_and_come_again(self):
+        room = self.rooms(seats=2)
+        with room.console() as console:
+            self.same("a console deposits", console.say(b"DEPOSIT 0700 ~2\n"), b"OK\n")
+            self.same("the page of the other seat asks", self.ask_anew(room, 2)[0], 200)
+            self.same("the console ends", console.hear(), b"")
+        self.follows("the new room", room, 0)
+        again, reply = room.seated(b"EXAMINE 0700 1\n")
+        again.close()
+        self.same("and its operator comes into the new room", reply, b" \n")
+        self.expect("both rooms", room.end(), 0, f"{room.ready}JOURNAL 1\nROOM 2\nJOURNAL 1\n")
+
+    def test_rooms_follow_each_other_ten_times_and_quit_ends_the_last(self):
+        room = self.rooms()
+        for number in range(1, 11):
+            self.same(f"a line in room {number}", room.give(1, 0, b"DEPOSIT 0700 ~2"), (200, b"OK\n"))
+            self.same(f"room {number} is asked to end", self.ask_anew(room)[0], 200)
+            self.follows(f"room {number + 1}", room, 0)
+        settled = wait_until(lambda: room.handles() < 16)
+        self.check("no handle is left of the rooms before", "" if settled else f"there are {room.handles()}")
+        texts = "".join(f"JOURNAL 1\nROOM {number}\n" for number in range(2, 12))
+        self.expect("all rooms", room.end(), 0, f"{room.ready}{texts}JOURNAL 0\n")
+
+    def test_a_name_that_is_taken_is_passed_over(self):
+        kept = self.folder / "day.journal"
+        (self.folder / "day.journal.2").write_text("a diary\n")
+        room = self.rooms("--journal", kept)
+        self.same("a line in the first room", room.give(1, 0, b"START 1"), (200, b"OK\n"))
+        self.same("a new room is asked for", self.ask_anew(room)[0], 200)
+        self.follows("the new room", room, 0)
+        self.same("a line there", room.give(1, 0, b"DEPOSIT 0700 ~2"), (200, b"OK\n"))
+        self.expect("both rooms", room.end(), 0, f"{room.ready}JOURNAL 1\nROOM 2\nJOURNAL 1\n")
+        self.holds("what was there stays", self.folder / "day.journal.2", "a diary\n")
+        self.holds("the next name is taken", self.folder / "day.journal.3",
+                   "JOURNAL1 4000\n1\t1\tDEPOSIT 0700 ~2\tOK\n")
+
+    def test_a_hold_keeps_a_new_room_off(self):
+        room = self.rooms(seats=2)
+        self.same("a line", room.give(1, 0, b"FEED CARD"), (200, b"OK\n"))
+        self.same("seat 1 holds the machine", room.ask(1, "POST", "/hold", "", {"Origin": room.address()})[0], 200)
+        kept_off, text = self.ask_anew(room, 2)
+        self.same("seat 2 asks for a new room", (kept_off, text.split(b" FOR ")[0]), (423, b"HOLD 1"))
+        self.same("the machine is there", room.made(), 1)
+        self.same("the holder asks for one", self.ask_anew(room), (200, b"RENEWAL IN 0\n"))
+        self.follows("it follows", room, 0)
+        self.same("nobody holds its machine", room.ask(2, path="/hold"), (200, b"HOLD FREE\nLAST NONE\nTAKEN\nBEGAN PLAIN\n"))
+
+    def test_without_the_option_no_page_asks_for_a_room(self):
+        room = self.room("serve", seats=1, pages=True)
+        self.same("a line", room.give(1, 0, b"DEPOSIT 0700 ~2"), (200, b"OK\n"))
+        for name, asked in ("when", room.ask(1, path="/renewal")), ("a new one", self.ask_anew(room)):
+            self.same(name, asked, (200, b"RENEWAL OFF\n"))
+        time.sleep(1)
+        self.same("the room goes on", room.made(), 1)
+        self.ended(room, "the room", 1)
+
+
+class Requests(Renewal):
+    """Which requests a page may make about a new room."""
+
+    def test_a_request_that_is_refused_asks_for_nothing(self):
+        room = self.rooms()
+        own, foreign = {"Origin": room.address()}, {"Origin": "http://museum.example"}
+        for name, method, fields, wanted in [
+            ("of nobody", "POST", {}, 403), ("of another page", "POST", foreign, 403),
+            ("of a page of another room", "POST", {**own, "X-1401-Room": "0" * 16}, 409),
+            ("by another method", "PUT", own, 405),
+        ]:
+            self.same(name, room.ask(1, method, "/renewal", "" if method == "POST" else None, fields), (wanted, b""))
+        foreign = room.ask(1, "POST", "/renewal", "", {**own, "Host": "museum.example"})
+        self.same("to another host", foreign, (403, room.elsewhere().encode()))
+        twice = f"Host: 127.0.0.1:{room.page}\r\nOrigin: {room.address()}\r\nOrigin: {room.address()}\r\n"
+        with room.connect() as connection:
+            connection.sendall(f"POST /renewal HTTP/1.1\r\n{twice}Content-Length: 0\r\n\r\n".encode())
+            self.same("with two origins", status(connection.hear()), 400)
+        self.same("no new room follows", self.when(room), b"RENEWAL ON\n")
+        self.ended(room, "the room", 0)
+
+    def test_neither_question_takes_the_seat(self):
+        room = self.rooms()
+        self.same("a page asks when", self.when(room), b"RENEWAL ON\n")
+        with room.console() as console:
+            self.same("a console has the seat", console.say(b"EXAMINE 1\n"), b" \n")
+            self.same("and the page is answered meanwhile", self.when(room), b"RENEWAL ON\n")
+        self.ended(room, "the room", 1)
+
+
+class ByTime(Renewal):
+    """Idle minutes, and a minute's notice: both tests wait for a minute, at the same time."""
+
+    def test_an_idle_room_is_followed_and_a_nearly_full_one_after_a_notice(self):
+        idle, untouched, full = self.rooms(), self.rooms("--cards", self.deck()), self.rooms(minutes=60)
+        self.same("a command is given", idle.give(1, 0, b"DEPOSIT 0700 ~2"), (200, b"OK\n"))
+        begun = time.monotonic()
+        self.fill(full)
+        notice = self.when(full)
+        self.check("a notice is given", "" if notice in (b"RENEWAL IN 60\n", b"RENEWAL IN 59\n", b"RENEWAL IN 58\n")
+                   else repr(notice))
+        self.same("the machine goes on meanwhile", full.give(1, NEARLY_FULL, b"EXAMINE 1"), (200, b" \n"))
+        self.lasts("the idle room", idle, 1, begun)
+        self.lasts("the nearly full one", full, NEARLY_FULL + 1, begun)
+        self.same("a room in which nobody gave a command isn't followed", untouched.made(), 1)
+        self.expect("the idle room", idle.end(), 0, f"{idle.ready}JOURNAL 1\nROOM 2\nJOURNAL 0\n")
+        self.expect("the full one", full.end(), 0, f"{full.ready}JOURNAL {NEARLY_FULL + 1}\nROOM 2\nJOURNAL 0\n")
+        self.expect("the untouched one", untouched.end(), 0, f"{untouched.ready}JOURNAL 1\n")
+
+    def fill(self, room):
+        """A console gives so many commands that the journal is nearly full."""
+        with room.console() as console:
+            console.settimeout(SECONDS)
+            writer = threading.Thread(target=console.sendall, args=(b"EXAMINE 1\n" * NEARLY_FULL + b"QUIT\n",))
+            writer.start()
+            replies = console.hear()
+            writer.join()
+        self.same("each has its reply", len(replies), 2 * NEARLY_FULL + 4)
+
+    def lasts(self, name, room, made, begun):
+        """A subtest: seat 1 has made this many commands for nearly a minute, and then none."""
+        while time.monotonic() < begun + MINUTE - 5:
+            if room.made() != made:
+                break
+            time.sleep(1)
+        early = time.monotonic() < begun + MINUTE - 5
+        self.check(f"{name} lasts", f"it ended after {time.monotonic() - begun:.0f} s" if early else "")
+        followed = wait_until(lambda: room.made() == 0, MINUTE + LATE)
+        self.check(f"{name} is followed", "" if followed else "it isn't")
+
+
+class Misuse(ProgramTest):
+    """Command lines that are refused."""
+
+    def test_the_minutes_are_from_one_to_a_day_and_need_pages(self):
+        for minutes in "0", "1441", "-1", "soon":
+            ran = program("serve", "--seats", "1", "--page", "8080", "--renew-after", minutes)
+            self.same(f"{minutes} minutes", (ran.returncode, ran.stdout), (2, b""))
+        ran = program("serve", "--seats", "1", "--port", "1401", "--renew-after", "5")
+        self.same("without pages", (ran.returncode, ran.stdout), (2, b""))
