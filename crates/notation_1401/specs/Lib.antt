@@ -3,3 +3,4 @@ pub mod Cells
 pub mod Characters
 pub mod Digits
 pub mod Prefix
+pub mod Room

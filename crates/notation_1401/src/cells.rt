@@ -1,6 +1,7 @@
 //! Cells by their graphics, with a tilde before one that has a word mark.
-ghost use Rattle.std.specs.Prelude.{◌≡◌, ◌<◌, [], ◌∷◌, ◌++◌, length, map, OnOk, MatchOption};
+ghost use Rattle.std.specs.Prelude.{◌≡◌, ◌<◌, ◌≤◌, [], ◌∷◌, ◌++◌, length, map, vec_capacity, OnOk, OnErr, MatchOption};
 ghost use Rattle.notation_1401.specs.Cells.{cell_of, cell_text, cells_of, cells_text, spelled};
+ghost use Rattle.notation_1401.specs.Room.{LacksRoomFor};
 
 use crate::fault::CellsFault;
 use bcd_1401::{Cell, Char};
@@ -15,6 +16,8 @@ use std::alloc::AllocError;
 pub fn put_cell(text: &mut Vec<u8>, cell: Cell) -> Result<(), AllocError>
     ensures text { OnOk result (text.new.items ≡ text.old.items ++ cell_text cell) }
     ensures again { OnOk result (spelled (cell_text cell) ≡ Some cell ∷ []) }
+    ensures full { OnErr result (LacksRoomFor text.old (cell_text cell)) }
+    ensures capacity { vec_capacity text.old ≤ vec_capacity text.new }
 {
     if cell.mark {
         text.push(b'~')?;
@@ -28,6 +31,8 @@ pub fn put_cell(text: &mut Vec<u8>, cell: Cell) -> Result<(), AllocError>
 fn put_each(text: &mut Vec<u8>, cells: &[Cell]) -> Result<(), AllocError>
     ensures text { OnOk result (text.new.items ≡ text.old.items ++ cells_text cells.now) }
     ensures again { OnOk result (spelled (cells_text cells.now) ≡ map Some cells.now) }
+    ensures full { OnErr result (LacksRoomFor text.old (cells_text cells.now)) }
+    ensures capacity { vec_capacity text.old ≤ vec_capacity text.new }
 {
     for cell in cells {
         put_cell(text, *cell)?;
@@ -45,6 +50,10 @@ pub fn put_cells(text: &mut Vec<u8>, cells: &Cells) -> Result<(), AllocError>
 
     // What is added is read as these cells.
     ensures again { OnOk result (cells_of (spelled (cells_text cells.now)) ≡ Ok cells.now) }
+
+    // Memory is refused only where there is no room.
+    ensures full { OnErr result (LacksRoomFor text.old (cells_text cells.now)) }
+    ensures capacity { vec_capacity text.old ≤ vec_capacity text.new }
 {
     put_each(text, cells.as_slice())
 }

@@ -1,6 +1,7 @@
 //! Numbers in decimal digits.
-ghost use Rattle.std.specs.Prelude.{◌≡◌, ◌≤◌, ◌++◌, length, OnOk};
+ghost use Rattle.std.specs.Prelude.{◌≡◌, ◌≤◌, ◌++◌, length, vec_capacity, OnOk, OnErr};
 ghost use Rattle.notation_1401.specs.Digits.{digits_in, most_read, number_in};
+ghost use Rattle.notation_1401.specs.Room.{LacksRoomFor};
 
 use std::alloc::AllocError;
 
@@ -10,7 +11,11 @@ use std::alloc::AllocError;
 ///
 /// If the memory for the text is refused. Some of the digits may have been added by then.
 pub fn put_digits(text: &mut Vec<u8>, width: u8, number: u64) -> Result<(), AllocError>
-    ensures { OnOk result (text.new.items ≡ text.old.items ++ digits_in width number) }
+    ensures text { OnOk result (text.new.items ≡ text.old.items ++ digits_in width number) }
+
+    // Memory is refused only where there is no room.
+    ensures full { OnErr result (LacksRoomFor text.old (digits_in width number)) }
+    ensures capacity { vec_capacity text.old ≤ vec_capacity text.new }
 {
     if width > 1 || number > 9 {
         put_digits(text, width.saturating_sub(1), number / 10)?;

@@ -3,13 +3,18 @@ use Rattle.std.proofs.Common.{◌≡◌, ◌+◌, [], ◌∷◌, ◌++◌, take,
 use Rattle.std.proofs.lemmas.Grind.{common_steps, flat_map-append}
 use Rattle.std.proofs.lemmas.List.{take_more, append-nil}
 use Rattle.std.specs.List.{flat_map}
-use Rattle.notation_1401.specs.Cells.{cell_text, spelled}
+use Rattle.notation_1401.specs.Cells.{cell_text, cells_text, spelled}
 use Rattle.notation_1401.proofs.SpelledLemmas.{cells_again}
+use Rattle.notation_1401.proofs.RoomLemmas.{if_so, lacks_for_one}
 use Rattle.notation_1401.proofs.cells.put_each.Goals as goal
 
 pub loop-cell-init : goal.loop-cell-init
 unfolding spelled
-loop-cell-init c = record { text = sym (append-nil c.args.text.now.items); again = refl }
+loop-cell-init c = record {
+  text = sym (append-nil c.args.text.now.items);
+  again = refl;
+  capacity = omega arith;
+}
 
 pub loop-cell-preserved : goal.loop-cell-preserved
 loop-cell-preserved c =
@@ -25,4 +30,13 @@ loop-cell-preserved c =
       again =
           rw (more, one_more)
           (cells_again _ _ (take i cells) cell c.loop-cell.invariant.again c.in_ok-put_cell.ensures.again);
+      capacity = omega arith;
     }
+
+pub returns-in_err-put_cell-clause-full : goal.returns-in_err-put_cell-clause-full
+unfolding cells_text
+returns-in_err-put_cell-clause-full c =
+    if_so c.from_residual.result
+    (lacks_for_one cell_text c.args.cells.now c.loop-cell.cell-index c.cell-item.result c.args.text.now
+    c.loop-cell.text (omega arith) c.cell-item.is c.loop-cell.invariant.text c.loop-cell.invariant.capacity
+    c.in_err-put_cell.ensures.full)
