@@ -1,1 +1,2 @@
 mod InstructionTextExamples
+pub mod LengthLemmas

@@ -59,3 +59,19 @@ IsOwnD (h ∷ t ∷ u ∷ behind) = IsOwnD behind
 abbrev pub IsOwnInstruction : List Cell → Type 0
 IsOwnInstruction [] = Unit {0}
 IsOwnInstruction (operation ∷ behind) = IsOwn operation × IsOwnD behind
+
+-- the most bytes that an index register takes: +X3
+abbrev pub most_in_index : ℕ
+most_in_index = 3
+
+-- the most bytes that a number below 2 ^ 16 takes
+abbrev pub most_in_number : ℕ
+most_in_number = 5
+
+-- the most bytes that an address takes: a value of five digits, and an index register
+abbrev pub most_in_address : ℕ
+most_in_address = 8
+
+-- the most bytes that an instruction takes: its mnemonic, and three for each of the seven cells after its operation
+abbrev pub most_in_text : ℕ
+most_in_text = 26

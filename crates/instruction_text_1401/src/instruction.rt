@@ -1,8 +1,10 @@
 //! The text of an instruction.
-ghost use Rattle.std.specs.Prelude.{◌≡◌, ◌<◌, ◌≤◌, ◌++◌, length, OnOk};
+ghost use Rattle.std.specs.Prelude.{◌≡◌, ◌+◌, ◌*◌, ◌<◌, ◌≤◌, ◌++◌, length, vec_capacity, OnOk, OnErr};
+ghost use Rattle.notation_1401.specs.Digits.{digits_in};
 ghost use Rattle.instruction_text_1401.specs.Address.{index_text, address_text};
 ghost use Rattle.instruction_text_1401.specs.InstructionText.{addresses_in, d_in, instruction_text, operands_text};
-ghost use Rattle.instruction_text_1401.specs.InstructionText.{written};
+ghost use Rattle.instruction_text_1401.specs.InstructionText.{most_in_address, most_in_index, most_in_number};
+ghost use Rattle.instruction_text_1401.specs.InstructionText.{most_in_text, written};
 ghost use Rattle.instruction_text_1401.specs.InstructionText.{IsOwnD, IsOwnInstruction};
 
 use crate::mnemonic::Mnemonic;
@@ -14,7 +16,10 @@ use std::alloc::AllocError;
 /// Adds an index register, or nothing for none.
 fn put_index(text: &mut Vec<u8>, index: u8) -> Result<(), AllocError>
     requires { index < 4 }
-    ensures { OnOk result (text.new.items ≡ text.old.items ++ index_text index) }
+    ensures text { OnOk result (text.new.items ≡ text.old.items ++ index_text index) }
+    ensures few { OnOk result (length text.new.items ≤ length text.old.items + most_in_index) }
+    ensures full { OnErr result (vec_capacity text.old < length text.old.items + most_in_index) }
+    ensures capacity { vec_capacity text.old ≤ vec_capacity text.new }
 {
     if index > 0 {
         text.push(b'+')?;
@@ -24,19 +29,42 @@ fn put_index(text: &mut Vec<u8>, index: u8) -> Result<(), AllocError>
     Ok(())
 }
 
+/// Adds a number in decimal, with leading zeros up to the width, five bytes at most.
+///
+/// # Errors
+///
+/// If the memory for the text is refused. Some of the digits may have been added by then.
+pub fn put_number(text: &mut Vec<u8>, width: u8, number: u16) -> Result<(), AllocError>
+    requires { width ≤ most_in_number }
+    ensures text { OnOk result (text.new.items ≡ text.old.items ++ digits_in width number) }
+
+    // Memory is refused only where there is no room for five bytes.
+    ensures few { OnOk result (length text.new.items ≤ length text.old.items + most_in_number) }
+    ensures full { OnErr result (vec_capacity text.old < length text.old.items + most_in_number) }
+    ensures capacity { vec_capacity text.old ≤ vec_capacity text.new }
+{
+    put_digits(text, width, u64::from(number))
+}
+
 /// Adds the address that three characters spell, in decimal.
 fn put_address(text: &mut Vec<u8>, h: Char, t: Char, u: Char) -> Result<(), AllocError>
-    ensures { OnOk result (text.new.items ≡ text.old.items ++ address_text h t u) }
+    ensures text { OnOk result (text.new.items ≡ text.old.items ++ address_text h t u) }
+    ensures few { OnOk result (length text.new.items ≤ length text.old.items + most_in_address) }
+    ensures full { OnErr result (vec_capacity text.old < length text.old.items + most_in_address) }
+    ensures capacity { vec_capacity text.old ≤ vec_capacity text.new }
 {
     let (value, index) = decode([h, t, u]);
-    put_digits(text, 3, u64::from(value))?;
+    put_number(text, 3, value)?;
     put_index(text, index)
 }
 
 /// Adds addresses and the characters after them, with commas.
 #[tactic(auto, unfolding(crate::specs::InstructionText::operands_text))]
 fn put_operands(text: &mut Vec<u8>, cells: &[Cell]) -> Result<(), AllocError>
-    ensures { OnOk result (text.new.items ≡ text.old.items ++ operands_text cells.now) }
+    ensures text { OnOk result (text.new.items ≡ text.old.items ++ operands_text cells.now) }
+    ensures few { OnOk result (length text.new.items ≤ length text.old.items + 3 * length cells.now) }
+    ensures full { OnErr result (vec_capacity text.old < length text.old.items + 3 * length cells.now) }
+    ensures capacity { vec_capacity text.old ≤ vec_capacity text.new }
 {
     match cells {
         [] => Ok(()),
@@ -88,6 +116,11 @@ fn written(mnemonic: Mnemonic, behind: &[Cell]) -> &[Cell]
 pub fn put_instruction(text: &mut Vec<u8>, cells: &[Cell]) -> Result<(), AllocError>
     requires { length cells.now ≤ 8 }
     ensures text { OnOk result (text.new.items ≡ text.old.items ++ instruction_text cells.now) }
+
+    // It adds at most 26 bytes. Memory is refused only where there is no room for so many.
+    ensures few { OnOk result (length text.new.items ≤ length text.old.items + most_in_text) }
+    ensures full { OnErr result (vec_capacity text.old < length text.old.items + most_in_text) }
+    ensures capacity { vec_capacity text.old ≤ vec_capacity text.new }
 
     // The operation and the d-character are the characters that have their graphics.
     ensures own { IsOwnInstruction cells.now }

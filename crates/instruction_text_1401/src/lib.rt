@@ -2,6 +2,7 @@
 //!
 //! ```text
 //! put_instruction(&mut text, &cells)?     // of M510509: MCW  510,509
+//! put_number(&mut text, 3, 87)?           // 087
 //! ```
 //!
 //! The text of an instruction is a source line from column 16 on. That the assembler makes the same cells of it again
@@ -13,5 +14,5 @@ pub mod mnemonic;
 // addresses in decimal, and the whole instruction
 pub mod instruction;
 
-pub use instruction::put_instruction;
+pub use instruction::{put_instruction, put_number};
 pub use mnemonic::Mnemonic;
