@@ -34,6 +34,7 @@ OF_SOURCES = (["assemble"], ["assemble", "--deck", "deck"], ["run"])
 OF_IMAGES = {
     "short segments disassembled": (0, SHORT_SEGMENTS, ["disassemble"]),
     "short segments run": (1, SHORT_SEGMENTS, ["run", "--limit", "5"]),
+    "word marks disassembled": (0, WORD_MARKS, ["disassemble"]),
     "word marks run": (1, WORD_MARKS, ["run", "--limit", "5"]),
 }
 
@@ -46,7 +47,6 @@ MORE_EACH = {
     "a source of short statements assembled": (9, 0, STATEMENTS, ["assemble"]),
     "the same listed": (11, 0, STATEMENTS, ["assemble", "--list"]),
     "the same run": (10, 0, STATEMENTS, ["run"]),
-    "an image of word marks disassembled": (12, 0, WORD_MARKS, ["disassemble"]),
 }
 
 

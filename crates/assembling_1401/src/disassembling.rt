@@ -1,7 +1,11 @@
 //! What the subcommand `disassemble` does.
 ghost use Rattle.std.specs.Prelude.{◌≡◌, true, IfOk, IfErr};
 ghost use Rattle.core_1401.specs.Storage.{is_core_size};
-ghost use Rattle.assembling_1401.specs.Disassemble.{DisassembleDid, DisassembledDeck, IsListingOf, IsListingOfDeck};
+ghost use Rattle.image_1401.specs.ImageText.{IsTextOf};
+ghost use Rattle.disassembly_1401.specs.ImageListing.{listing_text};
+ghost use Rattle.disassembly_1401.specs.Writing.{HasRoom};
+ghost use Rattle.assembling_1401.specs.Assemble.{Wrote};
+ghost use Rattle.assembling_1401.specs.Disassemble.{DisassembleDid, DisassembledDeck, IsListingOfDeck};
 ghost use Rattle.assembling_1401.specs.Disassemble.{IsWhyNotListed, IsWhyUnlisted};
 
 use crate::assembling::write_text;
@@ -9,8 +13,8 @@ use crate::fault::AssembleFault;
 use core_1401::CoreFault;
 use cpu_1401::Machine;
 use deck_1401::{LOADING_STEPS, LoadFault, loaded_image};
-use disassembly_1401::{list_image, list_marked};
-use image_1401::lend_image;
+use disassembly_1401::{ListingRoom, list_marked, write_listing};
+use image_1401::{LentImage, lend_image};
 use job_1401::CardList;
 use std::alloc::Global;
 use streams_1401::Sink;
@@ -19,8 +23,8 @@ use streams_1401::Sink;
 ///
 /// # Errors
 ///
-/// `Image` if the text is no image's, and `Memory` if there is no room for the listing; nothing is written then.
-/// `Output` if the listing isn't written, or a part of it alone.
+/// `Image` if the text is no image's, and `Memory` if there is no room for a page of the listing; nothing is written
+/// then. `Output` if the listing isn't written, or a part of it alone.
 pub fn write_disassembly<W: Sink>(
     alloc: Global,
     text: &[u8],
@@ -29,22 +33,39 @@ pub fn write_disassembly<W: Sink>(
     ensures { DisassembleDid text.now (W.received writer.old) (W.received writer.new)
         (W.has_failed writer.new) result }
 {
-    let listing = listing_of(alloc, text)?;
-    write_text(&listing, writer)
+    let (image, room) = image_in_room(alloc, text)?;
+    write_image(room, &image, writer)
 }
 
-/// The listing of the image of a text.
-fn listing_of(alloc: Global, text: &[u8]) -> Result<Vec<u8>, AssembleFault>
-    ensures ok { IfOk result (λ listing. IsListingOf text.now listing.items) }
+/// The image of a text, lent, and the room in which it is listed.
+fn image_in_room(alloc: Global, text: &[u8]) -> Result<(LentImage<'_>, ListingRoom), AssembleFault>
+    ensures image { IfOk result (λ found. IsTextOf text.now found.0) }
+    ensures room { IfOk result (λ found. HasRoom found.1) }
     ensures err { IfErr result (IsWhyNotListed text.now) }
 {
     let image = match lend_image(text) {
         Ok(image) => image,
         Err(fault) => return Err(AssembleFault::Image(fault)),
     };
-    match list_image(alloc, &image) {
-        Ok(listing) => Ok(listing),
+    match ListingRoom::reserve(alloc) {
+        Ok(room) => Ok((image, room)),
         Err(_) => Err(AssembleFault::Memory),
+    }
+}
+
+/// Writes the listing of an image.
+fn write_image<W: Sink>(
+    room: ListingRoom,
+    image: &LentImage<'_>,
+    writer: &mut W,
+) -> Result<(), AssembleFault>
+    requires { HasRoom room }
+    ensures { Wrote (listing_text image.now) (W.received writer.old) (W.received writer.new)
+        (W.has_failed writer.new) result }
+{
+    match write_listing(room, image, writer) {
+        Ok(()) => Ok(()),
+        Err(_) => Err(AssembleFault::Output),
     }
 }
 

@@ -2,6 +2,7 @@ pub mod AddressLemmas
 pub mod AssembledLemmas
 mod AssembledExamples
 mod WrittenAgainExamples
+pub mod CellsLemmas
 pub mod LineLemmas
 pub mod MnemonicLemmas
 pub mod NumberLemmas
@@ -10,3 +11,4 @@ pub mod PlacedLemmas
 pub mod ReadLemmas
 pub mod SpellingLemmas
 pub mod WordLemmas
+pub mod SentLemmas

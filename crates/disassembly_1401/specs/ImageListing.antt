@@ -77,3 +77,19 @@ marked_text carried image = flat_map (marked_line carried) (stretches_of image.s
 -- the listing of an image without such signs
 abbrev pub listing_text : Image → List ℕ
 listing_text image = marked_text [] image
+
+-- the most bytes that cells take on their line: nine blanks, and 40 cells with word marks
+abbrev pub most_that_stands : ℕ
+most_that_stands = 89
+
+-- the most bytes that a stretch takes: an address of five digits, its sign, the cells, and the line feed
+abbrev pub most_in_stretch : ℕ
+most_in_stretch = 96
+
+-- the most bytes that the stretches take that a segment closes: one for each of its cells
+abbrev pub most_in_segment : ℕ
+most_in_segment = 3840
+
+-- the most bytes that the last line takes
+abbrev pub most_in_end : ℕ
+most_in_end = 26

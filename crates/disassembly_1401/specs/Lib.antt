@@ -2,3 +2,4 @@ pub mod Assembled
 pub mod ImageListing
 pub mod Stretches
 pub mod WrittenAgain
+pub mod Writing

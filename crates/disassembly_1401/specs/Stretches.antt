@@ -1,7 +1,8 @@
 -- The cells of an image, cut at word marks (own).
-use Rattle.std.specs.Prelude.{ℕ, not, ◌&&◌, if◌then◌else◌, List, [], ◌∷◌, ◌++◌}
+use Rattle.std.specs.Prelude.{◌≡◌, ◌≤◌, ℕ, not, ◌&&◌, if◌then◌else◌, List, [], ◌∷◌, ◌++◌, vec_capacity}
 use Rattle.std.specs.List.{flat_map}
 use Rattle.bcd_1401.specs.declared.cell.Cell.{Cell}
+use Rattle.core_1401.specs.Cells.{most_cells}
 use Rattle.image_1401.specs.declared.image.Segment.{Segment}
 use Rattle.placing_1401.specs.Cells.{numbered}
 use Rattle.placing_1401.specs.Segments.{closed, goes_on}
@@ -25,3 +26,13 @@ stretches_of segments = cut 0 [] (placed_cells segments)
 -- the stretches, if these cells follow on what is built so far
 abbrev pub built : Builder → List (ℕ × Cell) → List Segment
 built this rest = this.done.items ++ cut this.address this.cells.items rest
+
+-- what is built has no less room than before
+abbrev pub KeepsCapacity : Builder → Builder → Type 0
+KeepsCapacity old new =
+    (vec_capacity old.done ≤ vec_capacity new.done) × (vec_capacity old.cells ≤ vec_capacity new.cells)
+
+-- no stretch is closed, and there is room for those that a segment closes, and for the cells of one
+abbrev pub IsReady : Builder → Type 0
+IsReady this =
+    (this.done.items ≡ []) × (most_cells ≤ vec_capacity this.done) × (most_cells ≤ vec_capacity this.cells)

@@ -1,13 +1,16 @@
 //! The listing of a core image.
-ghost use Rattle.std.specs.Prelude.{◌≡◌, ◌∷◌, [], true, ◌≤◌, ◌++◌, ℕ, List, length, map, IfOk, OnOk};
+ghost use Rattle.std.specs.Prelude.{◌≡◌, ◌+◌, ◌*◌, ◌∷◌, [], true, ◌<◌, ◌≤◌, ◌++◌, ℕ, List, length, map, vec_capacity};
+ghost use Rattle.std.specs.Prelude.{IfOk, OnOk, OnErr};
 ghost use Rattle.std.specs.List.{flat_map};
 ghost use Rattle.bcd_1401.specs.declared.cell.Cell.{Cell as ACell};
+ghost use Rattle.core_1401.specs.Cells.{most_cells};
 ghost use Rattle.machine_operations.specs.Operation.{operation_of};
 ghost use Rattle.instruction_text_1401.specs.InstructionText.{graphic_of};
 ghost use Rattle.disassembly_1401.specs.ImageListing.{is_legal, is_instruction, as_instruction, as_data, what_stands};
 ghost use Rattle.disassembly_1401.specs.ImageListing.{stretch_line, start_text, entry_text, end_text, start_line};
-ghost use Rattle.disassembly_1401.specs.ImageListing.{is_carried, listing_text, marked_line, marked_text, sign_of};
-ghost use Rattle.disassembly_1401.specs.Stretches.{built, placed_cells, stretches_of};
+ghost use Rattle.disassembly_1401.specs.ImageListing.{is_carried, marked_line, marked_text, sign_of};
+ghost use Rattle.disassembly_1401.specs.ImageListing.{most_in_end, most_in_segment, most_in_stretch, most_that_stands};
+ghost use Rattle.disassembly_1401.specs.Stretches.{built, placed_cells, stretches_of, IsReady, KeepsCapacity};
 ghost use Rattle.placing_1401.specs.Cells.{numbered};
 
 use crate::instruction::put_instruction;
@@ -15,9 +18,10 @@ use crate::stretches::put_all;
 use crate::written_again::is_written_again;
 use bcd_1401::{Cell, Char};
 use core_1401::Cells;
-use image_1401::{Image, LentImage, Segment};
+use image_1401::{Image, Segment};
+use instruction_text_1401::put_number;
 use machine_operations::Operation;
-use notation_1401::{put_cells, put_digits};
+use notation_1401::put_cells;
 use placing_1401::Builder;
 use std::alloc::{AllocError, Global};
 
@@ -50,7 +54,9 @@ fn is_instruction(cells: &[Cell]) -> bool
 
 /// Adds the characters of cells by their graphics.
 fn put_graphics(text: &mut Vec<u8>, cells: &[Cell]) -> Result<(), AllocError>
-    ensures { OnOk result (text.new.items ≡ text.old.items ++ map graphic_of cells.now) }
+    ensures text { OnOk result (text.new.items ≡ text.old.items ++ map graphic_of cells.now) }
+    ensures full { OnErr result (vec_capacity text.old < length text.old.items + length cells.now) }
+    ensures capacity { vec_capacity text.old ≤ vec_capacity text.new }
 {
     for cell in cells {
         text.push(cell.char.graphic())?;
@@ -61,7 +67,10 @@ fn put_graphics(text: &mut Vec<u8>, cells: &[Cell]) -> Result<(), AllocError>
 /// Adds an instruction by its characters in eight columns, and as Autocoder writes it.
 fn put_as_instruction(text: &mut Vec<u8>, cells: &[Cell]) -> Result<(), AllocError>
     requires { length cells.now ≤ 8 }
-    ensures { OnOk result (text.new.items ≡ text.old.items ++ as_instruction cells.now) }
+    ensures text { OnOk result (text.new.items ≡ text.old.items ++ as_instruction cells.now) }
+    ensures few { OnOk result (length text.new.items ≤ length text.old.items + most_that_stands) }
+    ensures full { OnErr result (vec_capacity text.old < length text.old.items + most_that_stands) }
+    ensures capacity { vec_capacity text.old ≤ vec_capacity text.new }
 {
     put_graphics(text, cells)?;
     text.extend_from_slice(&BLANKS[cells.len()..])?;
@@ -69,15 +78,29 @@ fn put_as_instruction(text: &mut Vec<u8>, cells: &[Cell]) -> Result<(), AllocErr
     put_instruction(text, cells)
 }
 
+/// Adds data by their characters, after nine blanks.
+fn put_as_data(text: &mut Vec<u8>, cells: &Cells) -> Result<(), AllocError>
+    requires { length cells.now ≤ most_cells }
+    ensures text { OnOk result (text.new.items ≡ text.old.items ++ as_data cells.now) }
+    ensures few { OnOk result (length text.new.items ≤ length text.old.items + most_that_stands) }
+    ensures full { OnErr result (vec_capacity text.old < length text.old.items + most_that_stands) }
+    ensures capacity { vec_capacity text.old ≤ vec_capacity text.new }
+{
+    text.extend_from_slice(b"         ".as_slice())?;
+    put_cells(text, cells)
+}
+
 /// Adds cells, as an instruction if they are such that the assembler makes them again of its text, else as data.
 fn put_what_stands(text: &mut Vec<u8>, cells: &Cells) -> Result<(), AllocError>
-    ensures { OnOk result (text.new.items ≡ text.old.items ++ what_stands cells.now) }
+    ensures text { OnOk result (text.new.items ≡ text.old.items ++ what_stands cells.now) }
+    ensures few { OnOk result (length text.new.items ≤ length text.old.items + most_that_stands) }
+    ensures full { OnErr result (vec_capacity text.old < length text.old.items + most_that_stands) }
+    ensures capacity { vec_capacity text.old ≤ vec_capacity text.new }
 {
     if is_instruction(cells.as_slice()) && is_written_again(cells.as_slice()) {
         put_as_instruction(text, cells.as_slice())
     } else {
-        text.extend_from_slice(b"         ".as_slice())?;
-        put_cells(text, cells)
+        put_as_data(text, cells)
     }
 }
 
@@ -91,9 +114,12 @@ fn sign_of(carried: bool) -> u8
 /// Adds the line of a stretch.
 #[tactic(auto, unfolding(crate::specs::ImageListing::stretch_line))]
 fn put_line(text: &mut Vec<u8>, carried: bool, stretch: &Segment) -> Result<(), AllocError>
-    ensures { OnOk result (text.new.items ≡ text.old.items ++ stretch_line carried stretch.now) }
+    ensures text { OnOk result (text.new.items ≡ text.old.items ++ stretch_line carried stretch.now) }
+    ensures few { OnOk result (length text.new.items ≤ length text.old.items + most_in_stretch) }
+    ensures full { OnErr result (vec_capacity text.old < length text.old.items + most_in_stretch) }
+    ensures capacity { vec_capacity text.old ≤ vec_capacity text.new }
 {
-    put_digits(text, 5, u64::from(stretch.address))?;
+    put_number(text, 5, stretch.address)?;
     text.push(sign_of(carried))?;
     put_what_stands(text, &stretch.cells)?;
     Ok(text.push(b'\n')?)
@@ -110,9 +136,18 @@ fn is_carried(carried: &[bool], at: u16) -> bool
 }
 
 /// Adds the lines of stretches.
-fn put_lines(text: &mut Vec<u8>, carried: &[bool], stretches: &[Segment]) -> Result<(), AllocError>
-    ensures { OnOk result (text.new.items
+pub(crate) fn put_lines(
+    text: &mut Vec<u8>,
+    carried: &[bool],
+    stretches: &[Segment],
+) -> Result<(), AllocError>
+    ensures text { OnOk result (text.new.items
         ≡ text.old.items ++ flat_map (marked_line carried.now) stretches.now) }
+    ensures few { OnOk result (length text.new.items
+        ≤ length text.old.items + most_in_stretch * length stretches.now) }
+    ensures full { OnErr result (vec_capacity text.old
+        < length text.old.items + most_in_stretch * length stretches.now) }
+    ensures capacity { vec_capacity text.old ≤ vec_capacity text.new }
 {
     for stretch in stretches {
         put_line(text, is_carried(carried, stretch.address), stretch)?;
@@ -122,9 +157,14 @@ fn put_lines(text: &mut Vec<u8>, carried: &[bool], stretches: &[Segment]) -> Res
 
 /// Adds the lines of the stretches that are closed, and forgets them.
 fn put_closed(text: &mut Vec<u8>, carried: &[bool], builder: &mut Builder) -> Result<(), AllocError>
-    ensures { OnOk result ((rest : List (ℕ × ACell)) → text.new.items
+    ensures text { OnOk result ((rest : List (ℕ × ACell)) → text.new.items
         ++ flat_map (marked_line carried.now) (built builder.new rest)
         ≡ text.old.items ++ flat_map (marked_line carried.now) (built builder.old rest)) }
+    ensures full { OnErr result (vec_capacity text.old
+        < length text.old.items + most_in_stretch * length builder.old.done.items) }
+    ensures capacity { vec_capacity text.old ≤ vec_capacity text.new }
+    ensures none { OnOk result (builder.new.done.items ≡ []) }
+    ensures room { KeepsCapacity builder.old builder.new }
 {
     put_lines(text, carried, &builder.done)?;
     builder.done.clear();
@@ -132,16 +172,22 @@ fn put_closed(text: &mut Vec<u8>, carried: &[bool], builder: &mut Builder) -> Re
 }
 
 /// Adds the lines of the stretches of a segment, but for the last stretch, which may go on.
-fn put_segment(
+pub(crate) fn put_segment(
     text: &mut Vec<u8>,
     carried: &[bool],
     builder: &mut Builder,
     segment: &Segment,
 ) -> Result<(), AllocError>
-    ensures { OnOk result ((rest : List (ℕ × ACell)) → text.new.items
+    ensures text { OnOk result ((rest : List (ℕ × ACell)) → text.new.items
         ++ flat_map (marked_line carried.now) (built builder.new rest)
         ≡ text.old.items ++ flat_map (marked_line carried.now)
         (built builder.old (numbered segment.now.address segment.now.cells ++ rest))) }
+
+    // Memory is refused only where there is no room for a line for each cell.
+    ensures full { IsReady builder.old
+        → OnErr result (vec_capacity text.old < length text.old.items + most_in_segment) }
+    ensures ready { IsReady builder.old → OnOk result (IsReady builder.new) }
+    ensures capacity { vec_capacity text.old ≤ vec_capacity text.new }
 {
     put_all(builder, segment.address, segment.cells.as_slice())?;
     put_closed(text, carried, builder)
@@ -163,23 +209,6 @@ fn put_segments(
     Ok(())
 }
 
-/// Adds the lines of the stretches of an image that is lent, but for the last stretch, which may go on.
-fn put_lent_segments(
-    text: &mut Vec<u8>,
-    builder: &mut Builder,
-    image: &LentImage<'_>,
-) -> Result<(), AllocError>
-    ensures { OnOk result (text.new.items ++ flat_map (marked_line []) (built builder.new [])
-        ≡ text.old.items ++ flat_map (marked_line []) (built builder.old (placed_cells image.now.segments))) }
-{
-    let mut rest = image.again();
-    while let Some((segment, behind)) = rest.split_first() {
-        put_segment(text, &[], builder, &segment)?;
-        rest = behind;
-    }
-    Ok(())
-}
-
 /// Adds the lines of all stretches of segments: from each word mark up to the next one, or up to a gap, at most 40
 /// cells.
 fn put_stretches(
@@ -197,34 +226,21 @@ fn put_stretches(
     put_lines(text, carried, &builder.done)
 }
 
-/// Adds the lines of all stretches of an image that is lent.
-fn put_lent_stretches(
-    alloc: Global,
-    text: &mut Vec<u8>,
-    image: &LentImage<'_>,
-) -> Result<(), AllocError>
-    ensures { OnOk result (text.new.items
-        ≡ text.old.items ++ flat_map (marked_line []) (stretches_of image.now.segments)) }
-{
-    let mut builder = Builder::new(alloc);
-    put_lent_segments(text, &mut builder, image)?;
-    builder.close()?;
-    put_lines(text, &[], &builder.done)
-}
-
 /// Adds the entry in decimal, which ends its line.
 #[tactic(auto, unfolding(crate::specs::ImageListing::start_text))]
 fn put_start_number(text: &mut Vec<u8>, start: u16) -> Result<(), AllocError>
-    ensures { OnOk result (text.new.items ≡ text.old.items ++ start_text start) }
+    ensures text { OnOk result (text.new.items ≡ text.old.items ++ start_text start) }
+    ensures full { OnErr result (vec_capacity text.old < length text.old.items + 6) }
 {
-    put_digits(text, 3, u64::from(start))?;
+    put_number(text, 3, start)?;
     Ok(text.push(b'\n')?)
 }
 
 /// Adds the operation and the entry.
 #[tactic(auto, unfolding(crate::specs::ImageListing::entry_text))]
 fn put_entry(text: &mut Vec<u8>, start: u16) -> Result<(), AllocError>
-    ensures { OnOk result (text.new.items ≡ text.old.items ++ entry_text start) }
+    ensures text { OnOk result (text.new.items ≡ text.old.items ++ entry_text start) }
+    ensures full { OnErr result (vec_capacity text.old < length text.old.items + 12) }
 {
     text.extend_from_slice(b" END  ".as_slice())?;
     put_start_number(text, start)
@@ -233,40 +249,27 @@ fn put_entry(text: &mut Vec<u8>, start: u16) -> Result<(), AllocError>
 /// Adds what follows the address of the last line.
 #[tactic(auto, unfolding(crate::specs::ImageListing::end_text))]
 fn put_end(text: &mut Vec<u8>, start: u16) -> Result<(), AllocError>
-    ensures { OnOk result (text.new.items ≡ text.old.items ++ end_text start) }
+    ensures text { OnOk result (text.new.items ≡ text.old.items ++ end_text start) }
+    ensures full { OnErr result (vec_capacity text.old < length text.old.items + 21) }
 {
     text.extend_from_slice(b"         ".as_slice())?;
     put_entry(text, start)
 }
 
 /// Adds the last line: where the program begins.
-fn put_start(text: &mut Vec<u8>, start: u16) -> Result<(), AllocError>
-    ensures { OnOk result (text.new.items ≡ text.old.items ++ start_line start) }
+pub(crate) fn put_start(text: &mut Vec<u8>, start: u16) -> Result<(), AllocError>
+    ensures text { OnOk result (text.new.items ≡ text.old.items ++ start_line start) }
+    ensures full { OnErr result (vec_capacity text.old < length text.old.items + most_in_end) }
 {
-    put_digits(text, 5, u64::from(start))?;
+    put_number(text, 5, start)?;
     put_end(text, start)
 }
 
 /// The listing of an image: a line for each stretch of cells from a word mark up to the next one, in the order in which
 /// the image has them. A stretch that is an instruction of this machine, of a length that it may have, and that the
 /// assembler makes again of its text, is shown with its address, its characters and its text; any other with its address
-/// and its cells, as the console shows them. The last line is the entry's. Of the image one segment is held at a time.
-///
-/// # Errors
-///
-/// If the memory for the text is refused.
-#[tactic(auto, unfolding(crate::specs::ImageListing::marked_text))]
-pub fn list_image(alloc: Global, image: &LentImage<'_>) -> Result<Vec<u8>, AllocError>
-    ensures { IfOk result (λ text. text.items ≡ listing_text image.now) }
-{
-    let mut text = Vec::new(alloc);
-    put_lent_stretches(alloc, &mut text, image)?;
-    put_start(&mut text, image.start())?;
-    Ok(text)
-}
-
-/// The same listing of an image that isn't lent, with an asterisk after each address at which an instruction was carried
-/// out: those that `carried` says so of, from 000 on.
+/// and its cells, as the console shows them. An asterisk follows each address at which an instruction was carried out:
+/// those that `carried` says so of, from 000 on. The last line is the entry's.
 ///
 /// # Errors
 ///

@@ -2,7 +2,8 @@
 //!
 //! ```text
 //! put_instruction(&mut text, &cells)?     // MCW  510,509
-//! list_image(alloc, &lend_image(text)?)?  // 00600 M510509  MCW  510,509, and so on
+//! let room = ListingRoom::reserve(alloc)?;
+//! write_listing(room, &image, &mut writer)?  // 00600 M510509  MCW  510,509, and so on
 //! list_marked(alloc, &image, &carried)?   // 00600*M510509  MCW  510,509, where it was carried out
 //! ```
 //!
@@ -13,8 +14,10 @@
 pub mod image_listing;
 pub mod instruction;
 mod stretches;
+pub mod writing;
 mod written_again;
 
-pub use image_listing::{list_image, list_marked};
+pub use image_listing::list_marked;
 pub use instruction::put_instruction;
 pub use instruction_text_1401::Mnemonic;
+pub use writing::{ListingRoom, write_listing};

@@ -1,5 +1,6 @@
 //! Cells in the order of placing, cut into segments.
-ghost use Rattle.std.specs.Prelude.{◌≡◌, ◌∷◌, ◌++◌, ℕ, List, [], length, IfOk, IfErr, OnOk};
+ghost use Rattle.std.specs.Prelude.{◌≡◌, ◌+◌, ◌≤◌, ◌∷◌, ◌++◌, ℕ, List, [], length, vec_capacity, IfOk, IfErr};
+ghost use Rattle.std.specs.Prelude.{OnOk, OnErr};
 ghost use Rattle.bcd_1401.specs.declared.cell.Cell.{Cell as ACell};
 ghost use Rattle.symbols_1401.specs.Fault.{IsMemory};
 ghost use Rattle.placing_1401.specs.Cells.{address_or_zero, numbered, row_cells};
@@ -66,6 +67,12 @@ impl Builder {
         ensures ok { OnOk result
             (self.new.done.items ≡ self.old.done.items ++ closed self.old.address self.old.cells.items) }
         ensures empty { OnOk result (self.new.cells.items ≡ []) }
+
+        // It is one segment at most. Memory is refused only where there is no room for it.
+        ensures few { OnOk result (length self.new.done.items ≤ length self.old.done.items + 1) }
+        ensures full { OnErr result (vec_capacity self.old.done ≤ length self.old.done.items) }
+        ensures capacity { (vec_capacity self.old.done ≤ vec_capacity self.new.done)
+            × (vec_capacity self.old.cells ≤ vec_capacity self.new.cells) }
     {
         if let Some(cells) = Cells::from_slice(&self.cells) {
             self.done.push(Segment {
