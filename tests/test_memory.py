@@ -6,6 +6,8 @@ import tempfile
 import unittest
 from pathlib import Path
 
+from tests.support import a_port
+
 TOP = Path(__file__).resolve().parent.parent
 PROGRAM = Path(os.environ.get("IBM1401", TOP / "crates/ibm1401/out/ibm1401")).absolute()
 
@@ -118,11 +120,13 @@ class MemoryTest(unittest.TestCase):
                 self.expect_few(status, first + again + last, first + again * many + last, *call, "file")
 
     def test_an_image_that_is_loaded_takes_a_few_bytes_a_byte(self):
-        # Its segments are more than the journal has entries. Each is held in 84 bytes, and has 10 in the file.
+        # Its segments are more than the journal has entries.
         first, again, last = SHORT_SEGMENTS
         many = (MOST_BYTES - len(first) - len(last)) // len(again)
         small, large = first + again * 100_001 + last, first + again * many + last
-        self.expect_few(1, small, large, "load", "file", most=10)
+        for call in ["load"], ["serve", "--keep-seats", "--port", a_port(), "--image"]:
+            with self.subTest(call[0]):
+                self.expect_few(1, small, large, *call, "file")
 
     def test_what_is_no_image_and_no_journal_takes_a_few_bytes_a_byte(self):
         for text in b"\n", b" ", b"A":

@@ -1,23 +1,34 @@
--- How an image is loaded (own): the console deposits its segments in order, and sets the I register to its entry.
-use Rattle.std.specs.Prelude.{◌≡◌, ℕ, ◌<◌, List, [], ◌∷◌, ◌++◌, length, map, take}
+-- How a console loads an image (own): it gives the commands that load it, as seat 0, and each is answered `Done`.
+use Rattle.std.specs.Prelude.{◌≡◌, ℕ, ◌+◌, ◌<◌, Bool, false, List, ◌++◌, length, map, take, nat_le, nat_lt}
 use Rattle.image_1401.specs.declared.image.Image.{Image}
-use Rattle.image_1401.specs.declared.image.Segment.{Segment}
+use Rattle.loading_1401.specs.Loading.{load_commands}
 use Rattle.operator_1401.specs.declared.answer.Answer.TheVariants.{Done}
-use Rattle.operator_1401.specs.declared.command.Command.TheVariants.{Deposit, SetI}
+use Rattle.operator_1401.specs.declared.command.Command.{Command}
+use Rattle.operator_1401.specs.declared.command.Command.TheVariants.{Deposit, Examine, Registers, SetI, Switch, Feed}
+use Rattle.operator_1401.specs.declared.command.Command.TheVariants.{LoadKey, Run, TakeLine, TakeCard}
 use Rattle.lone_room_1401.specs.declared.entry.Entry.{Entry}
 use Rattle.lone_room_1401.specs.Journal.{entry}
 
--- a segment that the console has deposited
-abbrev pub segment_entry : Segment → Entry
-segment_entry segment = entry 0 (Deposit segment.address segment.cells) Done
-
--- the entry that the console has set the I register to
-abbrev pub start_entry : ℕ → Entry
-start_entry start = entry 0 (SetI start) Done
+-- a command that the console has given
+abbrev pub done_entry : Command → Entry
+done_entry command = entry 0 command Done
 
 -- what the journal has of an image that is loaded
 abbrev pub load_entries : Image → List Entry
-load_entries image = map segment_entry image.segments ++ start_entry image.start ∷ []
+load_entries image = map done_entry (load_commands image)
+
+-- whether a command deposits cells in core storage of this size, or sets the I register to one of its places
+abbrev pub is_within : ℕ → Command → Bool
+is_within size (Deposit address cells) = nat_le (address + length cells) size
+is_within size (SetI address) = nat_lt address size
+is_within size (Examine address count) = false
+is_within size Registers = false
+is_within size (Switch n on) = false
+is_within size (Feed card) = false
+is_within size LoadKey = false
+is_within size (Run limit) = false
+is_within size TakeLine = false
+is_within size TakeCard = false
 
 -- the journal went on by the first of these entries, and not by all of them
 pub record WentOnByFewer (before after entries : List Entry) : Type 0 where

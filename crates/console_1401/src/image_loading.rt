@@ -1,13 +1,14 @@
 //! Loading an image.
-ghost use Rattle.std.specs.Prelude.{◌≡◌, ◌++◌, ◌↔◌, ◌∷◌, [], true, nat_lt, IfErr, OnOk, OnErr};
+ghost use Rattle.std.specs.Prelude.{◌≡◌, ◌++◌, ◌↔◌, ◌∷◌, [], true, map, nat_lt, IfErr, OnOk, OnErr};
 ghost use Rattle.std.specs.List.{list_all};
 ghost use Rattle.image_1401.specs.Image.{is_inside};
-ghost use Rattle.lone_room_1401.specs.Journal.{answer_to, entry, is_full, refusal_of};
-ghost use Rattle.console_1401.specs.ImageLoading.{segment_entry, start_entry, load_entries, WentOnByFewer};
+ghost use Rattle.lone_room_1401.specs.Journal.{is_full, refusal_of};
+ghost use Rattle.console_1401.specs.ImageLoading.{done_entry, load_entries, is_within, WentOnByFewer};
 
-use image_1401::{Image, Segment};
+use image_1401::{Image, LentImage};
+use loading_1401::LoadCommands;
 use lone_room_1401::OWN_SEAT;
-use room_1401::{Answer, Command, Room, RoomFault};
+use room_1401::{Command, Room, RoomFault};
 
 /// Loads an image: the console deposits each segment in order, and sets the I register to the entry. Each command is
 /// recorded as one of seat 0, answered `Done`.
@@ -16,6 +17,7 @@ use room_1401::{Answer, Command, Room, RoomFault};
 ///
 /// `JournalFull` if earlier commands have filled the journal, or `Memory` if there is no room for one more of these.
 /// Those before it are carried out and recorded.
+#[tactic(auto, using(crate::proofs::ImageLoadingLemmas::all_within))]
 pub fn put_image(room: &mut Room, image: &Image) -> Result<(), RoomFault>
     requires size { image.now.size ≡ room.old.size }
     requires segments { list_all (is_inside image.now.size) image.now.segments ≡ true }
@@ -26,45 +28,55 @@ pub fn put_image(room: &mut Room, image: &Image) -> Result<(), RoomFault>
     ensures fault { IfErr result (λ fault. fault ≡ refusal_of room.new.journal) }
     ensures size { room.new.size ≡ room.old.size }
 {
-    for segment in image.segments.as_slice() {
-        deposit(room, segment)?;
-    }
-    start(room, image.start)
+    put_commands(room, LoadCommands::of_kept(image))
 }
 
-/// Deposits a segment that lies in core storage.
-#[tactic(auto, unfolding(command_1401::specs::CarryOut::carry_out))]
-fn deposit(room: &mut Room, segment: &Segment) -> Result<(), RoomFault>
-    requires { is_inside room.old.size segment.now ≡ true }
-    ensures done { OnOk result (room.new.journal ≡ room.old.journal ++ segment_entry segment.now ∷ []) }
+/// The same of an image that is lent: one segment is held at a time.
+///
+/// # Errors
+///
+/// Those of `put_image`.
+#[tactic(auto, using(crate::proofs::ImageLoadingLemmas::all_within))]
+pub fn put_lent_image(room: &mut Room, image: &LentImage<'_>) -> Result<(), RoomFault>
+    requires size { image.now.size ≡ room.old.size }
+    requires segments { list_all (is_inside image.now.size) image.now.segments ≡ true }
+    requires start { nat_lt image.now.start image.now.size ≡ true }
+    ensures loaded { OnOk result (room.new.journal ≡ room.old.journal ++ load_entries image.now) }
+    ensures stopped { OnErr result (WentOnByFewer room.old.journal room.new.journal (load_entries image.now)) }
+    ensures full { IfErr result (λ fault. (fault ≡ RoomFault.JournalFull) ↔ (is_full room.new.journal ≡ true)) }
+    ensures fault { IfErr result (λ fault. fault ≡ refusal_of room.new.journal) }
+    ensures size { room.new.size ≡ room.old.size }
+{
+    put_commands(room, LoadCommands::of_lent(image))
+}
+
+/// Carries commands out, in order. Each lies in core storage.
+fn put_commands(room: &mut Room, commands: LoadCommands<'_>) -> Result<(), RoomFault>
+    requires { list_all (is_within room.old.size) commands ≡ true }
+    ensures loaded { OnOk result (room.new.journal ≡ room.old.journal ++ map done_entry commands.entry) }
+    ensures stopped { OnErr result (WentOnByFewer room.old.journal room.new.journal (map done_entry commands.entry)) }
+    ensures full { IfErr result (λ fault. (fault ≡ RoomFault.JournalFull) ↔ (is_full room.new.journal ≡ true)) }
+    ensures fault { IfErr result (λ fault. fault ≡ refusal_of room.new.journal) }
+    ensures size { room.new.size ≡ room.old.size }
+{
+    for command in commands {
+        put_command(room, command)?;
+    }
+    Ok(())
+}
+
+/// Carries out a command that lies in core storage, as one of seat 0.
+#[tactic(auto, using(crate::proofs::ImageLoadingLemmas::done_within))]
+fn put_command(room: &mut Room, command: Command) -> Result<(), RoomFault>
+    requires { is_within room.old.size command ≡ true }
+    ensures done { OnOk result (room.new.journal ≡ room.old.journal ++ done_entry command ∷ []) }
     ensures err { OnErr result (room.new.journal ≡ room.old.journal) }
     ensures fault { IfErr result (λ fault. fault ≡ refusal_of room.old.journal) }
     ensures size { room.new.size ≡ room.old.size }
 {
     // The machine has as many places as the room says.
     let _machine = room.machine();
-    let command = Command::Deposit {
-        address: segment.address,
-        cells: segment.cells,
-    };
     match room.carry(OWN_SEAT, command) {
-        Ok(_) => Ok(()),
-        Err(fault) => Err(fault),
-    }
-}
-
-/// Sets the I register to an entry that lies in core storage.
-#[tactic(auto, unfolding(command_1401::specs::CarryOut::carry_out))]
-fn start(room: &mut Room, address: u16) -> Result<(), RoomFault>
-    requires { nat_lt address room.old.size ≡ true }
-    ensures done { OnOk result (room.new.journal ≡ room.old.journal ++ start_entry address ∷ []) }
-    ensures err { OnErr result (room.new.journal ≡ room.old.journal) }
-    ensures fault { IfErr result (λ fault. fault ≡ refusal_of room.old.journal) }
-    ensures size { room.new.size ≡ room.old.size }
-{
-    // The machine has as many places as the room says.
-    let _machine = room.machine();
-    match room.carry(OWN_SEAT, Command::SetI { address }) {
         Ok(_) => Ok(()),
         Err(fault) => Err(fault),
     }

@@ -23,6 +23,6 @@ pub use answering_1401::{
 };
 pub use attending::{Unanswered, answer_line, attend};
 pub use door::{Door, OpenDoor};
-pub use image_loading::put_image;
+pub use image_loading::{put_image, put_lent_image};
 pub use lone_room_1401::session;
 pub use serving::{ServeFault, Served, serve};

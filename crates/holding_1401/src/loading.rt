@@ -4,10 +4,10 @@ ghost use Rattle.terminal_1401.specs.Console.{streams};
 ghost use Rattle.holding_1401.specs.Load.{LoadDid, IsLoadedRoom, IsWhyNotLoaded};
 
 use crate::fault::{HoldFault, ended};
-use console_1401::put_image;
+use console_1401::put_lent_image;
 use core_1401::CoreFault;
 use files_1401::{FileFault, read_whole};
-use image_1401::read_image;
+use image_1401::lend_image;
 use lone_room_1401::{Room, RoomFault, session};
 use std::alloc::Global;
 use std::io;
@@ -62,21 +62,21 @@ pub fn load<R: Source, W: Sink>(
     ended(end)
 }
 
-/// A new room of an image's size that has the image loaded.
+/// A new room of an image's size that has the image loaded. Of the image one segment is held at a time.
 pub(crate) fn loaded_room(alloc: Global, text: &[u8]) -> Result<Room, HoldFault>
     ensures ok { IfOk result (IsLoadedRoom text.now) }
     ensures err { IfErr result (IsWhyNotLoaded text.now) }
 {
-    let image = match read_image(alloc, text) {
+    let image = match lend_image(text) {
         Ok(image) => image,
         Err(fault) => return Err(HoldFault::Image(fault)),
     };
-    let mut room = match Room::power_on(alloc, image.size) {
+    let mut room = match Room::power_on(alloc, image.size()) {
         Ok(room) => room,
         Err(CoreFault::Memory) => return Err(HoldFault::Memory),
         Err(CoreFault::Size) => unreachable!(),
     };
-    match put_image(&mut room, &image) {
+    match put_lent_image(&mut room, &image) {
         Ok(()) => Ok(room),
         Err(RoomFault::Memory) => Err(HoldFault::Memory),
         Err(RoomFault::JournalFull) => Err(HoldFault::JournalFull),

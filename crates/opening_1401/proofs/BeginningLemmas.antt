@@ -2,19 +2,9 @@
 use Rattle.std.proofs.Common.{◌≡◌, ℕ, ◌+◌, ◌<◌, List, [], ◌∷◌, ◌++◌, length, map, take, get_or, refl, sym, ap, subst}
 use Rattle.std.proofs.Common.{◌∙◌}
 use Rattle.std.proofs.lemmas.List.{map-append, take_more}
-use Rattle.std.proofs.lemmas.Simd.{map-map}
 use Rattle.operator_1401.specs.declared.command.Command.{Command}
-use Rattle.operator_1401.specs.declared.command.Command.TheVariants.{SetI}
-use Rattle.lone_room_1401.specs.declared.entry.Entry.{Entry}
-use Rattle.image_1401.specs.declared.image.Image.{Image}
-use Rattle.image_1401.specs.declared.image.Segment.{Segment}
 use Rattle.room_1401.specs.Seen.{SeatView}
-use Rattle.console_1401.specs.ImageLoading.{segment_entry, start_entry}
-use Rattle.opening_1401.specs.Beginning.{Gave, GaveAll, command_in, load_commands}
-
--- the command that deposits a segment
-abbrev pub deposit_of : Segment → Command
-deposit_of segment = command_in (segment_entry segment)
+use Rattle.opening_1401.specs.Beginning.{Gave, GaveAll}
 
 -- what is made of one item more
 pub one_more : {X Y : Type 0} (f : X → Y) (xs ys : List X) (i : ℕ) (x : X) → xs ≡ ys → i < length xs → x ≡ get_or xs i x
@@ -38,11 +28,3 @@ pub gave_both : (size : ℕ) (front rest : List Command) (old seat new : SeatVie
 gave_both size [] rest old seat new all more = subst (λ before. GaveAll size rest before new) all more
 gave_both size (first ∷ front) rest old seat new all more =
     (all.0, all.1, gave_both size front rest all.0 seat new all.2 more)
-
--- an image is loaded by depositing its segments and setting the I register
-pub load_commands_are : (image : Image)
-    → load_commands image ≡ map deposit_of image.segments ++ SetI image.start ∷ []
-load_commands_are image =
-    let entries : List Entry = map segment_entry image.segments in
-    map-append command_in entries (start_entry image.start ∷ [])
-    ∙ ap (λ commands. commands ++ SetI image.start ∷ []) (map-map command_in segment_entry image.segments)

@@ -5,20 +5,11 @@ use Rattle.image_1401.specs.declared.image.Image.{Image}
 use Rattle.operator_1401.specs.declared.answer.Answer.{Answer}
 use Rattle.operator_1401.specs.declared.command.Command.{Command}
 use Rattle.operator_1401.specs.declared.command.Command.TheVariants.{Feed}
-use Rattle.lone_room_1401.specs.declared.entry.Entry.{Entry}
 use Rattle.room_1401.specs.Seen.{SeatView, Carries}
-use Rattle.console_1401.specs.ImageLoading.{load_entries}
+use Rattle.loading_1401.specs.Loading.{load_commands}
 use Rattle.desk_1401.specs.Giving.{GiveAll}
 use Rattle.opening_1401.specs.declared.beginning.Before.{Before}
 use Rattle.opening_1401.specs.declared.beginning.Before.TheVariants.{Program, Journal}
-
--- the command of an entry
-abbrev pub command_in : Entry → Command
-command_in entry = entry.command
-
--- the commands that load an image: those that a console gives which loads it
-abbrev pub load_commands : Image → List Command
-load_commands image = map command_in (load_entries image)
 
 -- the commands that feed cards
 abbrev pub feed_commands : List Card → List Command

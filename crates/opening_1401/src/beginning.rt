@@ -1,14 +1,15 @@
 //! What the seats of a room do before operators come.
 ghost use Rattle.std.specs.Prelude.{◌≡◌, ◌<◌, ◌^◌, OnOk};
 ghost use Rattle.console_1401.specs.Served.{AreAllSeats};
+ghost use Rattle.loading_1401.specs.Loading.{load_commands};
 ghost use Rattle.opening_1401.specs.Beginning.{FirstGave, GaveAll, HasBegun, feed_commands, first_commands};
-ghost use Rattle.opening_1401.specs.Beginning.{load_commands};
 ghost use Rattle.opening_1401.specs.Outcome.{give_fault, room_fault};
 
 use crate::fault::OpenFault;
 use devices_1401::Card;
 use holding_1401::HoldFault;
-use image_1401::Image;
+use image_1401::LentImage;
+use loading_1401::LoadCommands;
 use room_1401::{Command, Keeper, Room, RoomFault, RoomId, Seat, SharedRoom};
 use serving_1401::{GiveFault, SeatsFault, give, give_entries};
 use std::sync::Wait;
@@ -38,23 +39,23 @@ fn give_fault(fault: GiveFault) -> OpenFault
 
 /// What the first seat of a room does before operators come, and does again in each room that follows.
 #[derive(Drop)]
-pub(crate) struct Program {
-    /// The image that it loads, if there is one.
-    pub image: Option<Image>,
+pub(crate) struct Program<'a> {
+    /// The image that it loads, if there is one: one segment is held at a time.
+    pub image: Option<LentImage<'a>>,
     /// The cards that it then feeds.
     pub cards: Vec<Card>,
 }
 
 /// What the seats of a room do before operators come.
 #[derive(Drop)]
-pub(crate) enum Before {
+pub(crate) enum Before<'a> {
     /// The first loads an image, if there is one, and then feeds cards.
-    Program(Program),
+    Program(Program<'a>),
     /// They give the commands of this room's journal again, each those of its number.
     Journal(Room),
 }
 
-impl Before {
+impl<'a> Before<'a> {
     /// Whether the machine has an image or cards when operators come, and not what others have left in it.
     pub(crate) fn is_prepared(&self) -> bool {
         match self {
@@ -74,7 +75,7 @@ pub(crate) fn begin<J: RoomId, H: Wait + Drop, K: Keeper + Drop, W: Wait>(
     wait: &W,
     room: &SharedRoom<J, H, K>,
     seats: &mut Vec<Seat<J>>,
-    before: &Before,
+    before: &Before<'_>,
 ) -> Result<(), OpenFault>
     requires seats { AreAllSeats J.seats seats.old.items }
     requires count { (0 < J.seats) × (J.seats < 2 ^ 8) }
@@ -96,7 +97,7 @@ fn begin_by_first<J: RoomId, H: Wait + Drop, K: Keeper + Drop, W: Wait>(
     wait: &W,
     room: &SharedRoom<J, H, K>,
     seats: &mut Vec<Seat<J>>,
-    image: &Option<Image>,
+    image: &Option<LentImage<'_>>,
     cards: &[Card],
 ) -> Result<(), OpenFault>
     requires { AreAllSeats J.seats seats.old.items }
@@ -116,7 +117,7 @@ fn begin_by<J: RoomId, H: Wait + Drop, K: Keeper + Drop, W: Wait>(
     wait: &W,
     room: &SharedRoom<J, H, K>,
     seat: &mut Seat<J>,
-    image: &Option<Image>,
+    image: &Option<LentImage<'_>>,
     cards: &[Card],
 ) -> Result<(), OpenFault>
     ensures number { seat.new.number ≡ seat.old.number }
@@ -136,25 +137,17 @@ fn put_image_by<J: RoomId, H: Wait + Drop, K: Keeper + Drop, W: Wait>(
     wait: &W,
     room: &SharedRoom<J, H, K>,
     seat: &mut Seat<J>,
-    image: &Image,
+    image: &LentImage<'_>,
 ) -> Result<(), OpenFault>
     ensures number { seat.new.number ≡ seat.old.number }
     ensures gave { OnOk result (GaveAll J.size (load_commands image.now) seat.old seat.new) }
 {
-    for segment in image.segments.as_slice() {
-        let command = Command::Deposit {
-            address: segment.address,
-            cells: segment.cells,
-        };
+    for command in LoadCommands::of_lent(image) {
         if let Err(fault) = give(wait, room, seat, command) {
             return Err(room_fault(fault));
         }
     }
-    let start = image.start;
-    match give(wait, room, seat, Command::SetI { address: start }) {
-        Ok(()) => Ok(()),
-        Err(fault) => Err(room_fault(fault)),
-    }
+    Ok(())
 }
 
 /// Feeds cards, by a seat.

@@ -15,7 +15,7 @@ use core_1401::Core;
 use devices_1401::Card;
 use exchange_1401::Origin;
 use holding_1401::{HoldFault, durability_of, read_file};
-use image_1401::{Image, read_image};
+use image_1401::{LentImage, lend_image};
 use keeping_1401::{JournalFile, MadeJournal, MadeName, TextKeeper, begin_journal};
 use room_1401::{Keeper, NoKeeper, Opened, RoomId, Seat, SharedRoom};
 use serving_1401::{
@@ -50,19 +50,33 @@ fn seats_outcome(failed: bool, fault: Option<SeatsFault>) -> Result<(), OpenFaul
     }
 }
 
-/// The image of a file.
-fn image_of(rt: &(impl Files + AllocGlobal), name: String) -> Result<Image, HoldFault> {
-    let text = read_file(rt, name)?;
-    read_image(rt.alloc(), text.as_slice()).map_err(HoldFault::Image)
-}
-
 /// A machine that is new to its operators.
 #[derive(Drop)]
 pub struct NewMachine {
     /// How many places core storage has.
     pub size: u16,
-    /// The image that is loaded; without one the machine is at power-on.
-    pub image: Option<Image>,
+    /// The text of the image that is loaded; without one the machine is at power-on.
+    pub text: Option<Vec<u8>>,
+}
+
+/// The image of a text.
+fn image_of(text: &[u8]) -> Result<LentImage<'_>, OpenFault> {
+    match lend_image(text) {
+        Ok(image) => Ok(image),
+        Err(fault) => Err(OpenFault::Hold(HoldFault::Image(fault))),
+    }
+}
+
+/// The image of a text, if there is one.
+///
+/// # Errors
+///
+/// `Hold` with `Image` if the text is no image's.
+pub(crate) fn image_in(text: &Option<Vec<u8>>) -> Result<Option<LentImage<'_>>, OpenFault> {
+    match text {
+        None => Ok(None),
+        Some(text) => Ok(Some(image_of(text.as_slice())?)),
+    }
 }
 
 /// The machine that a room begins with.
@@ -75,17 +89,17 @@ pub fn new_machine(
     rt: &(impl Files + AllocGlobal),
     opening: Opening,
 ) -> Result<NewMachine, OpenFault> {
-    let (size, image) = match opening {
+    let (size, text) = match opening {
         Opening::PowerOn(size) => (size, None),
         Opening::Image(name) => {
-            let image = image_of(rt, name).map_err(OpenFault::Hold)?;
-            (image.size, Some(image))
+            let text = read_file(rt, name).map_err(OpenFault::Hold)?;
+            (image_of(text.as_slice())?.size(), Some(text))
         }
     };
     if !Core::is_size(size) {
         return Err(OpenFault::Hold(HoldFault::Size));
     }
-    Ok(NewMachine { size, image })
+    Ok(NewMachine { size, text })
 }
 
 /// Opens a machine to operators whose seats are taken again, with these cards in its hopper; a proxy brings their
@@ -118,7 +132,8 @@ pub fn open_seats<
     origin: Option<Origin>,
     journal: Option<NewJournal>,
 ) -> Result<(), OpenFault> {
-    let NewMachine { size, image } = machine;
+    let NewMachine { size, text } = machine;
+    let image = image_in(&text)?;
     let before = Before::Program(Program { image, cards });
     let entrances = open_entrances(rt, operators, origin.as_ref())?;
     open_new(rt, size, operators.seats, &before, journal, &entrances)
@@ -140,7 +155,7 @@ pub(crate) fn open_new<
     rt: &R,
     size: u16,
     seats: u8,
-    before: &Before,
+    before: &Before<'_>,
     journal: Option<NewJournal>,
     entrances: &Entrances,
 ) -> Result<(), OpenFault>
@@ -174,7 +189,7 @@ pub(crate) fn serve_unkept<
     rt: &R,
     size: u16,
     seats: u8,
-    before: &Before,
+    before: &Before<'_>,
     entrances: &Entrances,
     turn: Turn<'_>,
 ) -> Result<(), OpenFault>
@@ -203,7 +218,7 @@ pub(crate) fn serve_kept<
     rt: &R,
     size: u16,
     seats: u8,
-    before: &Before,
+    before: &Before<'_>,
     made: MadeJournal,
     entrances: &Entrances,
     turn: Turn<'_>,
@@ -247,7 +262,7 @@ pub(crate) fn serve_room<
     rt: &R,
     size: u16,
     seats: u8,
-    before: &Before,
+    before: &Before<'_>,
     opened: Opened,
     keeper: K,
     entrances: &Entrances,
@@ -289,7 +304,7 @@ fn serve_begun<
     rt: &R,
     room: SharedRoom<J, &R, K>,
     mut seats: Vec<Seat<J>>,
-    before: &Before,
+    before: &Before<'_>,
     entrances: &Entrances,
     made: Option<MadeName>,
     turn: Turn<'_>,

@@ -4,7 +4,7 @@ ghost use Rattle.std.specs.Prelude.{◌≡◌, ◌≤◌, false, IfOk, IfSome, v
 use crate::beginning::{Before, Program};
 use crate::entrances::{Entrances, listen_again, open_entrances};
 use crate::fault::{OpenFault, not_kept};
-use crate::seating::{NewMachine, serve_kept, serve_unkept};
+use crate::seating::{NewMachine, image_in, serve_kept, serve_unkept};
 use calls_1401::{NewJournal, Operators};
 use devices_1401::Card;
 use exchange_1401::Origin;
@@ -35,10 +35,10 @@ pub(crate) struct Turn<'a> {
 
 /// What each of the rooms begins with.
 #[derive(Drop)]
-struct Opening {
+struct Opening<'a> {
     size: u16,
     seats: u8,
-    before: Before,
+    before: Before<'a>,
     journal: Option<NewJournal>,
     minutes: u16,
 }
@@ -72,7 +72,8 @@ pub fn open_succession<
     journal: Option<NewJournal>,
     minutes: u16,
 ) -> Result<(), OpenFault> {
-    let NewMachine { size, image } = machine;
+    let NewMachine { size, text } = machine;
+    let image = image_in(&text)?;
     let entrances = open_entrances(rt, operators, origin.as_ref())?;
     let opening = Opening {
         size,
@@ -96,7 +97,7 @@ fn serve_each<
         + Eprint
         + AllocGlobal
         + Files<File = File>,
->(rt: &R, opening: &Opening, entrances: &Entrances) -> Result<(), OpenFault>
+>(rt: &R, opening: &Opening<'_>, entrances: &Entrances) -> Result<(), OpenFault>
     requires { vec_len entrances.now.pages ≤ opening.now.seats }
 {
     let mut outcome: Result<(), OpenFault> = Ok(());
@@ -142,7 +143,7 @@ fn serve_one<
         + Eprint
         + AllocGlobal
         + Files<File = File>,
->(rt: &R, opening: &Opening, entrances: &Entrances, turn: Turn<'_>) -> Result<(), OpenFault>
+>(rt: &R, opening: &Opening<'_>, entrances: &Entrances, turn: Turn<'_>) -> Result<(), OpenFault>
     requires { vec_len entrances.now.pages ≤ opening.now.seats }
 {
     let size = opening.size;
@@ -156,7 +157,7 @@ fn serve_one<
 /// The new file of the journal of the room of this number, if there are to be journals.
 fn begin_next(
     rt: &(impl Files<File = File> + AllocGlobal),
-    opening: &Opening,
+    opening: &Opening<'_>,
     number: u32,
 ) -> Result<Option<MadeJournal>, OpenFault>
     ensures { IfOk result (λ made. IfSome made (λ made. ⟦<JournalFile as Sink>⟧.has_failed made.file ≡ false)) }

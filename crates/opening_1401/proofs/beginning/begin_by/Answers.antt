@@ -1,7 +1,8 @@
 -- The image is loaded, and then the cards are fed.
 use Rattle.std.proofs.Common.{sym, subst}
 use Rattle.std.proofs.lemmas.Result.{on_ok_weaker}
-use Rattle.opening_1401.specs.Beginning.{GaveAll, feed_commands, first_commands, load_commands}
+use Rattle.loading_1401.specs.Loading.{load_commands}
+use Rattle.opening_1401.specs.Beginning.{GaveAll, feed_commands, first_commands}
 use Rattle.opening_1401.proofs.BeginningLemmas.{gave_both}
 use Rattle.opening_1401.proofs.beginning.begin_by.Goals as goal
 

@@ -1,11 +1,14 @@
--- The commands that deposit the segments so far were given by this seat.
-use Rattle.std.proofs.Common.{◌≡◌, map, take}
+-- The commands so far were given by this seat, and with those that are left they load the image.
+use Rattle.std.proofs.Common.{◌≡◌, ◌++◌}
+use Rattle.loading_1401.specs.Loading.{load_commands}
 use Rattle.opening_1401.specs.Beginning.{GaveAll}
-use Rattle.opening_1401.proofs.BeginningLemmas.{deposit_of}
 use Rattle.opening_1401.proofs.beginning.put_image_by.Given as goal
 
-abbrev pub invariant-loop-segment : goal.invariant-loop-segment
-invariant-loop-segment g l = record {
+abbrev pub invariant-loop-command : goal.invariant-loop-command
+invariant-loop-command g l = record {
+  can : (goal.iterator-loop-command g).can_next l.command-iterator;
+  ends : (goal.iterator-loop-command g).is_finite l.command-iterator;
   number : l.seat.number ≡ l.fn.seat.number;
-  gave : GaveAll g.J.RoomId.size (map deposit_of (take l.segment-index l.image.segments)) l.fn.seat l.seat;
+  all : l.yielded ++ l.command-iterator ≡ load_commands l.image;
+  gave : GaveAll g.J.RoomId.size l.yielded l.fn.seat l.seat;
 }
