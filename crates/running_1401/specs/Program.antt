@@ -7,13 +7,14 @@ use Rattle.symbols_1401.specs.Fault.{IsMemory}
 use Rattle.symbols_1401.specs.Reading.{lines_in}
 use Rattle.autocoder_1401.specs.declared.assembly.Assembly.{Assembly}
 use Rattle.autocoder_1401.specs.declared.rows.AssemblyRows.{AssemblyRows}
-use Rattle.command_1401.specs.CarryOut.{deposited}
+use Rattle.command_1401.specs.CarryOut.{carry_out}
 use Rattle.cpu_1401.specs.State.{State, power_on}
 use Rattle.image_1401.specs.declared.fault.ImageFault.{ImageFault}
 use Rattle.image_1401.specs.declared.image.Image.{Image}
-use Rattle.image_1401.specs.declared.image.Segment.{Segment}
 use Rattle.image_1401.specs.ImageText.{IsTextOf}
 use Rattle.image_1401.specs.Refusal.{IsRefused}
+use Rattle.loading_1401.specs.Loading.{load_commands}
+use Rattle.operator_1401.specs.declared.command.Command.{Command}
 use Rattle.symbols_1401.specs.declared.fault.AsmFault.{AsmFault}
 use Rattle.source_1401.specs.declared.language.Language.{Language}
 use Rattle.running_1401.specs.declared.fault.RunFault.{RunFault}
@@ -33,18 +34,14 @@ IsAssembled language size source (Ok program) =
 IsAssembled language size source (Err told) =
     (why : AsmFault) × (told ≡ fault.Source why) × (IsMemory why ⊎ (assembly_in language size source ≡ Err why))
 
--- the cells of a segment put at their places
-abbrev pub with_segment : State → Segment → State
-with_segment s segment = record s { storage = deposited s.storage segment.address segment.cells }
+-- the machine after commands
+abbrev pub after_commands : State → List Command → State
+after_commands s [] = s
+after_commands s (command ∷ commands) = after_commands (carry_out s command).state commands
 
--- the cells of segments, a later one over an earlier one
-abbrev pub with_segments : State → List Segment → State
-with_segments s [] = s
-with_segments s (segment ∷ segments) = with_segments (with_segment s segment) segments
-
--- a machine of an image's size at power-on that has the image's cells, and begins at its entry
+-- a machine of an image's size at power-on, after the commands that load the image
 abbrev pub with_image : Image → State
-with_image image = record (with_segments (power_on image.size) image.segments) { i = image.start }
+with_image image = after_commands (power_on image.size) (load_commands image)
 
 -- a machine that has the cells of the image of a text
 abbrev pub IsImageMachine : List ℕ → State → Type 0

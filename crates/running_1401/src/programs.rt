@@ -1,20 +1,20 @@
 //! The program that a run begins with: a source, or an image.
-ghost use Rattle.std.specs.Prelude.{◌≡◌, true, false, length, Err, IfOk, IfErr, OnErr};
-ghost use Rattle.std.specs.List.{list_all};
+ghost use Rattle.std.specs.Prelude.{◌≡◌, true, false, Err, IfOk, IfErr, OnErr};
 ghost use Rattle.core_1401.specs.Storage.{is_core_size};
 ghost use Rattle.cpu_1401.specs.State.{power_on};
-ghost use Rattle.image_1401.specs.Image.{IsInCore, is_inside};
-ghost use Rattle.running_1401.specs.Program.{IsAssembled, IsImageMachine, IsNoImage, is_meant_as_image, with_image};
-ghost use Rattle.running_1401.specs.Program.{with_segment, with_segments};
+ghost use Rattle.image_1401.specs.Image.{IsInCore};
+ghost use Rattle.running_1401.specs.Program.{IsAssembled, IsImageMachine, IsNoImage, after_commands, is_meant_as_image};
+ghost use Rattle.running_1401.specs.Program.{with_image};
 ghost use Rattle.calls_1401.specs.Sizes.{is_refused, size_for};
 
 use crate::fault::RunFault;
 use autocoder_1401::{AssemblyRows, assemble_rows};
 use calls_1401::size_for;
-use command_1401::{Command, carry_out};
+use command_1401::carry_out;
 use core_1401::CoreFault;
 use cpu_1401::Machine;
-use image_1401::{Image, LentImage, Segment, lend_image};
+use image_1401::{Image, LentImage, lend_image};
+use loading_1401::LoadCommands;
 use source_1401::Language;
 use std::alloc::Global;
 
@@ -48,44 +48,6 @@ pub fn program_of(
     }
 }
 
-/// Puts the cells of a segment at their places.
-#[tactic(auto, unfolding(command_1401::specs::CarryOut::carry_out))]
-fn put_segment(machine: &mut Machine, segment: &Segment)
-    requires { is_inside (length machine.old.storage) segment.now ≡ true }
-    ensures state { machine.new ≡ with_segment machine.old segment.now }
-    ensures size { length machine.new.storage ≡ length machine.old.storage }
-{
-    let command = Command::Deposit {
-        address: segment.address,
-        cells: segment.cells,
-    };
-    let _ = carry_out(machine, &command);
-}
-
-/// Puts the cells of segments at their places, in order.
-fn put_segments(machine: &mut Machine, segments: &[Segment])
-    requires { list_all (is_inside (length machine.old.storage)) segments.now ≡ true }
-    ensures state { machine.new ≡ with_segments machine.old segments.now }
-    ensures size { length machine.new.storage ≡ length machine.old.storage }
-{
-    for segment in segments {
-        put_segment(machine, segment);
-    }
-}
-
-/// Puts the cells of an image that is lent at their places, one segment after the other.
-fn put_lent_segments(machine: &mut Machine, image: &LentImage<'_>)
-    requires { list_all (is_inside (length machine.old.storage)) image.now.segments ≡ true }
-    ensures state { machine.new ≡ with_segments machine.old image.now.segments }
-    ensures size { length machine.new.storage ≡ length machine.old.storage }
-{
-    let mut rest = image.again();
-    while let Some((segment, behind)) = rest.split_first() {
-        put_segment(machine, &segment);
-        rest = behind;
-    }
-}
-
 /// A machine of this size at power-on.
 ///
 /// # Errors
@@ -103,6 +65,15 @@ fn machine_of(alloc: Global, size: u16) -> Result<Machine, RunFault>
     }
 }
 
+/// Carries commands out on a machine, in order.
+fn carry_each(machine: &mut Machine, commands: LoadCommands<'_>)
+    ensures { machine.new ≡ after_commands machine.old commands.entry }
+{
+    for command in commands {
+        let _ = carry_out(machine, &command);
+    }
+}
+
 /// A machine of an image's size at power-on that has the image's cells, and begins at its entry.
 ///
 /// # Errors
@@ -114,8 +85,7 @@ pub fn loaded_machine(alloc: Global, image: &Image) -> Result<Machine, RunFault>
     ensures err { OnErr result (result ≡ Err RunFault.Memory) }
 {
     let mut machine = machine_of(alloc, image.size)?;
-    put_segments(&mut machine, image.segments.as_slice());
-    machine.set_i(image.start);
+    carry_each(&mut machine, LoadCommands::of_kept(image));
     Ok(machine)
 }
 
@@ -126,8 +96,7 @@ fn lent_machine(alloc: Global, image: &LentImage<'_>) -> Result<Machine, RunFaul
     ensures err { OnErr result (result ≡ Err RunFault.Memory) }
 {
     let mut machine = machine_of(alloc, image.size())?;
-    put_lent_segments(&mut machine, image);
-    machine.set_i(image.start());
+    carry_each(&mut machine, LoadCommands::of_lent(image));
     Ok(machine)
 }
 
