@@ -202,6 +202,8 @@ ROWS = [
     ("serve --port 1401 --seats 2 --image image --size 4000", "", MISUSE, "", None, {}),
     ("serve --port 1401 --seats 2 --graphics simh", "", MISUSE, "", None, {}),
     ("serve --port 1401 --seats 2 --renew-after 5", "", MISUSE, "", None, {}),
+    ("resume --port 1401 --seats 2 --renew-after 5 journal", "", MISUSE, "", None, {}),
+    ("resume --renew-after 5 journal", "", MISUSE, "", None, {}),
     ("assemble -o new --deck new source", "", MISUSE, "", None, {}),
 ]
 

@@ -16,9 +16,20 @@ NEARLY_FULL = 95_000
 class Renewal(ProgramTest):
     """Tests of rooms with --renew-after."""
 
+    # A journal of a machine of another size, and what seat 1 gives next.
+    LINES = "JOURNAL1 1400\n1\t1\tDEPOSIT 0700 ~2\tOK\n"
+    NEXT = "2\t1\tEXAMINE 0700 1\t~2\n"
+    ANEW = "JOURNAL1 1400\n1\t1\tEXAMINE 0700 1\t \n"
+
     def rooms(self, *words, seats=1, minutes=1, **how):
         """A room with pages and consoles that new ones follow."""
         return self.room("serve", "--renew-after", minutes, *words, seats=seats, pages=True, **how)
+
+    def resumed(self, *words, name="day.journal", minutes=1, **how):
+        """The room of a journal of this name, which was a file's already, and that new ones follow."""
+        file = self.folder / name
+        file.write_text(how.pop("lines", self.LINES))
+        return self.room("resume", "--renew-after", minutes, *words, file, seats=1, pages=True, **how)
 
     def deck(self):
         """The name of a deck of one card."""
@@ -118,6 +129,53 @@ class ByKey(Renewal):
         self.ended(room, "the room", 1)
 
 
+class AfterAJournal(Renewal):
+    """The room of a journal is followed by rooms at power-on."""
+
+    def goes_on_and_anew(self, room):
+        """Subtests: the first room has what the journal left, and the next one is at power-on; both then end."""
+        self.same("the room is the journal's", room.give(1, 1, b"EXAMINE 0700 1"), (200, b"~2\n"))
+        self.same("a new room is asked for", self.ask_anew(room), (200, b"RENEWAL IN 0\n"))
+        self.follows("it follows", room, 0)
+        self.same("nothing is loaded", room.give(1, 0, b"EXAMINE 0700 1"), (200, b" \n"))
+        self.same("its size is the journal's", room.give(1, 1, b"GLANCE 1400"), (200, b"GLANCE FAULT 1 RANGE\n"))
+        self.same("and so do its pages say", room.ask(1, path="/hold")[1].split(b"\n")[3], b"BEGAN PLAIN")
+        self.expect("both rooms", room.end(), 0, f"{room.ready}JOURNAL 2\nROOM 2\nJOURNAL 1\n")
+
+    def holds_all(self, **texts):
+        """Subtests: these files, with a point in the name for each underscore, have these texts; no others are there."""
+        named = {name.replace("_", "."): text for name, text in texts.items()}
+        self.same("the files", sorted(path.name for path in self.folder.iterdir()), sorted(named))
+        for name, text in named.items():
+            self.holds(name, self.folder / name, text)
+
+    def test_a_new_room_has_the_journal_s_size_and_the_next_name(self):
+        self.goes_on_and_anew(self.resumed())
+        self.holds_all(day_journal=self.LINES + self.NEXT, day_journal_2=self.ANEW)
+
+    def test_the_number_in_a_name_goes_on(self):
+        self.goes_on_and_anew(self.resumed(name="day.journal.3"))
+        self.holds_all(day_journal_3=self.LINES + self.NEXT, day_journal_4=self.ANEW)
+
+    def test_a_number_that_no_other_name_would_have_is_part_of_the_name(self):
+        for name in "day.03", "day.1", "day.1000000", "day.+2":
+            self.goes_on_and_anew(self.resumed(name=name))
+            self.holds(f"after {name}", self.folder / f"{name}.2", self.ANEW)
+
+    def test_a_name_that_is_taken_is_passed_over(self):
+        (self.folder / "day.journal.4").write_text("a diary\n")
+        self.goes_on_and_anew(self.resumed(name="day.journal.3"))
+        self.holds_all(day_journal_3=self.LINES + self.NEXT, day_journal_4="a diary\n", day_journal_5=self.ANEW)
+
+    def test_a_new_journal_is_followed_by_its_own_name(self):
+        self.goes_on_and_anew(self.resumed("--journal", self.folder / "new.5"))
+        self.holds_all(day_journal=self.LINES, new_5=self.LINES + self.NEXT, new_5_2=self.ANEW)
+
+    def test_without_a_journal_none_is_kept_later(self):
+        self.goes_on_and_anew(self.resumed("--until", 1))
+        self.holds_all(day_journal=self.LINES)
+
+
 class Requests(Renewal):
     """Which requests a page may make about a new room."""
 
@@ -149,11 +207,16 @@ class Requests(Renewal):
 
 
 class ByTime(Renewal):
-    """Idle minutes, and a minute's notice: both tests wait for a minute, at the same time."""
+    """Idle minutes, and a minute's notice: all tests wait for a minute, at the same time."""
 
     def test_an_idle_room_is_followed_and_a_nearly_full_one_after_a_notice(self):
         idle, untouched, full = self.rooms(), self.rooms("--cards", self.deck()), self.rooms(minutes=60)
+        resumed, unused = self.resumed(), self.resumed(name="unused.journal")
+        entries = "".join(f"{number}\t1\tEXAMINE 0001 1\t \n" for number in range(1, NEARLY_FULL + 1))
+        long = self.resumed(name="long.journal", minutes=60, lines=f"JOURNAL1 1400\n{entries}")
         self.same("a command is given", idle.give(1, 0, b"DEPOSIT 0700 ~2"), (200, b"OK\n"))
+        self.same("and one in a room of a journal", resumed.give(1, 1, b"DEPOSIT 0700 ~2"), (200, b"OK\n"))
+        self.check("a long journal gives notice", "" if self.when(long).startswith(b"RENEWAL IN ") else "it doesn't")
         begun = time.monotonic()
         self.fill(full)
         notice = self.when(full)
@@ -162,10 +225,17 @@ class ByTime(Renewal):
         self.same("the machine goes on meanwhile", full.give(1, NEARLY_FULL, b"EXAMINE 1"), (200, b" \n"))
         self.lasts("the idle room", idle, 1, begun)
         self.lasts("the nearly full one", full, NEARLY_FULL + 1, begun)
+        self.follows("the idle room of a journal is followed", resumed, 0)
+        self.follows("that of a long journal is", long, 0)
         self.same("a room in which nobody gave a command isn't followed", untouched.made(), 1)
+        self.same("nor is one in which nobody but the journal did", unused.made(), 1)
         self.expect("the idle room", idle.end(), 0, f"{idle.ready}JOURNAL 1\nROOM 2\nJOURNAL 0\n")
         self.expect("the full one", full.end(), 0, f"{full.ready}JOURNAL {NEARLY_FULL + 1}\nROOM 2\nJOURNAL 0\n")
         self.expect("the untouched one", untouched.end(), 0, f"{untouched.ready}JOURNAL 1\n")
+        self.expect("the journal's", resumed.end(), 0, f"{resumed.ready}JOURNAL 2\nROOM 2\nJOURNAL 0\n")
+        self.expect("the long one's", long.end(), 0, f"{long.ready}JOURNAL {NEARLY_FULL}\nROOM 2\nJOURNAL 0\n")
+        self.expect("the unused one's", unused.end(), 0, f"{unused.ready}JOURNAL 1\n")
+        self.holds("the next journal", self.folder / "long.journal.2", "JOURNAL1 1400\n")
 
     def fill(self, room):
         """A console gives so many commands that the journal is nearly full."""
@@ -193,8 +263,11 @@ class Misuse(ProgramTest):
     """Command lines that are refused."""
 
     def test_the_minutes_are_from_one_to_a_day_and_need_pages(self):
-        for minutes in "0", "1441", "-1", "soon":
-            ran = program("serve", "--seats", "1", "--page", "8080", "--renew-after", minutes)
-            self.same(f"{minutes} minutes", (ran.returncode, ran.stdout), (2, b""))
-        ran = program("serve", "--seats", "1", "--port", "1401", "--renew-after", "5")
-        self.same("without pages", (ran.returncode, ran.stdout), (2, b""))
+        for call in ("serve",), ("resume", self.folder / "day.journal"):
+            for minutes in "0", "1441", "-1", "soon":
+                ran = program(*call, "--seats", "1", "--page", "8080", "--renew-after", minutes)
+                self.same(f"{call[0]}: {minutes} minutes", (ran.returncode, ran.stdout), (2, b""))
+            ran = program(*call, "--seats", "1", "--port", "1401", "--renew-after", "5")
+            self.same(f"{call[0]}: without pages", (ran.returncode, ran.stdout), (2, b""))
+        ran = program("resume", "--renew-after", "5", self.folder / "day.journal")
+        self.same("without seats", (ran.returncode, ran.stdout), (2, b""))

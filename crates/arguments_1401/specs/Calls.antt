@@ -197,15 +197,16 @@ IsRoom found operators asked =
     × IsRoomThat found operators (plain && (is_some operators.port && not (is_some operators.page))) asked
 
 -- `resume` of a file: at seats if there are operators, or else at a console
-abbrev pub resume_call : Resuming → Option Operators → Option Origin → Call
-resume_call resuming None origin = call.Resume resuming
-resume_call resuming (Some operators) origin = call.ResumeSeats resuming operators origin
+abbrev pub resume_call : Resuming → Option Operators → Option Origin → Option ℕ → Call
+resume_call resuming None origin renewal = call.Resume resuming
+resume_call resuming (Some operators) origin renewal = call.ResumeSeats resuming operators origin renewal
 
 abbrev pub IsResumed : Found → List ℕ → Call → Type 0
 IsResumed found file asked =
-    (resuming : Resuming) × (operators : Option Operators) × (origin : Option Origin)
-    × (asked ≡ resume_call resuming operators origin)
+    (resuming : Resuming) × (operators : Option Operators) × (origin : Option Origin) × (renewal : Option ℕ)
+    × (asked ≡ resume_call resuming operators origin renewal)
     × IsResuming found file resuming × AreOperatorsIn found operators × IsOriginIn found origin
+    × IsNumberIn 16 found (codes "renew-after") renewal
 
 -- `console`: without a journal that is kept, or with it
 abbrev pub console_call : ℕ → Option NewJournal → Call

@@ -7,7 +7,7 @@ ghost use Rattle.arguments_1401.specs.Calls.{IsJournalIn, IsOriginIn, IsResumed,
 use crate::commands::{Session, Subcommand, refusal};
 use crate::options::{ANY_U8, ANY_U32, Argument, FREE, Kind, TEXT, name_in};
 use crate::serving::{
-    ORIGIN, PAGE, PORT, SEATS, operators_in, origin_in, origin_refusal, pages_refused,
+    ORIGIN, PAGE, PORT, RENEW_AFTER, SEATS, operators_in, origin_in, origin_refusal, pages_refused,
 };
 use calls_1401::{Call, NewJournal, Resuming, Showing};
 use clap::{ArgMatches, Error};
@@ -116,6 +116,10 @@ const RESUMING: &[Argument] = &[
         ..PAGE
     },
     ORIGIN,
+    Argument {
+        help: "Begins a new room, with nothing loaded, after MINUTES without a command and whenever serve would",
+        ..RENEW_AFTER
+    },
     JOURNAL_FILE,
 ];
 
@@ -256,11 +260,13 @@ fn resumed_call(
     ensures { IfOk result (λ call. IsResumed (found_of matches.now) file.now call) }
 {
     let resuming = resuming_in(alloc, matches, file)?;
+    let renewal = matches.get_one::<u16>("renew-after");
     Ok(match operators_in(matches) {
         Some(operators) => Call::ResumeSeats {
             resuming,
             operators,
             origin,
+            renewal,
         },
         None => Call::Resume(resuming),
     })

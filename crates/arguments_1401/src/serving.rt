@@ -46,7 +46,7 @@ pub(crate) const ORIGIN: Argument = Argument {
 };
 
 /// When a new room follows.
-const RENEW_AFTER: Argument = Argument {
+pub(crate) const RENEW_AFTER: Argument = Argument {
     name: "renew-after",
     kind: Kind::Value("MINUTES", ValueParser::Signed(1, 1440), &[]),
     needs: &["page"],

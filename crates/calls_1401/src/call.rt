@@ -256,5 +256,7 @@ pub enum Call {
         operators: Operators,
         /// Where a proxy brings their pages to others, as `Seating` has it.
         origin: Option<Origin>,
+        /// After how many minutes without a command a new room follows, at power-on; without a value none does.
+        renewal: Option<u16>,
     },
 }

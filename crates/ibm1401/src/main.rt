@@ -18,7 +18,7 @@ use calls_1401::{Call, Seating};
 use files_1401::hold_closed_streams;
 use holding_1401::{journal_file, keep_console, keep_loaded, load_file, resume_file};
 use machine_graphics::Graphics;
-use opening_1401::{new_machine, open_room, open_seats, open_succession, resume_seats};
+use opening_1401::{new_machine, open_room, open_seats, resume_seats};
 use running_1401::{ErrorOutput, read_cards, run_file};
 use std::fs::File;
 use std::io::{IsTerminal, StdinLock};
@@ -92,8 +92,9 @@ fn run<
                 resuming,
                 operators,
                 origin,
+                renewal,
             },
-        ) => resume_seats(rt, resuming, operators, origin).map_err(Fault::Open),
+        ) => resume_seats(rt, resuming, operators, origin, renewal).map_err(Fault::Open),
         Err(error) => tell(rt, error),
     }
 }
@@ -145,13 +146,7 @@ fn serve_seats<
     } = asked;
     let machine = new_machine(rt, opening).map_err(Fault::Open)?;
     let cards = cards_of(rt, cards, graphics)?;
-    let served = match renewal {
-        None => open_seats(rt, machine, cards, operators, origin, journal),
-        Some(minutes) => {
-            open_succession(rt, machine, cards, operators, origin, journal, minutes)
-        }
-    };
-    served.map_err(Fault::Open)
+    open_seats(rt, machine, cards, operators, origin, journal, renewal).map_err(Fault::Open)
 }
 
 /// The words of the command line, the program's own name in front.

@@ -3,9 +3,9 @@
 //!
 //! ```text
 //! open_room(rt, service)?                      // a console for each seat, once, until all have ended
-//! open_seats(rt, machine, cards, comers, kept)? // consoles and pages, whose seats are taken again, until QUIT
-//! open_succession(rt, machine, cards, comers, origin, kept, 20)? // the same, and a new room after 20 idle minutes
-//! resume_seats(rt, asked, comers)?             // the same, from where a journal ends
+//! open_seats(rt, machine, cards, comers, origin, kept, None)? // consoles and pages, seats taken again, until QUIT
+//! open_seats(rt, machine, cards, comers, origin, kept, Some(20))? // the same, and a new room after 20 idle minutes
+//! resume_seats(rt, asked, comers, origin, None)? // the same, from where a journal ends
 //! ```
 #![tactic(auto)]
 
@@ -15,13 +15,12 @@ pub mod fault;
 // a console for each seat, once
 pub mod serving;
 
-// seats that are taken again: where operators come in, what is done before, and the room
+// seats that are taken again: where operators come in, what is done before, the room, and those that follow it
 mod beginning;
 mod entrances;
+mod journal_names;
 pub mod seating;
-
-// the same in rooms that follow each other
-pub mod succession;
+mod succession;
 
 // the same where a journal ends
 pub mod resuming;
@@ -30,4 +29,3 @@ pub use fault::OpenFault;
 pub use resuming::resume_seats;
 pub use seating::{NewMachine, new_machine, open_seats};
 pub use serving::open_room;
-pub use succession::open_succession;

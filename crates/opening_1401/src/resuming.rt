@@ -4,19 +4,19 @@ ghost use Rattle.journal_1401.specs.JournalText.{journal_text};
 ghost use Rattle.desk_1401.specs.Giving.{IsSeated, foreign_in};
 ghost use Rattle.holding_1401.specs.Choosing.{HasChosen};
 
-use crate::beginning::Before;
+use crate::beginning::{Before, Program};
 use crate::entrances::{Entrances, open_entrances};
 use crate::fault::{OpenFault, not_kept};
-use crate::seating::{open_new, serve_room};
-use crate::succession::Turn;
+use crate::journal_names::JournalNames;
+use crate::seating::serve_new;
+use crate::succession::{Rooms, Turn, serve_others, serve_rooms};
 use calls_1401::{NewJournal, Operators, Resuming};
 use exchange_1401::Origin;
 use holding_1401::{HoldFault, durability_of, read_chosen, tell_cut};
-use keeping_1401::{
-    Durability, JournalFile, TakenUp, TextKeeper, Verifier, find_journal, verify_journal,
-};
-use room_1401::{Entry, Opened, Room};
-use serving_1401::{NotingKeeper, Watch, foreign_seat};
+use keeping_1401::{JournalFile, TakenUp, find_journal, verify_journal};
+use room_1401::{Entry, Room};
+use serving_1401::{Watch, foreign_seat};
+use std::alloc::Global;
 use std::fs::File;
 use std::io::StdinLock;
 use std::marker::Brand;
@@ -40,7 +40,8 @@ fn expect_seats(entries: &[Entry], least: u8, most: u8) -> Result<(), OpenFault>
 }
 
 /// Opens a room to operators whose seats give the commands of a journal again first; it goes on as `serve` does. It is
-/// kept in the same file, or in a new one; or, if only the first of the commands are asked for, it isn't kept.
+/// kept in the same file, or in a new one; or, if only the first of the commands are asked for, it isn't kept. If a
+/// number of minutes is given, new rooms of the same size follow at power-on, as after a room of `open_seats`.
 ///
 /// # Errors
 ///
@@ -59,9 +60,15 @@ pub fn resume_seats<
         + AllocGlobal
         + Files<File = File>
         + Net<Listener = TcpListener, Stream = TcpStream>,
->(rt: &R, asked: Resuming, operators: Operators, origin: Option<Origin>) -> Result<(), OpenFault> {
+>(
+    rt: &R,
+    asked: Resuming,
+    operators: Operators,
+    origin: Option<Origin>,
+    minutes: Option<u16>,
+) -> Result<(), OpenFault> {
     let entrances = open_entrances(rt, operators, origin.as_ref())?;
-    resume_at(rt, asked, operators.seats, &entrances)
+    resume_at(rt, asked, operators.seats, minutes, &entrances)
 }
 
 /// The same once the ports are had.
@@ -76,7 +83,13 @@ fn resume_at<
         + Eprint
         + AllocGlobal
         + Files<File = File>,
->(rt: &R, asked: Resuming, seats: u8, entrances: &Entrances) -> Result<(), OpenFault>
+>(
+    rt: &R,
+    asked: Resuming,
+    seats: u8,
+    minutes: Option<u16>,
+    entrances: &Entrances,
+) -> Result<(), OpenFault>
     requires { vec_len entrances.now.pages ≤ seats }
 {
     let Resuming {
@@ -87,13 +100,23 @@ fn resume_at<
         sync,
     } = asked;
     if journal.is_none() && until.is_none() {
-        return go_on(rt, file, durability_of(sync), seats, entrances);
+        return go_on(rt, file, sync, seats, minutes, entrances);
     }
     let room = room_of(rt, file, until, without.as_slice(), seats)?;
-    let size = room.machine().core().size();
-    let journal = new_journal(journal, sync);
-    let before = Before::Journal(room);
-    open_new(rt, size, seats, &before, journal, entrances)
+    let rooms = Rooms {
+        size: room.machine().core().size(),
+        seats,
+        before: nothing(rt.alloc()),
+        names: names_of(journal, sync),
+        minutes,
+    };
+    serve_rooms(rt, &rooms, &Before::Journal(room), entrances)
+}
+
+/// What is done before operators come to a machine at power-on.
+fn nothing(alloc: Global) -> Before<'static> {
+    let cards = Vec::new(alloc);
+    Before::Program(Program { image: None, cards })
 }
 
 /// The same, of a journal whose seats the room has.
@@ -112,10 +135,10 @@ fn room_of(
     Ok(room)
 }
 
-/// The journal that is kept from there on, if there is a file for it.
-fn new_journal(file: Option<String>, sync: bool) -> Option<NewJournal> {
+/// The names of the journals that are kept from there on, if there is a file for the first.
+fn names_of(file: Option<String>, sync: bool) -> Option<JournalNames> {
     match file {
-        Some(file) => Some(NewJournal { file, sync }),
+        Some(file) => Some(JournalNames::new(NewJournal { file, sync })),
         None => None,
     }
 }
@@ -135,22 +158,74 @@ fn go_on<
 >(
     rt: &R,
     file: String,
-    durability: Durability,
+    sync: bool,
     seats: u8,
+    minutes: Option<u16>,
     entrances: &Entrances,
 ) -> Result<(), OpenFault>
     requires { vec_len entrances.now.pages ≤ seats }
 {
-    let found = find_journal(rt, file, durability).map_err(not_kept)?;
+    let Ok(names) = JournalNames::from_file(rt.alloc(), file.as_str(), sync) else {
+        return Err(OpenFault::Hold(HoldFault::Memory));
+    };
+    let taken = take_up(rt, file, sync, seats)?;
+    let rooms = Rooms {
+        size: taken.room.machine().core().size(),
+        seats,
+        before: nothing(rt.alloc()),
+        names: Some(names),
+        minutes,
+    };
+    serve_taken_up(rt, taken, &rooms, entrances)
+}
+
+/// Takes up a journal whose seats the room has.
+fn take_up(
+    rt: &(impl Files<File = File> + Eprint + AllocGlobal),
+    file: String,
+    sync: bool,
+    seats: u8,
+) -> Result<TakenUp, OpenFault>
+    ensures good { IfOk result (λ taken. ⟦<JournalFile as Sink>⟧.has_failed taken.file ≡ false) }
+    ensures text { IfOk result (λ taken. taken.text.items ≡ journal_text taken.room.size taken.room.journal) }
+{
+    let found = find_journal(rt, file, durability_of(sync)).map_err(not_kept)?;
     expect_seats(found.entries(), 1, seats)?;
+    let taken = found.take_up().map_err(not_kept)?;
+    tell_cut(rt, taken.cut);
+    Ok(taken)
+}
+
+/// Serves the room of a journal that was taken up, and those that follow it.
+fn serve_taken_up<
+    R: Threads
+        + Wait
+        + Sync
+        + Clock
+        + RandomSource
+        + Input<Reader = StdinLock<'static>>
+        + Print
+        + Eprint
+        + AllocGlobal
+        + Files<File = File>,
+>(rt: &R, taken: TakenUp, rooms: &Rooms<'_'>, entrances: &Entrances) -> Result<(), OpenFault>
+    requires pages { vec_len entrances.now.pages ≤ rooms.now.seats }
+    requires good { ⟦<JournalFile as Sink>⟧.has_failed taken.file ≡ false }
+    requires text { taken.text.items ≡ journal_text taken.room.size taken.room.journal }
+{
     let TakenUp {
         room,
         file,
         text,
-        cut,
-    } = found.take_up().map_err(not_kept)?;
-    tell_cut(rt, cut);
-    verify_room(rt, room, file, text, seats, entrances)
+        ..
+    } = taken;
+    let watch = Watch::new(rooms.minutes, false);
+    let turn = Turn {
+        number: 1,
+        watch: &watch,
+    };
+    let served = verify_room(rt, room, file, text, rooms.seats, entrances, turn);
+    serve_others(rt, rooms, served, &watch, entrances)
 }
 
 /// Goes on by the file of a room's journal, which has its text.
@@ -172,6 +247,7 @@ fn verify_room<
     text: Vec<u8>,
     seats: u8,
     entrances: &Entrances,
+    turn: Turn<'_>,
 ) -> Result<(), OpenFault>
     requires pages { vec_len entrances.now.pages ≤ seats }
     requires good { ⟦<JournalFile as Sink>⟧.has_failed file ≡ false }
@@ -182,15 +258,6 @@ fn verify_room<
     let Ok(keeper) = verifier else {
         return Err(OpenFault::Hold(HoldFault::Memory));
     };
-    let watch = Watch::new(None, false);
-    let turn = Turn {
-        number: 1,
-        watch: &watch,
-    };
-    let keeper = NotingKeeper::new(keeper, &watch, rt);
-    let opened = Opened::new(seats);
     let before = Before::Journal(room);
-    serve_room::<Brand, R, NotingKeeper<'_, TextKeeper<Brand, Verifier<JournalFile>>, R>>(
-        rt, size, seats, &before, opened, keeper, entrances, None, turn,
-    )
+    serve_new(rt, size, seats, &before, keeper, entrances, None, turn)
 }

@@ -7,17 +7,18 @@ ghost use Rattle.opening_1401.specs.Outcome.{seats_outcome};
 
 use crate::beginning::{Before, Program, begin};
 use crate::entrances::{Entrances, open_entrances, tell_ready};
-use crate::fault::{OpenFault, not_kept, not_told};
+use crate::fault::{OpenFault, not_told};
+use crate::journal_names::JournalNames;
 use crate::serving::start_fault;
-use crate::succession::Turn;
+use crate::succession::{Rooms, Turn, serve_rooms};
 use calls_1401::{NewJournal, Opening, Operators};
 use core_1401::Core;
 use devices_1401::Card;
 use exchange_1401::Origin;
-use holding_1401::{HoldFault, durability_of, read_file};
+use holding_1401::{HoldFault, read_file};
 use image_1401::{LentImage, lend_image};
-use keeping_1401::{JournalFile, MadeJournal, MadeName, TextKeeper, begin_journal};
-use room_1401::{Keeper, NoKeeper, Opened, RoomId, Seat, SharedRoom};
+use keeping_1401::MadeName;
+use room_1401::{Keeper, Opened, RoomId, Seat, SharedRoom};
 use serving_1401::{
     NotingKeeper, PagePort, SeatsFault, SeatsServed, TakingTurns, UntilRenewed, Watch,
     serve_watched,
@@ -30,7 +31,7 @@ use std::random::RandomSource;
 use std::rt::{Clock, Files};
 use std::sync::Wait;
 use std::thread::Threads;
-use streams_1401::{FromReader, Sink, Source};
+use streams_1401::{FromReader, Source};
 use terminal_1401::SessionFault;
 
 /// What became of a room while it was served means this for the program.
@@ -72,7 +73,7 @@ fn image_of(text: &[u8]) -> Result<LentImage<'_>, OpenFault> {
 /// # Errors
 ///
 /// `Hold` with `Image` if the text is no image's.
-pub(crate) fn image_in(text: &Option<Vec<u8>>) -> Result<Option<LentImage<'_>>, OpenFault> {
+fn image_in(text: &Option<Vec<u8>>) -> Result<Option<LentImage<'_>>, OpenFault> {
     match text {
         None => Ok(None),
         Some(text) => Ok(Some(image_of(text.as_slice())?)),
@@ -105,13 +106,15 @@ pub fn new_machine(
 /// Opens a machine to operators whose seats are taken again, with these cards in its hopper; a proxy brings their
 /// pages to others at this origin, if there is one. It tells on standard output when it listens, with the address of
 /// each page, and at the end how many commands the journal has. QUIT on standard input, or its end, closes the room.
+/// If a number of minutes is given, a new room with the same image and cards follows whenever a page asks for it, no
+/// command was given for so many minutes, or a minute after its journal had 95,000 entries.
 ///
 /// # Errors
 ///
 /// `NoReader`, or `Hold` with `Size` or `Memory`, if there is no such room; `Port` if a port is refused; `Hold` with
 /// `Kept` if the journal's file can't be had, with `Output` if standard output takes nothing, with `JournalFull` or
-/// `Session` if the image isn't loaded or a card isn't fed; or what went wrong while the room was served. A new file of
-/// a journal is left only if the room came about.
+/// `Session` if the image isn't loaded or a card isn't fed; or what went wrong first while the rooms were served. A new
+/// file of a journal is left only if the room came about.
 pub fn open_seats<
     R: Threads
         + Wait
@@ -131,50 +134,24 @@ pub fn open_seats<
     operators: Operators,
     origin: Option<Origin>,
     journal: Option<NewJournal>,
+    minutes: Option<u16>,
 ) -> Result<(), OpenFault> {
     let NewMachine { size, text } = machine;
     let image = image_in(&text)?;
-    let before = Before::Program(Program { image, cards });
     let entrances = open_entrances(rt, operators, origin.as_ref())?;
-    open_new(rt, size, operators.seats, &before, journal, &entrances)
-}
-
-/// Opens a room, with a journal in a new file or without one; no other room follows it.
-pub(crate) fn open_new<
-    R: Threads
-        + Wait
-        + Sync
-        + Clock
-        + RandomSource
-        + Input<Reader = StdinLock<'static>>
-        + Print
-        + Eprint
-        + AllocGlobal
-        + Files<File = File>,
->(
-    rt: &R,
-    size: u16,
-    seats: u8,
-    before: &Before<'_>,
-    journal: Option<NewJournal>,
-    entrances: &Entrances,
-) -> Result<(), OpenFault>
-    requires { vec_len entrances.now.pages ≤ seats }
-{
-    let watch = Watch::new(None, before.is_prepared());
-    let turn = Turn {
-        number: 1,
-        watch: &watch,
+    let rooms = Rooms {
+        size,
+        seats: operators.seats,
+        before: Before::Program(Program { image, cards }),
+        names: journal.map(JournalNames::new),
+        minutes,
     };
-    let Some(NewJournal { file, sync }) = journal else {
-        return serve_unkept(rt, size, seats, before, entrances, turn);
-    };
-    let made = begin_journal(rt, file, size, durability_of(sync)).map_err(not_kept)?;
-    serve_kept(rt, size, seats, before, made, entrances, turn)
+    serve_rooms(rt, &rooms, &rooms.before, &entrances)
 }
 
-/// Opens a room that isn't kept.
-pub(crate) fn serve_unkept<
+/// Opens a room by a keeper that has the head of its journal, and serves it in its turn; if it doesn't come about, the
+/// file that was made for it is taken away.
+pub(crate) fn serve_new<
     R: Threads
         + Wait
         + Sync
@@ -185,67 +162,30 @@ pub(crate) fn serve_unkept<
         + Eprint
         + AllocGlobal
         + Files<File = File>,
+    K: Keeper + Drop + Send + Sync,
 >(
     rt: &R,
     size: u16,
     seats: u8,
     before: &Before<'_>,
+    keeper: K,
     entrances: &Entrances,
-    turn: Turn<'_>,
-) -> Result<(), OpenFault>
-    requires { vec_len entrances.now.pages ≤ seats }
-{
-    let opened = Opened::new(seats);
-    let keeper = NotingKeeper::new(NoKeeper, turn.watch, rt);
-    serve_room::<Brand, R, NotingKeeper<'_, NoKeeper, R>>(
-        rt, size, seats, before, opened, keeper, entrances, None, turn,
-    )
-}
-
-/// Opens a room whose journal goes into the file that was made for it.
-pub(crate) fn serve_kept<
-    R: Threads
-        + Wait
-        + Sync
-        + Clock
-        + RandomSource
-        + Input<Reader = StdinLock<'static>>
-        + Print
-        + Eprint
-        + AllocGlobal
-        + Files<File = File>,
->(
-    rt: &R,
-    size: u16,
-    seats: u8,
-    before: &Before<'_>,
-    made: MadeJournal,
-    entrances: &Entrances,
+    made: Option<MadeName>,
     turn: Turn<'_>,
 ) -> Result<(), OpenFault>
     requires pages { vec_len entrances.now.pages ≤ seats }
-    requires good { ⟦<JournalFile as Sink>⟧.has_failed made.file ≡ false }
+    requires good { K.has_failed keeper ≡ false }
+    requires kept { Appends K.first (K.kept keeper) (kept_text K.form size []) }
 {
     let opened = Opened::new(seats);
-    let MadeJournal { file, name } = made;
-    let text = TextKeeper::<Brand, JournalFile>::new(rt.alloc(), file);
-    let keeper = NotingKeeper::new(text, turn.watch, rt);
-    serve_room::<Brand, R, NotingKeeper<'_, TextKeeper<Brand, JournalFile>, R>>(
-        rt,
-        size,
-        seats,
-        before,
-        opened,
-        keeper,
-        entrances,
-        Some(name),
-        turn,
+    let keeper = NotingKeeper::new(keeper, turn.watch, rt);
+    serve_room::<Brand, R, NotingKeeper<'_, K, R>>(
+        rt, size, seats, before, opened, keeper, entrances, made, turn,
     )
 }
 
-/// Opens a room of this name, by a keeper that has the head of its journal, and serves it in its turn; if it doesn't come about,
-/// the file that was made for it is taken away.
-pub(crate) fn serve_room<
+/// The same for a room of this name.
+fn serve_room<
     J: RoomId + Send + Sync,
     R: Threads
         + Wait

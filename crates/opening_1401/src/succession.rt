@@ -1,20 +1,18 @@
 //! Rooms that follow each other at the same ports.
 ghost use Rattle.std.specs.Prelude.{◌≡◌, ◌≤◌, false, IfOk, IfSome, vec_len};
 
-use crate::beginning::{Before, Program};
-use crate::entrances::{Entrances, listen_again, open_entrances};
-use crate::fault::{OpenFault, not_kept};
-use crate::seating::{NewMachine, image_in, serve_kept, serve_unkept};
-use calls_1401::{NewJournal, Operators};
-use devices_1401::Card;
-use exchange_1401::Origin;
-use holding_1401::durability_of;
-use keeping_1401::{FileFault, JournalFile, KeepFault, MadeJournal, begin_journal};
+use crate::beginning::Before;
+use crate::entrances::{Entrances, listen_again};
+use crate::fault::OpenFault;
+use crate::journal_names::{JournalNames, begin_named};
+use crate::seating::serve_new;
+use keeping_1401::{JournalFile, MadeJournal, TextKeeper};
+use room_1401::NoKeeper;
 use serving_1401::Watch;
-use std::alloc::{AllocError, Global};
+use std::alloc::Global;
 use std::fs::File;
 use std::io::StdinLock;
-use std::net::{Net, TcpListener, TcpStream};
+use std::marker::Brand;
 use std::random::RandomSource;
 use std::rt::{Clock, Files};
 use std::sync::Wait;
@@ -33,60 +31,35 @@ pub(crate) struct Turn<'a> {
     pub watch: &'a Watch,
 }
 
-/// What each of the rooms begins with.
+/// What rooms that follow each other have in common.
 #[derive(Drop)]
-struct Opening<'a> {
-    size: u16,
-    seats: u8,
-    before: Before<'a>,
-    journal: Option<NewJournal>,
-    minutes: u16,
+pub(crate) struct Rooms<'a> {
+    /// How many places core storage has.
+    pub size: u16,
+    /// How many seats there are.
+    pub seats: u8,
+    /// What is done before operators come, but in the first room, for which it may be something else.
+    pub before: Before<'a>,
+    /// The names of the journals, if there are any.
+    pub names: Option<JournalNames>,
+    /// After how many minutes without a command the next room follows; without a value none does.
+    pub minutes: Option<u16>,
 }
 
-/// Opens a machine to operators, as `open_seats` does, and after it a new one of the same image and cards whenever a
-/// page asks for it, no command was given for so many minutes, or a minute after its journal had 95,000 entries. The
-/// journal of the first room has its name, and each further one that name and a number.
+impl<'a> Rooms<'a> {
+    /// What a room comes to that begins with this.
+    fn watch(&self, before: &Before<'_>) -> Watch {
+        Watch::new(self.minutes, before.is_prepared())
+    }
+}
+
+/// Serves rooms one after the other. This is done before operators come to the first.
 ///
 /// # Errors
 ///
-/// As `open_seats`. If a room was served and something went wrong in it, the next one follows all the same, unless its
-/// journal wasn't kept; the first fault is returned at the end.
-pub fn open_succession<
-    R: Threads
-        + Wait
-        + Sync
-        + Clock
-        + RandomSource
-        + Input<Reader = StdinLock<'static>>
-        + Print
-        + Eprint
-        + AllocGlobal
-        + Files<File = File>
-        + Net<Listener = TcpListener, Stream = TcpStream>,
->(
-    rt: &R,
-    machine: NewMachine,
-    cards: Vec<Card>,
-    operators: Operators,
-    origin: Option<Origin>,
-    journal: Option<NewJournal>,
-    minutes: u16,
-) -> Result<(), OpenFault> {
-    let NewMachine { size, text } = machine;
-    let image = image_in(&text)?;
-    let entrances = open_entrances(rt, operators, origin.as_ref())?;
-    let opening = Opening {
-        size,
-        seats: operators.seats,
-        before: Before::Program(Program { image, cards }),
-        journal,
-        minutes,
-    };
-    serve_each(rt, &opening, &entrances)
-}
-
-/// Serves one room after the other.
-fn serve_each<
+/// What went wrong first. If a room was served and something went wrong in it, the next one follows all the same,
+/// unless its journal wasn't kept.
+pub(crate) fn serve_rooms<
     R: Threads
         + Wait
         + Sync
@@ -97,30 +70,61 @@ fn serve_each<
         + Eprint
         + AllocGlobal
         + Files<File = File>,
->(rt: &R, opening: &Opening<'_>, entrances: &Entrances) -> Result<(), OpenFault>
-    requires { vec_len entrances.now.pages ≤ opening.now.seats }
+>(rt: &R, rooms: &Rooms<'_>, first: &Before<'_>, entrances: &Entrances) -> Result<(), OpenFault>
+    requires { vec_len entrances.now.pages ≤ rooms.now.seats }
 {
-    let mut outcome: Result<(), OpenFault> = Ok(());
-    for number in 1..MOST_ROOMS {
-        let watch = Watch::new(Some(opening.minutes), opening.before.is_prepared());
-        let turn = Turn {
-            number,
-            watch: &watch,
-        };
-        let served = serve_one(rt, opening, entrances, turn);
-        let goes_on = watch.is_over() && is_passing(&served);
-        outcome = first_of(outcome, served);
+    let watch = rooms.watch(first);
+    let turn = Turn {
+        number: 1,
+        watch: &watch,
+    };
+    let served = serve_one(rt, rooms, first, entrances, turn);
+    serve_others(rt, rooms, served, &watch, entrances)
+}
+
+/// Serves the rooms that follow the first one, which came to this and ended so.
+pub(crate) fn serve_others<
+    R: Threads
+        + Wait
+        + Sync
+        + Clock
+        + RandomSource
+        + Input<Reader = StdinLock<'static>>
+        + Print
+        + Eprint
+        + AllocGlobal
+        + Files<File = File>,
+>(
+    rt: &R,
+    rooms: &Rooms<'_>,
+    served: Result<(), OpenFault>,
+    watch: &Watch,
+    entrances: &Entrances,
+) -> Result<(), OpenFault>
+    requires { vec_len entrances.now.pages ≤ rooms.now.seats }
+{
+    let mut goes_on = is_followed(watch, &served);
+    let mut outcome = served;
+    for number in 2..MOST_ROOMS {
         if !goes_on {
             return outcome;
         }
         listen_again(entrances);
+        let watch = rooms.watch(&rooms.before);
+        let turn = Turn {
+            number,
+            watch: &watch,
+        };
+        let served = serve_one(rt, rooms, &rooms.before, entrances, turn);
+        goes_on = is_followed(&watch, &served);
+        outcome = first_of(outcome, served);
     }
     outcome
 }
 
-/// Whether a room may follow after such an end.
-fn is_passing(served: &Result<(), OpenFault>) -> bool {
-    matches!(served, Ok(()) | Err(OpenFault::Seats(_)))
+/// Whether a room follows one that came to this and ended so.
+fn is_followed(watch: &Watch, served: &Result<(), OpenFault>) -> bool {
+    watch.is_over() && matches!(served, Ok(()) | Err(OpenFault::Seats(_)))
 }
 
 /// What went wrong first.
@@ -143,70 +147,36 @@ fn serve_one<
         + Eprint
         + AllocGlobal
         + Files<File = File>,
->(rt: &R, opening: &Opening<'_>, entrances: &Entrances, turn: Turn<'_>) -> Result<(), OpenFault>
-    requires { vec_len entrances.now.pages ≤ opening.now.seats }
+>(
+    rt: &R,
+    rooms: &Rooms<'_>,
+    before: &Before<'_>,
+    entrances: &Entrances,
+    turn: Turn<'_>,
+) -> Result<(), OpenFault>
+    requires { vec_len entrances.now.pages ≤ rooms.now.seats }
 {
-    let size = opening.size;
-    let seats = opening.seats;
-    match begin_next(rt, opening, turn.number)? {
-        None => serve_unkept(rt, size, seats, &opening.before, entrances, turn),
-        Some(made) => serve_kept(rt, size, seats, &opening.before, made, entrances, turn),
+    let size = rooms.size;
+    let seats = rooms.seats;
+    match begin_next(rt, rooms, turn.number)? {
+        None => serve_new(rt, size, seats, before, NoKeeper, entrances, None, turn),
+        Some(MadeJournal { file, name }) => {
+            let keeper = TextKeeper::<Brand, JournalFile>::new(rt.alloc(), file);
+            serve_new(rt, size, seats, before, keeper, entrances, Some(name), turn)
+        }
     }
 }
 
 /// The new file of the journal of the room of this number, if there are to be journals.
 fn begin_next(
     rt: &(impl Files<File = File> + AllocGlobal),
-    opening: &Opening<'_>,
+    rooms: &Rooms<'_>,
     number: u32,
 ) -> Result<Option<MadeJournal>, OpenFault>
     ensures { IfOk result (λ made. IfSome made (λ made. ⟦<JournalFile as Sink>⟧.has_failed made.file ≡ false)) }
 {
-    match &opening.journal {
+    match &rooms.names {
         None => Ok(None),
-        Some(journal) => Ok(Some(begin_named(rt, journal, opening.size, number)?)),
+        Some(names) => Ok(Some(begin_named(rt, names, rooms.size, number)?)),
     }
-}
-
-/// The new file of the journal of the room of this number. After the first room a name that is taken is passed over.
-fn begin_named(
-    rt: &(impl Files<File = File> + AllocGlobal),
-    journal: &NewJournal,
-    size: u16,
-    number: u32,
-) -> Result<MadeJournal, OpenFault>
-    ensures { IfOk result (λ made. ⟦<JournalFile as Sink>⟧.has_failed made.file ≡ false) }
-{
-    let last = if number == 1 { 1 } else { MOST_ROOMS };
-    for named in number..last {
-        match begin_as(rt, journal, size, named) {
-            Err(KeepFault::File(_, FileFault::Exists)) => {}
-            Err(fault) => return Err(not_kept(fault)),
-            Ok(made) => return Ok(made),
-        }
-    }
-    begin_as(rt, journal, size, last).map_err(not_kept)
-}
-
-/// The new file of the journal whose name has this number.
-fn begin_as(
-    rt: &(impl Files<File = File> + AllocGlobal),
-    journal: &NewJournal,
-    size: u16,
-    number: u32,
-) -> Result<MadeJournal, KeepFault>
-    ensures { IfOk result (λ made. ⟦<JournalFile as Sink>⟧.has_failed made.file ≡ false) }
-{
-    let Ok(name) = journal_name(rt.alloc(), journal.file.as_str(), number) else {
-        return Err(KeepFault::Memory);
-    };
-    begin_journal(rt, name, size, durability_of(journal.sync))
-}
-
-/// The name of the file of the journal of the room of this number.
-fn journal_name(alloc: Global, file: &str, number: u32) -> Result<String, AllocError> {
-    if number == 1 {
-        return format!(in alloc; "{file}");
-    }
-    format!(in alloc; "{file}.{number}")
 }

@@ -1,5 +1,5 @@
 -- The room's names are those of what was opened.
-use Rattle.opening_1401.proofs.seating.serve_unkept.Given as goal
+use Rattle.opening_1401.proofs.seating.serve_new.Given as goal
 
 abbrev pub ghosts-serve_room-J-Ledger : goal.ghosts-serve_room-J-Ledger
 ghosts-serve_room-J-Ledger g a = record { name = a.opened.ledger; parts = a.opened.parts }
