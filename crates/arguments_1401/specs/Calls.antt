@@ -126,10 +126,15 @@ abbrev pub IsShown : Found → List ℕ → Call → Type 0
 IsShown found file asked =
     (showing : Showing) × (asked ≡ call.Journal showing) × IsShowing found file showing
 
+-- a session that begins so, with the new journal that the options name, or without
+abbrev pub IsSession : Found → Opening → Call → Type 0
+IsSession found opening asked =
+    (journal : Option NewJournal) × (asked ≡ call.Console (record { opening = opening; journal = journal }))
+    × IsJournalIn found journal
+
 -- `resume` of a file, but for the commands that are left out
 pub record IsResuming (found : Found) (name : List ℕ) (asked : Resuming) : Type 0 where
   pub file : string_bytes asked.file ≡ name
-  pub journal : IsNameIn found (codes "journal") asked.journal
   pub until : IsNumberIn 32 found (codes "until") asked.until
   pub sync : IsFlagIn found (codes "sync") asked.sync
 
@@ -171,16 +176,21 @@ abbrev pub IsOpeningIn : Found → Opening → Type 0
 IsOpeningIn found (opening.PowerOn size) =
     (first_value found (codes "image") ≡ None) × IsNumberOr 16 found (codes "size") 4000 size
 IsOpeningIn found (opening.Image file) = first_value found (codes "image") ≡ Some (string_bytes file)
+IsOpeningIn found (opening.Journal resuming) = ⊥
 
--- `serve` for these operators, where seats are taken again
-pub record IsSeating (found : Found) (who : Operators) (asked : Seating) : Type 0 where
-  pub opening : IsOpeningIn found asked.opening
+-- a room that begins so for these operators, where seats are taken again
+pub record IsSeating (found : Found) (begins : Opening) (who : Operators) (asked : Seating) : Type 0 where
+  pub opening : asked.opening ≡ begins
   pub operators : asked.operators ≡ who
   pub origin : IsOriginIn found asked.origin
   pub cards : IsNameIn found (codes "cards") asked.cards
   pub graphics : asked.graphics ≡ graphics_in (first_value found (codes "graphics"))
   pub journal : IsJournalIn found asked.journal
   pub renewal : IsNumberIn 16 found (codes "renew-after") asked.renewal
+
+abbrev pub IsSeated : Found → Opening → Operators → Call → Type 0
+IsSeated found begins operators asked =
+    (seating : Seating) × (asked ≡ call.ServeSeats seating) × IsSeating found begins operators seating
 
 -- `serve` for these operators: a plain room where they come by consoles alone is gone with them
 abbrev pub IsRoomThat : Found → Operators → Bool → Call → Type 0
@@ -189,44 +199,33 @@ IsRoomThat found operators true asked =
     × (Some service.port ≡ operators.port) × (service.seats ≡ operators.seats)
     × IsNumberOr 16 found (codes "size") 4000 service.size
 IsRoomThat found operators false asked =
-    (seating : Seating) × (asked ≡ call.ServeSeats seating) × IsSeating found operators seating
+    (begins : Opening) × IsOpeningIn found begins × IsSeated found begins operators asked
 
 abbrev pub IsRoom : Found → Operators → Call → Type 0
 IsRoom found operators asked =
     (plain : Bool) × IsPlainIn found plain
     × IsRoomThat found operators (plain && (is_some operators.port && not (is_some operators.page))) asked
 
--- `resume` of a file: at seats if there are operators, or else at a console
-abbrev pub resume_call : Resuming → Option Operators → Option Origin → Option ℕ → Call
-resume_call resuming None origin renewal = call.Resume resuming
-resume_call resuming (Some operators) origin renewal = call.ResumeSeats resuming operators origin renewal
+-- a machine that begins so: at seats if there are operators, or else at a console
+abbrev pub IsOpened : Found → Opening → Option Operators → Call → Type 0
+IsOpened found begins None asked = IsSession found begins asked
+IsOpened found begins (Some operators) asked = IsSeated found begins operators asked
 
+-- `resume` of a file
 abbrev pub IsResumed : Found → List ℕ → Call → Type 0
 IsResumed found file asked =
-    (resuming : Resuming) × (operators : Option Operators) × (origin : Option Origin) × (renewal : Option ℕ)
-    × (asked ≡ resume_call resuming operators origin renewal)
-    × IsResuming found file resuming × AreOperatorsIn found operators × IsOriginIn found origin
-    × IsNumberIn 16 found (codes "renew-after") renewal
+    (resuming : Resuming) × (operators : Option Operators) × IsResuming found file resuming
+    × AreOperatorsIn found operators × IsOpened found (opening.Journal resuming) operators asked
 
--- `console`: without a journal that is kept, or with it
-abbrev pub console_call : ℕ → Option NewJournal → Call
-console_call size None = call.Console size
-console_call size (Some journal) = call.KeptConsole size journal
-
+-- `console`
 abbrev pub IsConsole : Found → Call → Type 0
 IsConsole found asked =
-    (size : ℕ) × (journal : Option NewJournal) × (asked ≡ console_call size journal)
-    × IsNumberOr 16 found (codes "size") 4000 size × IsJournalIn found journal
+    (size : ℕ) × IsNumberOr 16 found (codes "size") 4000 size × IsSession found (opening.PowerOn size) asked
 
--- `load` of a file, in the same two ways
-abbrev pub load_call : String Global → Option NewJournal → Call
-load_call file None = call.Load file
-load_call file (Some journal) = call.KeptLoad file journal
-
+-- `load` of a file
 abbrev pub IsLoad : Found → List ℕ → Call → Type 0
 IsLoad found file asked =
-    (name : String Global) × (journal : Option NewJournal) × (asked ≡ load_call name journal)
-    × (string_bytes name ≡ file) × IsJournalIn found journal
+    (name : String Global) × (string_bytes name ≡ file) × IsSession found (opening.Image name) asked
 
 -- `disassemble` of a file: of an image, or of a deck
 abbrev pub disassemble_call : Bool → String Global → Option Graphics → ℕ → Call
@@ -239,9 +238,13 @@ IsDisassembled found file asked =
     × (asked ≡ disassemble_call deck name (graphics_in (first_value found (codes "graphics"))) size)
     × (string_bytes name ≡ file) × IsFlagIn found (codes "load") deck × IsNumberOr 16 found (codes "size") 4000 size
 
+-- a session on a machine of 4,000 places, whose journal isn't kept
+abbrev pub bare_call : Call
+bare_call = call.Console (record { opening = opening.PowerOn 4000; journal = None })
+
 -- `serve`; without operators, which clap lets nobody leave out, it is a console of 4,000 places
 abbrev pub IsServedBy : Found → Option Operators → Call → Type 0
-IsServedBy found None asked = asked ≡ call.Console 4000
+IsServedBy found None asked = asked ≡ bare_call
 IsServedBy found (Some operators) asked = IsRoom found operators asked
 
 abbrev pub IsServed : Found → Call → Type 0

@@ -2,14 +2,16 @@
 ghost use Rattle.std.specs.Prelude.{◌≡◌, [], IfOk, codes, unwrap_or};
 ghost use Rattle.clap.specs.Words.{first_value, found_of};
 ghost use Rattle.arguments_1401.specs.Options.{IsNumberIn};
-ghost use Rattle.arguments_1401.specs.Calls.{IsJournalIn, IsOriginIn, IsResumed, IsResuming, IsShowing, IsShown};
+ghost use Rattle.arguments_1401.specs.Calls.{IsJournalIn, IsOriginIn, IsResumed, IsResuming, IsSession, IsShowing};
+ghost use Rattle.arguments_1401.specs.Calls.{IsShown};
 
 use crate::commands::{Session, Subcommand, refusal};
 use crate::options::{ANY_U8, ANY_U32, Argument, FREE, Kind, TEXT, name_in};
 use crate::serving::{
     ORIGIN, PAGE, PORT, RENEW_AFTER, SEATS, operators_in, origin_in, origin_refusal, pages_refused,
+    seating_in,
 };
-use calls_1401::{Call, NewJournal, Resuming, Showing};
+use calls_1401::{Call, NewJournal, Opening, Resuming, Showing};
 use clap::{ArgMatches, Error};
 use exchange_1401::Origin;
 use std::alloc::{AllocError, Global};
@@ -215,7 +217,6 @@ fn resuming_in(alloc: Global, matches: &ArgMatches<'_>, file: &str) -> Result<Re
 {
     Ok(Resuming {
         file: String::from_str(alloc, file)?,
-        journal: name_in(alloc, matches, "journal")?,
         until: until_in(matches),
         without: numbers_of(alloc, without_in(matches))?,
         sync: matches.get_flag("sync"),
@@ -249,6 +250,18 @@ pub(crate) fn resume_call(
     }
 }
 
+/// A session that begins so, and keeps the new journal that the options name, if they name any.
+pub(crate) fn session_call(
+    alloc: Global,
+    matches: &ArgMatches<'_>,
+    opening: Opening,
+) -> Result<Call, AllocError>
+    ensures { IfOk result (λ call. IsSession (found_of matches.now) opening call) }
+{
+    let journal = new_journal_in(alloc, matches)?;
+    Ok(Call::Console(calls_1401::Session { opening, journal }))
+}
+
 /// What the options of `resume` ask for, if they can be met.
 fn resumed_call(
     alloc: Global,
@@ -260,16 +273,14 @@ fn resumed_call(
     ensures { IfOk result (λ call. IsResumed (found_of matches.now) file.now call) }
 {
     let resuming = resuming_in(alloc, matches, file)?;
-    let renewal = matches.get_one::<u16>("renew-after");
-    Ok(match operators_in(matches) {
-        Some(operators) => Call::ResumeSeats {
-            resuming,
-            operators,
-            origin,
-            renewal,
-        },
-        None => Call::Resume(resuming),
-    })
+    let opening = Opening::Journal(resuming);
+    match operators_in(matches) {
+        Some(operators) => {
+            let seating = seating_in(alloc, matches, opening, operators, origin)?;
+            Ok(Call::ServeSeats(seating))
+        }
+        None => Ok(session_call(alloc, matches, opening)?),
+    }
 }
 
 /// Whether a text is a list of numbers that is parted by commas; an empty text is one of none.

@@ -3,19 +3,19 @@ ghost use Rattle.std.specs.Prelude.{◌≡◌, IfOk, IfSome, OnOk, codes};
 ghost use Rattle.clap.specs.Words.{found_of};
 ghost use Rattle.arguments_1401.specs.Options.{IsNameIn};
 ghost use Rattle.arguments_1401.specs.Calls.{IsAsked, IsConsole, IsDisassembled, IsJob, IsLoad, IsOf, IsOfFile};
-ghost use Rattle.arguments_1401.specs.Calls.{IsRun, switches_named};
+ghost use Rattle.arguments_1401.specs.Calls.{IsRun, bare_call, switches_named};
 
 use crate::assembling::{assemble, assemble_call};
 use crate::commands::{Session, Subcommand, command_of, refusal};
 use crate::graphics::{GRAPHICS, OUT_GRAPHICS, SOURCE_GRAPHICS, graphics_by, graphics_in};
 use crate::journals::{
-    JOURNAL, NEW_SYNC, journal_call, new_journal_in, resume, resume_call, show_journal,
+    JOURNAL, NEW_SYNC, journal_call, resume, resume_call, session_call, show_journal,
 };
 use crate::languages::{LANGUAGE, language_in};
 use crate::options::{ANY_U32, Argument, FREE, Kind, TEXT, name_in};
 use crate::serving::{operators_in, serve, serve_call};
 use crate::sizes::{SIZE, SizeTexts, named_size_in, size_in};
-use calls_1401::{Call, DEFAULT_SIZE, Job, Start};
+use calls_1401::{Call, DEFAULT_SIZE, Job, Opening, Start};
 use clap::{ArgMatches, Command, Error};
 use std::alloc::{AllocError, Global};
 use std::convert::AsStr;
@@ -331,13 +331,23 @@ fn call_with<'a, S: AsStr>(
     call_of(alloc, &matches)
 }
 
+/// A session on a machine of the usual size.
+fn bare_call() -> Call
+    ensures { result ≡ bare_call }
+{
+    Call::Console(calls_1401::Session {
+        opening: Opening::PowerOn(DEFAULT_SIZE),
+        journal: None,
+    })
+}
+
 /// What a command line asks for that could be read.
 fn call_of(alloc: Global, matches: &ArgMatches<'_>) -> Result<Call, Error>
     ensures { IfOk result (λ call. IsAsked matches.now call) }
 {
     match matches.subcommand() {
         Some((name, options)) => subcommand_call(alloc, name, options),
-        None => Ok(Call::Console { size: DEFAULT_SIZE }),
+        None => Ok(bare_call()),
     }
 }
 
@@ -349,7 +359,7 @@ fn subcommand_call(alloc: Global, name: &str, options: &ArgMatches<'_>) -> Resul
         "console" => console_call(alloc, options),
         "serve" => match operators_in(options) {
             Some(operators) => serve_call(alloc, options, operators),
-            None => Ok(Call::Console { size: DEFAULT_SIZE }),
+            None => Ok(bare_call()),
         },
         _ => file_call(alloc, name, options, options.get_str("file").unwrap_or("")),
     }
@@ -395,10 +405,7 @@ fn console_call(alloc: Global, matches: &ArgMatches<'_>) -> Result<Call, Error>
     ensures { IfOk result (λ call. IsConsole (found_of matches.now) call) }
 {
     let size = size_in(matches);
-    Ok(match new_journal_in(alloc, matches)? {
-        Some(journal) => Call::KeptConsole { size, journal },
-        None => Call::Console { size },
-    })
+    Ok(session_call(alloc, matches, Opening::PowerOn(size))?)
 }
 
 /// What the options of `load` ask for.
@@ -406,8 +413,5 @@ fn load_call(alloc: Global, matches: &ArgMatches<'_>, file: &str) -> Result<Call
     ensures { IfOk result (λ call. IsLoad (found_of matches.now) file.now call) }
 {
     let file = String::from_str(alloc, file)?;
-    Ok(match new_journal_in(alloc, matches)? {
-        Some(journal) => Call::KeptLoad { file, journal },
-        None => Call::Load { file },
-    })
+    Ok(session_call(alloc, matches, Opening::Image(file))?)
 }

@@ -222,7 +222,11 @@ fn room_call(
             let size = size_in(matches);
             Ok(Call::Serve(Service { size, seats, port }))
         },
-        _ => Ok(Call::ServeSeats(seating_in(alloc, matches, operators, origin)?)),
+        _ => {
+            let opening = opening_in(alloc, matches)?;
+            let seating = seating_in(alloc, matches, opening, operators, origin)?;
+            Ok(Call::ServeSeats(seating))
+        }
     }
 }
 
@@ -236,18 +240,19 @@ fn opening_in(alloc: Global, matches: &ArgMatches<'_>) -> Result<Opening, AllocE
     })
 }
 
-/// The room whose seats are taken again, by the options of `serve`.
-fn seating_in(
+/// A room that begins so, whose seats are taken again, and for which the options name the rest.
+pub(crate) fn seating_in(
     alloc: Global,
     matches: &ArgMatches<'_>,
+    opening: Opening,
     operators: Operators,
     origin: Option<Origin>,
 ) -> Result<Seating, AllocError>
     requires { IsOriginIn (found_of matches.now) origin }
-    ensures { IfOk result (λ asked. IsSeating (found_of matches.now) operators asked) }
+    ensures { IfOk result (λ asked. IsSeating (found_of matches.now) opening operators asked) }
 {
     Ok(Seating {
-        opening: opening_in(alloc, matches)?,
+        opening,
         operators,
         origin,
         cards: name_in(alloc, matches, "cards")?,

@@ -85,19 +85,31 @@ pub struct Operators {
     pub page: Option<u16>,
 }
 
-/// What a room begins with.
+/// What a machine begins with.
 #[derive(Debug, Drop, PartialEq, Eq)]
 pub enum Opening {
-    /// A machine at power-on, with this many places of core storage.
+    /// It is at power-on, with this many places of core storage.
     PowerOn(u16),
-    /// A machine of an image's size, on which the image of the file of this name is loaded.
+    /// It has an image's size, and the image of the file of this name is loaded.
     Image(String),
+    /// It is that of a journal.
+    Journal(Resuming),
+}
+
+/// A session of standard input and output.
+#[derive(Debug, Drop, PartialEq, Eq)]
+pub struct Session {
+    /// What the machine begins with.
+    pub opening: Opening,
+    /// The new journal that is kept; without one none is, unless the session goes on in the file of the journal that it
+    /// begins with.
+    pub journal: Option<NewJournal>,
 }
 
 /// A room that operators share, and whose seats are taken again.
 #[derive(Debug, Drop, PartialEq, Eq)]
 pub struct Seating {
-    /// What the room begins with.
+    /// What the first room begins with.
     pub opening: Opening,
     /// Who comes.
     pub operators: Operators,
@@ -108,7 +120,7 @@ pub struct Seating {
     pub cards: Option<String>,
     /// The chain whose graphics the deck has; without one it is this machine's.
     pub graphics: Option<Graphics>,
-    /// The journal that is kept; without one none is.
+    /// The new journal that is kept, as in a session.
     pub journal: Option<NewJournal>,
     /// After how many minutes without a command a new room follows; without a value none does.
     pub renewal: Option<u16>,
@@ -180,18 +192,17 @@ pub struct NewJournal {
     pub sync: bool,
 }
 
-/// A journal that is taken up.
+/// A journal that is taken up. If all of its commands are carried out again, and no new journal is kept, the file goes
+/// on.
 #[derive(Debug, Drop, PartialEq, Eq)]
 pub struct Resuming {
     /// The name of the journal's file.
     pub file: String,
-    /// The name of the file of the journal that is kept from there on; without one it is the same.
-    pub journal: Option<String>,
     /// The number of the last command that is carried out again; without one it is the journal's last.
     pub until: Option<u64>,
     /// The numbers of commands that aren't carried out again.
     pub without: Vec<u64>,
-    /// Whether each entry that is kept from there on is forced onto the disk before its reply.
+    /// Whether each entry that the file gets is forced onto the disk before its reply.
     pub sync: bool,
 }
 
@@ -199,17 +210,9 @@ pub struct Resuming {
 #[derive(Debug, Drop, PartialEq, Eq)]
 pub enum Call {
     /// A session of standard input and output.
-    Console {
-        /// How many places core storage has.
-        size: u16,
-    },
+    Console(Session),
     /// The image of a source, or its listing.
     Assemble(Assembling),
-    /// A session on a room that has an image loaded.
-    Load {
-        /// The name of the image's file.
-        file: String,
-    },
     /// The listing of an image, on standard output.
     Disassemble {
         /// The name of the image's file.
@@ -230,33 +233,6 @@ pub enum Call {
     Serve(Service),
     /// A room that operators share, and whose seats are taken again.
     ServeSeats(Seating),
-    /// A session of standard input and output whose journal is kept.
-    KeptConsole {
-        /// How many places core storage has.
-        size: u16,
-        /// The journal.
-        journal: NewJournal,
-    },
-    /// A session on a room that has an image loaded, and whose journal is kept.
-    KeptLoad {
-        /// The name of the image's file.
-        file: String,
-        /// The journal.
-        journal: NewJournal,
-    },
     /// A journal, shown or checked.
     Journal(Showing),
-    /// A session that goes on where a journal ends.
-    Resume(Resuming),
-    /// A room that operators share, which goes on where a journal ends.
-    ResumeSeats {
-        /// The journal.
-        resuming: Resuming,
-        /// Who comes.
-        operators: Operators,
-        /// Where a proxy brings their pages to others, as `Seating` has it.
-        origin: Option<Origin>,
-        /// After how many minutes without a command a new room follows, at power-on; without a value none does.
-        renewal: Option<u16>,
-    },
 }

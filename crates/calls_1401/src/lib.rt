@@ -2,7 +2,8 @@
 //! out needs to know nothing of that.
 //!
 //! ```text
-//! Call::Console { size: DEFAULT_SIZE }    // a session on a machine of 4,000 places
+//! // a session on a machine of 4,000 places, whose journal isn't kept
+//! Call::Console(Session { opening: Opening::PowerOn(DEFAULT_SIZE), journal: None })
 //! ```
 #![tactic(auto)]
 
@@ -13,6 +14,6 @@ pub mod sizes;
 
 pub use call::{
     Assembling, Call, DEFAULT_SIZE, Job, NewJournal, Opening, Operators, Product, Resuming,
-    Seating, Service, Showing, Start, Tables, Told,
+    Seating, Service, Session, Showing, Start, Tables, Told,
 };
 pub use sizes::{is_refused, size_for};

@@ -1,15 +1,15 @@
 //! Why no session is held, or how it ended.
 ghost use Rattle.std.specs.Prelude.{◌≡◌};
 ghost use Rattle.terminal_1401.specs.Console.{outcome_of};
-ghost use Rattle.holding_1401.specs.Ended.{session_outcome};
+ghost use Rattle.holding_1401.specs.Ended.{console_fault, session_outcome};
 
 use answering_1401::SessionEnd;
 use image_1401::ImageFault;
 use keeping_1401::KeepFault;
-use terminal_1401::SessionFault;
+use terminal_1401::{ConsoleFault, SessionFault};
 use thiserror::Error;
 
-/// What a session with an image or a journal may fail by.
+/// What a session may fail by.
 #[derive(Debug, Drop, Error)]
 pub enum HoldFault {
     /// No core storage of the size named is made.
@@ -36,6 +36,17 @@ pub enum HoldFault {
     /// A journal isn't kept, or isn't taken up.
     #[error("{0}")]
     Kept(KeepFault),
+}
+
+/// What the fault of a session on a new machine means for a program.
+pub(crate) fn console_fault(fault: ConsoleFault) -> HoldFault
+    ensures { result ≡ console_fault fault }
+{
+    match fault {
+        ConsoleFault::Size => HoldFault::Size,
+        ConsoleFault::Memory => HoldFault::Memory,
+        ConsoleFault::Ended(fault) => HoldFault::Session(fault),
+    }
 }
 
 /// What a session's end means for a program.

@@ -4,10 +4,10 @@ ghost use Rattle.lone_room_1401.specs.Journal.{pairs_of};
 ghost use Rattle.journal_1401.specs.Choice.{chosen};
 ghost use Rattle.holding_1401.specs.Choosing.{HasChosen};
 
-use crate::fault::{HoldFault, ended};
-use crate::loading::{loaded_room, read_file};
+use crate::fault::{HoldFault, console_fault, ended};
+use crate::loading::{load_file, loaded_room, read_file};
 use answering_1401::SessionEnd;
-use calls_1401::{NewJournal, Resuming, Showing};
+use calls_1401::{NewJournal, Opening, Resuming, Session, Showing};
 use core_1401::CoreFault;
 use journal_1401::{JournalFault, View, carry_chosen};
 use keeping_1401::{
@@ -22,6 +22,7 @@ use std::io;
 use std::marker::Brand;
 use std::rt::Files;
 use streams_1401::{FromReader, Sink, Source, ToWriter};
+use terminal_1401::console;
 
 /// Shows the journal of a file, or checks it and tells how many entries it has.
 ///
@@ -86,34 +87,60 @@ fn new_room(alloc: Global, size: u16) -> Result<Room, HoldFault> {
     }
 }
 
-/// One session of standard input and output at the console of a new room, whose journal is kept in a new file.
-///
-/// # Errors
-///
-/// `Size` or `Memory` if there is no such room, `Kept` if the file can't be made, or what ended the session but
-/// QUIT and the end of the input.
-pub fn keep_console<R: Files<File = File> + Input + Print + AllocGlobal>(
-    rt: &R,
-    size: u16,
-    journal: NewJournal,
-) -> Result<(), HoldFault> {
-    let room = new_room(rt.alloc(), size)?;
-    keep_in_new(rt, room, journal)
+/// The room that a session begins with, whose journal is then kept in a new file.
+fn begun_room(
+    rt: &(impl Files<File = File> + AllocGlobal),
+    opening: Opening,
+) -> Result<Room, HoldFault> {
+    match opening {
+        Opening::PowerOn(size) => new_room(rt.alloc(), size),
+        Opening::Image(file) => {
+            let text = read_file(rt, file)?;
+            loaded_room(rt.alloc(), text.as_slice())
+        }
+        Opening::Journal(asked) => read_chosen(rt, asked),
+    }
 }
 
-/// The same for a new room that has an image loaded.
+/// Holds a session of standard input and output at the console of a room that begins so. Its journal is kept in a new
+/// file, or in that of the journal that it begins with, if all commands of that were asked for; or it isn't kept.
 ///
 /// # Errors
 ///
-/// `Unread` if the image's file can't be read, what `load` fails by, and as those of `keep_console`.
-pub fn keep_loaded<R: Files<File = File> + Input + Print + AllocGlobal>(
+/// `Size` or `Memory` if there is no such room; `Unread` if an image's file can't be read, and what `load` fails by;
+/// `Kept` if a file of a journal can't be made or can't be had, has no journal or no entry of a number that is named;
+/// or what ended the session but QUIT and the end of the input.
+pub fn hold_session<R: Files<File = File> + Input + Print + Eprint + AllocGlobal>(
     rt: &R,
-    file: String,
-    journal: NewJournal,
+    asked: Session,
 ) -> Result<(), HoldFault> {
-    let text = read_file(rt, file)?;
-    let room = loaded_room(rt.alloc(), text.as_slice())?;
-    keep_in_new(rt, room, journal)
+    let Session { opening, journal } = asked;
+    match journal {
+        None => hold_unkept(rt, opening),
+        Some(journal) => keep_in_new(rt, begun_room(rt, opening)?, journal),
+    }
+}
+
+/// The same without a new file.
+fn hold_unkept<R: Files<File = File> + Input + Print + Eprint + AllocGlobal>(
+    rt: &R,
+    opening: Opening,
+) -> Result<(), HoldFault> {
+    match opening {
+        Opening::PowerOn(size) => hold_console(rt, size),
+        Opening::Image(file) => load_file(rt, file),
+        Opening::Journal(asked) => match asked.until {
+            None => go_on(rt, asked.file, durability_of(asked.sync)),
+            Some(_) => look_at(rt, read_chosen(rt, asked)?),
+        },
+    }
+}
+
+/// Holds one of standard input and output at the console of a new room.
+fn hold_console<R: Input + Print + AllocGlobal>(rt: &R, size: u16) -> Result<(), HoldFault> {
+    let mut reader = FromReader::new(rt.reader());
+    let mut writer = ToWriter::new(io::writer(rt));
+    console(rt.alloc(), size, &mut reader, &mut writer).map_err(console_fault)
 }
 
 /// What an entry outlasts, with `--sync` or without.
@@ -154,34 +181,6 @@ fn keep_by<S: Sink + Drop, R: Source, W: Sink>(
     keep_session::<Brand, S, R, W>(alloc, room, sink, reader, writer)
 }
 
-/// Carries out the commands of a journal again, and holds a session of standard input and output that goes on there. It
-/// is kept in the same file, or in a new one; or, if only the first of the commands are asked for, it isn't kept.
-///
-/// # Errors
-///
-/// `Kept` if a file can't be had or has no journal, `Memory`, or what ended the session but QUIT and the end of the
-/// input.
-pub fn resume_file<R: Files<File = File> + Input + Print + Eprint + AllocGlobal>(
-    rt: &R,
-    asked: Resuming,
-) -> Result<(), HoldFault> {
-    let Resuming {
-        file,
-        journal,
-        until,
-        without,
-        sync,
-    } = asked;
-    if journal.is_none() && until.is_none() {
-        return go_on(rt, file, durability_of(sync));
-    }
-    let room = read_chosen(rt, file, until, without.as_slice())?;
-    match journal {
-        Some(file) => keep_in_new(rt, room, NewJournal { file, sync }),
-        None => look_at(rt, room),
-    }
-}
-
 /// The room after those commands of a file's journal that are asked for.
 ///
 /// # Errors
@@ -189,15 +188,19 @@ pub fn resume_file<R: Files<File = File> + Input + Print + Eprint + AllocGlobal>
 /// `Kept` if the file can't be had, has no journal or no entry of a number that is named, or `Memory`.
 pub fn read_chosen(
     rt: &(impl Files<File = File> + AllocGlobal),
-    file: String,
-    until: Option<u64>,
-    without: &[u64],
+    asked: Resuming,
 ) -> Result<Room, HoldFault>
-    ensures { IfOk result (HasChosen until without.now) }
+    ensures { IfOk result (HasChosen asked.until asked.without.items) }
 {
+    let Resuming {
+        file,
+        until,
+        without,
+        ..
+    } = asked;
     let room = read_room(rt, file).map_err(HoldFault::Kept)?;
     let _journal = room.journal();
-    chosen_room(rt.alloc(), &room, until, without)
+    chosen_room(rt.alloc(), &room, until, without.as_slice())
 }
 
 /// A room that has carried out some of a room's commands again.

@@ -45,7 +45,6 @@ status_of fault.Memory = 1
 status_of (fault.Assemble why) = assemble_status why
 status_of (fault.Run why) = job_status why
 status_of (fault.Hopper name count) = 1
-status_of (fault.Console why) = 1
 status_of (fault.Hold why) = 1
 status_of (fault.Open why) = 1
 

@@ -7,7 +7,6 @@ use clap::Error as Refusal;
 use holding_1401::HoldFault;
 use opening_1401::OpenFault;
 use running_1401::RunFault;
-use terminal_1401::ConsoleFault;
 use thiserror::Error;
 
 /// The status of a command line that can't be read, or that names one file twice.
@@ -41,10 +40,7 @@ pub enum Fault {
     /// The deck of this file has this many cards.
     #[error("{0}: {1} cards are more than the hopper holds")]
     Hopper(String, u64),
-    /// No session was held on a new machine, or it ended so.
-    #[error("{0}")]
-    Console(ConsoleFault),
-    /// No session was held with an image or a journal, or it ended so; or a journal isn't shown.
+    /// No session was held, or it ended so; or a journal isn't shown.
     #[error("{0}")]
     Hold(HoldFault),
     /// No room was opened to operators, or this went wrong in it.
@@ -64,7 +60,7 @@ impl Fault {
             }
             Fault::Output | Fault::Memory => FAILED,
             Fault::Assemble(_) | Fault::Run(_) | Fault::Hopper(..) => FAILED,
-            Fault::Console(_) | Fault::Hold(_) | Fault::Open(_) => FAILED,
+            Fault::Hold(_) | Fault::Open(_) => FAILED,
         }
     }
 }

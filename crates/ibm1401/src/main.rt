@@ -16,9 +16,9 @@ use arguments_1401::read_call;
 use assembling_1401::{assemble_file, check_size, disassemble_deck, disassemble_file};
 use calls_1401::{Call, Seating};
 use files_1401::hold_closed_streams;
-use holding_1401::{journal_file, keep_console, keep_loaded, load_file, resume_file};
+use holding_1401::{hold_session, journal_file};
 use machine_graphics::Graphics;
-use opening_1401::{new_machine, open_room, open_seats, resume_seats};
+use opening_1401::{machine_of, open_room, open_seats};
 use running_1401::{ErrorOutput, read_cards, run_file};
 use std::fs::File;
 use std::io::{IsTerminal, StdinLock};
@@ -29,8 +29,6 @@ use std::rt::{Clock, Env, Files};
 use std::sync::Wait;
 use std::thread::Threads;
 use std::{env, io};
-use streams_1401::{FromReader, ToWriter};
-use terminal_1401::console;
 
 fn main(rt: HostRuntime) -> ExitCode {
     // Standard streams that are closed stay so: no file or connection that is opened takes the place of one.
@@ -65,9 +63,8 @@ fn run<
 >(rt: &R, error_output: ErrorOutput) -> Result<(), Fault> {
     let words = command_line(rt)?;
     match read_call(rt.alloc(), words.as_slice()) {
-        Ok(Call::Console { size }) => hold_console(rt, size),
+        Ok(Call::Console(asked)) => hold_session(rt, asked).map_err(Fault::Hold),
         Ok(Call::Assemble(asked)) => assemble_file(rt, asked).map_err(Fault::Assemble),
-        Ok(Call::Load { file }) => load_file(rt, file).map_err(Fault::Hold),
         Ok(Call::Disassemble { file }) => disassemble_file(rt, file).map_err(Fault::Assemble),
         Ok(
             Call::DisassembleDeck {
@@ -79,34 +76,9 @@ fn run<
         Ok(Call::Run(job)) => run_file(rt, error_output, job).map_err(Fault::Run),
         Ok(Call::Serve(service)) => open_room(rt, service).map_err(Fault::Open),
         Ok(Call::ServeSeats(asked)) => serve_seats(rt, asked),
-        Ok(Call::KeptConsole { size, journal }) => {
-            keep_console(rt, size, journal).map_err(Fault::Hold)
-        }
-        Ok(Call::KeptLoad { file, journal }) => {
-            keep_loaded(rt, file, journal).map_err(Fault::Hold)
-        }
         Ok(Call::Journal(asked)) => journal_file(rt, asked).map_err(Fault::Hold),
-        Ok(Call::Resume(asked)) => resume_file(rt, asked).map_err(Fault::Hold),
-        Ok(
-            Call::ResumeSeats {
-                resuming,
-                operators,
-                origin,
-                renewal,
-            },
-        ) => resume_seats(rt, resuming, operators, origin, renewal).map_err(Fault::Open),
         Err(error) => tell(rt, error),
     }
-}
-
-/// Holds a session at standard input and output, with a machine of this size.
-fn hold_console<R: Input<Reader = StdinLock<'static>> + Print + AllocGlobal>(
-    rt: &R,
-    size: u16,
-) -> Result<(), Fault> {
-    let mut reader = FromReader::new(rt.reader());
-    let mut writer = ToWriter::new(io::writer(rt));
-    console(rt.alloc(), size, &mut reader, &mut writer).map_err(Fault::Console)
 }
 
 /// Lists what the deck of a file loads.
@@ -144,7 +116,7 @@ fn serve_seats<
         journal,
         renewal,
     } = asked;
-    let machine = new_machine(rt, opening).map_err(Fault::Open)?;
+    let machine = machine_of(rt, opening).map_err(Fault::Open)?;
     let cards = cards_of(rt, cards, graphics)?;
     open_seats(rt, machine, cards, operators, origin, journal, renewal).map_err(Fault::Open)
 }

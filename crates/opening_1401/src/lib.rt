@@ -2,10 +2,10 @@
 //! seats.
 //!
 //! ```text
-//! open_room(rt, service)?                      // a console for each seat, once, until all have ended
+//! open_room(rt, service)?           // a console for each seat, once, until all have ended
+//! let machine = machine_of(rt, opening)?; // at power-on, with an image, or that of a journal
 //! open_seats(rt, machine, cards, comers, origin, kept, None)? // consoles and pages, seats taken again, until QUIT
 //! open_seats(rt, machine, cards, comers, origin, kept, Some(20))? // the same, and a new room after 20 idle minutes
-//! resume_seats(rt, asked, comers, origin, None)? // the same, from where a journal ends
 //! ```
 #![tactic(auto)]
 
@@ -22,10 +22,9 @@ mod journal_names;
 pub mod seating;
 mod succession;
 
-// the same where a journal ends
-pub mod resuming;
+// the same if they begin with a journal
+mod resuming;
 
 pub use fault::OpenFault;
-pub use resuming::resume_seats;
-pub use seating::{NewMachine, new_machine, open_seats};
+pub use seating::{Machine, machine_of, open_seats};
 pub use serving::open_room;

@@ -1,17 +1,16 @@
-//! What the subcommand `resume` does if operators share the room.
+//! Rooms that operators share, and that begin with a journal.
 ghost use Rattle.std.specs.Prelude.{◌≡◌, ◌≤◌, ℕ, false, Some, Err, All, vec_len, IfOk, OnOk};
 ghost use Rattle.journal_1401.specs.JournalText.{journal_text};
 ghost use Rattle.desk_1401.specs.Giving.{IsSeated, foreign_in};
 ghost use Rattle.holding_1401.specs.Choosing.{HasChosen};
 
 use crate::beginning::{Before, Program};
-use crate::entrances::{Entrances, open_entrances};
+use crate::entrances::Entrances;
 use crate::fault::{OpenFault, not_kept};
 use crate::journal_names::JournalNames;
 use crate::seating::serve_new;
 use crate::succession::{Rooms, Turn, serve_others, serve_rooms};
-use calls_1401::{NewJournal, Operators, Resuming};
-use exchange_1401::Origin;
+use calls_1401::{NewJournal, Resuming};
 use holding_1401::{HoldFault, durability_of, read_chosen, tell_cut};
 use keeping_1401::{JournalFile, TakenUp, find_journal, verify_journal};
 use room_1401::{Entry, Room};
@@ -20,7 +19,6 @@ use std::alloc::Global;
 use std::fs::File;
 use std::io::StdinLock;
 use std::marker::Brand;
-use std::net::{Net, TcpListener, TcpStream};
 use std::random::RandomSource;
 use std::rt::{Clock, Files};
 use std::sync::Wait;
@@ -39,40 +37,8 @@ fn expect_seats(entries: &[Entry], least: u8, most: u8) -> Result<(), OpenFault>
     }
 }
 
-/// Opens a room to operators whose seats give the commands of a journal again first; it goes on as `serve` does. It is
-/// kept in the same file, or in a new one; or, if only the first of the commands are asked for, it isn't kept. If a
-/// number of minutes is given, new rooms of the same size follow at power-on, as after a room of `open_seats`.
-///
-/// # Errors
-///
-/// `Port` if a port is refused; `Hold` with `Kept` if a file can't be had or has no journal; `NoSeat` if an entry is of
-/// a seat that the room hasn't: in the same file seat 0 is such a one, in a new file seat 1 gives its commands. Else as
-/// `open_seats`.
-pub fn resume_seats<
-    R: Threads
-        + Wait
-        + Sync
-        + Clock
-        + RandomSource
-        + Input<Reader = StdinLock<'static>>
-        + Print
-        + Eprint
-        + AllocGlobal
-        + Files<File = File>
-        + Net<Listener = TcpListener, Stream = TcpStream>,
->(
-    rt: &R,
-    asked: Resuming,
-    operators: Operators,
-    origin: Option<Origin>,
-    minutes: Option<u16>,
-) -> Result<(), OpenFault> {
-    let entrances = open_entrances(rt, operators, origin.as_ref())?;
-    resume_at(rt, asked, operators.seats, minutes, &entrances)
-}
-
-/// The same once the ports are had.
-fn resume_at<
+/// Opens a room whose seats give the commands of a journal again first, and those that follow it.
+pub(crate) fn resume_seats<
     R: Threads
         + Wait
         + Sync
@@ -86,28 +52,22 @@ fn resume_at<
 >(
     rt: &R,
     asked: Resuming,
+    journal: Option<NewJournal>,
     seats: u8,
     minutes: Option<u16>,
     entrances: &Entrances,
 ) -> Result<(), OpenFault>
     requires { vec_len entrances.now.pages ≤ seats }
 {
-    let Resuming {
-        file,
-        journal,
-        until,
-        without,
-        sync,
-    } = asked;
-    if journal.is_none() && until.is_none() {
-        return go_on(rt, file, sync, seats, minutes, entrances);
+    if journal.is_none() && asked.until.is_none() {
+        return go_on(rt, asked.file, asked.sync, seats, minutes, entrances);
     }
-    let room = room_of(rt, file, until, without.as_slice(), seats)?;
+    let room = room_of(rt, asked, seats)?;
     let rooms = Rooms {
         size: room.machine().core().size(),
         seats,
         before: nothing(rt.alloc()),
-        names: names_of(journal, sync),
+        names: journal.map(JournalNames::new),
         minutes,
     };
     serve_rooms(rt, &rooms, &Before::Journal(room), entrances)
@@ -119,28 +79,18 @@ fn nothing(alloc: Global) -> Before<'static> {
     Before::Program(Program { image: None, cards })
 }
 
-/// The same, of a journal whose seats the room has.
+/// The room after those commands of a journal that are asked for, each of a seat that it has.
 fn room_of(
     rt: &(impl Files<File = File> + AllocGlobal),
-    file: String,
-    until: Option<u64>,
-    without: &[u64],
+    asked: Resuming,
     seats: u8,
 ) -> Result<Room, OpenFault>
-    ensures chosen { IfOk result (HasChosen until without.now) }
+    ensures chosen { IfOk result (HasChosen asked.until asked.without.items) }
     ensures seated { IfOk result (λ room. All (IsSeated 0 seats) room.journal) }
 {
-    let room = read_chosen(rt, file, until, without).map_err(OpenFault::Hold)?;
+    let room = read_chosen(rt, asked).map_err(OpenFault::Hold)?;
     expect_seats(room.journal(), 0, seats)?;
     Ok(room)
-}
-
-/// The names of the journals that are kept from there on, if there is a file for the first.
-fn names_of(file: Option<String>, sync: bool) -> Option<JournalNames> {
-    match file {
-        Some(file) => Some(JournalNames::new(NewJournal { file, sync })),
-        None => None,
-    }
 }
 
 /// Goes on in the file of a journal.

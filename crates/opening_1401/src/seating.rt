@@ -9,9 +9,10 @@ use crate::beginning::{Before, Program, begin};
 use crate::entrances::{Entrances, open_entrances, tell_ready};
 use crate::fault::{OpenFault, not_told};
 use crate::journal_names::JournalNames;
+use crate::resuming::resume_seats;
 use crate::serving::start_fault;
 use crate::succession::{Rooms, Turn, serve_rooms};
-use calls_1401::{NewJournal, Opening, Operators};
+use calls_1401::{NewJournal, Opening, Operators, Resuming};
 use core_1401::Core;
 use devices_1401::Card;
 use exchange_1401::Origin;
@@ -51,13 +52,13 @@ fn seats_outcome(failed: bool, fault: Option<SeatsFault>) -> Result<(), OpenFaul
     }
 }
 
-/// A machine that is new to its operators.
+/// What the machine of a room begins with, once its image is read.
 #[derive(Drop)]
-pub struct NewMachine {
-    /// How many places core storage has.
-    pub size: u16,
-    /// The text of the image that is loaded; without one the machine is at power-on.
-    pub text: Option<Vec<u8>>,
+pub enum Machine {
+    /// It is new, with this many places of core storage, and has the image of this text loaded or is at power-on.
+    New(u16, Option<Vec<u8>>),
+    /// It is that of a journal, which is read once the ports are had.
+    Journal(Resuming),
 }
 
 /// The image of a text.
@@ -86,35 +87,38 @@ fn image_in(text: &Option<Vec<u8>>) -> Result<Option<LentImage<'_>>, OpenFault> 
 ///
 /// `Hold` with `Unread`, `Image` or `Memory` if there is no such image, or with `Size` if no core storage of the size
 /// named is made.
-pub fn new_machine(
-    rt: &(impl Files + AllocGlobal),
-    opening: Opening,
-) -> Result<NewMachine, OpenFault> {
+pub fn machine_of(rt: &(impl Files + AllocGlobal), opening: Opening) -> Result<Machine, OpenFault> {
     let (size, text) = match opening {
         Opening::PowerOn(size) => (size, None),
         Opening::Image(name) => {
             let text = read_file(rt, name).map_err(OpenFault::Hold)?;
             (image_of(text.as_slice())?.size(), Some(text))
         }
+        Opening::Journal(asked) => return Ok(Machine::Journal(asked)),
     };
     if !Core::is_size(size) {
         return Err(OpenFault::Hold(HoldFault::Size));
     }
-    Ok(NewMachine { size, text })
+    Ok(Machine::New(size, text))
 }
 
 /// Opens a machine to operators whose seats are taken again, with these cards in its hopper; a proxy brings their
-/// pages to others at this origin, if there is one. It tells on standard output when it listens, with the address of
-/// each page, and at the end how many commands the journal has. QUIT on standard input, or its end, closes the room.
-/// If a number of minutes is given, a new room with the same image and cards follows whenever a page asks for it, no
-/// command was given for so many minutes, or a minute after its journal had 95,000 entries.
+/// pages to others at this origin, if there is one. The seats of a machine of a journal give its commands again first,
+/// and have no cards. The journal is kept in a new file, or in that of the journal that the machine begins with, if all
+/// commands of that were asked for; or it isn't kept.
+///
+/// It tells on standard output when it listens, with the address of each page, and at the end how many commands the
+/// journal has. QUIT on standard input, or its end, closes the room. If a number of minutes is given, a new room
+/// follows whenever a page asks for it, no command was given for so many minutes, or a minute after its journal had
+/// 95,000 entries: with the same image and cards, or after that of a journal at power-on.
 ///
 /// # Errors
 ///
 /// `NoReader`, or `Hold` with `Size` or `Memory`, if there is no such room; `Port` if a port is refused; `Hold` with
-/// `Kept` if the journal's file can't be had, with `Output` if standard output takes nothing, with `JournalFull` or
-/// `Session` if the image isn't loaded or a card isn't fed; or what went wrong first while the rooms were served. A new
-/// file of a journal is left only if the room came about.
+/// `Kept` if a file of a journal can't be had or has no journal, with `Output` if standard output takes nothing, with
+/// `JournalFull` or `Session` if the image isn't loaded or a card isn't fed; `NoSeat` if an entry is of a seat that the
+/// room hasn't: in the same file seat 0 is such a one, in a new file seat 1 gives its commands; or what went wrong
+/// first while the rooms were served. A new file of a journal is left only if the room came about.
 pub fn open_seats<
     R: Threads
         + Wait
@@ -129,24 +133,30 @@ pub fn open_seats<
         + Net<Listener = TcpListener, Stream = TcpStream>,
 >(
     rt: &R,
-    machine: NewMachine,
+    machine: Machine,
     cards: Vec<Card>,
     operators: Operators,
     origin: Option<Origin>,
     journal: Option<NewJournal>,
     minutes: Option<u16>,
 ) -> Result<(), OpenFault> {
-    let NewMachine { size, text } = machine;
-    let image = image_in(&text)?;
     let entrances = open_entrances(rt, operators, origin.as_ref())?;
-    let rooms = Rooms {
-        size,
-        seats: operators.seats,
-        before: Before::Program(Program { image, cards }),
-        names: journal.map(JournalNames::new),
-        minutes,
-    };
-    serve_rooms(rt, &rooms, &rooms.before, &entrances)
+    let seats = operators.seats;
+    match machine {
+        Machine::New(size, text) => {
+            let image = image_in(&text)?;
+            let before = Before::Program(Program { image, cards });
+            let rooms = Rooms {
+                size,
+                seats,
+                before,
+                names: journal.map(JournalNames::new),
+                minutes,
+            };
+            serve_rooms(rt, &rooms, &rooms.before, &entrances)
+        }
+        Machine::Journal(asked) => resume_seats(rt, asked, journal, seats, minutes, &entrances),
+    }
 }
 
 /// Opens a room by a keeper that has the head of its journal, and serves it in its turn; if it doesn't come about, the

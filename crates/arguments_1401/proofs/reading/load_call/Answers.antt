@@ -1,6 +1,6 @@
 use Rattle.std.proofs.Common.{rules}
 use Rattle.arguments_1401.proofs.reading.load_call.Goals as goal
 
--- it is called with the file and the journal that were read
+-- the session begins with the file that was read
 pub returns : goal.returns
-returns c = (c.in_ok-file.file, c.in_ok-journal.field-0, search rules, search rules, search rules)
+returns c = (c.in_ok-file.file, search rules, search rules)
