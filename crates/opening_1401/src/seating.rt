@@ -21,8 +21,7 @@ use image_1401::{LentImage, lend_image};
 use keeping_1401::MadeName;
 use room_1401::{Keeper, Opened, RoomId, Seat, SharedRoom};
 use serving_1401::{
-    NotingKeeper, PagePort, SeatsFault, SeatsServed, TakingTurns, UntilRenewed, Watch,
-    serve_watched,
+    NotingKeeper, PagePort, SeatsFault, SeatsServed, TakingTurns, UntilRenewed, Watch, serve_seats,
 };
 use std::fs::File;
 use std::io::StdinLock;
@@ -337,14 +336,14 @@ fn serve_by<
     let consoles = entrances.consoles.as_ref();
     let pages = entrances.pages.as_slice();
     let door = TakingTurns::new(rt);
-    let served = serve_watched(
+    let served = serve_seats(
         rt.alloc(),
         rt,
         room,
         seats,
         consoles,
         pages,
-        Some(watch),
+        watch,
         input,
         &door,
     );

@@ -2,7 +2,8 @@
 //! seat; a seat may have a page in a browser too, and then it goes to whoever comes first.
 //!
 //! ```text
-//! let served = serve_seats(alloc, rt, room, seats, &listener, &mut input, &OpenDoor); // until the input says QUIT
+//! // until the input says QUIT
+//! let served = serve_seats(alloc, rt, room, seats, Some(&listener), &[], &watch, input, &OpenDoor);
 //! served.room.journal()       // all that the consoles did
 //! served.fault                // None: nothing was refused, and the room was closed with all of its seats
 //! ```
@@ -33,6 +34,6 @@ pub mod serving;
 pub use desk_1401::{GiveFault, SeatsFault, TakingTurns, foreign_seat, give, give_entries};
 pub use noting::NotingKeeper;
 pub use paging::PagePort;
-pub use serving::{SeatsServed, serve_pages, serve_seats, serve_watched};
+pub use serving::{SeatsServed, serve_seats};
 pub use until_renewed::UntilRenewed;
 pub use watch::Watch;

@@ -37,7 +37,7 @@ pub(crate) fn start_pages<'s, E: 's, J, H, K, R>(
     service: &'s Service<J>,
     pages: &'s [PagePort],
     common: &'s RoomPages,
-    watch: Option<&'s Watch>,
+    watch: &'s Watch,
 )
 where
     J: RoomId + Send + Sync + 's,
@@ -63,7 +63,7 @@ fn start_page<'s, E: 's, J, H, K, R>(
     service: &'s Service<J>,
     page: &'s PagePort,
     common: &'s RoomPages,
-    watch: Option<&'s Watch>,
+    watch: &'s Watch,
     number: u8,
 )
 where
@@ -91,7 +91,7 @@ fn serve_page<J, H, K, R>(
     service: &Service<J>,
     page: &PagePort,
     common: &RoomPages,
-    watch: Option<&Watch>,
+    watch: &Watch,
     number: u8,
 )
 where

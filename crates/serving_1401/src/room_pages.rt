@@ -60,8 +60,8 @@ pub(crate) struct PageOfRoom<'a> {
     pub seat: u8,
     /// The name of the room.
     pub name: &'a RoomName,
-    /// What the room comes to, if it is watched.
-    pub watch: Option<&'a Watch>,
+    /// What the room comes to.
+    pub watch: &'a Watch,
     /// What it has in common with the room's other pages.
     pub pages: &'a RoomPages,
 }
@@ -100,7 +100,8 @@ impl<'a> PageOfRoom<'a> {
             return Answered::AtSeat(request);
         }
         if page.room.asks {
-            self.ask();
+            // If no new room may follow, this has no effect.
+            self.watch.ask();
         }
         Answered::Here(answer.ok())
     }
@@ -123,37 +124,22 @@ impl<'a> PageOfRoom<'a> {
         hold: Option<Hold>,
         taken: Vec<u8>,
     ) -> RoomPage<'a> {
-        let (renews, left) = match self.watch {
-            Some(watch) => (watch.renews(), watch.seconds_left(rt)),
-            None => (false, None),
-        };
-        let (last, is_prepared) = match self.watch {
-            Some(watch) => (watch.last(rt), watch.is_prepared()),
-            None => (None, false),
-        };
         RoomPage {
             alloc: rt.alloc(),
             site: self.site,
             name: self.name.as_slice(),
-            renews,
-            left,
+            renews: self.watch.renews(),
+            left: self.watch.seconds_left(rt),
             taken,
             room: RoomState {
                 seat: self.seat,
                 time,
-                last,
-                is_prepared,
+                last: self.watch.last(rt),
+                is_prepared: self.watch.is_prepared(),
                 hold,
                 asks: false,
                 passes: false,
             },
-        }
-    }
-
-    /// Asks for a new room. If none may follow, that has no effect.
-    fn ask(self) {
-        if let Some(watch) = self.watch {
-            watch.ask();
         }
     }
 }

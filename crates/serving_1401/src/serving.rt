@@ -36,70 +36,34 @@ pub struct SeatsServed<K: Keeper + Drop> {
     pub fault: Option<SeatsFault>,
 }
 
-/// Listens, and attends a console for each connection, in a thread of its own, at the lowest seat that is free; when it
-/// ends, its seat is free again, with what it made and has seen. A connection for which no seat is free is told `FULL`
-/// and closed.
+/// Serves a room until its input closes it. Each connection to the listener for consoles, if there is one, is attended in
+/// a thread of its own, at the lowest seat that is free; when the console ends, its seat is free again, with what it made
+/// and has seen. A connection for which no seat is free is told `FULL` and closed.
 ///
-/// A line of the input that says QUIT, or the end of the input, closes the room: the listener is shut down, and accepts
-/// no connection any more; each console ends as at the end of its input, with its last reply out, and the room is
-/// closed. Other lines of the input say nothing. A peer that doesn't take its replies keeps the room from closing for
-/// two seconds or so.
+/// Each seat that has a port among the pages has a page there: the first is that of seat 1, the next that of seat 2, and
+/// so on. A seat goes to whoever comes first, the page or a console. A page takes its seat by the first picture or line
+/// that is accepted from the page itself, and gives it back if there is none for a minute and no other seat is free;
+/// while a console sits there, each request of the page is refused. If a new room may follow this one, its pages are
+/// answered when, and may ask for it.
 ///
-/// A connection whose thread is refused is closed, and the room goes on. What keeps a connection from being accepted
-/// and passes is waited for. If anything else does, the listener is shut down, which standard error reports at once;
-/// the consoles go on until the room is closed.
+/// A line of the input that says QUIT, or the end of the input, closes the room: all listeners are shut down, and accept
+/// no connection any more; each console ends as at the end of its input, with its last reply out; the request of each
+/// page that is being answered is answered, and the connections that still wait are closed; then the room is closed.
+/// Other lines of the input say nothing. A peer that doesn't take its replies keeps the room from closing for two
+/// seconds or so.
+///
+/// A connection whose thread or memory is refused is closed, and the room goes on. What keeps a connection from being
+/// accepted and passes is waited for. If anything else does, the listener is shut down, which standard error reports at
+/// once; the others go on until the room is closed. So does a page whose threads are refused, or the memory for those
+/// who wait. That an entry wasn't kept is reported at once too.
 pub fn serve_seats<J, H, K, R, S, D>(
     alloc: Global,
     rt: &R,
     room: SharedRoom<J, H, K>,
     seats: Vec<Seat<J>>,
-    listener: &TcpListener,
-    input: S,
-    door: &D,
-) -> SeatsServed<K>
-where
-    J: RoomId + Send + Sync,
-    H: Wait + Drop + Send + Sync,
-    K: Keeper + Drop + Send + Sync,
-    R: Threads + Wait + Sync + Clock + Eprint + AllocGlobal + RandomSource,
-    S: Source + Drop + Send,
-    D: Door + Sync,
-    requires ledger { J.parts ≡ J.seats }
-
-    // All of the room's seats are handed in, in the order of their numbers.
-    requires seats { AreAllSeats J.seats seats.items }
-    requires count { (0 < J.seats) × (J.seats < 2 ^ 8) }
-    ensures size { result.room.size ≡ J.size }
-    ensures legal { IsLegal J.size result.room.journal }
-    ensures kept { IsKeptAs K.form J.size result.room.journal (K.has_failed result.keeper) K.first
-        (K.kept result.keeper) }
-
-    // Whatever was refused, the room is closed with all of its seats, which made all commands that are kept.
-    ensures accounted { result.fault ≢ Some SeatsFault.Unreturned
-        → IsAccounted J.seats (kept_part (K.has_failed result.keeper) result.room.journal) }
-{
-    serve_pages(alloc, rt, room, seats, Some(listener), &[], input, door)
-}
-
-/// Serves a page for each seat that has a port among these: the first is that of seat 1, the next that of seat 2, and
-/// so on; and consoles too, as `serve_seats` does, if there is a listener for them. A seat goes to whoever comes
-/// first, the page or a console. A page takes its seat by the first picture or line that is accepted from the page
-/// itself, and gives it back if there is none for a minute and no other seat is free; while a console sits there, each
-/// request of the page is refused.
-///
-/// It ends as `serve_seats` does: all listeners are shut down, the request of each page that is being answered is
-/// answered, and the connections that still wait are closed.
-///
-/// A page isn't served any more once a connection to it can't be accepted for a reason that doesn't pass, nor at all if
-/// its threads are refused, or the memory for those who wait: its listener is shut down, and the room goes on. A
-/// connection whose thread or memory is refused is closed.
-pub fn serve_pages<J, H, K, R, S, D>(
-    alloc: Global,
-    rt: &R,
-    room: SharedRoom<J, H, K>,
-    seats: Vec<Seat<J>>,
     consoles: Option<&TcpListener>,
     pages: &[PagePort],
+    watch: &Watch,
     input: S,
     door: &D,
 ) -> SeatsServed<K>
@@ -122,44 +86,6 @@ where
         (K.kept result.keeper) }
 
     // Whatever was refused, the room is closed with all of its seats, which made all commands that are kept.
-    ensures accounted { result.fault ≢ Some SeatsFault.Unreturned
-        → IsAccounted J.seats (kept_part (K.has_failed result.keeper) result.room.journal) }
-{
-    serve_watched(alloc, rt, room, seats, consoles, pages, None, input, door)
-}
-
-/// As `serve_pages`, of a room that is watched: standard error reports at once that an entry wasn't kept. If a new room
-/// may follow, its pages are answered when, and may ask for it.
-pub fn serve_watched<J, H, K, R, S, D>(
-    alloc: Global,
-    rt: &R,
-    room: SharedRoom<J, H, K>,
-    seats: Vec<Seat<J>>,
-    consoles: Option<&TcpListener>,
-    pages: &[PagePort],
-    watch: Option<&Watch>,
-    input: S,
-    door: &D,
-) -> SeatsServed<K>
-where
-    J: RoomId + Send + Sync,
-    H: Wait + Drop + Send + Sync,
-    K: Keeper + Drop + Send + Sync,
-    R: Threads + Wait + Sync + Clock + Eprint + AllocGlobal + RandomSource,
-    S: Source + Drop + Send,
-    D: Door + Sync,
-    requires ledger { J.parts ≡ J.seats }
-
-    // All of the room's seats are handed in, in the order of their numbers.
-    requires seats { AreAllSeats J.seats seats.items }
-    requires count { (0 < J.seats) × (J.seats < 2 ^ 8) }
-    requires pages { length pages.now ≤ J.seats }
-    ensures size { result.room.size ≡ J.size }
-    ensures legal { IsLegal J.size result.room.journal }
-    ensures kept { IsKeptAs K.form J.size result.room.journal (K.has_failed result.keeper) K.first
-        (K.kept result.keeper) }
-
-    // Whatever was refused, the room is closed with all of its seats.
     ensures accounted { result.fault ≢ Some SeatsFault.Unreturned
         → IsAccounted J.seats (kept_part (K.has_failed result.keeper) result.room.journal) }
 {
@@ -219,7 +145,7 @@ fn serve_connections<J, H, K, R, S, D>(
     service: &Service<J>,
     consoles: Option<&TcpListener>,
     pages: &[PagePort],
-    watch: Option<&Watch>,
+    watch: &Watch,
     input: S,
     door: &D,
 )
@@ -259,7 +185,7 @@ fn listen<'s, E: 's, J, H, K, R, S, D>(
     consoles: Option<&'s TcpListener>,
     pages: &'s [PagePort],
     common: &'s RoomPages,
-    watch: Option<&'s Watch>,
+    watch: &'s Watch,
     input: S,
     door: &'s D,
 )
@@ -294,7 +220,7 @@ where
 fn report_troubles<J: RoomId, R: Wait + Clock + Eprint>(
     rt: &R,
     service: &Service<J>,
-    watch: Option<&Watch>,
+    watch: &Watch,
 ) {
     let mut is_port_told = false;
     let mut is_loss_told = false;
@@ -303,7 +229,7 @@ fn report_troubles<J: RoomId, R: Wait + Clock + Eprint>(
             is_port_told = true;
             let _reported = eprintln!(rt; "ibm1401: a port was closed; the room goes on");
         }
-        if !is_loss_told && has_lost(watch) {
+        if !is_loss_told && watch.has_lost() {
             is_loss_told = true;
             let _reported = eprintln!(rt;
                 "ibm1401: the journal cannot be written; no command is carried out any more"
@@ -313,14 +239,6 @@ fn report_troubles<J: RoomId, R: Wait + Clock + Eprint>(
             return;
         }
         thread::sleep(rt, Duration::from_millis(LOOK));
-    }
-}
-
-/// Whether an entry of a room that is watched wasn't kept.
-fn has_lost(watch: Option<&Watch>) -> bool {
-    match watch {
-        Some(watch) => watch.has_lost(),
-        None => false,
     }
 }
 

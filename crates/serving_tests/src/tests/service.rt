@@ -8,7 +8,7 @@ use crate::tests::operators::{Act, connect, operate};
 use crate::tests::{expect_same, expect_text};
 use console_1401::Door;
 use room_1401::{Opened, RoomId, Seat, SharedRoom};
-use serving_1401::{SeatsFault, SeatsServed, serve_seats};
+use serving_1401::{SeatsFault, SeatsServed, Watch, serve_seats};
 use std::alloc::AllocGlobal;
 use std::marker::Brand;
 use std::net::{Ipv4Addr, Net, SocketAddr, TcpListener, TcpStream};
@@ -254,7 +254,18 @@ where
         button: here.button,
         holds: here.evening.holds,
     };
-    serve_seats(alloc, rt, room, seats, here.listener, input, &door)
+    let watch = Watch::new(None, false);
+    serve_seats(
+        alloc,
+        rt,
+        room,
+        seats,
+        Some(here.listener),
+        &[],
+        &watch,
+        input,
+        &door,
+    )
 }
 
 /// Compares what was kept, how many commands there were, and what went wrong.
