@@ -201,7 +201,7 @@ def write_pictures():
     try:
         page = Page(browser, room.address())
         page.is_ready()
-        page.value("byId('program').value = 'listing', drawProgram(), feedChosen()")
+        page.value("guide.press(), byId('program').value = 'listing', drawProgram(), feedChosen()")
         for line in "SWITCH A ON", "SWITCH F ON", "LOAD", "RUN 214":
             page.value(f"say('{line}')")
         page.value("choose(404), tell(TEXTS.said.load), tellDeck('')")

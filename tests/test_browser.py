@@ -518,7 +518,7 @@ class Rooms(Browser):
             if (response.status !== 200 || !path.startsWith('/picture')) return response;
             return new Response((await response.text()).replace(old, '0'.repeat(16)));
         }, 0""")
-        self.shows("the page says so", "byId('said-words').textContent === TEXTS.said.newRoom")
+        self.shows("the page says so", "byId('said-words').textContent === TEXTS.said.resumed")
         refused = "send('START 0001').then(outcome => outcome.failed === TEXTS.outcomes[409])"
         self.shows("a line that names it is refused in the other", refused)
         self.page.value("fetch = asked, 0")
@@ -529,6 +529,75 @@ class Rooms(Browser):
 
 class Words(Browser):
     """What the page says is true of the machine."""
+
+    def test_words_of_cards(self):
+        """They are over once a card is read, whoever reads it."""
+        self.page.value("say('FEED ONE').then(() => say('LINE'))")
+        self.page.value("startAfresh()")
+        self.shows("the machine is clear", "byId('said-words').textContent === TEXTS.said.clear")
+        self.page.value("feedChosen()")
+        self.shows("what is to be done", "byId('deck-words').textContent === TEXTS.programs.hello.fed")
+        self.shows("it isn't clear any more", "byId('said-words').textContent", "There is 1 card in the hopper. "
+                   "LOAD reads it.")
+        self.page.value("send('LOAD').then(() => inTurn(look))")
+        self.shows("it was done by another seat", "byId('deck-words').textContent", "")
+        self.shows("a count is of what was fed", "counted(TEXTS.fedAll, 1206)", "1,206 cards were fed.")
+
+    def test_the_steps_of_a_run(self):
+        """Those of all its parts."""
+        self.page.value("byId('pace').selectedIndex = 0, feedChosen().then(pressLoad).then(pressRun)")
+        self.shows("all steps", "byId('said-reply').textContent", "STOP 02 HALT STEPS 7 I 00037")
+        self.shows("no instruction is next", "view.picture.next = ' ', drawPanel(), byId('next').textContent "
+                   "=== TEXTS.nextEnded")
+        self.shows("nor on another page", "view.ended = null, drawPanel(), byId('next').textContent === TEXTS.nextNone")
+        self.shows("nothing is said of a program", "welcomeWords() === TEXTS.said.welcome")
+
+    def test_a_full_journal(self):
+        self.page.value("view.picture.after = JOURNAL_NEARLY, drawBanner(), drawKeys()")
+        self.shows("it is nearly full", "byId('banner').hidden", False)
+        self.shows("unless another room follows", "renewal.mode = 'ON', bannerText()", "")
+        self.page.value("view.picture.after = JOURNAL_ENTRIES, renewal.mode = 'OFF', drawBanner(), drawKeys()")
+        self.shows("the keys are off", "isOff(byId('load-key')) && byId('banner').textContent === TEXTS.full")
+
+    def test_a_name_is_not_left_out(self):
+        """The last step of the guide is done by a card with a name, and that card is the one to print."""
+        self.page.value("['fed', 'load', 'step', 'halt', 'fed', 'load', 'halt'].forEach(event => guide.on(event)), 0")
+        self.shows("the guide waits", "guide.step().until", "named")
+        self.page.value("byId('name').value = 'O\u2019NEILL', punchName(new Event('submit'))")
+        self.shows("the name is fed", "view.picture.hopper.slice(40)", "O'NEILL")
+        self.page.value("byId('keyed').value = 'ANOTHER', releaseCard()")
+        self.shows("its card is the one to print", "nameCard.slice(40)", "O'NEILL")
+        self.page.value("guide.state = 'done', guide.draw(), guide.on('fed')")
+        self.shows("it is over with the next deck", "guide.state", "aside")
+
+    def test_what_one_is_looking_at(self):
+        self.page.click("about-key")
+        self.shows("from its beginning on", "byId('about').open && byId('about').scrollTop", 0)
+
+    def test_another_page_clears_the_machine(self):
+        """Whoever is at this one begins with a clear machine too."""
+        self.page.value("say('FEED ONE')")
+        second = self.open_page(2)
+        self.shows("the guide says what is left", "guide.state", "left", second)
+        self.page.value("startAfresh()")
+        self.shows("it begins", "guide.state", "on", second)
+        self.shows("with these words", "byId('said-words').textContent === TEXTS.said.clear", page=second)
+        second.value("guide.on('fed'), 0")
+        self.page.value("say('FEED ONE').then(() => startAfresh())")
+        self.shows("and once more", "guide.at", 0, second)
+
+    def test_a_room_that_is_prepared_anew(self):
+        room = self.room("serve", "--renew-after", 5, "--cards", EXAMPLES / "listing.deck", seats=1, pages=True,
+                         consoles=False)
+        page = self.open(room.address())
+        self.check("the page sees the machine", "" if page.is_ready() else "it doesn't")
+        self.shows("the guide says what the key does", "byId('guide-now').textContent === TEXTS.guide.preparedAgain",
+                   page=page)
+        page.value("window.old = view.picture.room, pressAfresh(), 0")
+        self.shows("the page asks", "byId('ask').open", page=page)
+        page.click("ask-yes")
+        self.shows("it has what the staff has prepared", "byId('said-words').textContent === TEXTS.said.prepared && "
+                   "view.picture.room !== old", page=page)
 
     def test_after_the_end(self):
         """One more STEP isn't carried out unless it is pressed again."""

@@ -192,6 +192,26 @@ class Attract(Browser):
         self.shows("the guide begins", LIT, "feed-key")
         self.shows("the key that was touched does nothing", "byId('said-words').textContent === TEXTS.said.clear")
 
+    def test_a_touch_between_two_decks(self):
+        """The words ask for it as long as they are there."""
+        self.page.value("say('FEED LEFT').then(() => { guide.state = 'attract'; guide.draw(); }), 0")
+        self.shows("the guide asks for a touch", "byId('guide-now').textContent === TEXTS.guide.attract")
+        self.page.mouse("load-key")
+        self.shows("it clears the machine", "!attract.on && isClear(view.picture) && guide.state", "on")
+        self.shows("the key that was touched does nothing", "byId('said-words').textContent === TEXTS.said.clear")
+
+    def test_it_yields_to_another_seat(self):
+        """A visitor there finds the machine as they leave it."""
+        second = self.open_page(2)
+        self.page.value("PROGRAMS.forEach(program => program.alone = program.name === 'listing'), 0")
+        self.page.value("Object.assign(IDLE, {attractMs: 0, pauseMs: 0, seatMs: 0}), 0")
+        self.shows("a program runs", "run !== null")
+        self.page.value("IDLE.attractMs = 1e9, 0")
+        second.value("say('SWITCH G ON')")
+        self.shows("it stops", "run === null && !attract.on")
+        self.shows("the guide steps aside", "guide.state", "aside")
+        self.shows("nothing is cleared", "/A.*G/.test(view.picture.registers.SWITCHES)")
+
     def test_it_spares_the_journal(self):
         self.page.value("Object.assign(IDLE, {attractMs: 0, pauseMs: 0, seatMs: 0, mostAfter: -1}), 0")
         self.shows("it doesn't begin then", "isIdle()", False)

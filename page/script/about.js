@@ -1,6 +1,11 @@
 /* What a visitor is looking at: a drawing of the machine, its words, and where the numbers come from. */
 const ABOUT_PARTS = [[20, 'reader'], [235, 'unit'], [450, 'printer']];
 
+/* From its first line on: the key that closes it is at its end, and gets the focus. */
+function showAbout() {
+  byId('about').showModal();
+  byId('about').scrollTop = 0;
+}
 function buildAbout() {
   byId('about-drawing').replaceChildren();
   for (const [x, name] of ABOUT_PARTS) {

@@ -1,7 +1,8 @@
 /* The machine made ready for the next visitor, by lines that an operator could type: hopper, paper and stacker are
-   emptied, the switches turned off, core storage cleared, and the I register set to 0. The A and B registers, the lamps
-   and the carriage stay where they are, since no line sets them. */
+   emptied, the switches turned off, core storage cleared, and the I register set to 0. The lamps and the carriage stay
+   where they are, since no line sets them; the A and B registers are where the clearing leaves them. */
 const CLEARED_AT_ONCE = 4000;
+let isClearing = false;
 
 /* An address in three characters: its thousands are zones. */
 function addressOf(place) {
@@ -34,20 +35,40 @@ async function pressAfresh() {
   await startAfresh(renewal.mode === 'ON' ? renewRoom : clearMachine);
   guide.begin();
 }
-/* What this page has taken and kept is gone too, and its words are as at first. */
+/* What this page has taken and kept is gone too, and its words are as at first. A new machine may have what the staff
+   has prepared. */
 async function startAfresh(clear = clearMachine) {
+  isClearing = true;
   note('words', TEXTS.said.clearing);
   tell(TEXTS.said.clearing);
-  const isDone = (await clear()) !== false && isClear(view.picture);
+  const isDone = await clear(), {clear: empty, prepared, notClear} = TEXTS.said;
+  const words = isDone && isClear(view.picture) ? empty : isDone && clear === renewRoom ? prepared : notClear;
+  isClearing = false;
   torn.length = taken.length = 0;
   drawTaken();
-  tellDeck('');
-  tellTaken('');
+  forgetWords();
   followsPaper = true;
   view.ended = null;
   byId('name').value = byId('keyed').value = '';
   drawKeyed();
-  tell(isDone ? TEXTS.said.clear : TEXTS.said.notClear);
+  tell(words);
+  note('words', words);
+}
+/* What the page has said of cards is over. */
+function forgetWords() {
+  fedAt = null;
+  tellDeck('');
+  tellTaken('');
+}
+/* The machine isn't clear any more. */
+function leaveClear(words) {
+  if (byId('said-words').textContent === TEXTS.said.clear) tell(words);
+}
+/* Another page has cleared the machine, or the room was opened again: whoever is here begins with it as it is now. */
+function beginAnew(words) {
+  forgetWords();
+  tell(words);
+  if (guide.state !== 'off' && guide.state !== 'attract') guide.begin();
 }
 /* Sends lines in as few requests as there may be, as long as each reply is of this form. */
 async function sendInTurn(lines, wanted) {

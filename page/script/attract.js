@@ -1,14 +1,16 @@
 /* Idle minutes: the machine runs a deck by itself until somebody touches it, unless the staff has prepared it. Each
    such run takes about a hundred entries of the journal, and none begins once half of the journal is used. */
 const IDLE = {attractMs: 180000, pauseMs: 90000, seatMs: 20000, mostAfter: JOURNAL_ENTRIES / 2};
-const attract = {on: false, stop: false, touched: performance.now(), pressed: performance.now(), ended: -Infinity};
+const attract = {on: false, stop: false, yields: false, touched: performance.now(), pressed: performance.now(),
+  ended: -Infinity};
 
-/* A hand on the page ends the attract loop, and does nothing else. */
+/* A hand on the page ends the attract loop, between two decks too, and does nothing else. */
 function touch(event) {
   attract.touched = attract.pressed = performance.now();
   if (run) run.wake();
-  if (!attract.on || event.isTrusted === false) return;
-  attract.stop = true;
+  if (guide.state !== 'attract' || event.isTrusted === false) return;
+  if (attract.on) attract.stop = true;
+  else takeOver();
   stopRun();
   if (event.key === 'Tab') return;
   event.preventDefault();
@@ -27,29 +29,48 @@ function isIdle() {
 }
 async function attractIfIdle() {
   if (attract.on || !isIdle()) return;
-  Object.assign(attract, {on: true, stop: false});
+  Object.assign(attract, {on: true, stop: false, yields: false});
   document.body.classList.add('attracts');
   guide.state = 'attract';
   guide.draw();
   await playDeck();
-  if (attract.stop) await startAfresh();
-  attract.on = false;
-  attract.ended = performance.now();
+  if (attract.stop) return takeOver();
+  Object.assign(attract, {on: false, ended: performance.now()});
+  if (attract.yields) stepAside();
+}
+/* The guide begins for whoever has come, with a clear machine unless somebody works at another seat. */
+async function takeOver() {
+  Object.assign(attract, {on: true, stop: true});
+  if (!attract.yields) await startAfresh();
+  Object.assign(attract, {on: false, ended: performance.now()});
   document.body.classList.remove('attracts');
-  if (attract.stop) guide.begin();
+  guide.begin();
+}
+/* Somebody works at another seat: the machine is left to them as it is. */
+function yieldToOthers() {
+  attract.yields = true;
+  if (attract.on) stopRun();
+  else if (guide.state === 'attract') stepAside();
+}
+function stepAside() {
+  document.body.classList.remove('attracts');
+  guide.state = 'aside';
+  guide.draw();
 }
 /* Clears the machine, feeds a deck that needs nobody, and runs it at the machine's own pace. */
 async function playDeck() {
+  const ends = () => attract.stop || attract.yields;
   await startAfresh();
-  if (attract.stop) return;
+  if (ends()) return;
   const shown = PROGRAMS.filter(program => program.alone);
   const program = shown[Math.floor(Math.random() * shown.length)], pace = byId('pace').selectedIndex;
   byId('program').value = program.name;
   drawProgram();
   await feedDeck(program.cards);
+  if (ends()) return;
   if (program.switches) await say(`SWITCH ${program.switches} ON`);
-  if (attract.stop) return;
   await pressLoad();
+  if (ends()) return;
   byId('pace').selectedIndex = PACES.indexOf(OWN_PACE);
   await pressRun();
   byId('pace').selectedIndex = pace;

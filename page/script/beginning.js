@@ -75,7 +75,7 @@ function listenForClicks() {
     'pick-key': () => byId('file').click(), 'card-key': takeCard, 'deck-key': () => feedText(byId('deck').value),
     'feed-key': feedChosen, 'all-cards-key': takeAllCards, 'afresh-key': pressAfresh, 'guide-key': () => guide.press(),
     'view-key': pressView, 'hold-key': pressHold, 'sound-key': pressSound, 'card-print-key': printCard,
-    'about-key': () => byId('about').showModal(), 'about-close': () => byId('about').close(),
+    'about-key': showAbout, 'about-close': () => byId('about').close(),
     'feed-again-key': () => feedDeck([...taken]),
     'save-cards-key': () => saveFile('taken.cards', `${taken.join('\n')}\n`),
     'release-key': releaseCard, 'program-key': takeProgram, 'tear-key': tearOff, 'drop-key': dropTorn,

@@ -56,6 +56,10 @@ function drawCards() {
     pile.classList.toggle('none', registers[name] === 0);
     pile.style.setProperty('--cards', registers[name]);
   }
+  if (fedAt !== null && registers.HOPPER < fedAt) {
+    fedAt = null;
+    tellDeck('');
+  }
   cards.read(read);
   cards.next(hopper);
   cards.punched(punched);

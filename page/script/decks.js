@@ -1,9 +1,10 @@
 /* Decks: what is read of a text, and how cards are fed. */
 let feed = null;    // the deck that is being fed
+let fedAt = null;   // how many cards the hopper had when words were shown that are over once one of them is read
 
 /* A text with letters that cards have: capitals, and no accents. */
 function plain(text) {
-  const own = {'ä': 'AE', 'ö': 'OE', 'ü': 'UE', 'ß': 'SS', 'æ': 'AE', 'ø': 'OE', 'å': 'AA'};
+  const own = {'ä': 'AE', 'ö': 'OE', 'ü': 'UE', 'ß': 'SS', 'æ': 'AE', 'ø': 'OE', 'å': 'AA', '’': '\'', '‘': '\''};
   const spelt = [...text].map(letter => own[letter.toLowerCase()] || letter).join('');
   return spelt.normalize('NFD').replace(/[\u0300-\u036f]/g, '').toUpperCase();
 }
@@ -66,10 +67,11 @@ async function feedDeck(cards, words) {
   endFeed();
   note('', counted(TEXTS.fedInLog, fed));
   await inTurn(look);
-  const n = view.picture ? view.picture.registers.HOPPER : 0;
-  const done = words || counted(TEXTS.fedAll, all, {all: withCommas(all), n});
-  tellDeck(why ? filled(TEXTS.fedPart, {n: fed, all, why}) : done, why !== '');
-  if (!why) happened('fed');
+  tellDeck(why ? filled(TEXTS.fedPart, {n: fed, all, why}) : words || counted(TEXTS.fedAll, all), why !== '');
+  if (why) return;
+  fedAt = words ? view.picture.registers.HOPPER : null;
+  leaveClear(welcomeWords());
+  happened('fed');
 }
 async function feedAll(cards) {
   const {breaks} = view;

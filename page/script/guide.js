@@ -23,8 +23,14 @@ const guide = {
   },
   /* Something has happened: a step is done, or the visitor does something else for a while. */
   on(event) {
+    if (this.state === 'done' && event === 'fed') {
+      this.state = 'aside';
+      this.draw();
+    }
     if (this.state !== 'on' && this.state !== 'left') return;
-    const ahead = GUIDE_STEPS.slice(this.at, this.at + 2).findIndex(step => step.until === event);
+    // A step may be left out, but not the name.
+    const next = GUIDE_STEPS.slice(this.at, this.at + (this.step()?.until === 'named' ? 1 : 2));
+    const ahead = next.findIndex(step => step.until === event);
     this.since = performance.now();
     if (event === 'fed' && this.state === 'left') this.state = 'on';
     if (ahead >= 0 && this.state === 'on') {
@@ -72,11 +78,14 @@ const guide = {
     setText(byId('guide-key'), this.state === 'on' || this.state === 'left' ? TEXTS.guideOff : TEXTS.guideOn);
   },
   words() {
+    if (this.state === 'prepared' && renewal.mode === 'ON') return TEXTS.guide.preparedAgain;
     if (this.state !== 'on') return TEXTS.guide[this.state];
     return TEXTS.guideWords[this.at] + (this.detours > 1 ? ` ${TEXTS.guide.waits}` : '');
   },
 };
 onHappened.push(event => guide.on(event));
+
+let nameCard = HELLO;   // the card with the name of the last visitor who punched one
 
 /* Punches the hello card with a visitor's name in place of its greeting, and feeds it. */
 async function punchName(event) {
@@ -86,15 +95,15 @@ async function punchName(event) {
   setText(byId('name-words'), name === '' ? TEXTS.nameEmpty : wrong ? filled(TEXTS.nameWrong, {letter: wrong}) : '');
   if (name === '' || wrong || !mayCommand() || feed) return;
   byId('name').value = name;
-  released = HELLO.slice(0, NAME_COLUMN) + name;
-  await feedDeck([released], filled(TEXTS.fedName, {name}));
+  nameCard = released = HELLO.slice(0, NAME_COLUMN) + name;
+  await feedDeck([nameCard], filled(TEXTS.fedName, {name}));
   sound('punch');
   happened('named');
   byId('load-key').focus();
 }
 /* Prints the card with the name in its real size. */
 function printCard() {
-  cards.toPrint(released || HELLO);
+  cards.toPrint(nameCard);
   document.body.classList.add('prints-card');
   print();
   document.body.classList.remove('prints-card');

@@ -49,6 +49,6 @@ function welcomeWords() {
   if (!picture) return TEXTS.said.welcome;
   const {HOPPER} = picture.registers;
   if (HOPPER > 0) return counted(TEXTS.said.welcomeCards, HOPPER);
-  if (picture.next !== null) return TEXTS.said.welcomeProgram;
+  if (TEXTS.operations[(picture.next || '').split(' ')[0]]) return TEXTS.said.welcomeProgram;
   return hold.isPrepared && !isClear(picture) ? TEXTS.said.welcomePrepared : TEXTS.said.welcome;
 }

@@ -72,12 +72,24 @@ async function takeIn(picture) {
     lines = joined(lines || [], picture);
   }
   if (isNewRoom || view.since === null) view.since = {after: picture.after, made: picture.made};
+  const shown = view.picture;
   if (isNewRoom) enterRoom();
   noteOthers(picture);
   view.paper = lines || [];
   view.made = picture.made;
   view.picture = picture;
   draw();
+  noteNewState(shown, isNewRoom);
+}
+/* The machine may be another one, or be cleared by another page, since this picture was shown. In a room that was
+   opened again with its journal it goes on with as many commands as before, or more. */
+function noteNewState(shown, isNewRoom) {
+  if (!shown) return;
+  const {newRoom, resumed, clear} = TEXTS.said, words = view.picture.after < shown.after ? newRoom : resumed;
+  if (isNewRoom) note('words', words);
+  if (isClearing) return;
+  if (isNewRoom) beginAnew(words);
+  else if (isClear(view.picture) && !isClear(shown)) beginAnew(clear);
 }
 /* The server has another machine, in a room of another name: what was meant for the old one isn't sent. */
 function enterRoom() {
@@ -85,15 +97,15 @@ function enterRoom() {
   view.others.count = 0;
   forgetRenewal();
   forgetHold();
-  note('words', TEXTS.said.newRoom);
-  tell(TEXTS.said.newRoom);
 }
 function noteOthers({after, made}) {
   const count = after - view.since.after - (made - view.since.made), now = performance.now();
   if (count > view.others.count) {
     const gap = now - view.others.at;
     if (gap > PAUSE_MS) view.others.began = now;
-    Object.assign(view.others, {at: now, gap: gap > LONGEST_PART_MS ? 0 : gap});
+    Object.assign(view.others, {at: now, gap: gap > LONGEST_PART_MS || !isPart(lastOfOthers()) ? 0 : gap});
+    leaveClear('');
+    yieldToOthers();
   }
   view.others.count = count;
   if (!view.picture || after !== view.picture.after) view.changed = now;
@@ -104,11 +116,12 @@ function lastOfOthers() {
   const {last} = view.others;
   return last && view.picture && last.seat !== view.picture.seat ? last : null;
 }
+const isPart = last => last !== null && /^RUN (?!1$)/.test(last.line);
 /* Another seat runs a program: its commands have come for some time without a pause, or its last one is a part of a run
    and the next part may be under way. */
 function othersRun() {
-  const {at, began, gap} = view.others, last = lastOfOthers(), since = performance.now() - at;
-  if (last && /^RUN (?!1$)/.test(last.line)) return since < PAUSE_MS + 2 * gap;
+  const {at, began, gap} = view.others, since = performance.now() - at;
+  if (isPart(lastOfOthers())) return since < PAUSE_MS + 2 * gap;
   return since < PAUSE_MS && at - began > 2 * PAUSE_MS;
 }
 

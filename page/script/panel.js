@@ -32,7 +32,7 @@ function bannerText() {
   if (view.link !== 'fine') return filled(TEXTS[view.link], {status: view.status});
   const after = view.picture ? view.picture.after : 0;
   if (view.full || after >= JOURNAL_ENTRIES) return TEXTS.full;
-  return after >= JOURNAL_NEARLY ? filled(TEXTS.nearlyFull, {n: withCommas(after)}) : '';
+  return after >= JOURNAL_NEARLY && renewal.mode !== 'ON' ? filled(TEXTS.nearlyFull, {n: withCommas(after)}) : '';
 }
 function drawBanner() {
   const text = bannerText();
@@ -93,7 +93,8 @@ function drawPanel() {
     const state = registers[name] === 1 ? TEXTS.on : TEXTS.off;
     setAttribute(lamp, 'aria-label', filled(TEXTS.lampLabel, {name: TEXTS.lamps[name], state}));
   }
-  const hasEnded = view.ended !== null && registers.I === view.ended, next = hasEnded ? '' : view.picture.next || '';
+  const hasEnded = view.ended !== null && registers.I === view.ended;
+  const next = hasEnded ? '' : (view.picture.next || '').trim();
   setText(byId('next'), next || (hasEnded ? TEXTS.nextEnded : TEXTS.nextNone));
   setText(byId('next-words'), TEXTS.operations[next.split(' ')[0]] || '');
   for (const button of byId('switches').children) {

@@ -23,7 +23,7 @@ async function lookForRenewal() {
     renewal.mode = '';
   }
 }
-/* Another machine is asked for, and waited for; its page is this one. */
+/* Another machine is asked for, and waited for; its page is this one. Whether it has come. */
 async function renewRoom() {
   const {room} = view.picture;
   tell(TEXTS.said.renewing);
@@ -36,6 +36,7 @@ async function renewRoom() {
     await delay(POLL_MS);
     await inTurn(look);
   }
+  return view.picture.room !== room;
 }
 /* A new room has no notice yet. */
 function forgetRenewal() {

@@ -3,7 +3,8 @@ let run = null;     // the run that goes on
 
 /* Whether lines can be sent now. */
 function mayCommand() {
-  return view.link === 'fine' && !view.unkept && !view.full && !isKeptOff();
+  const isFull = view.full || view.picture !== null && view.picture.after >= JOURNAL_ENTRIES;
+  return view.link === 'fine' && !view.unkept && !isFull && !isKeptOff();
 }
 /* A halt is an end for most programs: what comes next isn't carried out unless it is an instruction, or asked twice. */
 function warnsOfEnd() {
@@ -57,6 +58,7 @@ async function pressRun() {
   if (run || !mayCommand() || warnsOfEnd()) return;
   run = {stop: false, slices: 0, steps: 0, waits: '', began: performance.now(), grown: 1, wake: () => {}};
   view.ended = null;
+  tell('');
   drawKeys();
   happened('run');
   const outcome = await runParts();
@@ -71,7 +73,10 @@ async function pressRun() {
 }
 function tellRun(ended, outcome, stop) {
   const counts = {steps: withCommas(ended.steps)};
-  if (!stop || stop.name !== 'LIMIT') return tellOutcome(outcome, '');
+  if (!stop) return tellOutcome(outcome, '');
+  // The steps of all parts are shown, not those of the last one.
+  const reply = outcome.reply.replace(/STEPS \d+/, `STEPS ${ended.steps}`);
+  if (stop.name !== 'LIMIT') return tellOutcome({reply}, '');
   tell(ended.stop ? counted(TEXTS.said.stopped, ended.steps, counts) : filled(TEXTS.said.pause, counts));
 }
 async function runParts() {

@@ -70,9 +70,9 @@ LANGUAGES.en = {
   typedDeck: 'Type or paste a deck, a card a line', deckKey: 'Feed these cards',
   feedingLabel: 'cards fed', feedingCount: '{n} of {all} cards fed', feedStop: 'Stop feeding',
   feedWaits: 'The hopper is full. Feeding goes on when the machine has read some cards. {n} of {all} fed.',
-  fedAll: {one: 'The card was fed; cards in the hopper: {n}.', many: '{all} cards were fed; cards in the hopper: {n}.'},
+  fedAll: {one: 'The card was fed.', many: '{n} cards were fed.'},
   fedName: 'The card of {name} is in the hopper.',
-  fedPart: '{n} of {all} cards were fed, then it ended: {why}', stoppedByYou: 'you stopped it',
+  fedPart: 'Cards fed: {n} of {all}. Then it ended: {why}', stoppedByYou: 'you stopped it',
   alreadyFeeding: 'Another deck is being fed.', deckEmpty: 'The deck has no cards.',
   deckLarge: 'The file is larger than a deck of 10,000 cards.', deckUnread: 'The file couldn\'t be read.',
   deckWrong: 'Nothing was fed. Line {line}, column {column}: {what}',
@@ -102,10 +102,10 @@ LANGUAGES.en = {
   console: 'Console', logLabel: 'lines and replies', lineLabel: 'a line of the console', lineHint: 'EXAMINE 0500 11',
   sendKey: 'SEND', linesTitle: 'The lines, and what they do (or type HELP)',
   others: {one: 'others gave 1 command since you came', many: 'others gave {n} commands since you came'},
-  othersNow: 'Another seat is at work: its keys act on this machine too.',
+  othersNow: 'Another seat is at work, on this machine too.',
   othersRun: 'Another seat runs a program: LOAD, RUN, STEP and START AT would act in the middle of it.',
   othersRunning: 'another seat runs a program',
-  seatNow: 'Seat {seat} is at work ({line}): its keys act on this machine too.',
+  seatNow: 'Seat {seat} is at work ({line}), on this machine too.',
   seatRun: 'Seat {seat} runs a program: LOAD, RUN, STEP and START AT would act in the middle of it.',
   seatRunning: 'seat {seat} runs a program', seatLast: '; the last command is of seat {seat}: {line}',
   holdKey: 'Hold the machine', releaseHold: 'Let others go on',
@@ -149,7 +149,7 @@ LANGUAGES.en = {
   lostAsking: 'The connection failed while this line was sent. This page doesn\'t send it again; it looks first.',
   lostDone: 'It was carried out; its reply was lost.',
   lostNotDone: 'It was not carried out so far.',
-  lostNewRoom: 'There is another machine now, so it has no effect here.',
+  lostNewRoom: 'The room was opened again since, so this page can\'t say whether it was carried out.',
   lostUnclear: 'This seat has given {n} commands since, so this page can\'t tell whether it was carried out.',
 
   said: {
@@ -168,9 +168,11 @@ LANGUAGES.en = {
     pause: 'Paused after {steps} steps, since the journal is nearly full. Please call the staff.',
     afterEnd: 'The program has ended. Feed another one and press LOAD. (Press again to go on after its halt.)',
     newRoom: 'The staff has started another machine. What you did before isn\'t in it.',
+    resumed: 'The room was opened again; its machine is as you see it.',
     renewing: 'A new machine is asked for ..',
     clearing: 'The machine is being cleared ..', clear: 'The machine is clear: no card, no paper, nothing in core.',
-    notClear: 'The machine couldn\'t be cleared, since somebody else is at work. Try again.',
+    prepared: 'A new machine is here, with what the staff has prepared.',
+    notClear: 'The machine isn\'t clear. Perhaps somebody else is at work. Try again.',
   },
   stops: {
     HALT: 'The program has ended. Its result is on the paper; feed another program and press LOAD.',
@@ -226,7 +228,8 @@ LANGUAGES.en = {
   guideWords: [
     'Press "Feed this program": a card with the program Hello goes into the hopper. One card is a whole program.',
     'Press LOAD: the machine reads the card into its places 001 to 080.',
-    'Press STEP: the machine carries out one instruction. The first ones set word marks, which part the card.',
+    'Press STEP: the machine carries out one instruction. The first ones set word marks, which divide the '
+      + 'card into instructions.',
     'Press RUN: the machine carries out the others, prints a line, and halts. Watch the paper.',
     'The line is on the paper. Now your name: write it here, and punch a card of your own.',
     'Your card is in the hopper. Press LOAD to read it.',
@@ -238,15 +241,18 @@ LANGUAGES.en = {
       + 'with it.',
     prepared: 'The staff has prepared this machine: it was begun with a program or with cards. Press LOAD if there are '
       + 'cards, then RUN. "Start afresh" would clear it.',
+    preparedAgain: 'The staff has prepared this machine: it was begun with a program or with cards. Press LOAD if '
+      + 'there are cards, then RUN. "Start afresh" brings a new one, prepared in the same way.',
     aside: 'The guide has stepped aside. It begins again when you like.',
-    done: 'Your name is on the paper. Save it, print the card to take home, or choose another program above.',
+    done: 'Your name is on the paper. Save it, print the card to take home, or choose another program.',
     attract: 'Nobody is here, so the machine runs by itself. Touch the screen or a key to take over.',
     waits: '(The guide waits here.)',
   },
   nameLabel: 'Your name', nameKey: 'Punch and feed', nameEmpty: 'Write a name first.',
   nameWrong: 'No card has {letter}.',
   afreshKey: 'Start afresh', afreshTitle: 'clears the machine: cards, paper, switches and core storage',
-  afreshAsk: 'This clears the machine for everybody: cards, paper, switches and core storage. Start afresh?',
+  afreshAsk: 'This clears the machine for everybody: cards, paper, switches and core storage. What this page has torn '
+    + 'off and taken goes too. Start afresh?',
   afreshOthers: 'Another seat is at work at this moment, and would lose its cards, paper and program. Start '
     + 'afresh all the same?',
   programs: {
@@ -282,7 +288,7 @@ LANGUAGES.en = {
     ['LOAD', 'the key that reads the first card into places 001 to 080 and begins there'],
     ['core storage', 'the memory, of small magnetic rings: each place has one character'],
     ['word mark', 'a bit next to a character; it says where a field or an instruction begins'],
-    ['instruction', 'a letter for the operation, and addresses of what it works on'],
+    ['instruction', 'a character for the operation, and addresses of what it works on'],
     ['I register', 'the place of the next instruction'],
     ['sense switch', 'a switch that a program can ask for'],
     ['form', 'a page of the endless paper, with 66 lines'],

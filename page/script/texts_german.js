@@ -73,10 +73,9 @@ LANGUAGES.de = {
   typedDeck: 'Einen Stapel tippen oder einfügen, eine Karte je Zeile', deckKey: 'Diese Karten einlegen',
   feedingLabel: 'eingelegte Karten', feedingCount: '{n} von {all} Karten eingelegt', feedStop: 'Aufhören',
   feedWaits: 'Das Magazin ist voll. Es geht weiter, wenn die Maschine Karten gelesen hat. {n} von {all} eingelegt.',
-  fedAll: {one: 'Die Karte wurde eingelegt; Karten im Magazin: {n}.',
-    many: '{all} Karten wurden eingelegt; Karten im Magazin: {n}.'},
+  fedAll: {one: 'Die Karte wurde eingelegt.', many: '{n} Karten wurden eingelegt.'},
   fedName: 'Die Karte von {name} liegt im Magazin.',
-  fedPart: '{n} von {all} Karten wurden eingelegt, dann war Schluss: {why}', stoppedByYou: 'Sie haben aufgehört',
+  fedPart: 'Eingelegte Karten: {n} von {all}. Dann war Schluss: {why}', stoppedByYou: 'Sie haben aufgehört',
   alreadyFeeding: 'Ein anderer Stapel wird gerade eingelegt.', deckEmpty: 'Der Stapel hat keine Karten.',
   deckLarge: 'Die Datei ist größer als ein Stapel von 10.000 Karten.', deckUnread: 'Die Datei ließ sich nicht lesen.',
   deckWrong: 'Nichts wurde eingelegt. Zeile {line}, Spalte {column}: {what}',
@@ -109,10 +108,10 @@ LANGUAGES.de = {
     lineHint: 'EXAMINE 0500 11',
   sendKey: 'SENDEN', linesTitle: 'Die Zeilen, und was sie tun (oder HELP)',
   others: {one: 'andere gaben 1 Befehl, seit Sie da sind', many: 'andere gaben {n} Befehle, seit Sie da sind'},
-  othersNow: 'Ein anderer Platz arbeitet: seine Tasten wirken auch auf diese Maschine.',
+  othersNow: 'Ein anderer Platz arbeitet auch an dieser Maschine.',
   othersRun: 'Ein anderer Platz lässt ein Programm laufen: LOAD, RUN, STEP und START AT würden mitten darin wirken.',
   othersRunning: 'ein anderer Platz lässt ein Programm laufen',
-  seatNow: 'Platz {seat} arbeitet ({line}): seine Tasten wirken auch auf diese Maschine.',
+  seatNow: 'Platz {seat} arbeitet auch an dieser Maschine ({line}).',
   seatRun: 'Platz {seat} lässt ein Programm laufen: LOAD, RUN, STEP und START AT würden mitten darin wirken.',
   seatRunning: 'Platz {seat} lässt ein Programm laufen', seatLast: '; der letzte Befehl ist von Platz {seat}: {line}',
   holdKey: 'Maschine halten', releaseHold: 'Andere weitermachen lassen',
@@ -158,7 +157,7 @@ LANGUAGES.de = {
     + 'sie sieht erst nach.',
   lostDone: 'Sie wurde ausgeführt; ihre Antwort ging verloren.',
   lostNotDone: 'Sie wurde bis jetzt nicht ausgeführt.',
-  lostNewRoom: 'Jetzt ist eine andere Maschine da, auf die sie keine Wirkung hat.',
+  lostNewRoom: 'Der Raum wurde seitdem neu geöffnet; ob sie ausgeführt wurde, lässt sich nicht sagen.',
   lostUnclear: 'Dieser Platz hat seitdem {n} Befehle gegeben; ob sie ausgeführt wurde, lässt sich nicht sagen.',
 
   said: {
@@ -179,10 +178,12 @@ LANGUAGES.de = {
     afterEnd: 'Das Programm ist zu Ende. Legen Sie ein anderes ein und drücken Sie LOAD. (Noch einmal: weiter '
       + 'nach dem Halt.)',
     newRoom: 'Das Personal hat eine andere Maschine gestartet. Was Sie vorher taten, ist nicht darin.',
+    resumed: 'Der Raum wurde neu geöffnet; seine Maschine ist, wie Sie sie sehen.',
     renewing: 'Eine neue Maschine wird verlangt ..',
     clearing: 'Die Maschine wird geleert ..', clear: 'Die Maschine ist leer: keine Karte, kein Papier, nichts im '
       + 'Speicher.',
-    notClear: 'Die Maschine ließ sich nicht leeren, weil jemand anders arbeitet. Versuchen Sie es noch einmal.',
+    prepared: 'Eine neue Maschine ist da, mit dem, was das Museum vorbereitet hat.',
+    notClear: 'Die Maschine ist nicht leer. Vielleicht arbeitet jemand anders. Versuchen Sie es noch einmal.',
   },
   stops: {
     HALT: 'Das Programm ist zu Ende. Sein Ergebnis ist auf dem Papier; für ein anderes: einlegen, LOAD.',
@@ -239,7 +240,8 @@ LANGUAGES.de = {
     'Drücken Sie "Programm einlegen": eine Karte mit dem Programm Hallo kommt ins Magazin. Sie ist ein ganzes '
       + 'Programm.',
     'Drücken Sie LOAD: die Maschine liest die Karte in ihre Stellen 001 bis 080.',
-    'Drücken Sie STEP: die Maschine führt einen Befehl aus. Die ersten setzen Wortmarken, die die Karte teilen.',
+    'Drücken Sie STEP: die Maschine führt einen Befehl aus. Die ersten setzen Wortmarken, die die '
+      + 'Karte in Befehle teilen.',
     'Drücken Sie RUN: die Maschine führt die anderen aus, druckt eine Zeile und hält an. Sehen Sie aufs Papier.',
     'Die Zeile ist auf dem Papier. Nun Ihr Name: schreiben Sie ihn hier, und stanzen Sie eine eigene Karte.',
     'Ihre Karte ist im Magazin. Drücken Sie LOAD, um sie zu lesen.',
@@ -251,6 +253,8 @@ LANGUAGES.de = {
       + 'oder machen Sie damit weiter.',
     prepared: 'Das Museum hat diese Maschine vorbereitet: sie begann mit einem Programm oder mit Karten. Drücken Sie '
       + 'LOAD, wenn Karten da sind, dann RUN. "Von vorn" würde sie leeren.',
+    preparedAgain: 'Das Museum hat diese Maschine vorbereitet: sie begann mit einem Programm oder mit Karten. Drücken '
+      + 'Sie LOAD, wenn Karten da sind, dann RUN. "Von vorn" bringt eine neue, die genauso vorbereitet ist.',
     aside: 'Die Führung ist zur Seite getreten. Sie beginnt wieder, wenn Sie wollen.',
     done: 'Ihr Name ist auf dem Papier. Sichern Sie es, drucken Sie die Karte, oder wählen Sie ein anderes Programm.',
     attract: 'Niemand ist hier, darum läuft die Maschine allein. Ein Druck auf den Bildschirm oder eine Taste '
@@ -260,7 +264,8 @@ LANGUAGES.de = {
   nameLabel: 'Ihr Name', nameKey: 'Stanzen und einlegen', nameEmpty: 'Schreiben Sie erst einen Namen.',
   nameWrong: 'Keine Karte hat {letter}.',
   afreshKey: 'Von vorn', afreshTitle: 'leert die Maschine: Karten, Papier, Schalter und Kernspeicher',
-  afreshAsk: 'Das leert die Maschine für alle: Karten, Papier, Schalter und Kernspeicher. Von vorn beginnen?',
+  afreshAsk: 'Das leert die Maschine für alle: Karten, Papier, Schalter und Kernspeicher. Was diese Seite abgerissen '
+    + 'und genommen hat, ist auch fort. Von vorn beginnen?',
   afreshOthers: 'Ein anderer Platz arbeitet gerade und verlöre Karten, Papier und Programm. Trotzdem von vorn '
     + 'beginnen?',
   programs: {

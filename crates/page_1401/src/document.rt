@@ -624,9 +624,9 @@ taken:'Card taken: {text}',takenBlank:'A blank card was taken.',
 typedDeck:'Type or paste a deck, a card a line',deckKey:'Feed these cards',
 feedingLabel:'cards fed',feedingCount:'{n} of {all} cards fed',feedStop:'Stop feeding',
 feedWaits:'The hopper is full. Feeding goes on when the machine has read some cards. {n} of {all} fed.',
-fedAll:{one:'The card was fed; cards in the hopper: {n}.',many:'{all} cards were fed; cards in the hopper: {n}.'},
+fedAll:{one:'The card was fed.',many:'{n} cards were fed.'},
 fedName:'The card of {name} is in the hopper.',
-fedPart:'{n} of {all} cards were fed, then it ended: {why}',stoppedByYou:'you stopped it',
+fedPart:'Cards fed: {n} of {all}. Then it ended: {why}',stoppedByYou:'you stopped it',
 alreadyFeeding:'Another deck is being fed.',deckEmpty:'The deck has no cards.',
 deckLarge:'The file is larger than a deck of 10,000 cards.',deckUnread:'The file couldn\'t be read.',
 deckWrong:'Nothing was fed. Line {line}, column {column}: {what}',
@@ -654,10 +654,10 @@ saveKey:'Save as text',printKey:'Print',largeKey:'Larger',toCarriage:'To the car
 console:'Console',logLabel:'lines and replies',lineLabel:'a line of the console',lineHint:'EXAMINE 0500 11',
 sendKey:'SEND',linesTitle:'The lines, and what they do (or type HELP)',
 others:{one:'others gave 1 command since you came',many:'others gave {n} commands since you came'},
-othersNow:'Another seat is at work: its keys act on this machine too.',
+othersNow:'Another seat is at work, on this machine too.',
 othersRun:'Another seat runs a program: LOAD, RUN, STEP and START AT would act in the middle of it.',
 othersRunning:'another seat runs a program',
-seatNow:'Seat {seat} is at work ({line}): its keys act on this machine too.',
+seatNow:'Seat {seat} is at work ({line}), on this machine too.',
 seatRun:'Seat {seat} runs a program: LOAD, RUN, STEP and START AT would act in the middle of it.',
 seatRunning:'seat {seat} runs a program',seatLast:'; the last command is of seat {seat}: {line}',
 holdKey:'Hold the machine',releaseHold:'Let others go on',
@@ -698,7 +698,7 @@ other:'Not carried out: the server refused it ({status}).',
 lostAsking:'The connection failed while this line was sent. This page doesn\'t send it again; it looks first.',
 lostDone:'It was carried out; its reply was lost.',
 lostNotDone:'It was not carried out so far.',
-lostNewRoom:'There is another machine now, so it has no effect here.',
+lostNewRoom:'The room was opened again since, so this page can\'t say whether it was carried out.',
 lostUnclear:'This seat has given {n} commands since, so this page can\'t tell whether it was carried out.',
 said:{
 firstNote:'Here is each line that you and the keys send to the machine, with its reply.',
@@ -716,9 +716,11 @@ stopped:{one:'Stopped by you after 1 step. RUN goes on.',many:'Stopped by you af
 pause:'Paused after {steps} steps, since the journal is nearly full. Please call the staff.',
 afterEnd:'The program has ended. Feed another one and press LOAD. (Press again to go on after its halt.)',
 newRoom:'The staff has started another machine. What you did before isn\'t in it.',
+resumed:'The room was opened again; its machine is as you see it.',
 renewing:'A new machine is asked for ..',
 clearing:'The machine is being cleared ..',clear:'The machine is clear: no card, no paper, nothing in core.',
-notClear:'The machine couldn\'t be cleared, since somebody else is at work. Try again.',
+prepared:'A new machine is here, with what the staff has prepared.',
+notClear:'The machine isn\'t clear. Perhaps somebody else is at work. Try again.',
 },
 stops:{
 HALT:'The program has ended. Its result is on the paper; feed another program and press LOAD.',
@@ -774,7 +776,8 @@ stepOpen:'step {n}, {name}',
 guideWords:[
 'Press "Feed this program": a card with the program Hello goes into the hopper. One card is a whole program.',
 'Press LOAD: the machine reads the card into its places 001 to 080.',
-'Press STEP: the machine carries out one instruction. The first ones set word marks, which part the card.',
+'Press STEP: the machine carries out one instruction. The first ones set word marks, which divide the '
++ 'card into instructions.',
 'Press RUN: the machine carries out the others, prints a line, and halts. Watch the paper.',
 'The line is on the paper. Now your name: write it here, and punch a card of your own.',
 'Your card is in the hopper. Press LOAD to read it.',
@@ -786,15 +789,18 @@ left:'Somebody has left cards, paper or a program in the machine. Press "Start a
 + 'with it.',
 prepared:'The staff has prepared this machine: it was begun with a program or with cards. Press LOAD if there are '
 + 'cards, then RUN. "Start afresh" would clear it.',
+preparedAgain:'The staff has prepared this machine: it was begun with a program or with cards. Press LOAD if '
++ 'there are cards, then RUN. "Start afresh" brings a new one, prepared in the same way.',
 aside:'The guide has stepped aside. It begins again when you like.',
-done:'Your name is on the paper. Save it, print the card to take home, or choose another program above.',
+done:'Your name is on the paper. Save it, print the card to take home, or choose another program.',
 attract:'Nobody is here, so the machine runs by itself. Touch the screen or a key to take over.',
 waits:'(The guide waits here.)',
 },
 nameLabel:'Your name',nameKey:'Punch and feed',nameEmpty:'Write a name first.',
 nameWrong:'No card has {letter}.',
 afreshKey:'Start afresh',afreshTitle:'clears the machine: cards, paper, switches and core storage',
-afreshAsk:'This clears the machine for everybody: cards, paper, switches and core storage. Start afresh?',
+afreshAsk:'This clears the machine for everybody: cards, paper, switches and core storage. What this page has torn '
++ 'off and taken goes too. Start afresh?',
 afreshOthers:'Another seat is at work at this moment, and would lose its cards, paper and program. Start '
 + 'afresh all the same?',
 programs:{
@@ -830,7 +836,7 @@ aboutWords:[
 ['LOAD','the key that reads the first card into places 001 to 080 and begins there'],
 ['core storage','the memory, of small magnetic rings: each place has one character'],
 ['word mark','a bit next to a character; it says where a field or an instruction begins'],
-['instruction','a letter for the operation, and addresses of what it works on'],
+['instruction','a character for the operation, and addresses of what it works on'],
 ['I register','the place of the next instruction'],
 ['sense switch','a switch that a program can ask for'],
 ['form','a page of the endless paper, with 66 lines'],
@@ -920,10 +926,9 @@ taken:'Karte genommen: {text}',takenBlank:'Eine leere Karte wurde genommen.',
 typedDeck:'Einen Stapel tippen oder einf\xfcgen, eine Karte je Zeile',deckKey:'Diese Karten einlegen',
 feedingLabel:'eingelegte Karten',feedingCount:'{n} von {all} Karten eingelegt',feedStop:'Aufh\xf6ren',
 feedWaits:'Das Magazin ist voll. Es geht weiter, wenn die Maschine Karten gelesen hat. {n} von {all} eingelegt.',
-fedAll:{one:'Die Karte wurde eingelegt; Karten im Magazin: {n}.',
-many:'{all} Karten wurden eingelegt; Karten im Magazin: {n}.'},
+fedAll:{one:'Die Karte wurde eingelegt.',many:'{n} Karten wurden eingelegt.'},
 fedName:'Die Karte von {name} liegt im Magazin.',
-fedPart:'{n} von {all} Karten wurden eingelegt, dann war Schluss: {why}',stoppedByYou:'Sie haben aufgeh\xf6rt',
+fedPart:'Eingelegte Karten: {n} von {all}. Dann war Schluss: {why}',stoppedByYou:'Sie haben aufgeh\xf6rt',
 alreadyFeeding:'Ein anderer Stapel wird gerade eingelegt.',deckEmpty:'Der Stapel hat keine Karten.',
 deckLarge:'Die Datei ist gr\xf6\xdfer als ein Stapel von 10.000 Karten.',deckUnread:'Die Datei lie\xdf sich nicht lesen.',
 deckWrong:'Nichts wurde eingelegt. Zeile {line}, Spalte {column}: {what}',
@@ -954,10 +959,10 @@ console:'Konsole',logLabel:'Zeilen und Antworten',lineLabel:'eine Zeile der Kons
 lineHint:'EXAMINE 0500 11',
 sendKey:'SENDEN',linesTitle:'Die Zeilen, und was sie tun (oder HELP)',
 others:{one:'andere gaben 1 Befehl, seit Sie da sind',many:'andere gaben {n} Befehle, seit Sie da sind'},
-othersNow:'Ein anderer Platz arbeitet: seine Tasten wirken auch auf diese Maschine.',
+othersNow:'Ein anderer Platz arbeitet auch an dieser Maschine.',
 othersRun:'Ein anderer Platz l\xe4sst ein Programm laufen: LOAD, RUN, STEP und START AT w\xfcrden mitten darin wirken.',
 othersRunning:'ein anderer Platz l\xe4sst ein Programm laufen',
-seatNow:'Platz {seat} arbeitet ({line}): seine Tasten wirken auch auf diese Maschine.',
+seatNow:'Platz {seat} arbeitet auch an dieser Maschine ({line}).',
 seatRun:'Platz {seat} l\xe4sst ein Programm laufen: LOAD, RUN, STEP und START AT w\xfcrden mitten darin wirken.',
 seatRunning:'Platz {seat} l\xe4sst ein Programm laufen',seatLast:'; der letzte Befehl ist von Platz {seat}: {line}',
 holdKey:'Maschine halten',releaseHold:'Andere weitermachen lassen',
@@ -1000,7 +1005,7 @@ lostAsking:'Die Verbindung brach ab, als diese Zeile gesendet wurde. Diese Seite
 + 'sie sieht erst nach.',
 lostDone:'Sie wurde ausgef\xfchrt; ihre Antwort ging verloren.',
 lostNotDone:'Sie wurde bis jetzt nicht ausgef\xfchrt.',
-lostNewRoom:'Jetzt ist eine andere Maschine da, auf die sie keine Wirkung hat.',
+lostNewRoom:'Der Raum wurde seitdem neu ge\xf6ffnet; ob sie ausgef\xfchrt wurde, l\xe4sst sich nicht sagen.',
 lostUnclear:'Dieser Platz hat seitdem {n} Befehle gegeben; ob sie ausgef\xfchrt wurde, l\xe4sst sich nicht sagen.',
 said:{
 firstNote:'Hier steht jede Zeile, die Sie und die Tasten an die Maschine senden, mit ihrer Antwort.',
@@ -1020,10 +1025,12 @@ pause:'Pause nach {steps} Schritten, denn das Journal ist fast voll. Bitte das P
 afterEnd:'Das Programm ist zu Ende. Legen Sie ein anderes ein und dr\xfccken Sie LOAD. (Noch einmal: weiter '
 + 'nach dem Halt.)',
 newRoom:'Das Personal hat eine andere Maschine gestartet. Was Sie vorher taten, ist nicht darin.',
+resumed:'Der Raum wurde neu ge\xf6ffnet; seine Maschine ist, wie Sie sie sehen.',
 renewing:'Eine neue Maschine wird verlangt ..',
 clearing:'Die Maschine wird geleert ..',clear:'Die Maschine ist leer: keine Karte, kein Papier, nichts im '
 + 'Speicher.',
-notClear:'Die Maschine lie\xdf sich nicht leeren, weil jemand anders arbeitet. Versuchen Sie es noch einmal.',
+prepared:'Eine neue Maschine ist da, mit dem, was das Museum vorbereitet hat.',
+notClear:'Die Maschine ist nicht leer. Vielleicht arbeitet jemand anders. Versuchen Sie es noch einmal.',
 },
 stops:{
 HALT:'Das Programm ist zu Ende. Sein Ergebnis ist auf dem Papier; f\xfcr ein anderes: einlegen, LOAD.',
@@ -1037,10 +1044,7 @@ LENGTH:'Der Befehl bei I hat eine L\xe4nge, die seine Operation nicht hat. Fehlt
 ADDRESS:'Der Befehl bei I braucht eine Stelle, die es nicht gibt, oder ein Feld ohne Ende.',
 OVERLAP:'Die Felder des Befehls bei I teilen sich Stellen.',
 CARRIAGE:'Ein Sprung zu einem Kanal ohne Loch im Vorschubstreifen: er hat 1, 9 und 12.',
-DCHAR:'Das letzte Zeichen des Befehls bei I verlangt nichts, was er kann.',"##;
-
-/// The rest of the page.
-pub const REST: &[u8] = br##"
+DCHAR:'Das letzte Zeichen des Befehls bei I verlangt nichts, was er kann.',
 },
 replies:{
 'REFUSED 1':'Diese Stelle gibt es nicht.',
@@ -1058,7 +1062,10 @@ replies:{
 'FAULT 2':'Das Journal ist voll.',
 'FAULT 3':'Nicht ausgef\xfchrt: der Platz lie\xdf sich nicht mit dem Journal vergleichen.',
 'FAULT 4':'Die Datei des Journals l\xe4sst sich nicht schreiben.',
-'GLANCE FAULT 1':'Diese Stelle gibt es nicht.',
+'GLANCE FAULT 1':'Diese Stelle gibt es nicht.',"##;
+
+/// The rest of the page.
+pub const REST: &[u8] = br##"
 'GLANCE FAULT 2':'Es gab nichts zu lesen.',
 BYE:'Der Platz bleibt; die n\xe4chste Zeile nimmt ihn wieder ein.',
 },
@@ -1083,7 +1090,8 @@ guideWords:[
 'Dr\xfccken Sie "Programm einlegen": eine Karte mit dem Programm Hallo kommt ins Magazin. Sie ist ein ganzes '
 + 'Programm.',
 'Dr\xfccken Sie LOAD: die Maschine liest die Karte in ihre Stellen 001 bis 080.',
-'Dr\xfccken Sie STEP: die Maschine f\xfchrt einen Befehl aus. Die ersten setzen Wortmarken, die die Karte teilen.',
+'Dr\xfccken Sie STEP: die Maschine f\xfchrt einen Befehl aus. Die ersten setzen Wortmarken, die die '
++ 'Karte in Befehle teilen.',
 'Dr\xfccken Sie RUN: die Maschine f\xfchrt die anderen aus, druckt eine Zeile und h\xe4lt an. Sehen Sie aufs Papier.',
 'Die Zeile ist auf dem Papier. Nun Ihr Name: schreiben Sie ihn hier, und stanzen Sie eine eigene Karte.',
 'Ihre Karte ist im Magazin. Dr\xfccken Sie LOAD, um sie zu lesen.',
@@ -1095,6 +1103,8 @@ left:'Jemand hat Karten, Papier oder ein Programm in der Maschine gelassen. "Von
 + 'oder machen Sie damit weiter.',
 prepared:'Das Museum hat diese Maschine vorbereitet: sie begann mit einem Programm oder mit Karten. Dr\xfccken Sie '
 + 'LOAD, wenn Karten da sind, dann RUN. "Von vorn" w\xfcrde sie leeren.',
+preparedAgain:'Das Museum hat diese Maschine vorbereitet: sie begann mit einem Programm oder mit Karten. Dr\xfccken '
++ 'Sie LOAD, wenn Karten da sind, dann RUN. "Von vorn" bringt eine neue, die genauso vorbereitet ist.',
 aside:'Die F\xfchrung ist zur Seite getreten. Sie beginnt wieder, wenn Sie wollen.',
 done:'Ihr Name ist auf dem Papier. Sichern Sie es, drucken Sie die Karte, oder w\xe4hlen Sie ein anderes Programm.',
 attract:'Niemand ist hier, darum l\xe4uft die Maschine allein. Ein Druck auf den Bildschirm oder eine Taste '
@@ -1104,7 +1114,8 @@ waits:'(Die F\xfchrung wartet hier.)',
 nameLabel:'Ihr Name',nameKey:'Stanzen und einlegen',nameEmpty:'Schreiben Sie erst einen Namen.',
 nameWrong:'Keine Karte hat {letter}.',
 afreshKey:'Von vorn',afreshTitle:'leert die Maschine: Karten, Papier, Schalter und Kernspeicher',
-afreshAsk:'Das leert die Maschine f\xfcr alle: Karten, Papier, Schalter und Kernspeicher. Von vorn beginnen?',
+afreshAsk:'Das leert die Maschine f\xfcr alle: Karten, Papier, Schalter und Kernspeicher. Was diese Seite abgerissen '
++ 'und genommen hat, ist auch fort. Von vorn beginnen?',
 afreshOthers:'Ein anderer Platz arbeitet gerade und verl\xf6re Karten, Papier und Programm. Trotzdem von vorn '
 + 'beginnen?',
 programs:{
@@ -1396,27 +1407,37 @@ picture=await askForPicture(lines||[],null);
 lines=joined(lines||[],picture);
 }
 if(isNewRoom||view.since===null)view.since={after:picture.after,made:picture.made};
+const shown=view.picture;
 if(isNewRoom)enterRoom();
 noteOthers(picture);
 view.paper=lines||[];
 view.made=picture.made;
 view.picture=picture;
 draw();
+noteNewState(shown,isNewRoom);
+}
+function noteNewState(shown,isNewRoom){
+if(!shown)return;
+const{newRoom,resumed,clear}=TEXTS.said,words=view.picture.after<shown.after?newRoom:resumed;
+if(isNewRoom)note('words',words);
+if(isClearing)return;
+if(isNewRoom)beginAnew(words);
+else if(isClear(view.picture)&&!isClear(shown))beginAnew(clear);
 }
 function enterRoom(){
 Object.assign(view,{full:false,unkept:false,ended:null,breaks:view.breaks + 1});
 view.others.count=0;
 forgetRenewal();
 forgetHold();
-note('words',TEXTS.said.newRoom);
-tell(TEXTS.said.newRoom);
 }
 function noteOthers({after,made}){
 const count=after - view.since.after -(made - view.since.made),now=performance.now();
 if(count>view.others.count){
 const gap=now - view.others.at;
 if(gap>PAUSE_MS)view.others.began=now;
-Object.assign(view.others,{at:now,gap:gap>LONGEST_PART_MS?0:gap});
+Object.assign(view.others,{at:now,gap:gap>LONGEST_PART_MS||!isPart(lastOfOthers())?0:gap});
+leaveClear('');
+yieldToOthers();
 }
 view.others.count=count;
 if(!view.picture||after !==view.picture.after)view.changed=now;
@@ -1426,9 +1447,10 @@ function lastOfOthers(){
 const{last}=view.others;
 return last&&view.picture&&last.seat !==view.picture.seat?last:null;
 }
+const isPart=last=>last !==null&&/^RUN (?!1$)/.test(last.line);
 function othersRun(){
-const{at,began,gap}=view.others,last=lastOfOthers(),since=performance.now()- at;
-if(last&&/^RUN (?!1$)/.test(last.line))return since<PAUSE_MS + 2*gap;
+const{at,began,gap}=view.others,since=performance.now()- at;
+if(isPart(lastOfOthers()))return since<PAUSE_MS + 2*gap;
 return since<PAUSE_MS&&at - began>2*PAUSE_MS;
 }
 async function look(){
@@ -1569,7 +1591,7 @@ const{picture}=view;
 if(!picture)return TEXTS.said.welcome;
 const{HOPPER}=picture.registers;
 if(HOPPER>0)return counted(TEXTS.said.welcomeCards,HOPPER);
-if(picture.next !==null)return TEXTS.said.welcomeProgram;
+if(TEXTS.operations[(picture.next||'').split(' ')[0]])return TEXTS.said.welcomeProgram;
 return hold.isPrepared&&!isClear(picture)?TEXTS.said.welcomePrepared:TEXTS.said.welcome;
 }
 function moveCard(){
@@ -1597,7 +1619,8 @@ else if(to.HOPPER<from.HOPPER)sound('read');
 }
 let run=null;
 function mayCommand(){
-return view.link==='fine'&&!view.unkept&&!view.full&&!isKeptOff();
+const isFull=view.full||view.picture !==null&&view.picture.after>=JOURNAL_ENTRIES;
+return view.link==='fine'&&!view.unkept&&!isFull&&!isKeptOff();
 }
 function warnsOfEnd(){
 const{picture,ended}=view;
@@ -1647,6 +1670,7 @@ async function pressRun(){
 if(run||!mayCommand()||warnsOfEnd())return;
 run={stop:false,slices:0,steps:0,waits:'',began:performance.now(),grown:1,wake:()=>{}};
 view.ended=null;
+tell('');
 drawKeys();
 happened('run');
 const outcome=await runParts();
@@ -1661,7 +1685,9 @@ drawPanel();
 }
 function tellRun(ended,outcome,stop){
 const counts={steps:withCommas(ended.steps)};
-if(!stop||stop.name !=='LIMIT')return tellOutcome(outcome,'');
+if(!stop)return tellOutcome(outcome,'');
+const reply=outcome.reply.replace(/STEPS \d+/,`STEPS ${ended.steps}`);
+if(stop.name !=='LIMIT')return tellOutcome({reply},'');
 tell(ended.stop?counted(TEXTS.said.stopped,ended.steps,counts):filled(TEXTS.said.pause,counts));
 }
 async function runParts(){
@@ -1742,8 +1768,9 @@ function drawRun(){
 setText(byId('running'),runWords());
 }
 let feed=null;
+let fedAt=null;
 function plain(text){
-const own={'\xe4':'AE','\xf6':'OE','\xfc':'UE','\xdf':'SS','\xe6':'AE','\xf8':'OE','\xe5':'AA'};
+const own={'\xe4':'AE','\xf6':'OE','\xfc':'UE','\xdf':'SS','\xe6':'AE','\xf8':'OE','\xe5':'AA','\u2019':'\'','\u2018':'\''};
 const spelt=[...text].map(letter=>own[letter.toLowerCase()]||letter).join('');
 return spelt.normalize('NFD').replace(/[\u0300-\u036f]/g,'').toUpperCase();
 }
@@ -1800,10 +1827,11 @@ const{fed,all}=feed;
 endFeed();
 note('',counted(TEXTS.fedInLog,fed));
 await inTurn(look);
-const n=view.picture?view.picture.registers.HOPPER:0;
-const done=words||counted(TEXTS.fedAll,all,{all:withCommas(all),n});
-tellDeck(why?filled(TEXTS.fedPart,{n:fed,all,why}):done,why !=='');
-if(!why)happened('fed');
+tellDeck(why?filled(TEXTS.fedPart,{n:fed,all,why}):words||counted(TEXTS.fedAll,all),why !=='');
+if(why)return;
+fedAt=words?view.picture.registers.HOPPER:null;
+leaveClear(welcomeWords());
+happened('fed');
 }
 async function feedAll(cards){
 const{breaks}=view;
@@ -1990,6 +2018,7 @@ for(let looks=0;looks<2*RENEWAL_MS / POLL_MS&&view.picture.room===room;looks++){
 await delay(POLL_MS);
 await inTurn(look);
 }
+return view.picture.room !==room;
 }
 function forgetRenewal(){
 Object.assign(renewal,{seconds:null,asked:-Infinity});
@@ -2065,6 +2094,7 @@ setText(byId('notice-left'),seconds===null&&words?` ${filled(TEXTS.secondsLeft, 
 byId('notice').hidden=words==='';
 }
 const CLEARED_AT_ONCE=4000;
+let isClearing=false;
 function addressOf(place){
 const digits=pad(place % 1000,3),thousands=Math.floor(place / 1000);
 const zoned=(digit,zone)=>GRAPHICS[zone*16 +(Number(digit)||10)];
@@ -2093,18 +2123,34 @@ await startAfresh(renewal.mode==='ON'?renewRoom:clearMachine);
 guide.begin();
 }
 async function startAfresh(clear=clearMachine){
+isClearing=true;
 note('words',TEXTS.said.clearing);
 tell(TEXTS.said.clearing);
-const isDone=(await clear())!==false&&isClear(view.picture);
+const isDone=await clear(),{clear:empty,prepared,notClear}=TEXTS.said;
+const words=isDone&&isClear(view.picture)?empty:isDone&&clear===renewRoom?prepared:notClear;
+isClearing=false;
 torn.length=taken.length=0;
 drawTaken();
-tellDeck('');
-tellTaken('');
+forgetWords();
 followsPaper=true;
 view.ended=null;
 byId('name').value=byId('keyed').value='';
 drawKeyed();
-tell(isDone?TEXTS.said.clear:TEXTS.said.notClear);
+tell(words);
+note('words',words);
+}
+function forgetWords(){
+fedAt=null;
+tellDeck('');
+tellTaken('');
+}
+function leaveClear(words){
+if(byId('said-words').textContent===TEXTS.said.clear)tell(words);
+}
+function beginAnew(words){
+forgetWords();
+tell(words);
+if(guide.state !=='off'&&guide.state !=='attract')guide.begin();
 }
 async function sendInTurn(lines,wanted){
 const{breaks}=view;
@@ -2145,8 +2191,13 @@ drawProgram();
 this.draw();
 },
 on(event){
+if(this.state==='done'&&event==='fed'){
+this.state='aside';
+this.draw();
+}
 if(this.state !=='on'&&this.state !=='left')return;
-const ahead=GUIDE_STEPS.slice(this.at,this.at + 2).findIndex(step=>step.until===event);
+const next=GUIDE_STEPS.slice(this.at,this.at +(this.step()?.until==='named'?1:2));
+const ahead=next.findIndex(step=>step.until===event);
 this.since=performance.now();
 if(event==='fed'&&this.state==='left')this.state='on';
 if(ahead>=0&&this.state==='on'){
@@ -2192,11 +2243,13 @@ setText(byId('guide-now'),this.words());
 setText(byId('guide-key'),this.state==='on'||this.state==='left'?TEXTS.guideOff:TEXTS.guideOn);
 },
 words(){
+if(this.state==='prepared'&&renewal.mode==='ON')return TEXTS.guide.preparedAgain;
 if(this.state !=='on')return TEXTS.guide[this.state];
 return TEXTS.guideWords[this.at]+(this.detours>1?` ${TEXTS.guide.waits}`:'');
 },
 };
 onHappened.push(event=>guide.on(event));
+let nameCard=HELLO;
 async function punchName(event){
 event.preventDefault();
 const name=plain(byId('name').value).trim().slice(0,CARD_COLUMNS - NAME_COLUMN);
@@ -2204,25 +2257,27 @@ const wrong=[...name].find(letter=>!GRAPHICS.includes(letter));
 setText(byId('name-words'),name===''?TEXTS.nameEmpty:wrong?filled(TEXTS.nameWrong,{letter:wrong}):'');
 if(name===''||wrong||!mayCommand()||feed)return;
 byId('name').value=name;
-released=HELLO.slice(0,NAME_COLUMN)+ name;
-await feedDeck([released],filled(TEXTS.fedName,{name}));
+nameCard=released=HELLO.slice(0,NAME_COLUMN)+ name;
+await feedDeck([nameCard],filled(TEXTS.fedName,{name}));
 sound('punch');
 happened('named');
 byId('load-key').focus();
 }
 function printCard(){
-cards.toPrint(released||HELLO);
+cards.toPrint(nameCard);
 document.body.classList.add('prints-card');
 print();
 document.body.classList.remove('prints-card');
 }
 const IDLE={attractMs:180000,pauseMs:90000,seatMs:20000,mostAfter:JOURNAL_ENTRIES / 2};
-const attract={on:false,stop:false,touched:performance.now(),pressed:performance.now(),ended:-Infinity};
+const attract={on:false,stop:false,yields:false,touched:performance.now(),pressed:performance.now(),
+ended:-Infinity};
 function touch(event){
 attract.touched=attract.pressed=performance.now();
 if(run)run.wake();
-if(!attract.on||event.isTrusted===false)return;
-attract.stop=true;
+if(guide.state !=='attract'||event.isTrusted===false)return;
+if(attract.on)attract.stop=true;
+else takeOver();
 stopRun();
 if(event.key==='Tab')return;
 event.preventDefault();
@@ -2241,28 +2296,45 @@ return now - attract.touched>wanted&&now - view.changed>wanted - IDLE.attractMs 
 }
 async function attractIfIdle(){
 if(attract.on||!isIdle())return;
-Object.assign(attract,{on:true,stop:false});
+Object.assign(attract,{on:true,stop:false,yields:false});
 document.body.classList.add('attracts');
 guide.state='attract';
 guide.draw();
 await playDeck();
-if(attract.stop)await startAfresh();
-attract.on=false;
-attract.ended=performance.now();
+if(attract.stop)return takeOver();
+Object.assign(attract,{on:false,ended:performance.now()});
+if(attract.yields)stepAside();
+}
+async function takeOver(){
+Object.assign(attract,{on:true,stop:true});
+if(!attract.yields)await startAfresh();
+Object.assign(attract,{on:false,ended:performance.now()});
 document.body.classList.remove('attracts');
-if(attract.stop)guide.begin();
+guide.begin();
+}
+function yieldToOthers(){
+attract.yields=true;
+if(attract.on)stopRun();
+else if(guide.state==='attract')stepAside();
+}
+function stepAside(){
+document.body.classList.remove('attracts');
+guide.state='aside';
+guide.draw();
 }
 async function playDeck(){
+const ends=()=>attract.stop||attract.yields;
 await startAfresh();
-if(attract.stop)return;
+if(ends())return;
 const shown=PROGRAMS.filter(program=>program.alone);
 const program=shown[Math.floor(Math.random()*shown.length)],pace=byId('pace').selectedIndex;
 byId('program').value=program.name;
 drawProgram();
 await feedDeck(program.cards);
+if(ends())return;
 if(program.switches)await say(`SWITCH ${program.switches} ON`);
-if(attract.stop)return;
 await pressLoad();
+if(ends())return;
 byId('pace').selectedIndex=PACES.indexOf(OWN_PACE);
 await pressRun();
 byId('pace').selectedIndex=pace;
@@ -2317,7 +2389,7 @@ if(view.unkept)return TEXTS.unkept;
 if(view.link !=='fine')return filled(TEXTS[view.link],{status:view.status});
 const after=view.picture?view.picture.after:0;
 if(view.full||after>=JOURNAL_ENTRIES)return TEXTS.full;
-return after>=JOURNAL_NEARLY?filled(TEXTS.nearlyFull,{n:withCommas(after)}):'';
+return after>=JOURNAL_NEARLY&&renewal.mode !=='ON'?filled(TEXTS.nearlyFull,{n:withCommas(after)}):'';
 }
 function drawBanner(){
 const text=bannerText();
@@ -2372,7 +2444,8 @@ lamp.classList.toggle('on',registers[name]===1);
 const state=registers[name]===1?TEXTS.on:TEXTS.off;
 setAttribute(lamp,'aria-label',filled(TEXTS.lampLabel,{name:TEXTS.lamps[name],state}));
 }
-const hasEnded=view.ended !==null&&registers.I===view.ended,next=hasEnded?'':view.picture.next||'';
+const hasEnded=view.ended !==null&&registers.I===view.ended;
+const next=hasEnded?'':(view.picture.next||'').trim();
 setText(byId('next'),next||(hasEnded?TEXTS.nextEnded:TEXTS.nextNone));
 setText(byId('next-words'),TEXTS.operations[next.split(' ')[0]]||'');
 for(const button of byId('switches').children){
@@ -2599,6 +2672,10 @@ setText(byId(name),pad(registers[name],3));
 pile.classList.toggle('none',registers[name]===0);
 pile.style.setProperty('--cards',registers[name]);
 }
+if(fedAt !==null&&registers.HOPPER<fedAt){
+fedAt=null;
+tellDeck('');
+}
 cards.read(read);
 cards.next(hopper);
 cards.punched(punched);
@@ -2803,6 +2880,10 @@ typed.at=to;
 byId('line').value=typed.lines[to]||'';
 }
 const ABOUT_PARTS=[[20,'reader'],[235,'unit'],[450,'printer']];
+function showAbout(){
+byId('about').showModal();
+byId('about').scrollTop=0;
+}
 function buildAbout(){
 byId('about-drawing').replaceChildren();
 for(const[x,name]of ABOUT_PARTS){
@@ -2910,7 +2991,7 @@ const clicks={
 'pick-key':()=>byId('file').click(),'card-key':takeCard,'deck-key':()=>feedText(byId('deck').value),
 'feed-key':feedChosen,'all-cards-key':takeAllCards,'afresh-key':pressAfresh,'guide-key':()=>guide.press(),
 'view-key':pressView,'hold-key':pressHold,'sound-key':pressSound,'card-print-key':printCard,
-'about-key':()=>byId('about').showModal(),'about-close':()=>byId('about').close(),
+'about-key':showAbout,'about-close':()=>byId('about').close(),
 'feed-again-key':()=>feedDeck([...taken]),
 'save-cards-key':()=>saveFile('taken.cards',`${taken.join('\n')}\n`),
 'release-key':releaseCard,'program-key':takeProgram,'tear-key':tearOff,'drop-key':dropTorn,
@@ -3030,7 +3111,7 @@ begin();
 /// The `content-security-policy` of the page: its own script and style by their SHA-256, exchanges with its own server,
 /// and nothing else.
 pub const POLICY: &str = "default-src 'none'; \
-    script-src 'sha256-66TqujHYD7+fItc8oohqwmUS31ZiOt7+ogEJckvrIaQ='; \
+    script-src 'sha256-HMBeQ/x3NQVtp5RmD6/VZQcno/FNImOeePunkHJsguQ='; \
     style-src 'sha256-59aFZCQciM0a7kK5TsM8yNoux63Ji81fTk2rUPrgvQE='; \
     img-src data:; \
     connect-src 'self'; \
