@@ -128,8 +128,9 @@ class Page:
         return found[0]
 
     def is_ready(self):
-        """Waits until the page has seen the machine, and returns whether it has."""
-        return self.until("typeof view === 'object' && view.picture !== null && view.link === 'fine'") is True
+        """Waits until the page has seen the machine and the guide has begun, and returns whether that is so."""
+        seen = "typeof view === 'object' && view.picture !== null && view.link === 'fine' && guide.state !== 'off'"
+        return self.until(seen) is True
 
     def click(self, element):
         """Presses a button of the page."""

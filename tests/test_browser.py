@@ -145,7 +145,7 @@ class TwoPages(Browser):
         second = self.open_page(2)
         second.value("say('DEPOSIT 0500 ~B500~.').then(() => say('START 0500'))")
         self.shows("it is at work", "byId('others').textContent",
-                   "Seat 2 is at work (START): its keys act on this machine too.")
+                   "Seat 2 is at work (START), on this machine too.")
         second.value("byId('pace').selectedIndex = 1, pressRun(), 0")
         runs = "Seat 2 runs a program: LOAD, RUN, STEP and START AT would act in the middle of it."
         self.shows("it runs", "byId('others').textContent", runs)
@@ -384,7 +384,7 @@ class Amounts(Browser):
         self.shows("cards are in the hopper", "feed !== null && feed.fed > 20")
         self.page.value("byId('pace').selectedIndex = 3, pressRun(), 0")
         self.shows("all are fed", "feed", None)
-        self.shows("the words are true", "byId('deck-words').textContent.startsWith('620 cards were fed; cards in')")
+        self.shows("the words are true", "byId('deck-words').textContent", "620 cards were fed.")
         self.shows("all are read", "byId('said-words').textContent === TEXTS.stops.READER")
         self.shows("the last one too", "view.picture.read", "CARD 619")
 
@@ -546,7 +546,7 @@ class Words(Browser):
     def test_the_steps_of_a_run(self):
         """Those of all its parts."""
         self.page.value("byId('pace').selectedIndex = 0, feedChosen().then(pressLoad).then(pressRun)")
-        self.shows("all steps", "byId('said-reply').textContent", "STOP 02 HALT STEPS 7 I 00037")
+        self.shows("all steps", "byId('said-reply').textContent", "STOP 02 HALT STEPS 7 I 00038")
         self.shows("no instruction is next", "view.picture.next = ' ', drawPanel(), byId('next').textContent "
                    "=== TEXTS.nextEnded")
         self.shows("nor on another page", "view.ended = null, drawPanel(), byId('next').textContent === TEXTS.nextNone")
@@ -583,7 +583,9 @@ class Words(Browser):
         self.shows("it begins", "guide.state", "on", second)
         self.shows("with these words", "byId('said-words').textContent === TEXTS.said.clear", page=second)
         second.value("guide.on('fed'), 0")
-        self.page.value("say('FEED ONE').then(() => startAfresh())")
+        self.page.value("say('FEED ONE')")
+        self.shows("a card is there", "view.picture.registers.HOPPER", 1, second)
+        self.page.value("startAfresh()")
         self.shows("and once more", "guide.at", 0, second)
 
     def test_a_room_that_is_prepared_anew(self):
@@ -681,7 +683,7 @@ class Renewal(Browser):
                 if (how.method === 'POST') posted++, name = '0'.repeat(16);
                 return new Response(text);
             }
-            const response = await asked(path, how);
+            const response = await asked(name ? String(path).replace(/&after=\\d+/, '') : path, how);
             if (!name || !String(path).startsWith('/picture') || response.status !== 200) return response;
             return new Response((await response.text()).replace(/^ROOM \\w+/, 'ROOM ' + name));
         }, Object.assign(renewal, {mode: '', asked: -Infinity}), 0"""

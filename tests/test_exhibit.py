@@ -267,7 +267,7 @@ class Senses(Browser):
     def test_a_card_to_take_home(self):
         """It is printed alone, with the visitor's name."""
         text = "document.body.className + ':' + byId('card-to-print').querySelector('.typed').textContent"
-        self.page.value(f"released = HELLO.slice(0, NAME_COLUMN) + 'ADA', window.print = () => {{ printed = {text}; }}, "
+        self.page.value(f"nameCard = HELLO.slice(0, NAME_COLUMN) + 'ADA', window.print = () => {{ printed = {text}; }}, "
                         "window.printed = '', printCard()")
         self.shows("it has the name", "printed.startsWith('prints-card:,008015') && printed.slice(52).trim()", "ADA")
 

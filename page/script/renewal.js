@@ -8,9 +8,11 @@ async function askRenewal(method) {
   const response = await fetch('/renewal', {method, headers, cache: 'no-store'});
   const found = /^RENEWAL (?:(OFF|ON)|IN (\d+))\n$/.exec(await response.text());
   if (response.status !== 200 || !found) return;
+  const {mode} = renewal;
   renewal.mode = found[1] || 'ON';
   renewal.seconds = found[2] === undefined ? null : Number(found[2]);
   drawNotice();
+  if (mode !== renewal.mode) guide.draw();
 }
 /* Once, and then again and again if rooms follow each other. */
 async function lookForRenewal() {

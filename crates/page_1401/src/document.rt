@@ -1062,11 +1062,11 @@ replies:{
 'FAULT 2':'Das Journal ist voll.',
 'FAULT 3':'Nicht ausgef\xfchrt: der Platz lie\xdf sich nicht mit dem Journal vergleichen.',
 'FAULT 4':'Die Datei des Journals l\xe4sst sich nicht schreiben.',
-'GLANCE FAULT 1':'Diese Stelle gibt es nicht.',"##;
+'GLANCE FAULT 1':'Diese Stelle gibt es nicht.',
+'GLANCE FAULT 2':'Es gab nichts zu lesen.',"##;
 
 /// The rest of the page.
 pub const REST: &[u8] = br##"
-'GLANCE FAULT 2':'Es gab nichts zu lesen.',
 BYE:'Der Platz bleibt; die n\xe4chste Zeile nimmt ihn wieder ein.',
 },
 lines:[
@@ -1992,9 +1992,11 @@ const headers=method==='POST'?{'X-1401-Room':view.picture.room}:{};
 const response=await fetch('/renewal',{method,headers,cache:'no-store'});
 const found=/^RENEWAL (?:(OFF|ON)|IN (\d+))\n$/.exec(await response.text());
 if(response.status !==200||!found)return;
+const{mode}=renewal;
 renewal.mode=found[1]||'ON';
 renewal.seconds=found[2]===undefined?null:Number(found[2]);
 drawNotice();
+if(mode !==renewal.mode)guide.draw();
 }
 async function lookForRenewal(){
 const now=performance.now();
@@ -3111,7 +3113,7 @@ begin();
 /// The `content-security-policy` of the page: its own script and style by their SHA-256, exchanges with its own server,
 /// and nothing else.
 pub const POLICY: &str = "default-src 'none'; \
-    script-src 'sha256-HMBeQ/x3NQVtp5RmD6/VZQcno/FNImOeePunkHJsguQ='; \
+    script-src 'sha256-tqMbHj6xofwiHSZTpQ9YJ8jJ7aMctRWpeaDKCjL7ObU='; \
     style-src 'sha256-59aFZCQciM0a7kK5TsM8yNoux63Ji81fTk2rUPrgvQE='; \
     img-src data:; \
     connect-src 'self'; \
