@@ -158,7 +158,7 @@ fn serve_taken_up<
         + Eprint
         + AllocGlobal
         + Files<File = File>,
->(rt: &R, taken: TakenUp, rooms: &Rooms<'_'>, entrances: &Entrances) -> Result<(), OpenFault>
+>(rt: &R, taken: TakenUp, rooms: &Rooms<'_>, entrances: &Entrances) -> Result<(), OpenFault>
     requires pages { vec_len entrances.now.pages ≤ rooms.now.seats }
     requires good { ⟦<JournalFile as Sink>⟧.has_failed taken.file ≡ false }
     requires text { taken.text.items ≡ journal_text taken.room.size taken.room.journal }
