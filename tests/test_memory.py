@@ -124,7 +124,7 @@ class MemoryTest(unittest.TestCase):
         first, again, last = SHORT_SEGMENTS
         many = (MOST_BYTES - len(first) - len(last)) // len(again)
         small, large = first + again * 100_001 + last, first + again * many + last
-        for call in ["load"], ["serve", "--keep-seats", "--port", a_port(), "--image"]:
+        for call in ["load"], ["serve", "--seats", "1", "--keep-seats", "--port", a_port(), "--image"]:
             with self.subTest(call[0]):
                 self.expect_few(1, small, large, *call, "file")
 
